@@ -1,0 +1,4 @@
+pub mod Tabulate
+pub mod Prefix
+pub mod Parts
+pub mod Table
