@@ -1,0 +1,9 @@
+pub mod Ring
+pub mod AbsoluteValue
+pub mod Range
+pub mod Division
+pub mod Linear
+pub mod Polynomial
+pub mod Order
+pub mod Sum
+pub mod Bounded
