@@ -1,0 +1,42 @@
+-- The curve at paper 01's own weights. Assumes nothing.
+use mathlib.Core.Path.{_≡_, refl}
+use mathlib.Core.List.{List, [], _∷_}
+use Prim.Native.Nat.{ℕ, _*_, _-_, _^_, _<_}
+use native.Mathlib.Omega.{arith}
+use lib.IntN.{ℤ, pos, _+ℤ_, _-ℤ_, _*ℤ_}
+use lib.ListN.{length, getD}
+use Rattle.integers.proofs.Polynomial.{var, lit, _⊞_, _⊟_, _⊠_, same}
+use Rattle.curve.specs.Weights.{kobbelt, interior, endEdge, singleEdge}
+use Rattle.curve.specs.Curve.{Kind, Point, curve, exactCurve}
+use Rattle.curve.specs.Near.{Near, Each, All₂}
+use Rattle.curve.proofs.Related.{all-at, all-length}
+use Rattle.curve.proofs.Distance.{Tame, distance-tame}
+
+-- ---- the three rules as 01 writes them, over 16
+pub interior-is : (p q r s : ℤ) → interior kobbelt p q r s ≡ pos 9 *ℤ (q +ℤ r) -ℤ p -ℤ s
+interior-is p q r s =
+    same (lit (pos 9) ⊠ (var 1 ⊞ var 2) ⊟ lit (pos 1) ⊠ (var 0 ⊞ var 3)) (lit (pos 9) ⊠ (var 1 ⊞ var 2) ⊟ var 0 ⊟ var 3) (p ∷ q ∷ r ∷ s ∷ []) refl
+
+pub end-is : (p q r : ℤ) → endEdge kobbelt p q r ≡ pos 7 *ℤ p +ℤ pos 10 *ℤ q -ℤ r
+end-is p q r =
+    same (lit (pos 7) ⊠ var 0 ⊞ lit (pos 10) ⊠ var 1 ⊟ lit (pos 1) ⊠ var 2) (lit (pos 7) ⊠ var 0 ⊞ lit (pos 10) ⊠ var 1 ⊟ var 2) (p ∷ q ∷ r ∷ []) refl
+
+pub single-is : (p q : ℤ) → singleEdge kobbelt p q ≡ pos 8 *ℤ (p +ℤ q)
+single-is p q = refl
+
+-- ---- the distance
+tame : Tame kobbelt
+tame = record { quarter = 4; some = omega arith; apart = refl; small = omega arith }
+
+-- Paper 01, "The seam": each coordinate of the rounded curve after k rounds, times 16^k, is within 2 (20^k - 16^k) of the exact curve's
+pub distance : (c : Kind) (k : ℕ) (l : List Point) → All₂ (Each (Near (16 ^ k) (2 * (20 ^ k - 16 ^ k)))) (curve kobbelt c k l) (exactCurve kobbelt c k l)
+unfolding tame
+distance c k l = distance-tame kobbelt tame c k l
+
+-- the same by places: as many points, and each coordinate of each
+pub distance-length : (c : Kind) (k : ℕ) (l : List Point) → length (curve kobbelt c k l) ≡ length (exactCurve kobbelt c k l)
+distance-length c k l = all-length (distance c k l)
+
+pub distance-at : (c : Kind) (k : ℕ) (l : List Point) (i : ℕ) (o : Point) → i < length (curve kobbelt c k l)
+    → Each (Near (16 ^ k) (2 * (20 ^ k - 16 ^ k))) (getD (curve kobbelt c k l) i o) (getD (exactCurve kobbelt c k l) i o)
+distance-at c k l i o h = all-at (distance c k l) i o o h

@@ -1,0 +1,20 @@
+-- How the distance of two lists of points is said.
+use mathlib.Core.List.{List, [], _∷_}
+use Prim.Native.Nat.{ℕ, _≤_}
+use lib.IntN.{ℤ, pos, natAbs, _-ℤ_, _*ℤ_}
+use Rattle.curve.specs.Curve.{Point}
+
+-- p times t is within d of e
+pub record Near (t d : ℕ) (p e : ℤ) : Type 0 where
+  pub near : natAbs (pos t *ℤ p -ℤ e) ≤ d
+
+-- so at each coordinate
+pub record Each (R : ℤ → ℤ → Type 0) (p e : Point) : Type 0 where
+  pub x : R (p .x) (e .x)
+  pub y : R (p .y) (e .y)
+  pub z : R (p .z) (e .z)
+
+-- so one by one, the lists being of one length
+pub data All₂ {A B : Type 0} (R : A → B → Type 0) : List A → List B → Type 0 where
+  nil : All₂ R [] []
+  cons : {a : A} {b : B} {l : List A} {m : List B} → R a b → All₂ R l m → All₂ R (a ∷ l) (b ∷ m)

@@ -1,0 +1,1 @@
+// The four-point curve: its definitions are in specs/, its laws in proofs/.
