@@ -65,7 +65,7 @@ module _ (w : Weights) (tame : Tame w) where
       omega arith
 
   -- ---- the sizes of the rules
-  interior-size : (p q r s : ℤ) (d : ℕ) → natAbs p ≤ d → natAbs q ≤ d → natAbs r ≤ d → natAbs s ≤ d → natAbs (interior w p q r s) ≤ (5 * tame .quarter) * d
+  pub interior-size : (p q r s : ℤ) (d : ℕ) → natAbs p ≤ d → natAbs q ≤ d → natAbs r ≤ d → natAbs s ≤ d → natAbs (interior w p q r s) ≤ (5 * tame .quarter) * d
   interior-size p q r s d a b c e =
       let k = products d in
       let x = abs-add q r in
@@ -75,7 +75,7 @@ module _ (w : Weights) (tame : Tame w) where
       let z = abs-sub (pos (w .near) *ℤ (q +ℤ r)) (pos (w .far) *ℤ (p +ℤ s)) in
       omega arith
 
-  end-size : (p q r : ℤ) (d : ℕ) → natAbs p ≤ d → natAbs q ≤ d → natAbs r ≤ d → natAbs (endEdge w p q r) ≤ (5 * tame .quarter) * d
+  pub end-size : (p q r : ℤ) (d : ℕ) → natAbs p ≤ d → natAbs q ≤ d → natAbs r ≤ d → natAbs (endEdge w p q r) ≤ (5 * tame .quarter) * d
   end-size p q r d a b c =
       let k = products d in
       let l = product-size (w .near - 2 * w .far) 1 p d (omega arith) in
@@ -85,7 +85,7 @@ module _ (w : Weights) (tame : Tame w) where
       let z = abs-sub (pos (w .near - 2 * w .far) *ℤ p +ℤ pos (w .near + w .far) *ℤ q) (pos (w .far) *ℤ r) in
       omega arith
 
-  single-size : (p q : ℤ) (d : ℕ) → natAbs p ≤ d → natAbs q ≤ d → natAbs (singleEdge w p q) ≤ (5 * tame .quarter) * d
+  pub single-size : (p q : ℤ) (d : ℕ) → natAbs p ≤ d → natAbs q ≤ d → natAbs (singleEdge w p q) ≤ (5 * tame .quarter) * d
   single-size p q d a b =
       let k = products d in
       let x = abs-add p q in

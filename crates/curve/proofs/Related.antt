@@ -7,6 +7,7 @@ use lib.IntN.{ℤ}
 use lib.ListN.{length, getD, take}
 use Rattle.curve.specs.Curve.{Kind, Open, Closed, Rules, after, openStep, windows, lastOf, closedStep, step, each}
 use Rattle.curve.specs.Near.{Each, All₂, nil, cons}
+use Rattle.curve.proofs.Examples
 
 module _ {A B : Type 0} {R : A → B → Type 0} where
   pub all-append : {l l′ : List A} {m m′ : List B} → All₂ R l m → All₂ R l′ m′ → All₂ R (l ++ l′) (m ++ m′)

@@ -1,8 +1,9 @@
 -- How the distance of two lists of points is said.
 use mathlib.Core.List.{List, [], _∷_}
-use Prim.Native.Nat.{ℕ, _≤_}
+use Prim.Native.Nat.{ℕ, _-_, _*_, _^_, _≤_}
 use lib.IntN.{ℤ, pos, natAbs, _-ℤ_, _*ℤ_}
-use Rattle.curve.specs.Curve.{Point}
+use Rattle.curve.specs.Weights.{kobbelt}
+use Rattle.curve.specs.Curve.{Kind, Point, curve, exactCurve}
 
 -- p times t is within d of e
 pub record Near (t d : ℕ) (p e : ℤ) : Type 0 where
@@ -18,3 +19,11 @@ pub record Each (R : ℤ → ℤ → Type 0) (p e : Point) : Type 0 where
 pub data All₂ {A B : Type 0} (R : A → B → Type 0) : List A → List B → Type 0 where
   nil : All₂ R [] []
   cons : {a : A} {b : B} {l : List A} {m : List B} → R a b → All₂ R l m → All₂ R (a ∷ l) (b ∷ m)
+
+-- Paper 01: "at that scale the seam distance reads 2 × (20^k - 16^k)"
+abbrev pub reach : ℕ → ℕ
+reach k = 2 * (20 ^ k - 16 ^ k)
+
+-- "each coordinate lies within" it: the rounded curve of l after k rounds, times 16^k, against the exact one
+abbrev pub CloseToExact : Kind → ℕ → List Point → Type 0
+CloseToExact c k l = All₂ (Each (Near (16 ^ k) (reach k))) (curve kobbelt c k l) (exactCurve kobbelt c k l)

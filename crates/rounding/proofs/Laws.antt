@@ -10,7 +10,7 @@ use lib.Dec.{leb→le}
 use lib.IntN.{ℤ, pos, negsuc, negℤ, natAbs, _+ℤ_, _-ℤ_, _*ℤ_, negℤ-+ℤ, negℤ-negℤ}
 use lib.Signed.{quotZ, ltZ, _≤ℤ_}
 use borrow.Author.Tests.{ltb-true}
-use Rattle.integers.proofs.AbsoluteValue.{abs-neg, abs-mul}
+use Rattle.integers.proofs.AbsoluteValue.{abs-neg, abs-add, abs-mul}
 use Rattle.integers.proofs.Ring.{*ℤ-neg}
 use Rattle.integers.proofs.Division.{quot-neg}
 use Rattle.integers.proofs.Linear.{whole, _⊖_}
@@ -39,11 +39,16 @@ round-near (negsuc a) d h =
     let g = nearest-near (suc a) d h in
     omega arith
 
--- ---- the size of what is rounded
-pub abs-round : (z : ℤ) (d : ℕ) → natAbs (round z d) ≡ nearest (natAbs z) d
-unfolding round
-abs-round (pos a) d = refl
-abs-round (negsuc a) d = abs-neg (pos (nearest (suc a) d))
+-- so what is rounded grows by at most a half
+pub round-size : (z : ℤ) (d : ℕ) → 0 < d → 2 * (d * natAbs (round z d)) ≤ 2 * natAbs z + d
+round-size z d h =
+    let r : ℤ = round z d in
+    let e : pos d *ℤ r ≡ (pos d *ℤ r -ℤ z) +ℤ z = same (var 0 ⊠ var 1) ((var 0 ⊠ var 1 ⊟ var 2) ⊞ var 2) (pos d ∷ r ∷ z ∷ []) refl in
+    let a = ap natAbs e in
+    let b = abs-add (pos d *ℤ r -ℤ z) z in
+    let c = abs-mul (pos d) r in
+    let g = round-near z d h in
+    omega arith
 
 -- ---- halves go away from zero
 nearest-zero : (d : ℕ) → 0 < d → nearest 0 d ≡ 0

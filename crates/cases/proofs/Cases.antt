@@ -1,0 +1,34 @@
+-- Every case of the table holds, by one test that computes. Assumes nothing.
+use mathlib.Core.Path.{_≡_, refl, ap₂}
+use mathlib.Core.Bool.{Bool, true, false, _&&_}
+use mathlib.Core.List.{List, [], _∷_}
+use Prim.Native.Nat.{ℕ}
+use lib.Dec.{T}
+use lib.IntN.{ℤ}
+use lib.ListN.{getD}
+use Rattle.lists.proofs.Table.{both-parts, eqZ, eqZ→eq, every, every-at}
+use Rattle.rounding.specs.Rounding.{round}
+use Rattle.curve.specs.Curve.{step, curve}
+use Rattle.cases.specs.Cases.{Case, cases, AllHold}
+
+abbrev eqList : List ℤ → List ℤ → Bool
+eqList [] [] = true
+eqList [] (y ∷ m) = false
+eqList (x ∷ l) [] = false
+eqList (x ∷ l) (y ∷ m) = eqZ x y && eqList l m
+
+eqList→eq : (l m : List ℤ) → T (eqList l m) → l ≡ m
+eqList→eq [] [] t = refl
+eqList→eq [] (y ∷ m) t = absurd t
+eqList→eq (x ∷ l) [] t = absurd t
+eqList→eq (x ∷ l) (y ∷ m) t = let h = both-parts (eqZ x y) (eqList l m) t in ap₂ _∷_ (eqZ→eq x y (h .0)) (eqList→eq l m (h .1))
+
+abbrev agrees : ℕ → Case → Bool
+agrees k c = eqList (c .computed) (c .stated)
+
+passes : T (every agrees 0 cases)
+unfolding cases step curve round
+passes = tt
+
+pub cases-hold : AllHold cases
+cases-hold = record { hold = λ k c h. eqList→eq (getD cases k c .computed) (getD cases k c .stated) (every-at agrees cases c passes k h) }
