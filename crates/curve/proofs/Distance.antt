@@ -5,15 +5,14 @@ use Prim.Native.Nat.{ℕ, zero, suc, _+_, _*_, _-_, _^_, _≤_, _<_}
 use native.Mathlib.Nat.{pow-zero, pow-succ', pow-le-pow-left, mul-le-mul-left, mul-le-mul-right, mul-left-comm, mul-comm, mul-assoc, mul-add, add-mul, le-of-eq}
 use native.Mathlib.Omega.{arith}
 use lib.IntN.{ℤ, pos, natAbs, _+ℤ_, _-ℤ_, _*ℤ_}
-use lib.ListN.{length, getD}
 use Rattle.integers.proofs.AbsoluteValue.{abs-add, abs-sub, abs-mul}
-use Rattle.integers.proofs.Polynomial.{Poly, var, lit, _⊞_, _⊟_, _⊠_, same}
+use Rattle.integers.proofs.Polynomial.{var, lit, _⊞_, _⊟_, _⊠_, same}
 use Rattle.rounding.specs.Rounding.{round}
 use Rattle.rounding.proofs.Laws.{round-near}
 use Rattle.curve.specs.Weights.{Weights, scale, interior, endEdge, singleEdge}
-use Rattle.curve.specs.Curve.{Kind, Point, each, rounded, exact, curve, exactCurve}
+use Rattle.curve.specs.Curve.{Kind, Point, rounded, exact, curve, exactCurve}
 use Rattle.curve.specs.Near.{Near, Each, All₂, nil, cons}
-use Rattle.curve.proofs.Related.{Carries, step-carries, carries-each, all-at, all-length}
+use Rattle.curve.proofs.Related.{Carries, step-carries, carries-each}
 
 -- all that the distance needs of the weights: the far one is at most a ninth of the near one, and the scale is four times a number that is not 0
 pub record Tame (w : Weights) : Type 0 where

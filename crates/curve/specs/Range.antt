@@ -1,5 +1,5 @@
 -- The range of coordinates.
-use Prim.Native.Nat.{ℕ, _≤_}
+use Prim.Native.Nat.{_≤_}
 use lib.IntN.{ℤ, natAbs}
 
 -- Paper 01: "every coordinate stays within 268,435,456"

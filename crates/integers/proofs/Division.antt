@@ -1,12 +1,10 @@
 -- Division of an integer by a natural, cut toward zero: quotient and remainder make up the number, and the remainder is small and has the number's sign.
 -- Assumes nothing.
-use mathlib.Core.Path.{_≡_, refl, sym, ap, ap₂, _∙_}
-use mathlib.Core.Bool.{Bool, true, false}
-use Prim.Native.Nat.{ℕ, zero, suc, _+_, _*_, _/_, _%_, _^_, _<_, _≤_}
+use mathlib.Core.Path.{_≡_, refl, sym, ap, _∙_}
+use Prim.Native.Nat.{ℕ, zero, suc, _+_, _*_, _/_, _%_, _<_}
 use native.Mathlib.Nat.{div-add-mod, mul-comm, mod-lt, zero-div, zero-mod}
-use native.Mathlib.Omega.{arith}
-use lib.IntN.{ℤ, pos, negsuc, negℤ, natAbs, _+ℤ_, _-ℤ_, _*ℤ_, negℤ-+ℤ, negℤ-negℤ}
-use lib.Signed.{quotZ, remZ, shrZ, ltZ}
+use lib.IntN.{ℤ, pos, negsuc, negℤ, natAbs, _+ℤ_, _*ℤ_, negℤ-+ℤ, negℤ-negℤ}
+use lib.Signed.{quotZ, remZ}
 use Rattle.integers.proofs.AbsoluteValue.{abs-rem}
 use Rattle.integers.proofs.Ring.{neg-*ℤ}
 

@@ -1,5 +1,4 @@
 -- The ranges of the signed machine widths. Assumes nothing.
-use mathlib.Core.Path.{_≡_}
 use Prim.Native.Nat.{ℕ, zero, suc, _/_, _^_, _≤_, _<_}
 use native.Mathlib.Nat.{le-refl, le-suc, div-le-self}
 use native.Mathlib.Omega.{arith}

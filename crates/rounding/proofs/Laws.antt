@@ -1,8 +1,8 @@
 -- What the other crates know of rounding: it is near, it depends on the value of the fraction alone, it is monotone, it keeps whole numbers.
 -- Only `round-neg` tells how halves go; nothing outside this crate cites it. Assumes nothing.
-use mathlib.Core.Path.{_≡_, refl, sym, ap, ap₂, _∙_, subst}
+use mathlib.Core.Path.{_≡_, refl, sym, ap, ap₂, _∙_}
 use mathlib.Core.Bool.{true, false}
-use mathlib.Core.List.{List, [], _∷_}
+use mathlib.Core.List.{[], _∷_}
 use Prim.Native.Nat.{ℕ, zero, suc, _+_, _*_, _/_, _%_, _≤_, _<_}
 use native.Mathlib.Nat.{div-add-mod, mod-lt, mul-assoc, mul-comm, mul-add, mul-left-comm, mul-div-mul-left, le-div-iff-mul-le}
 use native.Mathlib.Omega.{arith}
