@@ -1,0 +1,4 @@
+pub mod Shape
+pub mod Mates
+pub mod Turn
+pub mod Rings
