@@ -2,3 +2,4 @@ pub mod Shape
 pub mod Mates
 pub mod Turn
 pub mod Rings
+pub mod Boundary

@@ -20,7 +20,7 @@ use Rattle.topology.specs.Shape.{Shape}
 use Rattle.topology.specs.HalfEdge.{from, to, mate}
 use Rattle.topology.specs.Vertex.{leaves, valence, turn, turns, stops, facesMet, Walk, Ring, Fan}
 use Rattle.topology.specs.Manifold.{Oriented}
-use Rattle.topology.proofs.Mates.{mate-is}
+use Rattle.topology.proofs.Mates.{mate-is, mate-only, to-prev}
 use Rattle.topology.proofs.Turn.{turn-le, turn-inj, turn-back, turned-mate, turns-from, turns-listed}
 
 module _ (S : Shape) (v : ℕ) (l : List ℕ) (ok : Oriented S v l) where
@@ -38,6 +38,11 @@ module _ (S : Shape) (v : ℕ) (l : List ℕ) (ok : Oriented S v l) where
       let e = first-is (stops S l h) (length l) (m - 1) (omega arith) t
       (λ j b. let i = w .inside (suc j) (omega arith) in or-off _ _ (ne-eqb (turns S l (suc j) h) (length l) (λ x. omega arith)) (ne-eqb (turns S l (suc j) h) h (f (suc j) (omega arith) (omega arith)))) in
       omega arith
+
+  walk-neighbours : (p h m : ℕ) → Walk S l p h m → ((k : ℕ) → 0 < k → k < m → turns S l k h ≡ h → ⊥) → (i j : ℕ) → i < j → j < m → to S l (turns S l i h) ≡ to S l (turns S l j h) → ⊥
+  walk-neighbours p h m w f i j b c e =
+      turns-listed S v l ok p h m (w .leaves) (w .inside) f .differ i j b c (ok .once (turns S l i h) (turns S l j h) (w .inside i (omega arith)) (w .inside j c)
+      (turns-from S v l ok p h i (w .leaves) (λ k a. w .inside k (omega arith)) ∙ sym (turns-from S v l ok p h j (w .leaves) (λ k a. w .inside k (omega arith)))) e)
 
   -- ---- rings
 
@@ -99,6 +104,19 @@ module _ (S : Shape) (v : ℕ) (l : List ℕ) (ok : Oriented S v l) where
     pub ring-at : (g : ℕ) → g < length l → from l g ≡ p → Ring S l p g m
     ring-at g b s = let x = r .walk .all g b s in subst (λ (i : ℕ). Ring S l p i m) (x .2) (ring-rotated (x .0) (x .1))
 
+    -- each of its half-edges turns to one
+    pub ring-turns : (g : ℕ) → g < length l → from l g ≡ p → turn S l g < length l
+    unfolding iterate
+    ring-turns g b s = go (decLt 1 m) (ring-at g b s)
+      where
+        go : Dec (1 < m) → Ring S l p g m → turn S l g < length l
+        go (yes c) q = q .walk .inside 1 c
+        go (no c) q = let e : m ≡ 1 = omega (arith, q .some) in let x : turn S l g ≡ g = subst (λ (k : ℕ). turns S l k g ≡ g) e (q .back) in omega arith
+
+    -- its neighbours are pairwise distinct
+    pub ring-neighbours : (i j : ℕ) → i < j → j < m → to S l (turns S l i h) ≡ to S l (turns S l j h) → ⊥
+    ring-neighbours = walk-neighbours p h m (r .walk) (r .not-before)
+
   -- ---- fans
 
   module _ (p h m : ℕ) (r : Fan S l p h m) where
@@ -137,6 +155,21 @@ module _ (S : Shape) (v : ℕ) (l : List ℕ) (ok : Oriented S v l) where
         go : (k : ℕ) → k < m → turns S l k h ≡ g → Dec (suc k < m) → turns S l (m - 1) h ≡ g
         go k c d (yes i) = let x = r .walk .inside (suc k) i in let y : turns S l (suc k) h ≡ length l = ap (turn S l) d ∙ e in let z : ⊥ = omega arith in absurd z
         go k c d (no i) = let x : m - 1 ≡ k = omega arith in rw x d
+
+    -- its neighbours are pairwise distinct; no half-edge leaves p for the last of them, from which the side before the last half-edge comes
+    pub fan-neighbours : (i j : ℕ) → i < j → j < m → to S l (turns S l i h) ≡ to S l (turns S l j h) → ⊥
+    fan-neighbours = walk-neighbours p h m (r .walk) fan-not-back
+
+    pub fan-last-neighbour : (i : ℕ) → i < m → to S l (turns S l i h) ≡ from l (S .prev (turns S l (m - 1) h)) → ⊥
+    unfolding iterate turn
+    fan-last-neighbour i b e =
+        let x : suc (m - 1) ≡ m = omega arith in
+        let g : ℕ = turns S l (m - 1) h in
+        let d : mate S l (S .prev g) ≡ length l = subst (λ (k : ℕ). turns S l k h ≡ length l) (sym x) (r .ends) in
+        let c = r .walk .inside i b in
+        let y : (k : ℕ) → k < m → from l (turns S l k h) ≡ p = λ k a. turns-from S v l ok p h k (r .walk .leaves) (λ j z. r .walk .inside j (omega arith)) in
+        let q = mate-only S v l ok (S .prev g) (turns S l i h) (record { lt = c; start = y i b ∙ sym (y (m - 1) (omega arith)) ∙ sym (to-prev S (length l) (ok .shape) l g); end = e }) in
+        omega arith
 
   -- ---- where turning from h meets as many faces as there are at p, there is a ring or a fan
 
