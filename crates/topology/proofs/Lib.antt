@@ -3,3 +3,5 @@ pub mod Mates
 pub mod Turn
 pub mod Rings
 pub mod Boundary
+pub mod Faces
+pub mod Vertices
