@@ -1,0 +1,2 @@
+pub mod Oriented
+pub mod Manifold
