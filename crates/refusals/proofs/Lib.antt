@@ -1,2 +1,4 @@
 pub mod Oriented
 pub mod Manifold
+pub mod Places
+pub mod Examples
