@@ -1,12 +1,7 @@
--- Numbers by fours: 4k, 4k + 1, 4k + 2, 4k + 3. Assumes nothing.
-use mathlib.Core.Path.{_≡_, refl, sym, _∙_, subst}
-use mathlib.Core.Bool.{Bool, true, false}
+-- Numbers by fours, 4k to 4k + 3, and by twos. Assumes nothing.
+use mathlib.Core.Path.{_≡_, refl, subst}
 use Prim.Native.Nat.{ℕ, zero, suc, _+_, _*_, _/_, _%_, _<_}
-use native.Mathlib.Decide.{decLt}
 use native.Mathlib.Omega.{arith}
-use Rattle.search.specs.Search.{first}
-use Rattle.search.proofs.Tests.{clash}
-use Rattle.search.proofs.First.{first-le, first-holds, first-before, first-is, first-none}
 
 pub quarters : (n : ℕ) (P : ℕ → Type 0) → ((k : ℕ) → k < n → P (4 * k)) → ((k : ℕ) → k < n → P (4 * k + 1)) → ((k : ℕ) → k < n → P (4 * k + 2)) → ((k : ℕ) → k < n → P (4 * k + 3))
     → (g : ℕ) → g < 4 * n → P g
@@ -40,17 +35,11 @@ below-four P a b c d (suc (suc zero)) h = c
 below-four P a b c d (suc (suc (suc zero))) h = d
 below-four P a b c d (suc (suc (suc (suc k)))) h = let z : ⊥ = omega arith in absurd z
 
--- ---- a test that holds only at multiples of four
-module _ (p q : ℕ → Bool) (n : ℕ) (same : (k : ℕ) → k < n → q (4 * k) ≡ p k)
-    (off₁ : (k : ℕ) → k < n → q (4 * k + 1) ≡ false) (off₂ : (k : ℕ) → k < n → q (4 * k + 2) ≡ false) (off₃ : (k : ℕ) → k < n → q (4 * k + 3) ≡ false) where
-  pub first-four : first q (4 * n) ≡ 4 * first p n
-  first-four = go (decLt (first p n) n)
-    where
-      go : Dec (first p n < n) → first q (4 * n) ≡ 4 * first p n
-      go (yes a) = first-is q (4 * n) (4 * first p n) (omega arith) (same (first p n) a ∙ first-holds p n a)
-          (λ j b. quarters n (λ j. j < 4 * first p n → q j ≡ false) (λ k c d. same k c ∙ first-before p n k (omega arith)) (λ k c d. off₁ k c) (λ k c d. off₂ k c) (λ k c d. off₃ k c) j (omega arith) b)
-      go (no a) =
-          let e : first p n ≡ n = omega (arith, first-le p n) in
-          rw e (first-none q (4 * n) (quarters n (λ j. q j ≡ true → ⊥)
-          (λ k c t. clash (p k) (sym (same k c) ∙ t) (first-before p n k (omega arith)))
-          (λ k c t. clash (q (4 * k + 1)) t (off₁ k c)) (λ k c t. clash (q (4 * k + 2)) t (off₂ k c)) (λ k c t. clash (q (4 * k + 3)) t (off₃ k c))))
+-- ---- numbers by twos
+pub parity : (k : ℕ) (P : ℕ → Type 0) → ((j : ℕ) → P (2 * j)) → ((j : ℕ) → P (suc (2 * j))) → P k
+parity k P a b = go (k % 2) refl
+  where
+    go : (r : ℕ) → k % 2 ≡ r → P k
+    go zero e = let s : 2 * (k / 2) ≡ k = omega arith in subst P s (a (k / 2))
+    go (suc zero) e = let s : suc (2 * (k / 2)) ≡ k = omega arith in subst P s (b (k / 2))
+    go (suc (suc r)) e = let z : ⊥ = omega arith in absurd z

@@ -1,0 +1,6 @@
+pub mod Corners
+pub mod Mates
+pub mod Rings
+pub mod Manifold
+pub mod Boundary
+pub mod Loops
