@@ -4,3 +4,4 @@ pub mod Rings
 pub mod Manifold
 pub mod Boundary
 pub mod Loops
+pub mod Tables

@@ -12,6 +12,7 @@ use Rattle.topology.specs.HalfEdge.{from, mate, edgeCount, edge}
 use Rattle.topology.specs.Boundary.{back}
 use Rattle.topology.specs.Vertex.{turn, turns, Walk, Ring, Fan}
 use Rattle.topology.specs.Manifold.{Oriented}
+use Rattle.topology.proofs.Shape.{nexts-lt}
 use Rattle.topology.proofs.Mates.{mate-back, mate-not, edge-lt, edge-same}
 use Rattle.refinement.specs.Refined.{refined}
 use Rattle.refinement.proofs.Corners.{prev₀, prev₁, prev₂, prev₃, length-refined, quad}
@@ -149,12 +150,10 @@ module _ (S : Shape) (v : ℕ) (l : List ℕ) (ok : Oriented S v l) where
 
   -- ---- a face point: a ring of as many faces as its face has sides
 
-  face-turns : (h k : ℕ) → h < length l → (turns quads (refined S v l) k (4 * h + 2) ≡ 4 * iterate (S .next) k h + 2) × (iterate (S .next) k h < length l)
+  face-turns : (h k : ℕ) → h < length l → turns quads (refined S v l) k (4 * h + 2) ≡ 4 * iterate (S .next) k h + 2
   unfolding iterate
-  face-turns h zero a = (refl, a)
-  face-turns h (suc k) a =
-      let r = face-turns h k a in
-      (ap (turn quads (refined S v l)) (r .0) ∙ turn₂ (iterate (S .next) k h) (r .1), ok .shape .next-lt (iterate (S .next) k h) (r .1))
+  face-turns h zero a = refl
+  face-turns h (suc k) a = ap (turn quads (refined S v l)) (face-turns h k a) ∙ turn₂ (iterate (S .next) k h) (nexts-lt S (length l) (ok .shape) k h a)
 
   pub face-ring : (h : ℕ) → h < length l → Ring quads (refined S v l) (v + edgeCount S l + S .face h) (4 * h + 2) (S .sides h)
   face-ring h a =
@@ -162,14 +161,17 @@ module _ (S : Shape) (v : ℕ) (l : List ℕ) (ok : Oriented S v l) where
       record {
         walk = record {
           leaves = quad S v l h a .from₂;
-          inside = λ k b. let r = face-turns h k a in let e = r .0 in let c = r .1 in omega arith;
+          inside = λ k b. let e = face-turns h k a in let c = nexts-lt S (length l) (ok .shape) k h a in omega arith;
           all = λ g c. quarters (length l) (λ g. from (refined S v l) g ≡ v + edgeCount S l + S .face h → (k : ℕ) × (k < S .sides h) × (turns quads (refined S v l) k (4 * h + 2) ≡ g))
               (λ k b e. let q = quad S v l k b in let z = ok .below k b in let y : ⊥ = omega arith in absurd y)
               (λ k b e. let q = quad S v l k b in let z = edge-lt S v l ok k b in let y : ⊥ = omega arith in absurd y)
-              (λ k b e. let q = quad S v l k b in let r = ok .shape .all h k a b (omega arith) in (r .0, r .1, face-turns h (r .0) a .0 ∙ ap (λ (x : ℕ). 4 * x + 2) (r .2)))
+              (λ k b e. let q = quad S v l k b in reach k b (omega arith))
               (λ k b e. let q = quad S v l k b in let z = edge-lt S v l ok (S .prev k) (ok .shape .prev-lt k b) in let y : ⊥ = omega arith in absurd y) g (omega arith);
         };
-        some = (let t = ok .shape .three h a in omega arith);
-        back = face-turns h (S .sides h) a .0 ∙ ap (λ (x : ℕ). 4 * x + 2) (ok .shape .closes h a);
-        not-before = λ k b c e. let r = face-turns h k a in let d = r .0 in ok .shape .not-before h k a b c (omega arith);
+        some = let t = ok .shape .three h a in omega arith;
+        back = face-turns h (S .sides h) a ∙ ap (λ (x : ℕ). 4 * x + 2) (ok .shape .closes h a);
+        not-before = λ k b c e. let d = face-turns h k a in ok .shape .not-before h k a b c (omega arith);
       }
+    where
+      reach : (g : ℕ) → g < length l → S .face g ≡ S .face h → (k : ℕ) × (k < S .sides h) × (turns quads (refined S v l) k (4 * h + 2) ≡ 4 * g + 2)
+      reach g b e = let r = ok .shape .all h g a b e in (r .0, r .1, face-turns h (r .0) a ∙ ap (λ (x : ℕ). 4 * x + 2) (r .2))

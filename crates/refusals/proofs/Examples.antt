@@ -2,7 +2,7 @@
 use mathlib.Core.Path.{_≡_, refl}
 use mathlib.Core.Bool.{cond}
 use mathlib.Core.List.{List, [], _∷_, map}
-use Prim.Native.Nat.{ℕ, zero, suc, _+_, _*_, _/_, _%_}
+use Prim.Native.Nat.{ℕ}
 use lib.ListN.{length}
 use Rattle.lists.specs.Tabulate.{tabulate}
 use Rattle.search.specs.Search.{firstFrom, first, count, any, iterate}
@@ -10,6 +10,7 @@ use Rattle.topology.specs.Shape.{quads}
 use Rattle.topology.specs.HalfEdge.{from, to, opposed, mate}
 use Rattle.topology.specs.Boundary.{isBoundaryFrom, boundaryFrom}
 use Rattle.topology.specs.Vertex.{leaves, valence, turn, start, stops, facesMet}
+use Rattle.refusals.proofs.Nets.{square, grid, cube, fanCorner, fanOf, ringCorner, ringOf}
 use Rattle.refusals.specs.Refusals.{badMark, badCorner, isolated, repeatedSide, nonManifold, badValence, markedRing}
 
 -- a net, and the lowest of 6 to 12 that holds with its place, or nothing
@@ -29,45 +30,24 @@ lowest v l marks =
     (cond (any (badValence quads l) v) (11 ∷ first (badValence quads l) v ∷ [])
     (cond (any (markedRing quads l marks) v) (12 ∷ first (markedRing quads l marks) v ∷ []) []))))))
 
--- m faces 0, 2i + 1, 2i + 2, 2i + 3 at vertex 0: an open fan, or a full ring that ends where it began
-fanCorner : ℕ → ℕ → ℕ
-fanCorner i zero = 0
-fanCorner i (suc j) = 2 * i + suc j
-
-fanOf : ℕ → List ℕ
-fanOf m = tabulate (4 * m) (λ (h : ℕ). fanCorner (h / 4) (h % 4))
-
-ringCorner : ℕ → ℕ → ℕ → ℕ
-ringCorner m i zero = 0
-ringCorner m i (suc j) = (2 * i + j) % (2 * m) + 1
-
-ringOf : ℕ → List ℕ
-ringOf m = tabulate (4 * m) (λ (h : ℕ). ringCorner m (h / 4) (h % 4))
-
-grid : List ℕ
-grid = 0 ∷ 1 ∷ 4 ∷ 3 ∷ 1 ∷ 2 ∷ 5 ∷ 4 ∷ 3 ∷ 4 ∷ 7 ∷ 6 ∷ 4 ∷ 5 ∷ 8 ∷ 7 ∷ []
-
-cube : List ℕ
-cube = 0 ∷ 3 ∷ 2 ∷ 1 ∷ 4 ∷ 5 ∷ 6 ∷ 7 ∷ 0 ∷ 1 ∷ 5 ∷ 4 ∷ 1 ∷ 2 ∷ 6 ∷ 5 ∷ 2 ∷ 3 ∷ 7 ∷ 6 ∷ 3 ∷ 0 ∷ 4 ∷ 7 ∷ []
-
 cases : List Case
 cases =
     -- accepted: the empty net, one square with marks, two by two squares, a cube, rings of 3 and 8, a fan of 6
     record { vertices = 0; corners = []; marks = []; expected = [] }
-    ∷ record { vertices = 4; corners = 0 ∷ 1 ∷ 2 ∷ 3 ∷ []; marks = 1 ∷ 1 ∷ 1 ∷ 1 ∷ []; expected = [] }
+    ∷ record { vertices = 4; corners = square; marks = 1 ∷ 1 ∷ 1 ∷ 1 ∷ []; expected = [] }
     ∷ record { vertices = 9; corners = grid; marks = 1 ∷ 0 ∷ 1 ∷ 0 ∷ 0 ∷ 0 ∷ 1 ∷ 0 ∷ 1 ∷ []; expected = [] }
     ∷ record { vertices = 8; corners = cube; marks = []; expected = [] }
     ∷ record { vertices = 7; corners = ringOf 3; marks = []; expected = [] }
     ∷ record { vertices = 17; corners = ringOf 8; marks = []; expected = [] }
     ∷ record { vertices = 14; corners = fanOf 6; marks = 1 ∷ []; expected = [] }
     -- 6
-    ∷ record { vertices = 4; corners = 0 ∷ 1 ∷ 2 ∷ 3 ∷ []; marks = 0 ∷ 1 ∷ 2 ∷ 1 ∷ []; expected = 6 ∷ 2 ∷ [] }
+    ∷ record { vertices = 4; corners = square; marks = 0 ∷ 1 ∷ 2 ∷ 1 ∷ []; expected = 6 ∷ 2 ∷ [] }
     -- 7: a corner not below V; two equal corners
     ∷ record { vertices = 4; corners = 0 ∷ 1 ∷ 2 ∷ 4 ∷ []; marks = []; expected = 7 ∷ 0 ∷ [] }
     ∷ record { vertices = 6; corners = 0 ∷ 1 ∷ 2 ∷ 3 ∷ 4 ∷ 5 ∷ 4 ∷ 1 ∷ []; marks = []; expected = 7 ∷ 1 ∷ [] }
     -- 8: a vertex in no face; more vertices than corners
     ∷ record { vertices = 5; corners = 0 ∷ 1 ∷ 2 ∷ 4 ∷ []; marks = []; expected = 8 ∷ 3 ∷ [] }
-    ∷ record { vertices = 5; corners = 0 ∷ 1 ∷ 2 ∷ 3 ∷ []; marks = []; expected = 8 ∷ 4 ∷ [] }
+    ∷ record { vertices = 5; corners = square; marks = []; expected = 8 ∷ 4 ∷ [] }
     -- 9: one face twice; a face turned against its neighbour; an edge of three faces
     ∷ record { vertices = 4; corners = 0 ∷ 1 ∷ 2 ∷ 3 ∷ 0 ∷ 1 ∷ 2 ∷ 3 ∷ []; marks = []; expected = 9 ∷ 1 ∷ [] }
     ∷ record { vertices = 6; corners = 0 ∷ 1 ∷ 2 ∷ 3 ∷ 1 ∷ 2 ∷ 4 ∷ 5 ∷ []; marks = []; expected = 9 ∷ 1 ∷ [] }
@@ -84,5 +64,5 @@ cases =
     ∷ []
 
 cases-hold : map (λ (c : Case). lowest (c .vertices) (c .corners) (c .marks)) cases ≡ map (λ (c : Case). c .expected) cases
-unfolding lowest fanCorner fanOf ringCorner ringOf grid cube cases tabulate firstFrom first count any iterate quads from to opposed mate isBoundaryFrom boundaryFrom leaves valence turn start stops facesMet badMark badCorner isolated repeatedSide nonManifold badValence markedRing
+unfolding lowest square fanCorner fanOf ringCorner ringOf grid cube cases tabulate firstFrom first count any iterate quads from to opposed mate isBoundaryFrom boundaryFrom leaves valence turn start stops facesMet badMark badCorner isolated repeatedSide nonManifold badValence markedRing
 cases-hold = refl
