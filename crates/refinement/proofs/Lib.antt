@@ -5,3 +5,4 @@ pub mod Manifold
 pub mod Boundary
 pub mod Loops
 pub mod Tables
+pub mod Examples
