@@ -1,14 +1,14 @@
 -- A step taken again and again; one that loses nothing comes back. Assumes nothing.
-use mathlib.Core.Path.{_≡_, refl, sym, ap}
+use mathlib.Core.Path.{_≡_, refl, sym, ap, _∙_}
 use mathlib.Core.Bool.{Bool, true}
 use Prim.Native.Nat.{ℕ, zero, suc, _+_, _-_, _≤_, _<_}
 use native.Mathlib.Decide.{decLt}
 use native.Mathlib.Omega.{arith}
 use lib.Dec.{eqb}
-use borrow.Author.Tests.{eq-eqb}
+use borrow.Author.Tests.{eq-eqb, eqb-true}
 use Rattle.search.specs.Search.{first, iterate}
 use Rattle.search.proofs.Tests.{clash}
-use Rattle.search.proofs.First.{first-before}
+use Rattle.search.proofs.First.{first-before, first-holds, first-reach}
 use Rattle.search.proofs.Count.{count-le}
 use Rattle.search.proofs.Pigeonhole.{listed-le}
 
@@ -47,3 +47,12 @@ module _ (f : ℕ → ℕ) (D : ℕ → Type 0) (inj : (x y : ℕ) → D x → D
           }) in
           let d = count-le (λ (k : ℕ). true) n in
           let z : ⊥ = omega arith in absurd z
+
+  -- so it comes to a place where a test holds, if it began at one
+  pub iterate-meets : (n h : ℕ) → ((x : ℕ) → D x → x < n) → ((j : ℕ) → D (iterate f j h)) → (stop : ℕ → Bool) → stop h ≡ true → first (λ (k : ℕ). stop (iterate f (suc k) h)) n < n
+  iterate-meets n h b s stop t =
+      let q : ℕ → Bool = λ k. eqb (iterate f (suc k) h) h in
+      let r = iterate-return n h b s in
+      let e = eqb-true (iterate f (suc (first q n)) h) h (first-holds q n r) in
+      let a = first-reach (λ (k : ℕ). stop (iterate f (suc k) h)) n (first q n) r (ap stop e ∙ t) in
+      omega arith

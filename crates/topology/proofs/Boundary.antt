@@ -1,6 +1,6 @@
 -- The boundary: what leaves and enters a vertex of a ring or a fan; and the loops of a manifold net, walked along the sides and against them.
 use mathlib.Core.Path.{_≡_, refl, sym, ap, _∙_, subst}
-use mathlib.Core.Bool.{true}
+use mathlib.Core.Bool.{Bool, true}
 use mathlib.Core.List.{List}
 use Prim.Native.Nat.{ℕ, zero, suc, _+_, _-_, _≤_, _<_}
 use native.Mathlib.Decide.{decLt}
@@ -11,7 +11,7 @@ use borrow.Author.Tests.{eq-eqb, eqb-true, lt-ltb, le-ltb}
 use Rattle.search.specs.Search.{first, iterate}
 use Rattle.search.proofs.Tests.{and-on, and-left, and-right}
 use Rattle.search.proofs.First.{first-le, first-holds, first-reach, first-only, first-none}
-use Rattle.search.proofs.Iterate.{iterate-add, iterate-return}
+use Rattle.search.proofs.Iterate.{iterate-add, iterate-meets}
 use Rattle.topology.specs.Shape.{Shape}
 use Rattle.topology.specs.HalfEdge.{from, to, mate}
 use Rattle.topology.specs.Boundary.{OnBoundary, isBoundaryFrom, isBoundaryInto, boundaryFrom, boundaryInto, along, back}
@@ -78,6 +78,14 @@ module _ (S : Shape) (l : List ℕ) (p : ℕ) where
   pub start-closed : boundaryFrom S l p ≡ length l → start S l p ≡ first (leaves l p) (length l)
   unfolding start
   start-closed b = let c = le-ltb (boundaryFrom S l p) (length l) (omega arith) in rw c
+
+  pub boundaryInto-on : boundaryInto S l p < length l → OnBoundary S l (boundaryInto S l p)
+  unfolding boundaryInto
+  boundaryInto-on b = record { lt = b; none = into-none S l p (boundaryInto S l p) (first-holds (isBoundaryInto S l p) (length l) b) }
+
+  pub boundaryInto-at : boundaryInto S l p < length l → to S l (boundaryInto S l p) ≡ p
+  unfolding boundaryInto
+  boundaryInto-at b = into-at S l p (boundaryInto S l p) (first-holds (isBoundaryInto S l p) (length l) b)
 
 pub boundaryInto-reach : (S : Shape) (l : List ℕ) (h : ℕ) → OnBoundary S l h → boundaryInto S l (to S l h) ≤ h
 unfolding boundaryInto
@@ -243,6 +251,15 @@ module _ (S : Shape) (v : ℕ) (l : List ℕ) (ok : Manifold S v l) where
   pub to-inj : (h g : ℕ) → OnBoundary S l h → OnBoundary S l g → to S l h ≡ to S l g → h ≡ g
   to-inj h g o q e = sym (boundary-end h o) ∙ ap (boundaryInto S l) e ∙ boundary-end g q
 
+  -- a vertex that starts a boundary half-edge ends one, and the other way round
+  pub starts-ends : (p : ℕ) → p < v → boundaryFrom S l p < length l → boundaryInto S l p < length l
+  unfolding back
+  starts-ends p b c = let e = ap (boundaryInto S l) (boundaryFrom-at S l p c) in let o = back-on (boundaryFrom S l p) (boundaryFrom-on S l p c) in rw e at (o .lt)
+
+  pub ends-starts : (p : ℕ) → p < v → boundaryInto S l p < length l → boundaryFrom S l p < length l
+  unfolding along
+  ends-starts p b c = let e = ap (boundaryFrom S l) (boundaryInto-at S l p c) in let o = along-on (boundaryInto S l p) (boundaryInto-on S l p c) in rw e at (o .lt)
+
   -- ---- k steps
 
   pub alongs-on : (k h : ℕ) → OnBoundary S l h → OnBoundary S l (iterate (along S l) k h)
@@ -255,10 +272,19 @@ module _ (S : Shape) (v : ℕ) (l : List ℕ) (ok : Manifold S v l) where
   backs-on zero h o = o
   backs-on (suc k) h o = back-on (iterate (back S l) k h) (backs-on k h o)
 
+  along-inj : (x y : ℕ) → OnBoundary S l x → OnBoundary S l y → OnBoundary S l (along S l x) → along S l x ≡ along S l y → x ≡ y
+  along-inj x y a b c e = sym (back-along x a) ∙ ap (back S l) e ∙ back-along y b
+
+  -- from where a test holds one comes to the next place where it holds, along the sides and against them
+  pub along-meets : (h : ℕ) → OnBoundary S l h → (stop : ℕ → Bool) → stop h ≡ true → first (λ (k : ℕ). stop (iterate (along S l) (suc k) h)) (length l) < length l
+  along-meets h o stop t = iterate-meets (along S l) (OnBoundary S l) along-inj (length l) h (λ x q. q .lt) (λ j. alongs-on j h o) stop t
+
+  pub back-meets : (h : ℕ) → OnBoundary S l h → (stop : ℕ → Bool) → stop h ≡ true → first (λ (k : ℕ). stop (iterate (back S l) (suc k) h)) (length l) < length l
+  back-meets h o stop t = iterate-meets (back S l) (OnBoundary S l) (λ x y a b c e. sym (along-back x a) ∙ ap (along S l) e ∙ along-back y b) (length l) h (λ x q. q .lt) (λ j. backs-on j h o) stop t
+
   -- the loop closes within as many steps as there are half-edges
   pub loop-closes : (h : ℕ) → OnBoundary S l h → first (λ (k : ℕ). eqb (iterate (along S l) (suc k) h) h) (length l) < length l
-  loop-closes h o = iterate-return (along S l) (OnBoundary S l)
-      (λ x y a b c e. sym (back-along x a) ∙ ap (back S l) e ∙ back-along y b) (length l) h (λ x q. q .lt) (λ j. alongs-on j h o)
+  loop-closes h o = along-meets h o (λ (g : ℕ). eqb g h) (eq-eqb h h refl)
 
   -- and has three half-edges or more: two, there and back, would be mates
   pub along-not : (h : ℕ) → OnBoundary S l h → along S l h ≡ h → ⊥

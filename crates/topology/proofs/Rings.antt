@@ -4,7 +4,7 @@ use mathlib.Core.Path.{_≡_, sym, ap, _∙_, subst}
 use mathlib.Core.Bool.{true, false}
 use mathlib.Core.Logic.{⊎-elim}
 use mathlib.Core.List.{List}
-use Prim.Native.Nat.{ℕ, zero, suc, _+_, _-_, _<_}
+use Prim.Native.Nat.{ℕ, zero, suc, _+_, _-_, _≤_, _<_}
 use native.Mathlib.Decide.{decLt}
 use native.Mathlib.Omega.{arith}
 use lib.ListN.{length}
@@ -14,7 +14,7 @@ use Rattle.search.specs.Search.{first, iterate}
 use Rattle.search.proofs.Tests.{or-off, or-on, or-left, or-right, or-cases}
 use Rattle.search.proofs.First.{first-holds, first-before, first-is}
 use Rattle.search.proofs.Count.{count-le}
-use Rattle.search.proofs.Pigeonhole.{listed-all, listed-count}
+use Rattle.search.proofs.Pigeonhole.{Listed, listed-le, listed-all, listed-count}
 use Rattle.search.proofs.Iterate.{iterate-add, iterate-cancel}
 use Rattle.topology.specs.Shape.{Shape}
 use Rattle.topology.specs.HalfEdge.{from, to, mate}
@@ -171,13 +171,9 @@ module _ (S : Shape) (v : ℕ) (l : List ℕ) (ok : Oriented S v l) where
         let q = mate-only S v l ok (S .prev g) (turns S l i h) (record { lt = c; start = y i b ∙ sym (y (m - 1) (omega arith)) ∙ sym (to-prev S (length l) (ok .shape) l g); end = e }) in
         omega arith
 
-  -- ---- where turning from h meets as many faces as there are at p, there is a ring or a fan
+  -- ---- turning from h, until there is no face or one is back at h
 
-  module _ (p h : ℕ) (a : h < length l) (s : from l h ≡ p) (full : facesMet S l h ≡ valence l p) where
-    short : first (stops S l h) (length l) < length l
-    unfolding facesMet valence
-    short = omega (arith, count-le (leaves l p) (length l))
-
+  module _ (p h : ℕ) (a : h < length l) (s : from l h ≡ p) where
     goes-on : (k : ℕ) → suc k < facesMet S l h → stops S l h k ≡ false
     unfolding facesMet
     goes-on k b = first-before (stops S l h) (length l) k (omega arith)
@@ -194,12 +190,27 @@ module _ (S : Shape) (v : ℕ) (l : List ℕ) (ok : Oriented S v l) where
     not-back zero c b e = omega arith
     not-back (suc k) c b e = eqb-false (turns S l (suc k) h) h (or-right (eqb (turns S l (suc k) h) (length l)) (eqb (turns S l (suc k) h) h) (goes-on k b)) e
 
+    listed : Listed (leaves l p) (length l) (λ (k : ℕ). turns S l k h) (facesMet S l h)
+    listed = turns-listed S v l ok p h (facesMet S l h) s in-net not-back
+
+    -- it ends, and meets no face twice
+    pub met-le : facesMet S l h ≤ valence l p
+    unfolding valence
+    met-le = listed-le (leaves l p) (length l) (λ (k : ℕ). turns S l k h) (facesMet S l h) listed
+
+    pub met-stops : first (stops S l h) (length l) < length l
+    unfolding facesMet valence
+    met-stops = omega (arith, met-le, count-le (leaves l p) (length l))
+
+  -- where it meets all faces at p, there is a ring or a fan
+
+  module _ (p h : ℕ) (a : h < length l) (s : from l h ≡ p) (full : facesMet S l h ≡ valence l p) where
     walked : Walk S l p h (facesMet S l h)
     unfolding leaves valence
     walked = record {
       leaves = s;
-      inside = in-net;
-      all = λ g b e. listed-all (leaves l p) (length l) (λ (k : ℕ). turns S l k h) (facesMet S l h) (turns-listed S v l ok p h (facesMet S l h) s in-net not-back) (sym full) g b (eq-eqb (from l g) p e);
+      inside = in-net p h a s;
+      all = λ g b e. listed-all (leaves l p) (length l) (λ (k : ℕ). turns S l k h) (facesMet S l h) (listed p h a s) (sym full) g b (eq-eqb (from l g) p e);
     }
 
     pub full-ring : mate S l h < length l → Ring S l p h (facesMet S l h)
@@ -208,13 +219,13 @@ module _ (S : Shape) (v : ℕ) (l : List ℕ) (ok : Oriented S v l) where
         let j = ok .shape .next-lt (mate S l h) m in
         let r = walked .all (S .next (mate S l h)) j (mate-is S l h m .end ∙ s) in
         let e : turns S l (suc (r .0)) h ≡ h = ap (turn S l) (r .2) ∙ turn-back S v l ok h a m in
-        record { walk = walked; some = omega arith; back = closed (r .0) (r .1) e; not-before = not-back }
+        record { walk = walked; some = omega arith; back = closed (r .0) (r .1) e; not-before = not-back p h a s }
       where
         closed : (k : ℕ) → k < facesMet S l h → turns S l (suc k) h ≡ h → turns S l (facesMet S l h) h ≡ h
         closed k b e = go (decLt (suc k) (facesMet S l h))
           where
             go : Dec (suc k < facesMet S l h) → turns S l (facesMet S l h) h ≡ h
-            go (yes c) = absurd (not-back (suc k) (omega arith) c e)
+            go (yes c) = absurd (not-back p h a s (suc k) (omega arith) c e)
             go (no c) = let d : suc k ≡ facesMet S l h = omega arith in subst (λ (k : ℕ). turns S l k h ≡ h) d e
 
     pub open-fan : mate S l h ≡ length l → Fan S l p h (facesMet S l h)
@@ -223,7 +234,7 @@ module _ (S : Shape) (v : ℕ) (l : List ℕ) (ok : Oriented S v l) where
       walk = walked;
       some = omega arith;
       opens = m;
-      ends = ⊎-elim (λ e. eqb-true _ _ e) (λ e. absurd (never (eqb-true _ _ e))) (or-cases _ _ (first-holds (stops S l h) (length l) short));
+      ends = ⊎-elim (λ e. eqb-true _ _ e) (λ e. absurd (never (eqb-true _ _ e))) (or-cases _ _ (first-holds (stops S l h) (length l) (met-stops p h a s)));
     }
       where
         k₀ : ℕ
@@ -231,6 +242,6 @@ module _ (S : Shape) (v : ℕ) (l : List ℕ) (ok : Oriented S v l) where
 
         never : turn S l (turns S l k₀ h) ≡ h → ⊥
         never e =
-            let i = in-net k₀ (omega arith) in
+            let i = in-net p h a s k₀ (omega arith) in
             let c : turn S l (turns S l k₀ h) < length l = rw e a in
             let t : mate S l h < length l = subst (λ (x : ℕ). mate S l x < length l) e (turned-mate S v l ok (turns S l k₀ h) i c) in omega arith

@@ -9,7 +9,7 @@ use Rattle.search.specs.Search.{iterate}
 use Rattle.search.proofs.Iterate.{iterate-cancel}
 use Rattle.search.proofs.Pigeonhole.{Listed}
 use Rattle.topology.specs.Shape.{Shape}
-use Rattle.topology.specs.HalfEdge.{from, mate}
+use Rattle.topology.specs.HalfEdge.{from, to, mate}
 use Rattle.topology.specs.Vertex.{leaves, turn, turns}
 use Rattle.topology.specs.Manifold.{Oriented}
 use Rattle.topology.proofs.Shape.{prev-inj}
@@ -31,6 +31,11 @@ module _ (S : Shape) (v : ℕ) (l : List ℕ) (ok : Oriented S v l) where
   unfolding turn
   turn-from x c = mate-is S l (S .prev x) c .start ∙ to-prev S (length l) (ok .shape) l x
 
+  -- the next neighbour is where the side before x begins
+  pub turn-to : (x : ℕ) → turn S l x < length l → to S l (turn S l x) ≡ from l (S .prev x)
+  unfolding turn
+  turn-to x c = mate-is S l (S .prev x) c .end
+
   -- one turns to h from the half-edge after its mate, and to no half-edge without a mate
   pub turn-back : (h : ℕ) → h < length l → mate S l h < length l → turn S l (S .next (mate S l h)) ≡ h
   unfolding turn
@@ -39,6 +44,10 @@ module _ (S : Shape) (v : ℕ) (l : List ℕ) (ok : Oriented S v l) where
   pub turned-mate : (x : ℕ) → x < length l → turn S l x < length l → mate S l (turn S l x) < length l
   unfolding turn
   turned-mate x a c = let i = ok .shape .prev-lt x a in let e = mate-back S v l ok (S .prev x) i c in rw e i
+
+  pub turn-undone : (x : ℕ) → x < length l → turn S l x < length l → S .next (mate S l (turn S l x)) ≡ x
+  unfolding turn
+  turn-undone x a c = ap (S .next) (mate-back S v l ok (S .prev x) (ok .shape .prev-lt x a) c) ∙ ok .shape .next-prev x
 
   pub turns-from : (p h k : ℕ) → from l h ≡ p → ((j : ℕ) → j ≤ k → turns S l j h < length l) → from l (turns S l k h) ≡ p
   unfolding iterate
