@@ -1,0 +1,89 @@
+-- The refined net of a manifold net is manifold: refusals 7 to 11 hold nowhere in it, after any number of rounds.
+use mathlib.Core.Path.{_≡_, subst}
+use mathlib.Core.List.{List}
+use Prim.Native.Nat.{ℕ, _^_, zero, suc, _+_, _-_, _*_, _%_, _≤_, _<_}
+use native.Mathlib.Decide.{decLt}
+use native.Mathlib.Omega.{arith}
+use lib.ListN.{length}
+use Rattle.topology.specs.Shape.{Shape, Lawful, quads}
+use Rattle.topology.specs.HalfEdge.{mate, edgeCount, edge}
+use Rattle.topology.specs.Manifold.{Around, ring, fan, Manifold}
+use Rattle.topology.proofs.Mates.{mate-le, edge-onto}
+use Rattle.topology.proofs.Shape.{quads-lawful}
+use Rattle.topology.proofs.Vertices.{vertices-le}
+use Rattle.refusals.specs.Refusals.{Unrefused}
+use Rattle.refusals.proofs.Manifold.{manifold-if, unrefused-if}
+use Rattle.refinement.specs.Refined.{refinedVertices, refined, verticesAfter, cornersAfter}
+use Rattle.refinement.proofs.Corners.{length-refined, oriented-refined}
+use Rattle.refinement.proofs.Rings.{ring-refined, fan-refined, edge-ring, edge-fan, face-ring}
+
+module _ (S : Shape) (v : ℕ) (l : List ℕ) (ok : Manifold S v l) where
+  old : (p : ℕ) → p < v → Around S l p → Around quads (refined S v l) p
+  old p b (ring h m s t r) = ring (4 * h) m s t (ring-refined S v l (ok .oriented) p h m b r)
+  old p b (fan h m t r) = fan (4 * h) m t (fan-refined S v l (ok .oriented) p h m b r)
+
+  on-edge : (h : ℕ) → h < length l → Dec (mate S l h < length l) → Around quads (refined S v l) (v + edge S l h)
+  on-edge h a (yes m) = ring (4 * h + 1) 4 (omega arith) (omega arith) (edge-ring S v l (ok .oriented) h a m)
+  on-edge h a (no m) = fan (4 * S .next h + 3) 2 (omega arith) (edge-fan S v l (ok .oriented) h a (omega (arith, mate-le S l h)))
+
+  where-is : (p : ℕ) → p < refinedVertices S v l → Dec (p < v) → Dec (p < v + edgeCount S l) → Around quads (refined S v l) p
+  where-is p b (yes c) d = old p c (ok .around p c)
+  where-is p b (no c) (yes d) =
+      let r = edge-onto S v l (ok .oriented) (p - v) (omega arith) in
+      let e : v + edge S l (r .0) ≡ p = omega arith in
+      subst (Around quads (refined S v l)) e (on-edge (r .0) (r .1) (decLt (mate S l (r .0)) (length l)))
+  where-is p b (no c) (no d) =
+      let r = ok .oriented .shape .face-onto (p - (v + edgeCount S l)) (omega arith) in
+      let e : v + edgeCount S l + S .face (r .0) ≡ p = omega arith in
+      let w = ok .oriented .shape in
+      subst (Around quads (refined S v l)) e (ring (4 * r .0 + 2) (S .sides (r .0)) (w .three (r .0) (r .1)) (w .eight (r .0) (r .1)) (face-ring S v l (ok .oriented) (r .0) (r .1)))
+
+  -- the refined net of a manifold net is manifold
+  pub manifold-refined : Manifold quads (refinedVertices S v l) (refined S v l)
+  manifold-refined = record {
+    oriented = oriented-refined S v l (ok .oriented);
+    around = λ p b. where-is p b (decLt p v) (decLt p (v + edgeCount S l));
+  }
+
+-- ---- refusals 7 to 11
+
+pub unrefused-refined : (S : Shape) (v : ℕ) (l : List ℕ) → Lawful S (length l) → Unrefused S v l → Unrefused quads (refinedVertices S v l) (refined S v l)
+unrefused-refined S v l w u = unrefused-if quads (refinedVertices S v l) (refined S v l) (manifold-refined S v l (manifold-if S v l w u))
+
+-- ---- counts
+
+-- one refined face for each half-edge; so four for each face with four sides
+pub faces-refined : (S : Shape) (v : ℕ) (l : List ℕ) → quads .faces (length (refined S v l)) ≡ length l
+unfolding quads
+faces-refined S v l = let n = length-refined S v l in omega arith
+
+pub quads-refined : (v : ℕ) (l : List ℕ) → length l % 4 ≡ 0 → quads .faces (length (refined quads v l)) ≡ 4 * quads .faces (length l)
+unfolding quads
+quads-refined v l w = let n = length-refined quads v l in omega arith
+
+-- room for the refined vertices
+pub refined-vertices-le : (S : Shape) (v : ℕ) (l : List ℕ) → Manifold S v l → refinedVertices S v l ≤ 4 * length l
+refined-vertices-le S v l ok = let a = vertices-le quads (refinedVertices S v l) (refined S v l) (manifold-refined S v l ok) in let n = length-refined S v l in omega arith
+
+-- ---- any number of rounds
+
+module _ (v : ℕ) (l : List ℕ) where
+  pub length-after : (k : ℕ) → length (cornersAfter k v l) ≡ 4 ^ k * length l
+  unfolding cornersAfter
+  length-after zero = omega arith
+  length-after (suc k) =
+      let e = length-refined quads (verticesAfter k v l) (cornersAfter k v l) in
+      let i = length-after k in
+      let p : 4 ^ suc k ≡ 4 * 4 ^ k = omega arith in
+      rw p (omega arith)
+
+  pub manifold-after : Manifold quads v l → (k : ℕ) → Manifold quads (verticesAfter k v l) (cornersAfter k v l)
+  unfolding verticesAfter cornersAfter
+  manifold-after ok zero = ok
+  manifold-after ok (suc k) = manifold-refined quads (verticesAfter k v l) (cornersAfter k v l) (manifold-after ok k)
+
+  pub unrefused-after : length l % 4 ≡ 0 → Unrefused quads v l → (k : ℕ) → Unrefused quads (verticesAfter k v l) (cornersAfter k v l)
+  unrefused-after w u k = unrefused-if quads (verticesAfter k v l) (cornersAfter k v l) (manifold-after (manifold-if quads v l (quads-lawful (length l) w) u) k)
+
+  pub vertices-after-le : Manifold quads v l → (k : ℕ) → verticesAfter k v l ≤ 4 ^ k * length l
+  vertices-after-le ok k = let a = vertices-le quads (verticesAfter k v l) (cornersAfter k v l) (manifold-after ok k) in let b = length-after k in omega arith

@@ -1,0 +1,33 @@
+-- One round on the faces of a net of v vertices, with corners l in the shape S.
+use mathlib.Core.List.{List}
+use Prim.Native.Nat.{ℕ, zero, suc, _+_, _*_, _/_, _%_}
+use lib.ListN.{length}
+use Rattle.lists.specs.Tabulate.{tabulate}
+use Rattle.topology.specs.Shape.{Shape, quads}
+use Rattle.topology.specs.HalfEdge.{from, edgeCount, edge}
+
+-- "Refined vertices are the old ones, then one per edge, then one per face."
+abbrev pub refinedVertices : Shape → ℕ → List ℕ → ℕ
+refinedVertices S v l = v + edgeCount S l + S .faces (length l)
+
+-- "Face f gives faces 4f+i, i = 0 to 3: corner i, point of side i, face point, point of side i-1."
+-- Side i of face f is the half-edge 4f+i: the refined face h lies at the half-edge h, and these are its corners 0 to 3.
+unfoldable pub corner : Shape → ℕ → List ℕ → ℕ → ℕ → ℕ
+corner S v l h zero = from l h
+corner S v l h (suc zero) = v + edge S l h
+corner S v l h (suc (suc zero)) = v + edgeCount S l + S .face h
+corner S v l h (suc (suc (suc j))) = v + edge S l (S .prev h)
+
+-- the corners of all refined faces
+unfoldable pub refined : Shape → ℕ → List ℕ → List ℕ
+refined S v l = tabulate (4 * length l) (λ (g : ℕ). corner S v l (g / 4) (g % 4))
+
+-- the number of vertices and the corners after k rounds of a net with four-sided faces
+unfoldable mutual
+  pub verticesAfter : ℕ → ℕ → List ℕ → ℕ
+  verticesAfter zero v l = v
+  verticesAfter (suc k) v l = refinedVertices quads (verticesAfter k v l) (cornersAfter k v l)
+
+  pub cornersAfter : ℕ → ℕ → List ℕ → List ℕ
+  cornersAfter zero v l = l
+  cornersAfter (suc k) v l = refined quads (verticesAfter k v l) (cornersAfter k v l)

@@ -1,0 +1,7 @@
+pub mod Shape
+pub mod Mates
+pub mod Turn
+pub mod Rings
+pub mod Boundary
+pub mod Faces
+pub mod Vertices

@@ -1,0 +1,39 @@
+-- A manifold net has no more vertices than half-edges.
+use mathlib.Core.Path.{_≡_, refl, ap}
+use mathlib.Core.Bool.{true}
+use mathlib.Core.List.{List}
+use Prim.Native.Nat.{ℕ, _≤_, _<_}
+use native.Mathlib.Omega.{arith}
+use lib.ListN.{length}
+use Rattle.search.specs.Search.{first, iterate}
+use Rattle.search.proofs.First.{first-holds, first-reach}
+use Rattle.search.proofs.Count.{count-le}
+use Rattle.search.proofs.Pigeonhole.{listed-le}
+use borrow.Author.Tests.{eq-eqb, eqb-true}
+use Rattle.topology.specs.Shape.{Shape}
+use Rattle.topology.specs.HalfEdge.{from}
+use Rattle.topology.specs.Vertex.{leaves}
+use Rattle.topology.specs.Manifold.{Around, ring, fan, Manifold}
+
+-- the first half-edge that leaves a vertex where there is one
+pub leaver-lt : (S : Shape) (l : List ℕ) (p : ℕ) → Around S l p → first (leaves l p) (length l) < length l
+unfolding iterate leaves
+leaver-lt S l p (ring h m s t r) = let k = r .walk .inside 0 (r .some) in let e = first-reach (leaves l p) (length l) h k (eq-eqb (from l h) p (r .walk .leaves)) in omega arith
+leaver-lt S l p (fan h m t r) = let k = r .walk .inside 0 (r .some) in let e = first-reach (leaves l p) (length l) h k (eq-eqb (from l h) p (r .walk .leaves)) in omega arith
+
+-- where a half-edge leaves each of v vertices, there are v half-edges or more
+pub leavers-le : (v : ℕ) (l : List ℕ) → ((p : ℕ) → p < v → first (leaves l p) (length l) < length l) → v ≤ length l
+unfolding leaves
+leavers-le v l f =
+    let s : ℕ → ℕ = λ p. first (leaves l p) (length l) in
+    let is : (p : ℕ) → p < v → from l (s p) ≡ p = λ p b. eqb-true (from l (s p)) p (first-holds (leaves l p) (length l) (f p b)) in
+    let a = listed-le (λ (h : ℕ). true) (length l) s v (record {
+      inside = f;
+      passes = λ p b. refl;
+      differ = λ p q b c e. let x = is p (omega arith) in let y = is q c in let z = ap (from l) e in omega arith;
+    }) in
+    let b = count-le (λ (h : ℕ). true) (length l) in
+    omega arith
+
+pub vertices-le : (S : Shape) (v : ℕ) (l : List ℕ) → Manifold S v l → v ≤ length l
+vertices-le S v l ok = leavers-le v l (λ p b. leaver-lt S l p (ok .around p b))

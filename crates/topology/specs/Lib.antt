@@ -1,0 +1,5 @@
+pub mod Shape
+pub mod HalfEdge
+pub mod Boundary
+pub mod Vertex
+pub mod Manifold
