@@ -1,0 +1,31 @@
+-- Laws of cleared and filled tables, and of the loops that make them. Assumes nothing.
+use mathlib.Core.Path.{_≡_, sym, ap, _∙_}
+use mathlib.Core.List.{List, _++_}
+use Prim.Native.Nat.{ℕ, _+_, _≤_, _<_}
+use native.Mathlib.Omega.{arith}
+use borrow.Author.Fill.{fill-more}
+use lib.ListN.{length, getD, take, drop, set, replicate, length-append, length-drop, length-replicate}
+use lib.Seq.{drop-at}
+use Rattle.lists.proofs.Prefix.{copy-one}
+use Rattle.tables.specs.Tables.{filled, cleared}
+
+-- a turn of each loop
+pub copy-turn : {A : Type 0} (s d₀ : List A) {d : List A} (i : ℕ) (z : A) → d ≡ take i s ++ drop i d₀ → i < length s → i < length d₀
+    → set d i (getD s i z) ≡ take (i + 1) s ++ drop (i + 1) d₀
+copy-turn s d₀ i z e h k = rw e (copy-one s d₀ i z h k)
+
+pub clear-turn : (w₀ : List ℕ) {w : List ℕ} (i : ℕ) → w ≡ replicate i 0 ++ drop i w₀ → i < length w₀ → set w i 0 ≡ replicate (i + 1) 0 ++ drop (i + 1) w₀
+clear-turn w₀ i e k = rw e (fill-more i 0 w₀ k)
+
+pub length-cleared : (n : ℕ) (w : List ℕ) → n ≤ length w → length (cleared n w) ≡ length w
+unfolding cleared
+length-cleared n w h = let a = length-append (replicate n 0) (drop n w) in let b = length-replicate {A = ℕ} n 0 in let c = length-drop n w in omega arith
+
+-- what lies past the cleared part is as found; so clearing again clears what was there before
+pub drop-cleared : (n : ℕ) (w : List ℕ) → drop n (cleared n w) ≡ drop n w
+unfolding cleared
+drop-cleared n w = drop-at (replicate n 0) (drop n w) n (length-replicate {A = ℕ} n 0)
+
+pub cleared-over : (n : ℕ) (w u : List ℕ) → drop n u ≡ drop n w → cleared n u ≡ cleared n w
+unfolding cleared
+cleared-over n w u e = ap (λ (t : List ℕ). replicate n 0 ++ t) e

@@ -1,0 +1,198 @@
+-- What an accepted call has, and that a call for fewer rounds is accepted too. Assumes nothing.
+use mathlib.Core.Path.{_≡_, refl, sym, ap, _∙_}
+use mathlib.Core.Bool.{Bool, true, false, cond, not}
+use mathlib.Core.List.{List}
+use Prim.Native.Nat.{ℕ, _+_, _*_, _/_, _%_, _^_, _≤_, _<_}
+use native.Mathlib.Nat.{pow-le-pow-right, mul-le-mul-left}
+use native.Mathlib.Omega.{arith}
+use lib.Dec.{eqb, ltb}
+use lib.IntN.{ℤ, pos, natAbs}
+use lib.ListN.{length, getD}
+use borrow.Author.Tests.{ltb-false, eqb-true, not-false, le-ltb, eq-eqb}
+use Rattle.search.specs.Search.{first}
+use Rattle.search.proofs.First.{first-le, first-before}
+use Rattle.topology.specs.Shape.{quads}
+use Rattle.topology.specs.Manifold.{Manifold}
+use Rattle.topology.proofs.Shape.{quads-lawful}
+use Rattle.refusals.proofs.Manifold.{manifold-if}
+use Rattle.refusals.specs.Refusals.{badMark, badCorner, isolated, repeatedSide, nonManifold, badValence, markedRing}
+use Rattle.verdict.specs.Call.{Net, Room, Call, finalFaces}
+use Rattle.verdict.specs.Verdict.{Verdict, accepted, refused, orElse, refusedIf, refusedAt, limitsVerdict, callVerdict, badCoordinate, adjacencyVerdict, netVerdict, verdict}
+use Rattle.verdict.proofs.Examples
+
+-- ---- the chain
+never : {A : Type 0} (r p : ℕ) → refused r p ≡ accepted → A
+never r p e = let z : _≡_ {A = ℕ} 0 1 = cc in absurd (omega arith)
+
+pub or-both : (u v : Verdict) → orElse u v ≡ accepted → (u ≡ accepted) × (v ≡ accepted)
+or-both accepted v e = (refl, e)
+or-both (refused r p) v e = never r p e
+
+pub or-accepted : {u v : Verdict} → u ≡ accepted → v ≡ accepted → orElse u v ≡ accepted
+or-accepted e f = rw (e, f)
+
+pub if-false : (r : ℕ) (t : Bool) → refusedIf r t ≡ accepted → t ≡ false
+if-false r true e = never r 0 e
+if-false r false e = refl
+
+pub false-if : (r : ℕ) (t : Bool) → t ≡ false → refusedIf r t ≡ accepted
+false-if r t e = rw e
+
+pub at-none : (r : ℕ) (t : ℕ → Bool) (n : ℕ) (place : ℕ → ℕ) → refusedAt r t n place ≡ accepted → first t n ≡ n
+at-none r t n place e = go (ltb (first t n) n) refl e
+  where
+    go : (b : Bool) → ltb (first t n) n ≡ b → cond b (refused r (place (first t n))) accepted ≡ accepted → first t n ≡ n
+    go true f e = never r (place (first t n)) e
+    go false f e = let a = ltb-false (first t n) n f in let b = first-le t n in omega arith
+
+pub none-at : (r : ℕ) (t : ℕ → Bool) (n : ℕ) (place : ℕ → ℕ) → first t n ≡ n → refusedAt r t n place ≡ accepted
+none-at r t n place e = let f : ltb (first t n) n ≡ false = le-ltb (first t n) n (omega arith) in rw f
+
+-- ---- 1 to 4 do not hold
+pub record WithinLimits (rounds coordinates corners marks : ℕ) (room : Room) : Type 0 where
+  pub few : rounds ≤ 6
+  pub points : coordinates % 3 ≡ 0
+  pub quadrilaterals : corners % 4 ≡ 0
+  pub marked : marks ≡ coordinates / 3
+  pub vertices : coordinates / 3 ≤ 8192
+  pub faces : corners / 4 ≤ 4096
+  pub final : corners / 4 * 4 ^ rounds ≤ 262144
+  pub roomVertices : 12 * (corners / 4 * 4 ^ rounds) ≤ room .vertices
+  pub roomFaces : 4 * (corners / 4 * 4 ^ rounds) ≤ room .faces
+  pub roomMarks : 4 * (corners / 4 * 4 ^ rounds) ≤ room .marks
+  pub roomWork : 16 * (corners / 4 * 4 ^ rounds) ≤ room .work
+
+module _ (k nv nf nm : ℕ) (room : Room) where
+  pub within-if : limitsVerdict k nv nf nm room ≡ accepted → WithinLimits k nv nf nm room
+  unfolding limitsVerdict
+  within-if e₀ =
+      let a₁ = or-both _ _ e₀ in
+      let a₂ = or-both _ _ (a₁ .1) in
+      let a₃ = or-both _ _ (a₂ .1) in
+      let a₄ = or-both _ _ (a₃ .1) in
+      let a₅ = or-both _ _ (a₄ .1) in
+      let a₆ = or-both _ _ (a₅ .1) in
+      let a₇ = or-both _ _ (a₆ .1) in
+      let a₈ = or-both _ _ (a₇ .1) in
+      let a₉ = or-both _ _ (a₈ .1) in
+      let b = or-both _ _ (a₉ .1) in
+      record {
+        few = ltb-false 6 k (if-false 1 _ (a₁ .0));
+        points = eqb-true (nv % 3) 0 (not-false _ (if-false 2 _ (a₂ .0)));
+        quadrilaterals = eqb-true (nf % 4) 0 (not-false _ (if-false 2 _ (a₃ .0)));
+        marked = eqb-true nm (nv / 3) (not-false _ (if-false 2 _ (a₄ .0)));
+        vertices = ltb-false 8192 (nv / 3) (if-false 3 _ (a₅ .0));
+        faces = ltb-false 4096 (nf / 4) (if-false 3 _ (a₆ .0));
+        final = ltb-false 262144 (nf / 4 * 4 ^ k) (if-false 3 _ (a₇ .0));
+        roomVertices = ltb-false (room .vertices) (12 * (nf / 4 * 4 ^ k)) (if-false 4 _ (a₈ .0));
+        roomFaces = ltb-false (room .faces) (4 * (nf / 4 * 4 ^ k)) (if-false 4 _ (a₉ .0));
+        roomMarks = ltb-false (room .marks) (4 * (nf / 4 * 4 ^ k)) (if-false 4 _ (b .0));
+        roomWork = ltb-false (room .work) (16 * (nf / 4 * 4 ^ k)) (if-false 4 _ (b .1));
+      }
+
+  pub if-within : WithinLimits k nv nf nm room → limitsVerdict k nv nf nm room ≡ accepted
+  unfolding limitsVerdict
+  if-within w =
+      simp (
+        le-ltb 6 k (w .few),
+        eq-eqb (nv % 3) 0 (w .points),
+        eq-eqb (nf % 4) 0 (w .quadrilaterals),
+        eq-eqb nm (nv / 3) (w .marked),
+        le-ltb 8192 (nv / 3) (w .vertices),
+        le-ltb 4096 (nf / 4) (w .faces),
+        le-ltb 262144 (nf / 4 * 4 ^ k) (w .final),
+        le-ltb (room .vertices) (12 * (nf / 4 * 4 ^ k)) (w .roomVertices),
+        le-ltb (room .faces) (4 * (nf / 4 * 4 ^ k)) (w .roomFaces),
+        le-ltb (room .marks) (4 * (nf / 4 * 4 ^ k)) (w .roomMarks),
+        le-ltb (room .work) (16 * (nf / 4 * 4 ^ k)) (w .roomWork),
+      )
+
+  -- fewer rounds need less room
+  pub within-fewer : (j : ℕ) → j ≤ k → WithinLimits k nv nf nm room → WithinLimits j nv nf nm room
+  within-fewer j h w =
+      let p : 4 ^ j ≤ 4 ^ k = pow-le-pow-right {n = 4} (omega arith) h in
+      let g : nf / 4 * 4 ^ j ≤ nf / 4 * 4 ^ k = mul-le-mul-left (nf / 4) p in
+      let a = w .few in
+      let b = w .final in
+      let c = w .roomVertices in
+      let d = w .roomFaces in
+      let e = w .roomMarks in
+      let f = w .roomWork in
+      record {
+        few = omega arith;
+        points = w .points;
+        quadrilaterals = w .quadrilaterals;
+        marked = w .marked;
+        vertices = w .vertices;
+        faces = w .faces;
+        final = omega arith;
+        roomVertices = omega arith;
+        roomFaces = omega arith;
+        roomMarks = omega arith;
+        roomWork = omega arith;
+      }
+
+-- ---- 5 to 12 do not hold
+pub record NoRefusal (m : Net) : Type 0 where
+  pub no5 : first (badCoordinate (m .vertices)) (length (m .vertices)) ≡ length (m .vertices)
+  pub no6 : first (badMark (m .marks)) (length (m .marks)) ≡ length (m .marks)
+  pub no7 : first (badCorner quads (length (m .marks)) (m .faces)) (length (m .faces)) ≡ length (m .faces)
+  pub no8 : first (isolated (m .faces)) (length (m .marks)) ≡ length (m .marks)
+  pub no9 : first (repeatedSide quads (m .faces)) (length (m .faces)) ≡ length (m .faces)
+  pub no10 : first (nonManifold quads (m .faces)) (length (m .marks)) ≡ length (m .marks)
+  pub no11 : first (badValence quads (m .faces)) (length (m .marks)) ≡ length (m .marks)
+  pub no12 : first (markedRing quads (m .faces) (m .marks)) (length (m .marks)) ≡ length (m .marks)
+
+pub none-if : (m : Net) → netVerdict m ≡ accepted → NoRefusal m
+unfolding netVerdict adjacencyVerdict
+none-if m e₀ =
+    let a₅ = or-both _ _ e₀ in
+    let a₆ = or-both _ _ (a₅ .1) in
+    let a₇ = or-both _ _ (a₆ .1) in
+    let a₈ = or-both _ _ (a₇ .1) in
+    let a₉ = or-both _ _ (a₈ .1) in
+    let b₀ = or-both _ _ (a₉ .1) in
+    let b₁ = or-both _ _ (b₀ .1) in
+    record {
+      no5 = at-none 5 _ _ (λ i. i / 3) (a₅ .0);
+      no6 = at-none 6 _ _ (λ p. p) (a₆ .0);
+      no7 = at-none 7 _ _ (quads .face) (a₇ .0);
+      no8 = at-none 8 _ _ (λ p. p) (a₈ .0);
+      no9 = at-none 9 _ _ (quads .face) (a₉ .0);
+      no10 = at-none 10 _ _ (λ p. p) (b₀ .0);
+      no11 = at-none 11 _ _ (λ p. p) (b₁ .0);
+      no12 = at-none 12 _ _ (λ p. p) (b₁ .1);
+    }
+
+-- ---- an accepted call
+pub accepted-limits : (c : Call) → verdict c ≡ accepted → WithinLimits (c .rounds) (length (c .net .vertices)) (length (c .net .faces)) (length (c .net .marks)) (c .room)
+unfolding verdict
+accepted-limits c e = within-if _ _ _ _ _ (or-both _ _ e .0)
+
+pub accepted-net : (c : Call) → verdict c ≡ accepted → NoRefusal (c .net)
+unfolding verdict
+accepted-net c e = none-if (c .net) (or-both (callVerdict c) (netVerdict (c .net)) e .1)
+
+pub accepted-manifold : (c : Call) → verdict c ≡ accepted → Manifold quads (length (c .net .marks)) (c .net .faces)
+accepted-manifold c e =
+    let w = accepted-limits c e in
+    let n = accepted-net c e in
+    manifold-if quads (length (c .net .marks)) (c .net .faces) (quads-lawful (length (c .net .faces)) (w .quadrilaterals))
+    (record { no7 = n .no7; no8 = n .no8; no9 = n .no9; no10 = n .no10; no11 = n .no11 })
+
+-- "Checked are adjacency and limits": a call for fewer rounds with the same tables is accepted too
+pub accepted-fewer : (c : Call) (j : ℕ) → j ≤ c .rounds → verdict c ≡ accepted → verdict (record { rounds = j; net = c .net; room = c .room }) ≡ accepted
+unfolding verdict
+accepted-fewer c j h e =
+    let nv = length (c .net .vertices) in
+    let nf = length (c .net .faces) in
+    let nm = length (c .net .marks) in
+    or-accepted (if-within j nv nf nm (c .room) (within-fewer (c .rounds) nv nf nm (c .room) j h (accepted-limits c e))) (or-both (callVerdict c) (netVerdict (c .net)) e .1)
+
+-- what 5 and 6 rule out is not there
+pub accepted-coordinate : (c : Call) → verdict c ≡ accepted → (i : ℕ) → i < length (c .net .vertices) → natAbs (getD (c .net .vertices) i (pos 0)) ≤ 1048576
+unfolding badCoordinate
+accepted-coordinate c e i h =
+    let n = accepted-net c e in
+    let k = n .no5 in
+    ltb-false 1048576 _ (first-before (badCoordinate (c .net .vertices)) (length (c .net .vertices)) i (omega arith))

@@ -1,0 +1,34 @@
+-- A call as the caller makes it.
+use mathlib.Core.List.{List}
+use Prim.Native.Nat.{ℕ, _*_, _/_, _^_}
+use lib.IntN.{ℤ}
+use lib.ListN.{length}
+
+-- "The vertex table has three numbers per vertex, the face table four vertex numbers (32-bit, from 0) per face, the mark table one byte per vertex"
+pub record Net : Type 0 where
+  pub vertices : List ℤ
+  pub faces : List ℕ
+  pub marks : List ℕ
+
+-- how many numbers the output tables and the work table hold
+pub record Room : Type 0 where
+  pub vertices : ℕ
+  pub faces : ℕ
+  pub marks : ℕ
+  pub work : ℕ
+
+pub record Call : Type 0 where
+  pub rounds : ℕ
+  pub net : Net
+  pub room : Room
+
+-- "V and F are their counts."
+abbrev pub vertexCount : Net → ℕ
+vertexCount m = length (m .marks)
+
+abbrev pub faceCount : Net → ℕ
+faceCount m = length (m .faces) / 4
+
+-- "After k rounds there are F × 4^k faces, called G."
+abbrev pub finalFaces : Call → ℕ
+finalFaces c = faceCount (c .net) * 4 ^ c .rounds

@@ -1,0 +1,86 @@
+-- The verdict on a call: refused with a number and a place, or accepted. "The lowest number that holds is given. Places are the lowest number concerned."
+use mathlib.Core.Bool.{Bool, cond, not}
+use mathlib.Core.List.{List}
+use Prim.Native.Nat.{ℕ, _*_, _/_, _%_, _^_}
+use lib.Dec.{eqb, ltb}
+use lib.IntN.{ℤ, pos, natAbs}
+use lib.ListN.{length, getD}
+use Rattle.tables.specs.Tables.{cleared}
+use Rattle.search.specs.Search.{first}
+use Rattle.topology.specs.Shape.{quads}
+use Rattle.refusals.specs.Refusals.{badMark, badCorner, isolated, repeatedSide, nonManifold, badValence, markedRing}
+use Rattle.verdict.specs.Call.{Net, Room, Call, finalFaces}
+
+pub data Verdict : Type 0 where
+  accepted : Verdict
+  refused : (number place : ℕ) → Verdict
+
+-- the first verdict that refuses, of two
+abbrev pub orElse : Verdict → Verdict → Verdict
+orElse accepted v = v
+orElse (refused r p) v = refused r p
+
+-- refusal r with place 0 where a test holds
+abbrev pub refusedIf : ℕ → Bool → Verdict
+refusedIf r t = cond t (refused r 0) accepted
+
+-- refusal r at the lowest of n numbers where a test holds; the place is read off that number
+abbrev pub refusedAt : ℕ → (ℕ → Bool) → ℕ → (ℕ → ℕ) → Verdict
+refusedAt r t n place = cond (ltb (first t n) n) (refused r (place (first t n))) accepted
+
+-- untouched where the call itself was refused
+abbrev pub afterCall : Verdict → List ℕ → List ℕ → List ℕ
+afterCall accepted untouched done = done
+afterCall (refused r p) untouched done = untouched
+
+-- ---- "The calling program (place 0, all memory untouched)": from the numbers of rounds, coordinates, corners and marks, and the room
+unfoldable pub limitsVerdict : (rounds coordinates corners marks : ℕ) → Room → Verdict
+limitsVerdict rounds coordinates corners marks room =
+    -- 1: "rounds above 6."
+    orElse (refusedIf 1 (ltb 6 rounds))
+    -- 2: "vertex table not a multiple of 3, face table not of 4, or marks not V."
+    (orElse (refusedIf 2 (not (eqb (coordinates % 3) 0)))
+    (orElse (refusedIf 2 (not (eqb (corners % 4) 0)))
+    (orElse (refusedIf 2 (not (eqb marks (coordinates / 3))))
+    -- 3: "V above 8,192, F above 4,096, or G above 262,144."
+    (orElse (refusedIf 3 (ltb 8192 (coordinates / 3)))
+    (orElse (refusedIf 3 (ltb 4096 (corners / 4)))
+    (orElse (refusedIf 3 (ltb 262144 (corners / 4 * 4 ^ rounds)))
+    -- 4: "an output or the work table shorter than stated": "outputs of at least 12G coordinates, 4G corners and 4G marks, and a work table of at
+    -- least 16G 32-bit numbers"
+    (orElse (refusedIf 4 (ltb (room .vertices) (12 * (corners / 4 * 4 ^ rounds))))
+    (orElse (refusedIf 4 (ltb (room .faces) (4 * (corners / 4 * 4 ^ rounds))))
+    (orElse (refusedIf 4 (ltb (room .marks) (4 * (corners / 4 * 4 ^ rounds))))
+    (refusedIf 4 (ltb (room .work) (16 * (corners / 4 * 4 ^ rounds)))))))))))))
+
+abbrev pub callVerdict : Call → Verdict
+callVerdict c = limitsVerdict (c .rounds) (length (c .net .vertices)) (length (c .net .faces)) (length (c .net .marks)) (c .room)
+
+-- ---- "Whoever drew the net"
+-- 5: "a coordinate outside -1,048,576 to 1,048,576; vertex."
+unfoldable pub badCoordinate : List ℤ → ℕ → Bool
+badCoordinate vs i = ltb 1048576 (natAbs (getD vs i (pos 0)))
+
+-- 9 to 12, of v vertices
+unfoldable pub adjacencyVerdict : ℕ → List ℕ → List ℕ → Verdict
+adjacencyVerdict v l marks =
+    orElse (refusedAt 9 (repeatedSide quads l) (length l) (quads .face))
+    (orElse (refusedAt 10 (nonManifold quads l) v (λ p. p))
+    (orElse (refusedAt 11 (badValence quads l) v (λ p. p))
+    (refusedAt 12 (markedRing quads l marks) v (λ p. p))))
+
+unfoldable pub netVerdict : Net → Verdict
+netVerdict m =
+    orElse (refusedAt 5 (badCoordinate (m .vertices)) (length (m .vertices)) (λ i. i / 3))
+    (orElse (refusedAt 6 (badMark (m .marks)) (length (m .marks)) (λ p. p))
+    (orElse (refusedAt 7 (badCorner quads (length (m .marks)) (m .faces)) (length (m .faces)) (quads .face))
+    (orElse (refusedAt 8 (isolated (m .faces)) (length (m .marks)) (λ p. p))
+    (adjacencyVerdict (length (m .marks)) (m .faces) (m .marks)))))
+
+unfoldable pub verdict : Call → Verdict
+verdict c = orElse (callVerdict c) (netVerdict (c .net))
+
+-- ---- the work table
+-- "(place 0, all memory untouched)" on 1 to 4; "first 16G work numbers zero" on 5 to 12 and on acceptance; "Work numbers beyond 16G are never touched."
+abbrev pub workAfter : Call → List ℕ → List ℕ
+workAfter c w = afterCall (callVerdict c) w (cleared (16 * finalFaces c) w)

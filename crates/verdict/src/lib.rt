@@ -1,0 +1,1 @@
+// The verdict on a call: definitions in specs/, laws in proofs/. No function.
