@@ -17,7 +17,7 @@ use Rattle.topology.proofs.Shape.{quads-lawful}
 use Rattle.refusals.proofs.Manifold.{manifold-if}
 use Rattle.refusals.specs.Refusals.{badMark, badCorner, isolated, repeatedSide, nonManifold, badValence, markedRing}
 use Rattle.verdict.specs.Call.{Net, Room, Call, finalFaces}
-use Rattle.verdict.specs.Verdict.{Verdict, accepted, refused, orElse, refusedIf, refusedAt, limitsVerdict, callVerdict, badCoordinate, adjacencyVerdict, netVerdict, verdict}
+use Rattle.verdict.specs.Verdict.{Verdict, accepted, refused, orElse, refusedIf, refusedAt, roomVerdict, limitsVerdict, callVerdict, badCoordinate, adjacencyVerdict, netVerdict, verdict}
 use Rattle.verdict.proofs.Examples
 
 -- ---- the chain
@@ -64,7 +64,7 @@ pub record WithinLimits (rounds coordinates corners marks : ℕ) (room : Room) :
 
 module _ (k nv nf nm : ℕ) (room : Room) where
   pub within-if : limitsVerdict k nv nf nm room ≡ accepted → WithinLimits k nv nf nm room
-  unfolding limitsVerdict
+  unfolding limitsVerdict roomVerdict
   within-if e₀ =
       let a₁ = or-both _ _ e₀ in
       let a₂ = or-both _ _ (a₁ .1) in
@@ -91,7 +91,7 @@ module _ (k nv nf nm : ℕ) (room : Room) where
       }
 
   pub if-within : WithinLimits k nv nf nm room → limitsVerdict k nv nf nm room ≡ accepted
-  unfolding limitsVerdict
+  unfolding limitsVerdict roomVerdict
   if-within w =
       simp (
         le-ltb 6 k (w .few),

@@ -33,6 +33,15 @@ abbrev pub afterCall : Verdict → List ℕ → List ℕ → List ℕ
 afterCall accepted untouched done = done
 afterCall (refused r p) untouched done = untouched
 
+-- 4: "an output or the work table shorter than stated": "outputs of at least 12G coordinates, 4G corners and 4G marks, and a work table of at least 16G 32-bit
+-- numbers"
+unfoldable pub roomVerdict : (g : ℕ) → Room → Verdict
+roomVerdict g room =
+    orElse (refusedIf 4 (ltb (room .vertices) (12 * g)))
+    (orElse (refusedIf 4 (ltb (room .faces) (4 * g)))
+    (orElse (refusedIf 4 (ltb (room .marks) (4 * g)))
+    (refusedIf 4 (ltb (room .work) (16 * g)))))
+
 -- ---- "The calling program (place 0, all memory untouched)": from the numbers of rounds, coordinates, corners and marks, and the room
 unfoldable pub limitsVerdict : (rounds coordinates corners marks : ℕ) → Room → Verdict
 limitsVerdict rounds coordinates corners marks room =
@@ -46,12 +55,7 @@ limitsVerdict rounds coordinates corners marks room =
     (orElse (refusedIf 3 (ltb 8192 (coordinates / 3)))
     (orElse (refusedIf 3 (ltb 4096 (corners / 4)))
     (orElse (refusedIf 3 (ltb 262144 (corners / 4 * 4 ^ rounds)))
-    -- 4: "an output or the work table shorter than stated": "outputs of at least 12G coordinates, 4G corners and 4G marks, and a work table of at
-    -- least 16G 32-bit numbers"
-    (orElse (refusedIf 4 (ltb (room .vertices) (12 * (corners / 4 * 4 ^ rounds))))
-    (orElse (refusedIf 4 (ltb (room .faces) (4 * (corners / 4 * 4 ^ rounds))))
-    (orElse (refusedIf 4 (ltb (room .marks) (4 * (corners / 4 * 4 ^ rounds))))
-    (refusedIf 4 (ltb (room .work) (16 * (corners / 4 * 4 ^ rounds)))))))))))))
+    (roomVerdict (corners / 4 * 4 ^ rounds) room)))))))
 
 abbrev pub callVerdict : Call → Verdict
 callVerdict c = limitsVerdict (c .rounds) (length (c .net .vertices)) (length (c .net .faces)) (length (c .net .marks)) (c .room)
