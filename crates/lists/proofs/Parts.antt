@@ -41,3 +41,9 @@ module _ {A : Type 0} where
           let e : length v + (k - length v) ≡ k = omega arith in
           g k (omega arith)
           ∙ sym (ap (λ (j : ℕ). getD (v ++ drop (length v) p) j d) (sym e) ∙ getD-append-add v (drop (length v) p) (k - length v) d ∙ getD-drop (length v) p (k - length v) d ∙ ap (λ (j : ℕ). getD p j d) e)
+
+  -- lists that agree from m on agree from any later place on
+  pub drop-later : (m k : ℕ) (u v : List A) → m ≤ k → drop m u ≡ drop m v → drop k u ≡ drop k v
+  drop-later m k u v h e =
+      let s : m + (k - m) ≡ k = omega arith in
+      ap (λ (n : ℕ). drop n u) (sym s) ∙ sym (drop-drop (k - m) m u) ∙ ap (drop (k - m)) e ∙ drop-drop (k - m) m v ∙ ap (λ (n : ℕ). drop n v) s

@@ -1,0 +1,93 @@
+// The first place of refusals 5, 6 and 8, found by scanning tables.
+ghost use Prim.Native.Nat.{_+_, _*_, _≤_, _<_};
+ghost use mathlib.Core.Path.{_≡_};
+ghost use lib.ListN.{length, drop};
+ghost use Rattle.search.specs.Search.{first};
+ghost use Rattle.verdict.specs.Verdict.{badCoordinate};
+ghost use Rattle.refusals.specs.Refusals.{badMark, isolated};
+ghost use Rattle.scan.specs.Flags.{Flagged};
+
+// The first coordinate out of range, or their number.
+pub fn first_bad_coordinate(vertices: &[i32]) -> usize
+    ensures { λ r. ⌜ r ≡ first (badCoordinate (now (vertices .entry))) (length (now (vertices .entry))) ⌝ }
+{
+    let mut i = 0;
+    while i < vertices.len() {
+        let x = vertices[i];
+        if x < -1048576 {
+            return i;
+        }
+        if x > 1048576 {
+            return i;
+        }
+        i += 1;
+    }
+    i
+}
+
+// The first mark above 1, or their number.
+pub fn first_bad_mark(marks: &[u8]) -> usize
+    ensures { λ r. ⌜ r ≡ first (badMark (now (marks .entry))) (length (now (marks .entry))) ⌝ }
+{
+    let mut i = 0;
+    while i < marks.len() {
+        if marks[i] > 1 {
+            return i;
+        }
+        i += 1;
+    }
+    i
+}
+
+// Flags the corner of half-edge h, if it is one of the first m vertices.
+fn flag(faces: &[u32], m: usize, work: &mut [u32], h: usize)
+    requires { ⌜ (h < length (now faces)) × (m ≤ length (now work)) × Flagged m (now faces) (now work) h ⌝ }
+    ensures { λ _. ⌜ Flagged m (now (faces .entry)) (now (work .exit)) (h + 1) × (drop m (now (work .exit)) ≡ drop m (now (work .entry))) ⌝ }
+{
+    let a = faces[h] as usize;
+    if a < m {
+        work[a] = 1;
+    }
+}
+
+// Flags the corners of all faces among the first m vertices.
+fn flag_all(faces: &[u32], m: usize, work: &mut [u32])
+    requires { ⌜ m ≤ length (now work) ⌝ }
+    ensures { λ _. ⌜ Flagged m (now (faces .entry)) (now (work .exit)) (length (now (faces .entry))) × (drop m (now (work .exit)) ≡ drop m (now (work .entry))) ⌝ }
+{
+    tables::clear(&mut *work, m);
+    let mut h = 0;
+    while h < faces.len() {
+        flag(faces, m, &mut *work, h);
+        h += 1;
+    }
+}
+
+// The first of m vertices without a flag, or m.
+fn first_unflagged(faces: &[u32], m: usize, work: &[u32]) -> usize
+    requires { ⌜ (m ≤ length (now work)) × Flagged m (now faces) (now work) (length (now faces)) ⌝ }
+    ensures { λ r. ⌜ r ≡ first (isolated (now (faces .entry))) m ⌝ }
+{
+    let mut p = 0;
+    while p < m {
+        if work[p] == 0 {
+            return p;
+        }
+        p += 1;
+    }
+    p
+}
+
+// The first of nv vertices that is in no face, or nv. One of the first n + 1 is, if there are more vertices than the n corners.
+pub fn first_isolated(faces: &[u32], nv: usize, work: &mut [u32]) -> usize
+    requires { ⌜ (0 < length (now faces)) × (4 * length (now faces) ≤ length (now work)) ⌝ }
+    ensures { λ r. ⌜ (r ≡ first (isolated (now (faces .entry))) nv) × (drop (4 * length (now (faces .entry))) (now (work .exit)) ≡ drop (4 * length (now (faces .entry))) (now (work .entry))) ⌝ }
+{
+    let n = faces.len();
+    if nv <= n {
+        flag_all(faces, nv, &mut *work);
+        return first_unflagged(faces, nv, &*work);
+    }
+    flag_all(faces, n + 1, &mut *work);
+    first_unflagged(faces, n + 1, &*work)
+}
