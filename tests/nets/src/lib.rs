@@ -1,9 +1,20 @@
 //! Seeded nets and texts for testing the refiner.
+//!
+//! - [`accepted`]: nets that a call accepts, of every kind and size.
+//! - [`refused`]: calls and texts with one or more reasons for a refusal.
+//! - [`damaged`]: texts that lost their form, and damaged tables.
+//! - [`pairs`]: pairs of nets that share a boundary segment.
+//! - [`kind`]: all kinds by name, small nets, and a mixed series of calls.
 
 #![forbid(unsafe_code)]
 
 pub mod accepted;
 pub mod build;
+pub mod case;
 pub mod change;
+pub mod damaged;
+pub mod kind;
+pub mod pairs;
+pub mod refused;
 pub mod rng;
 pub mod shapes;

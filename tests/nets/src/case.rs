@@ -1,0 +1,79 @@
+//! Calls and texts together with what is known of their answers.
+
+use reference::call::{Call, Outcome, refine};
+use reference::net::Net;
+use reference::refusal::{Lengths, Refusal};
+use reference::text::Document;
+
+/// What the maker of a case knows of its answer.
+#[derive(Clone, Copy, Debug, PartialEq, Eq)]
+pub enum Expected {
+    Accepted,
+    Refused(Refusal),
+    /// Damaged at random: nothing is known.
+    Unknown,
+}
+
+impl Expected {
+    pub fn agrees_with(&self, outcome: &Outcome) -> bool {
+        match self {
+            Expected::Accepted => matches!(outcome, Outcome::Refined { .. }),
+            Expected::Refused(refusal) => *outcome == Outcome::from(*refusal),
+            Expected::Unknown => true,
+        }
+    }
+}
+
+/// A call with all its tables; those for the results are given by length.
+#[derive(Clone, Debug)]
+pub struct Case {
+    pub rounds: u32,
+    pub vertices: Vec<i32>,
+    pub faces: Vec<u32>,
+    pub marks: Vec<u8>,
+    pub lent: Lengths,
+    pub expected: Expected,
+}
+
+impl Case {
+    /// A call with tables just long enough.
+    pub fn new(net: &Net, rounds: u32, expected: Expected) -> Self {
+        let refined = net.faces.len() << (2 * rounds.min(6));
+        Self {
+            rounds,
+            vertices: net.vertex_table(),
+            faces: net.face_table(),
+            marks: net.marks.clone(),
+            lent: Lengths::for_refined_faces(refined),
+            expected,
+        }
+    }
+
+    /// The reference's answer.
+    pub fn outcome(&self) -> Outcome {
+        refine(&Call {
+            rounds: self.rounds,
+            vertices: &self.vertices,
+            faces: &self.faces,
+            marks: &self.marks,
+            lent: self.lent,
+        })
+    }
+}
+
+/// A text for the program.
+#[derive(Clone, Debug)]
+pub struct TextCase {
+    pub text: Vec<u8>,
+    pub expected: Expected,
+}
+
+/// The text form of a net.
+pub fn document(net: &Net, rounds: u32) -> Document {
+    Document {
+        rounds,
+        vertices: net.vertex_table(),
+        faces: net.face_table(),
+        marks: net.marks.clone(),
+    }
+}
