@@ -6,98 +6,59 @@ use reference::net::{Net, sides};
 use reference::refusal::check_net;
 use reference::step::refine_once;
 
-use crate::build::count;
+use crate::build::to_u32;
 use crate::change::{
     PLACINGS, Placing, boundary_loops, erode, flip, mark, place, renumber, repair,
 };
 use crate::rng::Rng;
 use crate::shapes;
 
-/// Topological kinds of nets, and kinds of coordinates that deserve their own.
-#[derive(Clone, Copy, Debug, PartialEq, Eq, PartialOrd, Ord)]
-pub enum Shape {
-    Empty,
-    Single,
-    Grid,
-    Holes,
-    Annulus,
-    Cylinder,
-    Sphere,
-    Torus,
-    DoubleTorus,
-    Ring,
-    Fan,
-    Components,
-    Eroded,
-    Soup,
-    Grown,
-    Patch,
-    Split,
-    Extreme,
-    Halves,
+named_cases! {
+    /// Topological kinds of nets, and kinds of coordinates that deserve their own.
+    pub enum Shape {
+        Empty = "empty",
+        Single = "single",
+        Grid = "grid",
+        Holes = "holes",
+        Annulus = "annulus",
+        Cylinder = "cylinder",
+        /// Closed, genus 0.
+        Sphere = "sphere",
+        /// Closed, genus 1.
+        Torus = "torus",
+        /// Closed, genus 2.
+        DoubleTorus = "double-torus",
+        /// Sectors round a vertex with a full ring.
+        Ring = "ring",
+        /// Sectors round a vertex with an open fan.
+        Fan = "fan",
+        /// Several separate nets.
+        Components = "components",
+        /// Another net without some of its faces.
+        Eroded = "eroded",
+        /// Random faces over few vertices.
+        Soup = "soup",
+        /// Grown face by face along the boundary.
+        Grown = "grown",
+        /// A face with any valences and regular layers round it.
+        Patch = "patch",
+        /// Another net with every face split.
+        Split = "split",
+        /// Another net with coordinates at the limit.
+        Extreme = "extreme",
+        /// Another net with coordinates that make halves.
+        Halves = "halves",
+    }
 }
 
-pub const SHAPES: [Shape; 19] = [
-    Shape::Empty,
-    Shape::Single,
-    Shape::Grid,
-    Shape::Holes,
-    Shape::Annulus,
-    Shape::Cylinder,
-    Shape::Sphere,
-    Shape::Torus,
-    Shape::DoubleTorus,
-    Shape::Ring,
-    Shape::Fan,
-    Shape::Components,
-    Shape::Eroded,
-    Shape::Soup,
-    Shape::Grown,
-    Shape::Patch,
-    Shape::Split,
-    Shape::Extreme,
-    Shape::Halves,
-];
-
-/// Shapes that others are made of.
-const PARTS: [Shape; 12] = [
-    Shape::Single,
-    Shape::Grid,
-    Shape::Holes,
-    Shape::Annulus,
-    Shape::Cylinder,
-    Shape::Sphere,
-    Shape::Torus,
-    Shape::Ring,
-    Shape::Fan,
-    Shape::Soup,
-    Shape::Grown,
-    Shape::Patch,
-];
-
 impl Shape {
-    pub fn name(self) -> &'static str {
-        match self {
-            Shape::Empty => "empty",
-            Shape::Single => "single",
-            Shape::Grid => "grid",
-            Shape::Holes => "holes",
-            Shape::Annulus => "annulus",
-            Shape::Cylinder => "cylinder",
-            Shape::Sphere => "sphere",
-            Shape::Torus => "torus",
-            Shape::DoubleTorus => "double-torus",
-            Shape::Ring => "ring",
-            Shape::Fan => "fan",
-            Shape::Components => "components",
-            Shape::Eroded => "eroded",
-            Shape::Soup => "soup",
-            Shape::Grown => "grown",
-            Shape::Patch => "patch",
-            Shape::Split => "split",
-            Shape::Extreme => "extreme",
-            Shape::Halves => "halves",
-        }
+    /// Whether other shapes are made of this one.
+    fn is_part(self) -> bool {
+        use Shape::{Components, DoubleTorus, Empty, Eroded, Extreme, Halves, Split};
+        !matches!(
+            self,
+            Empty | DoubleTorus | Components | Eroded | Split | Extreme | Halves
+        )
     }
 }
 
@@ -212,7 +173,8 @@ fn draw(shape: Shape, size: Size, rng: &mut Rng) -> Net {
 }
 
 fn draw_part(size: Size, rng: &mut Rng) -> Net {
-    let part = rng.pick(&PARTS);
+    let parts = Shape::ALL.iter().copied().filter(|shape| shape.is_part());
+    let part = rng.pick(&parts.collect::<Vec<_>>());
     topology(part, size, rng)
 }
 
@@ -268,7 +230,7 @@ fn double_torus(size: Size, rng: &mut Rng) -> Net {
 /// Sectors round a vertex, each as large as the size allows.
 fn sectors(sectors: i32, closed: bool, size: Size, rng: &mut Rng) -> Net {
     let largest = (1..)
-        .take_while(|&side| count(size.most_faces()) >= (sectors * side * side).unsigned_abs())
+        .take_while(|&side| to_u32(size.most_faces()) >= (sectors * side * side).unsigned_abs())
         .last()
         .unwrap_or(1);
     shapes::sectors(sectors, rng.between(1, largest), closed)
@@ -350,7 +312,7 @@ fn attach(net: &mut Net, rng: &mut Rng) {
     let sides = rng.pick(&[1, 1, 2, 2, 3]);
     let mut corners: Vec<u32> = (0..=sides).rev().map(at).collect();
     while corners.len() < 4 {
-        corners.push(count(net.points.len()));
+        corners.push(to_u32(net.points.len()));
         net.points.push([0; 3]);
         net.marks.push(0);
     }

@@ -29,7 +29,7 @@ impl<K: Ord + Copy> Builder<K> {
     }
 
     fn vertex(&mut self, key: K, place: impl Fn(K) -> Point) -> u32 {
-        let next = count(self.net.points.len());
+        let next = to_u32(self.net.points.len());
         *self.numbers.entry(key).or_insert_with(|| {
             self.net.points.push(place(key));
             self.net.marks.push(0);
@@ -42,7 +42,7 @@ impl<K: Ord + Copy> Builder<K> {
     }
 }
 
-/// A number of vertices or faces as a vertex or face number.
-pub fn count(length: usize) -> u32 {
+/// A length or position in a table as a 32-bit number.
+pub fn to_u32(length: usize) -> u32 {
     u32::try_from(length).expect("small tables")
 }

@@ -2,7 +2,7 @@
 
 use reference::call::{Call, Outcome, refine};
 use reference::net::Net;
-use reference::refusal::{Lengths, Refusal};
+use reference::refusal::{Capacity, MAX_ROUNDS, Refusal};
 use reference::text::Document;
 
 /// What the maker of a case knows of its answer.
@@ -31,20 +31,22 @@ pub struct Case {
     pub vertices: Vec<i32>,
     pub faces: Vec<u32>,
     pub marks: Vec<u8>,
-    pub lent: Lengths,
+    pub capacity: Capacity,
     pub expected: Expected,
 }
 
 impl Case {
-    /// A call with tables just long enough.
+    /// A call with tables just long enough, or for one round if there are
+    /// too many rounds.
     pub fn new(net: &Net, rounds: u32, expected: Expected) -> Self {
-        let refined = net.faces.len() << (2 * rounds.min(6));
+        let served = if rounds <= MAX_ROUNDS { rounds } else { 1 };
+        let refined = net.faces.len() << (2 * served);
         Self {
             rounds,
             vertices: net.vertex_table(),
             faces: net.face_table(),
             marks: net.marks.clone(),
-            lent: Lengths::for_refined_faces(refined),
+            capacity: Capacity::for_refined_faces(refined),
             expected,
         }
     }
@@ -56,7 +58,7 @@ impl Case {
             vertices: &self.vertices,
             faces: &self.faces,
             marks: &self.marks,
-            lent: self.lent,
+            capacity: self.capacity,
         })
     }
 }

@@ -6,7 +6,7 @@ use reference::net::Net;
 use reference::refusal::{Refusal, check_net};
 use reference::topology::Topology;
 
-use crate::build::count;
+use crate::build::to_u32;
 use crate::rng::Rng;
 
 const LIMIT: i32 = 1_048_576;
@@ -23,7 +23,7 @@ pub fn drop_unused_vertices(net: Net) -> Net {
     };
     let mut numbers = vec![0; is_used.len()];
     for (vertex, _) in is_used.iter().enumerate().filter(|(_, used)| **used) {
-        numbers[vertex] = count(kept.points.len());
+        numbers[vertex] = to_u32(kept.points.len());
         kept.points.push(net.points[vertex]);
         kept.marks.push(net.marks[vertex]);
     }
@@ -73,7 +73,7 @@ pub fn flip(net: &mut Net) {
 /// Boundary loops as vertex lists, the way the sides run.
 pub fn boundary_loops(net: &Net) -> Vec<Vec<u32>> {
     let topology = Topology::new(&net.faces).expect("an accepted net");
-    let mut after = topology.boundary();
+    let mut after = topology.boundary().after;
     let mut loops = Vec::new();
     while let Some((&start, _)) = after.first_key_value() {
         let mut vertices = Vec::new();
@@ -199,7 +199,7 @@ fn split_vertex(net: &mut Net, vertex: u32) {
     let open_end = spokes.keys().copied().find(is_open_end);
     let first = spokes.keys().copied().next();
     let mut at = open_end.or(first).expect("a vertex of some face");
-    let copy = count(net.points.len());
+    let copy = to_u32(net.points.len());
     net.points.push(net.points[vertex as usize]);
     net.marks.push(0);
     while let Some((next, number)) = spokes.remove(&at) {

@@ -1,114 +1,49 @@
 //! Texts and tables damaged in known or random ways.
 
-use reference::refusal::{Lengths, Refusal};
+use reference::refusal::{Capacity, Refusal};
 use reference::text::MAX_BYTES;
 
-use crate::accepted::{SHAPES, Size, accepted};
-use crate::build::count;
+use crate::accepted::{Shape, Size, accepted};
+use crate::build::to_u32;
 use crate::case::{Case, Expected, TextCase, document};
 use crate::rng::Rng;
 
-/// Ways to damage a text so that it no longer has its form.
-#[derive(Clone, Copy, Debug, PartialEq, Eq)]
-pub enum Damage {
-    Empty,
-    TooLong,
-    WrongName,
-    CapitalName,
-    PlusSign,
-    LeadingZero,
-    MinusZero,
-    LoneMinus,
-    MinusOnCount,
-    DoubleBlank,
-    LeadingBlank,
-    TrailingBlank,
-    Tab,
-    CarriageReturn,
-    ZeroByte,
-    Letter,
-    Beyond32Bits,
-    Mark256,
-    MissingValue,
-    SurplusValue,
-    MissingLine,
-    SurplusLine,
-    SurplusByte,
-    BlankLine,
-    NoLastNewline,
-    HugeVertexCount,
-    HugeFaceCount,
-    /// Some bytes changed at random; the answer is not known beforehand.
-    RandomBytes,
-    /// Cut at random.
-    Cut,
-}
-
-pub const DAMAGES: [Damage; 29] = [
-    Damage::Empty,
-    Damage::TooLong,
-    Damage::WrongName,
-    Damage::CapitalName,
-    Damage::PlusSign,
-    Damage::LeadingZero,
-    Damage::MinusZero,
-    Damage::LoneMinus,
-    Damage::MinusOnCount,
-    Damage::DoubleBlank,
-    Damage::LeadingBlank,
-    Damage::TrailingBlank,
-    Damage::Tab,
-    Damage::CarriageReturn,
-    Damage::ZeroByte,
-    Damage::Letter,
-    Damage::Beyond32Bits,
-    Damage::Mark256,
-    Damage::MissingValue,
-    Damage::SurplusValue,
-    Damage::MissingLine,
-    Damage::SurplusLine,
-    Damage::SurplusByte,
-    Damage::BlankLine,
-    Damage::NoLastNewline,
-    Damage::HugeVertexCount,
-    Damage::HugeFaceCount,
-    Damage::RandomBytes,
-    Damage::Cut,
-];
-
-impl Damage {
-    pub fn name(self) -> &'static str {
-        match self {
-            Damage::Empty => "empty",
-            Damage::TooLong => "too-long",
-            Damage::WrongName => "wrong-name",
-            Damage::CapitalName => "capital-name",
-            Damage::PlusSign => "plus-sign",
-            Damage::LeadingZero => "leading-zero",
-            Damage::MinusZero => "minus-zero",
-            Damage::LoneMinus => "lone-minus",
-            Damage::MinusOnCount => "minus-on-count",
-            Damage::DoubleBlank => "double-blank",
-            Damage::LeadingBlank => "leading-blank",
-            Damage::TrailingBlank => "trailing-blank",
-            Damage::Tab => "tab",
-            Damage::CarriageReturn => "carriage-return",
-            Damage::ZeroByte => "zero-byte",
-            Damage::Letter => "letter",
-            Damage::Beyond32Bits => "beyond-32-bits",
-            Damage::Mark256 => "mark-256",
-            Damage::MissingValue => "missing-value",
-            Damage::SurplusValue => "surplus-value",
-            Damage::MissingLine => "missing-line",
-            Damage::SurplusLine => "surplus-line",
-            Damage::SurplusByte => "surplus-byte",
-            Damage::BlankLine => "blank-line",
-            Damage::NoLastNewline => "no-last-newline",
-            Damage::HugeVertexCount => "huge-vertex-count",
-            Damage::HugeFaceCount => "huge-face-count",
-            Damage::RandomBytes => "random-bytes",
-            Damage::Cut => "cut",
-        }
+named_cases! {
+    /// Ways to damage a text so that it no longer has its form.
+    pub enum Damage {
+        Empty = "empty",
+        TooLong = "too-long",
+        WrongName = "wrong-name",
+        CapitalName = "capital-name",
+        PlusSign = "plus-sign",
+        LeadingZero = "leading-zero",
+        MinusZero = "minus-zero",
+        LoneMinus = "lone-minus",
+        MinusOnCount = "minus-on-count",
+        DoubleBlank = "double-blank",
+        LeadingBlank = "leading-blank",
+        TrailingBlank = "trailing-blank",
+        Tab = "tab",
+        CarriageReturn = "carriage-return",
+        ZeroByte = "zero-byte",
+        Letter = "letter",
+        Beyond32Bits = "beyond-32-bits",
+        Mark256 = "mark-256",
+        MissingValue = "missing-value",
+        SurplusValue = "surplus-value",
+        /// The names line lacks `corner`, the vertex lines have marks.
+        MissingMarkName = "missing-mark-name",
+        MissingLine = "missing-line",
+        SurplusLine = "surplus-line",
+        SurplusByte = "surplus-byte",
+        BlankLine = "blank-line",
+        NoLastNewline = "no-last-newline",
+        HugeVertexCount = "huge-vertex-count",
+        HugeFaceCount = "huge-face-count",
+        /// Some bytes changed at random; the answer is not known beforehand.
+        RandomBytes = "random-bytes",
+        /// Cut at random.
+        Cut = "cut",
     }
 }
 
@@ -169,9 +104,9 @@ impl Lines {
 /// A sound text with at least one face, which the form of texts allows.
 fn sound_text(rng: &mut Rng) -> Vec<u8> {
     loop {
-        let net = accepted(rng.pick(&SHAPES), Size::Small, rng);
+        let net = accepted(rng.pick(&Shape::ALL), Size::Small, rng);
         if !net.faces.is_empty() {
-            return document(&net, count(rng.below(3))).to_text().into_bytes();
+            return document(&net, to_u32(rng.below(3))).to_text().into_bytes();
         }
     }
 }
@@ -199,6 +134,7 @@ pub fn damage_text(text: &[u8], damage: Damage, rng: &mut Rng) -> TextCase {
         }
         Damage::MissingLine
         | Damage::SurplusLine
+        | Damage::MissingMarkName
         | Damage::BlankLine
         | Damage::HugeVertexCount
         | Damage::HugeFaceCount => damage_structure(&mut lines, damage, rng),
@@ -268,6 +204,10 @@ fn damage_structure(lines: &mut Lines, damage: Damage, rng: &mut Rng) -> usize {
             lines.lines.push(last);
             lines.lines.len() - 1
         }
+        Damage::MissingMarkName => {
+            lines.lines[2] = "x y z".to_owned();
+            3
+        }
         Damage::BlankLine => {
             let line = rng.below(lines.lines.len() + 1);
             lines.lines.insert(line, String::new());
@@ -288,7 +228,7 @@ fn damage_structure(lines: &mut Lines, damage: Damage, rng: &mut Rng) -> usize {
 fn refused_text(text: Vec<u8>, line: usize) -> TextCase {
     TextCase {
         text,
-        expected: Expected::Refused(Refusal::new(13, count(line))),
+        expected: Expected::Refused(Refusal::new(13, to_u32(line))),
     }
 }
 
@@ -325,8 +265,8 @@ fn random_bytes(text: &[u8], rng: &mut Rng) -> TextCase {
 
 /// A call with a sound net changed at random: some entries, some lengths.
 pub fn damaged_tables(size: Size, rng: &mut Rng) -> Case {
-    let net = accepted(rng.pick(&SHAPES), size, rng);
-    let mut case = Case::new(&net, count(rng.below(3)), Expected::Unknown);
+    let net = accepted(rng.pick(&Shape::ALL), size, rng);
+    let mut case = Case::new(&net, to_u32(rng.below(3)), Expected::Unknown);
     for _ in 0..rng.between(1, 3) {
         damage_entry(&mut case, rng);
     }
@@ -337,7 +277,7 @@ pub fn damaged_tables(size: Size, rng: &mut Rng) -> Case {
 }
 
 fn damage_entry(case: &mut Case, rng: &mut Rng) {
-    let vertices = count(case.marks.len());
+    let vertices = to_u32(case.marks.len());
     match rng.below(3) {
         0 if !case.vertices.is_empty() => {
             let at = rng.below(case.vertices.len());
@@ -369,11 +309,11 @@ fn damage_lengths(case: &mut Case, rng: &mut Rng) {
     case.faces.resize(length, 0);
     let length = near(case.marks.len(), rng);
     case.marks.resize(length, 0);
-    case.lent = Lengths {
-        vertices: near(case.lent.vertices, rng),
-        faces: near(case.lent.faces, rng),
-        marks: near(case.lent.marks, rng),
-        work: near(case.lent.work, rng),
+    case.capacity = Capacity {
+        vertices: near(case.capacity.vertices, rng),
+        faces: near(case.capacity.faces, rng),
+        marks: near(case.capacity.marks, rng),
+        workspace: near(case.capacity.workspace, rng),
     };
 }
 
@@ -382,13 +322,13 @@ pub fn random_tables(rng: &mut Rng) -> Case {
     let vertices = rng.below(8);
     let faces = rng.below(5);
     let mut case = Case {
-        rounds: count(rng.below(3)),
+        rounds: to_u32(rng.below(3)),
         vertices: (0..3 * vertices).map(|_| rng.between(-99, 99)).collect(),
         faces: (0..4 * faces)
-            .map(|_| count(rng.below(vertices + 1)))
+            .map(|_| to_u32(rng.below(vertices + 1)))
             .collect(),
         marks: (0..vertices).map(|_| u8::from(rng.one_in(4))).collect(),
-        lent: Lengths::for_refined_faces(16 * faces),
+        capacity: Capacity::for_refined_faces(16 * faces),
         expected: Expected::Unknown,
     };
     if rng.one_in(3) {

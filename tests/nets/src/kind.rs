@@ -1,13 +1,13 @@
 //! The kinds of texts by name, and mixed series of nets and calls.
 
 use reference::net::Net;
-use reference::refusal::Lengths;
+use reference::refusal::Capacity;
 use reference::text::PROGRAM_REFINED_FACES;
 
-use crate::accepted::{SHAPES, Shape, Size, accepted};
-use crate::build::count;
+use crate::accepted::{Shape, Size, accepted};
+use crate::build::to_u32;
 use crate::case::{Case, Expected, TextCase, document};
-use crate::damaged::{DAMAGES, Damage, damage_text, damaged_tables, damaged_text, random_tables};
+use crate::damaged::{Damage, damage_text, damaged_tables, damaged_text, random_tables};
 use crate::refused::{TEXT_REASONS, refused_call, refused_text};
 use crate::rng::Rng;
 
@@ -28,15 +28,15 @@ pub enum Kind {
 
 impl Kind {
     pub fn all() -> Vec<Kind> {
-        let mut kinds: Vec<Kind> = SHAPES.map(Kind::Accepted).to_vec();
-        kinds.extend(SHAPES.map(Kind::Small));
+        let mut kinds: Vec<Kind> = Shape::ALL.map(Kind::Accepted).to_vec();
+        kinds.extend(Shape::ALL.map(Kind::Small));
         for (at, &first) in TEXT_REASONS.iter().enumerate() {
             kinds.push(Kind::Refused(vec![first]));
             for &second in &TEXT_REASONS[at + 1..] {
                 kinds.push(Kind::Refused(vec![first, second]));
             }
         }
-        kinds.extend(DAMAGES.map(Kind::Damaged));
+        kinds.extend(Damage::ALL.map(Kind::Damaged));
         kinds.extend(TEXT_REASONS.map(Kind::DamagedAnd));
         kinds
     }
@@ -64,11 +64,13 @@ impl Kind {
             Kind::Accepted(shape) => {
                 let net = accepted(*shape, Size::Medium, rng);
                 let most = most_rounds(&net, PROGRAM_REFINED_FACES).min(4);
-                accepted_text(&net, count(rng.below(most as usize + 1)))
+                let rounds = to_u32(rng.below(most as usize + 1));
+                accepted_text(&net, rounds, rng)
             }
             Kind::Small(shape) => {
                 let net = accepted(*shape, Size::Small, rng);
-                accepted_text(&net, rng.pick(&[1, 2]))
+                let rounds = rng.pick(&[1, 2]);
+                accepted_text(&net, rounds, rng)
             }
             Kind::Refused(reasons) => refused_text(reasons, rng),
             Kind::Damaged(damage) => damaged_text(*damage, rng),
@@ -81,9 +83,18 @@ impl Kind {
     }
 }
 
-fn accepted_text(net: &Net, rounds: u32) -> TextCase {
+/// The text of an accepted net; the mark column may be missing if all marks
+/// are 0.
+fn accepted_text(net: &Net, rounds: u32, rng: &mut Rng) -> TextCase {
+    let document = document(net, rounds);
+    let is_unmarked = net.marks.iter().all(|&mark| mark == 0);
+    let text = if is_unmarked && rng.one_in(2) {
+        document.to_unmarked_text()
+    } else {
+        document.to_text()
+    };
     TextCase {
-        text: document(net, rounds).to_text().into_bytes(),
+        text: text.into_bytes(),
         expected: Expected::Accepted,
     }
 }
@@ -101,7 +112,7 @@ fn most_rounds(net: &Net, faces: usize) -> u32 {
 pub fn small_nets(seed: u64, number: usize) -> Vec<(Net, u32)> {
     let mut rng = Rng::new(seed);
     let mut chosen: Vec<(Net, u32)> = Vec::new();
-    for shape in SHAPES.into_iter().cycle() {
+    for shape in Shape::ALL.into_iter().cycle() {
         if chosen.len() == number {
             break;
         }
@@ -122,7 +133,7 @@ pub fn call(seed: u64) -> Case {
         0..=3 => accepted_call(rng),
         4 | 5 => {
             let reasons: Vec<u32> = (0..rng.between(1, 3))
-                .map(|_| count(rng.below(12)) + 1)
+                .map(|_| to_u32(rng.below(12)) + 1)
                 .collect();
             refused_call(&reasons, rng)
         }
@@ -131,11 +142,11 @@ pub fn call(seed: u64) -> Case {
     };
     if case.expected == Expected::Accepted {
         let surplus = |rng: &mut Rng| rng.pick(&[0, 0, 1, 7]);
-        case.lent = Lengths {
-            vertices: case.lent.vertices + surplus(rng),
-            faces: case.lent.faces + surplus(rng),
-            marks: case.lent.marks + surplus(rng),
-            work: case.lent.work + surplus(rng),
+        case.capacity = Capacity {
+            vertices: case.capacity.vertices + surplus(rng),
+            faces: case.capacity.faces + surplus(rng),
+            marks: case.capacity.marks + surplus(rng),
+            workspace: case.capacity.workspace + surplus(rng),
         };
     }
     case
@@ -149,7 +160,7 @@ fn accepted_call(rng: &mut Rng) -> Case {
         10..=99 => (Size::Medium, 256),
         _ => (Size::Small, 256),
     };
-    let net = accepted(rng.pick(&SHAPES), size, rng);
+    let net = accepted(rng.pick(&Shape::ALL), size, rng);
     let most = most_rounds(&net, faces) as usize;
-    Case::new(&net, count(rng.below(most + 1)), Expected::Accepted)
+    Case::new(&net, to_u32(rng.below(most + 1)), Expected::Accepted)
 }

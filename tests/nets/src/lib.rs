@@ -8,6 +8,26 @@
 
 #![forbid(unsafe_code)]
 
+/// Defines an enum with the list of its cases and a name for each.
+macro_rules! named_cases {
+    (
+        $(#[$about:meta])*
+        pub enum $kind:ident { $($(#[$note:meta])* $case:ident = $name:literal,)+ }
+    ) => {
+        $(#[$about])*
+        #[derive(Clone, Copy, Debug, PartialEq, Eq, PartialOrd, Ord)]
+        pub enum $kind { $($(#[$note])* $case,)+ }
+
+        impl $kind {
+            pub const ALL: [Self; [$($name),+].len()] = [$(Self::$case),+];
+
+            pub fn name(self) -> &'static str {
+                match self { $(Self::$case => $name,)+ }
+            }
+        }
+    };
+}
+
 pub mod accepted;
 pub mod build;
 pub mod case;

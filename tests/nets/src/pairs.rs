@@ -5,7 +5,7 @@ use reference::net::Net;
 use reference::point::Point;
 use reference::seam::{Reading, Way};
 
-use crate::build::count;
+use crate::build::to_u32;
 use crate::change::{Placing, flip, mark, place, renumber};
 use crate::rng::Rng;
 use crate::shapes;
@@ -91,7 +91,7 @@ fn around(edges: i32, layers: i32) -> (Net, Vec<u32>) {
 fn across(edges: i32, layers: i32) -> (Net, Vec<u32>) {
     let net = shapes::grid(edges, layers);
     let bottom = |v: &u32| net.points[*v as usize][1] == 0;
-    let row = (0..count(net.points.len())).filter(bottom);
+    let row = (0..to_u32(net.points.len())).filter(bottom);
     let mut row: Vec<u32> = row.collect();
     row.sort_by_key(|&v| net.points[v as usize][0]);
     (net, row)

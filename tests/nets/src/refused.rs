@@ -1,11 +1,11 @@
 //! Random calls and texts with one or more reasons for a refusal.
 
 use reference::net::Net;
-use reference::refusal::{Lengths, MAX_COORDINATE, Refusal};
+use reference::refusal::{Capacity, MAX_COORDINATE, Refusal};
 use reference::text::PROGRAM_REFINED_FACES;
 
-use crate::accepted::{SHAPES, Size, accepted};
-use crate::build::count;
+use crate::accepted::{Shape, Size, accepted};
+use crate::build::to_u32;
 use crate::case::{Case, Expected, TextCase, document};
 use crate::change::{Numbering, renumber};
 use crate::rng::Rng;
@@ -62,23 +62,23 @@ impl Draft {
     }
 
     fn sound_vertex(&self, rng: &mut Rng) -> u32 {
-        count(rng.below(self.sound.0))
+        to_u32(rng.below(self.sound.0))
     }
 
     fn new_vertex(&mut self) -> u32 {
         self.net.points.push([1, 2, 3]);
         self.net.marks.push(0);
-        count(self.net.points.len() - 1)
+        to_u32(self.net.points.len() - 1)
     }
 
     fn new_face(&mut self, corners: [u32; 4]) -> u32 {
         self.net.faces.push(corners);
-        count(self.net.faces.len() - 1)
+        to_u32(self.net.faces.len() - 1)
     }
 
     /// Adds a separate net and returns its first vertex.
     fn add(&mut self, other: &Net) -> u32 {
-        let first = count(self.net.points.len());
+        let first = to_u32(self.net.points.len());
         self.net = shapes::union(std::mem::take(&mut self.net), other);
         first
     }
@@ -131,7 +131,7 @@ impl Draft {
     /// A face again, or another one on a side that is taken; each face of the
     /// sound net is used once.
     fn put_repeated_side(&mut self, rng: &mut Rng) {
-        let is_free = |&face: &usize| !self.flaws.pairs.iter().any(|[f, _]| *f == count(face));
+        let is_free = |&face: &usize| !self.flaws.pairs.iter().any(|[f, _]| *f == to_u32(face));
         let free: Vec<usize> = (0..self.sound.1).filter(is_free).collect();
         if free.is_empty() {
             return;
@@ -144,7 +144,7 @@ impl Draft {
             corners[3] = self.new_vertex();
         }
         let later = self.new_face(corners);
-        self.flaws.pairs.push([count(earlier), later]);
+        self.flaws.pairs.push([to_u32(earlier), later]);
     }
 
     /// A separate square that touches the net at one vertex.
@@ -187,7 +187,7 @@ impl Draft {
     /// The net under a random numbering, and the places of its reasons.
     fn finish(self, rng: &mut Rng) -> (Net, Flaws, Numbering) {
         let (mut net, numbering) = renumber(&self.net, rng);
-        let vertices = count(net.points.len());
+        let vertices = to_u32(net.points.len());
         for corner in net.faces.as_flattened_mut() {
             if *corner == BEYOND {
                 *corner = rng.pick(&[vertices, vertices + 1, i32::MAX as u32]);
@@ -200,7 +200,7 @@ impl Draft {
 /// A small sound net with at least one face.
 fn base(rng: &mut Rng) -> Net {
     loop {
-        let net = accepted(rng.pick(&SHAPES), Size::Small, rng);
+        let net = accepted(rng.pick(&Shape::ALL), Size::Small, rng);
         if !net.faces.is_empty() {
             return net;
         }
@@ -239,7 +239,7 @@ pub fn refused_call(reasons: &[u32], rng: &mut Rng) -> Case {
     let (start, mut rounds) = if has(3) {
         oversized(rng)
     } else {
-        (base(rng), count(rng.below(3)))
+        (base(rng), to_u32(rng.below(3)))
     };
     if has(1) {
         rounds = rng.pick(&[7, 8, 100, u32::MAX]);
@@ -250,7 +250,7 @@ pub fn refused_call(reasons: &[u32], rng: &mut Rng) -> Case {
         break_tables(&mut case, rng);
     }
     if has(4) {
-        shorten(&mut case.lent, rng);
+        shorten(&mut case.capacity, rng);
     }
     case.expected = callers_refusal(reasons).unwrap_or(case.expected);
     case
@@ -289,13 +289,23 @@ fn break_tables(case: &mut Case, rng: &mut Rng) {
     }
 }
 
-fn shorten(lent: &mut Lengths, rng: &mut Rng) {
-    let least = [lent.vertices, lent.faces, lent.marks, lent.work];
+fn shorten(capacity: &mut Capacity, rng: &mut Rng) {
+    let least = [
+        capacity.vertices,
+        capacity.faces,
+        capacity.marks,
+        capacity.workspace,
+    ];
     let mut lengths = least;
     let chosen = rng.below(4);
     let kept = rng.pick(&[0, least[chosen] / 2, least[chosen] - 1]);
     lengths[chosen] = kept;
-    [lent.vertices, lent.faces, lent.marks, lent.work] = lengths;
+    [
+        capacity.vertices,
+        capacity.faces,
+        capacity.marks,
+        capacity.workspace,
+    ] = lengths;
 }
 
 /// Reasons that a well-formed text can have.

@@ -5,7 +5,7 @@ use std::collections::BTreeSet;
 use reference::net::Net;
 use reference::point::Point;
 
-use crate::build::{Builder, count};
+use crate::build::{Builder, to_u32};
 use crate::change::{boundary_loops, drop_unused_vertices};
 
 /// Side length of the squares that the plain nets are made of.
@@ -207,7 +207,7 @@ fn add_layer(net: &mut Net, wanted: &[usize]) {
     // Each rim vertex in turn gets its spoke ends and the corners between them.
     let mut ends: Vec<Vec<u32>> = Vec::new();
     for (&vertex, &spokes) in rim.iter().zip(&spokes) {
-        let first = count(net.points.len());
+        let first = to_u32(net.points.len());
         let new: Vec<u32> = (first..).take(2 * spokes - 1).collect();
         net.points.resize(net.points.len() + new.len(), [0; 3]);
         for fan in new.windows(3).step_by(2) {
@@ -225,7 +225,7 @@ fn add_layer(net: &mut Net, wanted: &[usize]) {
 
 /// Two nets side by side.
 pub fn union(mut first: Net, second: &Net) -> Net {
-    let shift = count(first.points.len());
+    let shift = to_u32(first.points.len());
     first.points.extend(&second.points);
     first.marks.extend(&second.marks);
     first
@@ -236,7 +236,7 @@ pub fn union(mut first: Net, second: &Net) -> Net {
 
 /// Two nets joined along a face of each, which both disappear.
 pub fn connected_sum(first: Net, face: usize, second: &Net, other: usize) -> Net {
-    let shift = count(first.points.len());
+    let shift = to_u32(first.points.len());
     let faces = first.faces.len();
     let mut net = union(first, second);
     let removed = net.faces.swap_remove(faces + other);

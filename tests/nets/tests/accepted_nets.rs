@@ -2,7 +2,7 @@
 
 use std::collections::BTreeMap;
 
-use nets::accepted::{SHAPES, Shape, Size, accepted};
+use nets::accepted::{Shape, Size, accepted};
 use nets::change::boundary_loops;
 use nets::rng::Rng;
 use reference::net::Net;
@@ -15,7 +15,7 @@ fn some(shape: Shape, size: Size, count: u64) -> impl Iterator<Item = Net> {
 
 #[test]
 fn every_kind_is_accepted_and_keeps_its_size() {
-    for shape in SHAPES {
+    for shape in Shape::ALL {
         for (size, count) in [(Size::Small, 60), (Size::Medium, 20), (Size::Large, 2)] {
             for net in some(shape, size, count) {
                 assert_eq!(check_net(&net), Ok(()), "{shape:?}");
@@ -51,7 +51,7 @@ fn closed_surfaces_have_their_genus() {
 fn all_rings_and_fans_occur() {
     for size in [Size::Small, Size::Medium] {
         let mut met: BTreeMap<(bool, usize), usize> = BTreeMap::new();
-        for shape in SHAPES {
+        for shape in Shape::ALL {
             for net in some(shape, size, 30) {
                 let topology = Topology::new(&net.faces).expect("accepted");
                 for vertex in (0..).take(net.points.len()) {

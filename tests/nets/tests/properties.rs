@@ -2,10 +2,12 @@
 
 use std::collections::{BTreeMap, BTreeSet};
 
-use nets::accepted::{SHAPES, Shape, Size, accepted};
+use nets::accepted::{Shape, Size, accepted};
 use nets::change::{boundary_loops, flip, renumber};
 use nets::rng::Rng;
 use reference::call::refine_times;
+use reference::curve::{Form, distance_bound, exact_curve, rounded_curve};
+use reference::fraction::Fraction;
 use reference::net::{Net, edge};
 use reference::point::{ExactPoint, Point};
 use reference::seam::check_seam;
@@ -16,7 +18,7 @@ const COORDINATE_BOUND: u32 = 268_435_456;
 
 /// Nets of every kind, `count` of each.
 fn nets(size: Size, count: u64) -> impl Iterator<Item = (Shape, Net)> {
-    SHAPES.into_iter().flat_map(move |shape| {
+    Shape::ALL.into_iter().flat_map(move |shape| {
         (0..count).map(move |seed| (shape, accepted(shape, size, &mut Rng::new(seed))))
     })
 }
@@ -77,6 +79,59 @@ fn boundaries_are_curves_of_their_own() {
         }
     }
     assert!(readings > 2000);
+}
+
+#[test]
+fn rounded_curves_stay_near_the_exact_ones() {
+    let mut rng = Rng::new(3);
+    for (form, fewest) in [(Form::Open, 2), (Form::Round, 3)] {
+        for length in fewest..12 {
+            let reach = rng.pick(&[1, 9, 1_048_576]);
+            let points: Vec<Point> = (0..length)
+                .map(|_| [(); 3].map(|()| rng.between(-reach, reach)))
+                .collect();
+            for steps in 0..=6 {
+                let rounded = rounded_curve(form, &points, steps);
+                let exact = exact_curve(form, &points, steps);
+                assert_eq!(rounded.len(), exact.len());
+                let values = rounded.as_flattened().iter().zip(exact.as_flattened());
+                let distance =
+                    |(&r, &e): (&i32, &i128)| (i128::from(r) * 16_i128.pow(steps) - e).abs();
+                assert!(values.map(distance).max() <= Some(distance_bound(steps)));
+            }
+        }
+    }
+}
+
+/// The largest sum of absolute weights of a new point, from refining unit
+/// points.
+fn largest_weight_sum(net: &Net) -> Fraction {
+    let mut sums: Vec<Fraction> = Vec::new();
+    for vertex in 0..net.points.len() {
+        let mut unit = net.clone();
+        unit.points.fill([0; 3]);
+        unit.points[vertex] = [1, 0, 0];
+        let made = refine_once(&unit).made;
+        sums.resize(made.len(), Fraction::ZERO);
+        for (sum, new) in sums.iter_mut().zip(made) {
+            let weight = new.exact.0[0];
+            *sum = *sum + Fraction::new(weight.numerator().abs(), weight.denominator());
+        }
+    }
+    let larger = |a: Fraction, b: Fraction| if (a - b).numerator() > 0 { a } else { b };
+    sums.into_iter().fold(Fraction::ZERO, larger)
+}
+
+#[test]
+fn weights_are_too_small_to_leave_the_bound_in_six_rounds() {
+    // 2.5 to the power 6 is below 256, the ratio of the two limits.
+    for (shape, net) in nets(Size::Small, 30) {
+        let sum = largest_weight_sum(&net);
+        assert!(
+            (sum * 2 - Fraction::whole(5)).numerator() < 0,
+            "{shape:?} {sum:?}"
+        );
+    }
 }
 
 #[test]

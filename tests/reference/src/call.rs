@@ -1,18 +1,18 @@
 //! The call that refines a net, with the tables it is given.
 
 use crate::net::Net;
-use crate::refusal::{Lengths, Refusal, check_call, check_net, refined_faces};
+use crate::refusal::{Capacity, Refusal, check_call, check_net, refined_faces};
 use crate::step::refine_once;
 
 /// What a caller passes: the net, the rounds and the lengths of the tables
-/// for the results.
+/// for the results and as workspace.
 #[derive(Clone, Copy, Debug)]
 pub struct Call<'a> {
     pub rounds: u32,
     pub vertices: &'a [i32],
     pub faces: &'a [u32],
     pub marks: &'a [u8],
-    pub lent: Lengths,
+    pub capacity: Capacity,
 }
 
 /// What a call reports.
@@ -44,16 +44,16 @@ pub struct Tables {
     pub vertices: Vec<i32>,
     pub faces: Vec<u32>,
     pub marks: Vec<u8>,
-    pub work: Vec<u32>,
+    pub workspace: Vec<u32>,
 }
 
 impl Tables {
-    pub fn lengths(&self) -> Lengths {
-        Lengths {
+    pub fn capacity(&self) -> Capacity {
+        Capacity {
             vertices: self.vertices.len(),
             faces: self.faces.len(),
             marks: self.marks.len(),
-            work: self.work.len(),
+            workspace: self.workspace.len(),
         }
     }
 }
@@ -65,7 +65,7 @@ pub fn refine(call: &Call) -> Outcome {
         call.vertices,
         call.faces,
         call.marks,
-        &call.lent,
+        &call.capacity,
     ) {
         Ok(()) => refine_net(call),
         Err(refusal) => refusal.into(),
@@ -106,7 +106,7 @@ pub fn refine_into(
         vertices,
         faces,
         marks,
-        lent: tables.lengths(),
+        capacity: tables.capacity(),
     });
     match &outcome {
         Outcome::Refined {
@@ -121,8 +121,8 @@ pub fn refine_into(
         Outcome::Refused { reason: 1..=4, .. } => return outcome,
         Outcome::Refused { .. } => {}
     }
-    let work = 16 * refined_faces(faces.len() / 4, rounds);
-    let work = usize::try_from(work).expect("the workspace was long enough");
-    tables.work[..work].fill(0);
+    let used = 16 * refined_faces(faces.len() / 4, rounds);
+    let used = usize::try_from(used).expect("the workspace was long enough");
+    tables.workspace[..used].fill(0);
     outcome
 }

@@ -1,4 +1,4 @@
-//! Points in whole counts, and exact points before rounding.
+//! Points in whole units, and exact points before rounding.
 
 use std::iter::Sum;
 use std::ops::{Add, Div, Mul, Sub};

@@ -24,24 +24,24 @@ impl Refusal {
     }
 }
 
-/// Lengths of the tables that the caller provides for the results and as
+/// Capacity of the tables that the caller provides for the results and as
 /// workspace; the scope paper calls them lent.
 #[derive(Clone, Copy, Debug, PartialEq, Eq)]
-pub struct Lengths {
+pub struct Capacity {
     pub vertices: usize,
     pub faces: usize,
     pub marks: usize,
-    pub work: usize,
+    pub workspace: usize,
 }
 
-impl Lengths {
+impl Capacity {
     /// The least lengths that serve this many refined faces.
-    pub fn for_refined_faces(count: usize) -> Self {
+    pub fn for_refined_faces(faces: usize) -> Self {
         Self {
-            vertices: 12 * count,
-            faces: 4 * count,
-            marks: 4 * count,
-            work: 16 * count,
+            vertices: 12 * faces,
+            faces: 4 * faces,
+            marks: 4 * faces,
+            workspace: 16 * faces,
         }
     }
 
@@ -50,7 +50,7 @@ impl Lengths {
         at_least(self.vertices, 12)
             && at_least(self.faces, 4)
             && at_least(self.marks, 4)
-            && at_least(self.work, 16)
+            && at_least(self.workspace, 16)
     }
 }
 
@@ -66,7 +66,7 @@ pub fn check_call(
     vertices: &[i32],
     faces: &[u32],
     marks: &[u8],
-    lent: &Lengths,
+    capacity: &Capacity,
 ) -> Result<(), Refusal> {
     check_rounds(rounds)?;
     let vertex_count = vertices.len() / 3;
@@ -76,7 +76,7 @@ pub fn check_call(
         return Err(Refusal::new(2, 0));
     }
     check_limits(rounds, vertex_count, face_count)?;
-    if !lent.serve(refined_faces(face_count, rounds)) {
+    if !capacity.serve(refined_faces(face_count, rounds)) {
         return Err(Refusal::new(4, 0));
     }
     Ok(())

@@ -40,6 +40,6 @@ pub fn virtual_point(neighbours: &[ExactPoint], opposites: &[ExactPoint], j: usi
     all_l * 4 / whole(n) - near_l + near_k / 9 - all_k * 4 / (9 * whole(n))
 }
 
-fn whole(count: usize) -> i128 {
-    i128::try_from(count).expect("count fits")
+fn whole(length: usize) -> i128 {
+    i128::try_from(length).expect("length fits")
 }

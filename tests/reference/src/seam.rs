@@ -3,13 +3,11 @@
 //! The scope paper calls a boundary segment between marks, or a boundary loop
 //! without marks, a stretch.
 
-use std::collections::BTreeMap;
-
 use crate::call::refine_times;
 use crate::curve::{Form, distance_bound, exact_curve, rounded_curve};
 use crate::net::Net;
 use crate::point::Point;
-use crate::topology::Topology;
+use crate::topology::{BoundaryLoops, Topology};
 
 /// Whether a boundary is walked the way the sides run.
 #[derive(Clone, Copy, Debug, PartialEq, Eq, Hash, PartialOrd, Ord)]
@@ -29,16 +27,14 @@ pub struct Reading {
 /// The boundary loops of an accepted net.
 pub struct Boundary<'a> {
     net: &'a Net,
-    after: BTreeMap<u32, u32>,
-    before: BTreeMap<u32, u32>,
+    loops: BoundaryLoops,
 }
 
 impl<'a> Boundary<'a> {
     pub fn new(net: &'a Net) -> Self {
         let topology = Topology::new(&net.faces).expect("the sides of the net are distinct");
-        let after = topology.boundary();
-        let before = after.iter().map(|(&from, &to)| (to, from)).collect();
-        Self { net, after, before }
+        let loops = topology.boundary();
+        Self { net, loops }
     }
 
     /// The points of a reading, or none if there is no such reading.
@@ -50,8 +46,8 @@ impl<'a> Boundary<'a> {
     /// The vertices of a reading, or none if there is no such reading.
     pub fn vertices(&self, reading: Reading) -> Option<Vec<u32>> {
         let next = match reading.way {
-            Way::With => &self.after,
-            Way::Against => &self.before,
+            Way::With => &self.loops.after,
+            Way::Against => &self.loops.before,
         };
         let start = reading.start;
         let mut list = vec![start];
@@ -73,7 +69,7 @@ impl<'a> Boundary<'a> {
         let ways = [Way::With, Way::Against];
         let forms = [Form::Open, Form::Round];
         let mut all = Vec::new();
-        for &start in self.after.keys() {
+        for &start in self.loops.after.keys() {
             for (way, form) in ways.into_iter().flat_map(|w| forms.map(|f| (w, f))) {
                 let reading = Reading { start, way, form };
                 all.extend(self.vertices(reading).map(|_| reading));
@@ -93,14 +89,14 @@ pub enum SeamFault {
 }
 
 /// Checks every reading of an accepted net: after `rounds` steps it is the
-/// rounded curve of the drawn reading, within the distance from the exact
+/// rounded curve of the initial reading, within the distance from the exact
 /// curve. Returns the number of readings.
 pub fn check_seam(net: &Net, rounds: u32) -> Result<usize, SeamFault> {
     let refined = refine_times(net.clone(), rounds);
-    let (drawn, after) = (Boundary::new(net), Boundary::new(&refined));
-    let readings = drawn.readings();
+    let (initial, after) = (Boundary::new(net), Boundary::new(&refined));
+    let readings = initial.readings();
     for &reading in &readings {
-        let points = drawn.read(reading).expect("listed readings exist");
+        let points = initial.read(reading).expect("listed readings exist");
         let curve = rounded_curve(reading.form, &points, rounds);
         if after.read(reading).as_ref() != Some(&curve) {
             return Err(SeamFault::NotTheCurve(reading));

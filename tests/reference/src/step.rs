@@ -5,7 +5,7 @@ use std::collections::BTreeMap;
 use crate::net::{Net, edge, sides};
 use crate::point::ExactPoint;
 use crate::rules::{end_edge, four_point, mean, midpoint, reflect, virtual_point};
-use crate::topology::{Star, Topology};
+use crate::topology::{BoundaryLoops, Star, Topology};
 
 /// The rule that makes a new point.
 #[derive(Clone, Copy, Debug, PartialEq, Eq, Hash, PartialOrd, Ord)]
@@ -94,6 +94,17 @@ pub fn refine_once(net: &Net) -> Step {
     Step { net: refined, made }
 }
 
+/// The first `rounds` steps of an accepted net, each with the origin of its
+/// new vertices.
+pub fn trace(net: &Net, rounds: u32) -> Vec<Step> {
+    let mut steps: Vec<Step> = Vec::new();
+    for _ in 0..rounds {
+        let last = steps.last().map_or(net, |step| &step.net);
+        steps.push(refine_once(last));
+    }
+    steps
+}
+
 /// The four faces of a split face: corner i, point of side i, face point,
 /// point of side i-1.
 fn split(face: [u32; 4], centre: usize, numbers: &BTreeMap<(u32, u32), usize>) -> [[u32; 4]; 4] {
@@ -106,20 +117,17 @@ fn split(face: [u32; 4], centre: usize, numbers: &BTreeMap<(u32, u32), usize>) -
 pub struct Surface<'a> {
     net: &'a Net,
     topology: Topology,
-    after: BTreeMap<u32, u32>,
-    before: BTreeMap<u32, u32>,
+    boundary: BoundaryLoops,
 }
 
 impl<'a> Surface<'a> {
     pub fn new(net: &'a Net) -> Self {
         let topology = Topology::new(&net.faces).expect("the sides of the net are distinct");
-        let after = topology.boundary();
-        let before = after.iter().map(|(&from, &to)| (to, from)).collect();
+        let boundary = topology.boundary();
         Self {
             net,
             topology,
-            after,
-            before,
+            boundary,
         }
     }
 
@@ -146,8 +154,8 @@ impl<'a> Surface<'a> {
     /// The point on the boundary side from `from` to `to`.
     fn boundary_point(&self, from: u32, to: u32) -> NewPoint {
         let [p, q] = [from, to].map(|vertex| self.exact(vertex));
-        let before = || self.exact(self.before[&from]);
-        let after = || self.exact(self.after[&to]);
+        let before = || self.exact(self.boundary.before[&from]);
+        let after = || self.exact(self.boundary.after[&to]);
         let (rule, exact) = match (self.net.is_marked(from), self.net.is_marked(to)) {
             (true, true) => (Rule::OneEdge, midpoint(p, q)),
             (true, false) => (Rule::EndEdge, end_edge(p, q, after())),

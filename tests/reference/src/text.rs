@@ -1,7 +1,7 @@
 //! The text form of nets and answers.
 
 use crate::call::{Call, Outcome, refine};
-use crate::refusal::{Lengths, Refusal, check_limits, check_rounds, refined_faces};
+use crate::refusal::{Capacity, Refusal, check_limits, check_rounds, refined_faces};
 
 pub const MAX_BYTES: usize = 32_768;
 /// The program's own tables serve nets up to these sizes.
@@ -25,13 +25,19 @@ pub struct Document {
 impl Document {
     /// The text of this document, with the mark column.
     pub fn to_text(&self) -> String {
-        let counts = [self.vertices.len() / 3, self.faces.len() / 4];
-        let mut text = format!(
-            "{COUNT_NAMES}\n{} {} {}\n",
-            counts[0], counts[1], self.rounds
-        );
-        text += &net_lines(&self.vertices, &self.faces, &self.marks);
-        text
+        self.text_with(Some(&self.marks))
+    }
+
+    /// The text without the mark column, which stands for marks that are all 0.
+    pub fn to_unmarked_text(&self) -> String {
+        self.text_with(None)
+    }
+
+    fn text_with(&self, marks: Option<&[u8]>) -> String {
+        let (vertices, faces) = (self.vertices.len() / 3, self.faces.len() / 4);
+        let counts = format!("{vertices} {faces} {}", self.rounds);
+        let lines = net_lines(&self.vertices, &self.faces, marks);
+        format!("{COUNT_NAMES}\n{counts}\n{lines}")
     }
 }
 
@@ -54,7 +60,7 @@ pub fn refine_document(document: &Document) -> Outcome {
         vertices: &document.vertices,
         faces: &document.faces,
         marks: &document.marks,
-        lent: Lengths::for_refined_faces(PROGRAM_REFINED_FACES),
+        capacity: Capacity::for_refined_faces(PROGRAM_REFINED_FACES),
     })
 }
 
@@ -79,17 +85,23 @@ pub fn print(outcome: &Outcome) -> String {
             marks,
         } => {
             let counts = format!("{} {}", vertices.len() / 3, faces.len() / 4);
-            let lines = net_lines(vertices, faces, marks);
+            let lines = net_lines(vertices, faces, Some(marks));
             format!("vertices faces\n{counts}\n{lines}")
         }
         Outcome::Refused { reason, place } => format!("refusal place\n{reason} {place}\n"),
     }
 }
 
-fn net_lines(vertices: &[i32], faces: &[u32], marks: &[u8]) -> String {
-    let mut text = format!("{MARKED_NAMES}\n");
-    for ([x, y, z], mark) in vertices.as_chunks().0.iter().zip(marks) {
-        text += &format!("{x} {y} {z} {mark}\n");
+fn net_lines(vertices: &[i32], faces: &[u32], marks: Option<&[u8]>) -> String {
+    let names = if marks.is_some() {
+        MARKED_NAMES
+    } else {
+        UNMARKED_NAMES
+    };
+    let mut text = format!("{names}\n");
+    for (vertex, [x, y, z]) in vertices.as_chunks().0.iter().enumerate() {
+        let mark = marks.map_or(String::new(), |marks| format!(" {}", marks[vertex]));
+        text += &format!("{x} {y} {z}{mark}\n");
     }
     text += &format!("{CORNER_NAMES}\n");
     for [a, b, c, d] in faces.as_chunks().0 {

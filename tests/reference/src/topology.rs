@@ -1,6 +1,6 @@
 //! Adjacency of a net, kept in maps from vertex pairs.
 
-use std::collections::BTreeMap;
+use std::collections::{BTreeMap, BTreeSet};
 
 use crate::net::{edge, sides};
 
@@ -32,6 +32,14 @@ impl Star {
     pub fn face_count(&self) -> usize {
         self.opposites.len()
     }
+}
+
+/// For each boundary vertex the next and the previous one on its loop, the way
+/// the sides run.
+#[derive(Clone, Debug)]
+pub struct BoundaryLoops {
+    pub after: BTreeMap<u32, u32>,
+    pub before: BTreeMap<u32, u32>,
 }
 
 /// All directed sides of a net whose sides are distinct as ordered pairs.
@@ -100,24 +108,22 @@ impl Topology {
         (star.face_count() == spokes.len()).then_some(star)
     }
 
-    /// From each boundary vertex to the next one, the way the sides run.
-    pub fn boundary(&self) -> BTreeMap<u32, u32> {
-        self.wedges
-            .keys()
-            .copied()
+    /// The boundary edges of an accepted net, which form loops.
+    pub fn boundary(&self) -> BoundaryLoops {
+        let sides = self.wedges.keys().copied();
+        let after: BTreeMap<u32, u32> = sides
             .filter(|&(from, to)| !self.wedges.contains_key(&(to, from)))
-            .collect()
+            .collect();
+        let before = after.iter().map(|(&from, &to)| (to, from)).collect();
+        BoundaryLoops { after, before }
     }
 
     /// Edges in the order in which they are first met, face by face, side 0 to 3.
     pub fn edges_in_order(faces: &[[u32; 4]]) -> Vec<(u32, u32)> {
-        let mut met = BTreeMap::new();
-        let mut order = Vec::new();
-        for (from, to) in faces.iter().copied().flat_map(sides) {
-            met.entry(edge(from, to)).or_insert_with(|| {
-                order.push((from, to));
-            });
-        }
-        order
+        let mut met = BTreeSet::new();
+        let all_sides = faces.iter().copied().flat_map(sides);
+        all_sides
+            .filter(|&(from, to)| met.insert(edge(from, to)))
+            .collect()
     }
 }

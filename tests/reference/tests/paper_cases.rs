@@ -35,7 +35,7 @@ fn middles(form: Form, values: &[i32]) -> Vec<i32> {
 }
 
 #[test]
-fn the_open_stretch_gets_8_22_54() {
+fn the_open_segment_gets_8_22_54() {
     assert_eq!(middles(Form::Open, &[0, 16, 32, 80]), [8, 22, 54]);
     let points: Vec<_> = (0..8)
         .map(|i| [[0, 16, 32, 80][i % 4], 0, i32::from(i >= 4)])
@@ -48,7 +48,7 @@ fn the_open_stretch_gets_8_22_54() {
 }
 
 #[test]
-fn halves_inside_a_stretch_round_away_from_zero() {
+fn halves_inside_a_segment_round_away_from_zero() {
     assert_eq!(middles(Form::Open, &[0, 0, 0, 8])[1], -1);
     assert_eq!(middles(Form::Open, &[-8, 0, 0, 0])[1], 1);
     assert_eq!(middles(Form::Open, &[0, 0, 0, -7])[1], 0);

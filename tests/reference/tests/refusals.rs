@@ -7,7 +7,7 @@ use common::{
 };
 use reference::call::{Call, Outcome, Tables, refine, refine_into};
 use reference::net::Net;
-use reference::refusal::Lengths;
+use reference::refusal::Capacity;
 
 fn refused(reason: u32, place: u32) -> Outcome {
     Outcome::Refused { reason, place }
@@ -19,7 +19,7 @@ struct Sizes {
     vertices: usize,
     faces: usize,
     marks: usize,
-    lent: Lengths,
+    capacity: Capacity,
 }
 
 impl Sizes {
@@ -29,16 +29,16 @@ impl Sizes {
             vertices: &vec![0; self.vertices],
             faces: &vec![0; self.faces],
             marks: &vec![0; self.marks],
-            lent: self.lent,
+            capacity: self.capacity,
         })
     }
 }
 
-const NOTHING: Lengths = Lengths {
+const NOTHING: Capacity = Capacity {
     vertices: 0,
     faces: 0,
     marks: 0,
-    work: 0,
+    workspace: 0,
 };
 
 #[test]
@@ -49,7 +49,7 @@ fn an_empty_net_is_accepted_for_all_rounds() {
             vertices: &[],
             faces: &[],
             marks: &[],
-            lent: NOTHING,
+            capacity: NOTHING,
         });
         let empty = Outcome::Refined {
             vertices: vec![],
@@ -68,7 +68,7 @@ fn callers_refusals_come_in_order() {
         vertices,
         faces,
         marks,
-        lent: NOTHING,
+        capacity: NOTHING,
     };
     for (case, reason) in [
         (sizes(7, 4, 4, 0), 1),
@@ -94,24 +94,24 @@ fn callers_refusals_come_in_order() {
 #[test]
 fn each_table_must_be_long_enough() {
     let net = square();
-    let least = Lengths::for_refined_faces(16);
+    let least = Capacity::for_refined_faces(16);
     let mut short = [least; 4];
     short[0].vertices -= 1;
     short[1].faces -= 1;
     short[2].marks -= 1;
-    short[3].work -= 1;
-    let call = |lent| {
+    short[3].workspace -= 1;
+    let call = |capacity| {
         refine(&Call {
             rounds: 2,
             vertices: &net.vertex_table(),
             faces: &net.face_table(),
             marks: &net.marks,
-            lent,
+            capacity,
         })
     };
     assert!(matches!(call(least), Outcome::Refined { .. }));
-    for lent in short {
-        assert_eq!(call(lent), refused(4, 0));
+    for capacity in short {
+        assert_eq!(call(capacity), refused(4, 0));
     }
 }
 
@@ -216,12 +216,12 @@ fn the_lowest_number_goes_before_the_lowest_place() {
 }
 
 fn filled_tables(refined_faces: usize, surplus: usize) -> Tables {
-    let least = Lengths::for_refined_faces(refined_faces);
+    let least = Capacity::for_refined_faces(refined_faces);
     Tables {
         vertices: vec![-77; least.vertices + surplus],
         faces: vec![77; least.faces + surplus],
         marks: vec![7; least.marks + surplus],
-        work: vec![777; least.work + surplus],
+        workspace: vec![777; least.workspace + surplus],
     }
 }
 
@@ -255,8 +255,8 @@ fn an_accepted_call_fills_from_the_front_and_clears_the_workspace() {
     assert!(tables.faces[16..].iter().all(|&c| c == 77));
     assert_eq!(tables.marks[..9], marks);
     assert!(tables.marks[9..].iter().all(|&c| c == 7));
-    assert!(tables.work[..64].iter().all(|&w| w == 0));
-    assert!(tables.work[64..].iter().all(|&w| w == 777));
+    assert!(tables.workspace[..64].iter().all(|&w| w == 0));
+    assert!(tables.workspace[64..].iter().all(|&w| w == 777));
 }
 
 #[test]
@@ -267,7 +267,7 @@ fn a_refused_net_clears_the_workspace_only() {
     let (outcome, tables) = run(&net, 2, before.clone());
     assert_eq!(outcome, refused(6, 1));
     let mut expected = before;
-    expected.work[..256].fill(0);
+    expected.workspace[..256].fill(0);
     assert_eq!(tables, expected);
 }
 

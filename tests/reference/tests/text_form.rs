@@ -139,6 +139,24 @@ fn length_goes_first() {
 }
 
 #[test]
+fn a_text_of_32_768_bytes_is_read_to_its_end() {
+    let mut document = text_of(1, 1, 0);
+    document.vertices.resize(3 * 4_000, 0);
+    document.marks.resize(4_000, 0);
+    let shorter = document.to_text().len();
+    // Each digit more in a coordinate is one byte more.
+    let digits = document.vertices[12..].iter_mut();
+    for coordinate in digits.take(MAX_BYTES - shorter) {
+        *coordinate = 10;
+    }
+    let text = document.to_text();
+    assert_eq!(text.len(), MAX_BYTES);
+    assert_eq!(answer(text.as_bytes()), refusal(4, 0));
+    assert_bad_line(format!("{text}\n").as_bytes(), 0);
+    assert_bad_line(&text.as_bytes()[..MAX_BYTES - 1], 4 + 4_000 + 1);
+}
+
+#[test]
 fn an_empty_net_has_a_text() {
     let text = "vertices faces rounds\n0 0 6\nx y z\na b c d\n";
     let empty = "vertices faces\n0 0\nx y z corner\na b c d\n";
@@ -184,6 +202,7 @@ fn the_form_is_checked_before_the_limits() {
 #[test]
 fn documents_survive_printing_and_parsing() {
     let document = text_of(3, 2, 1);
-    assert_eq!(parse(document.to_text().as_bytes()), Ok(document));
+    assert_eq!(parse(document.to_text().as_bytes()), Ok(document.clone()));
+    assert_eq!(parse(document.to_unmarked_text().as_bytes()), Ok(document));
     assert_eq!(parse(b""), Err(Refusal::new(13, 1)));
 }

@@ -5,7 +5,7 @@
 use reference::call::{Call, Outcome, refine};
 use reference::net::Net;
 use reference::point::Point;
-use reference::refusal::{Lengths, Refusal, check_net};
+use reference::refusal::{Capacity, Refusal, check_net};
 
 pub const SAMPLE_TEXT: &str = "vertices faces rounds\n4 1 1\nx y z corner\n0 0 0 1\n\
     16 0 0 1\n16 16 0 1\n0 16 0 1\na b c d\n0 1 2 3\n";
@@ -103,7 +103,7 @@ pub fn refine_net(net: &Net, rounds: u32) -> Outcome {
         vertices: &net.vertex_table(),
         faces: &net.face_table(),
         marks: &net.marks,
-        lent: Lengths::for_refined_faces(refined),
+        capacity: Capacity::for_refined_faces(refined),
     })
 }
 
