@@ -1,9 +1,11 @@
 //! Calls and texts together with what is known of their answers.
 
-use reference::call::{Call, Outcome, refine};
+use reference::call::{Call, Outcome, Tables, refine};
 use reference::net::Net;
 use reference::refusal::{Capacity, MAX_ROUNDS, Refusal};
 use reference::text::Document;
+
+use crate::rng::Rng;
 
 /// What the maker of a case knows of its answer.
 #[derive(Clone, Copy, Debug, PartialEq, Eq)]
@@ -51,6 +53,19 @@ impl Case {
         }
     }
 
+    /// Tables for the results and the workspace, filled with random contents.
+    pub fn tables(&self, rng: &mut Rng) -> Tables {
+        let low_word = |value: u64| u32::try_from(value & 0xFFFF_FFFF).expect("32 bits");
+        let low_byte = |value: u64| value.to_le_bytes()[0];
+        let coordinate = |value: u64| low_word(value).cast_signed();
+        Tables {
+            vertices: filled(self.capacity.vertices, coordinate, rng),
+            faces: filled(self.capacity.faces, low_word, rng),
+            marks: filled(self.capacity.marks, low_byte, rng),
+            workspace: filled(self.capacity.workspace, low_word, rng),
+        }
+    }
+
     /// The reference's answer.
     pub fn outcome(&self) -> Outcome {
         refine(&Call {
@@ -61,6 +76,10 @@ impl Case {
             capacity: self.capacity,
         })
     }
+}
+
+fn filled<T>(length: usize, entry: impl Fn(u64) -> T, rng: &mut Rng) -> Vec<T> {
+    (0..length).map(|_| entry(rng.next_u64())).collect()
 }
 
 /// A text for the program.

@@ -2,15 +2,15 @@
 
 use std::collections::BTreeSet;
 
-use nets::case::{Expected, TextCase};
+use nets::case::{Case, Expected, TextCase};
 use nets::kind::{Kind, call, small_nets};
 use nets::pairs::shared_pair;
 use nets::refused::refused_call;
 use nets::rng::Rng;
-use reference::call::{Outcome, refine_times};
+use reference::call::{Outcome, Tables, refine_into, refine_times};
 use reference::curve::Form;
 use reference::refusal::check_net;
-use reference::seam::{Boundary, Way};
+use reference::seam::{Boundary, Way, shared_readings};
 use reference::text::{answer, parse, print, refine_document};
 
 fn outcome(case: &TextCase) -> Outcome {
@@ -76,6 +76,52 @@ fn mixed_calls_get_their_answer() {
     assert_eq!(met, (0..=12).collect());
 }
 
+/// What the paper says of the tables after a call, apart from the contents of
+/// the results.
+fn assert_frame(case: &Case, before: &Tables, after: &Tables, outcome: &Outcome) {
+    let (filled, cleared) = match outcome {
+        Outcome::Refined {
+            vertices,
+            faces,
+            marks,
+        } => {
+            assert_eq!(after.vertices[..vertices.len()], *vertices);
+            assert_eq!(after.faces[..faces.len()], *faces);
+            assert_eq!(after.marks[..marks.len()], *marks);
+            ([vertices.len(), faces.len(), marks.len()], true)
+        }
+        Outcome::Refused { reason, .. } => ([0; 3], *reason > 4),
+    };
+    assert_eq!(after.vertices[filled[0]..], before.vertices[filled[0]..]);
+    assert_eq!(after.faces[filled[1]..], before.faces[filled[1]..]);
+    assert_eq!(after.marks[filled[2]..], before.marks[filled[2]..]);
+    let used = if cleared {
+        (4 * case.faces.len()) << (2 * case.rounds)
+    } else {
+        0
+    };
+    assert!(after.workspace[..used].iter().all(|&word| word == 0));
+    assert_eq!(after.workspace[used..], before.workspace[used..]);
+}
+
+#[test]
+fn calls_leave_every_table_as_the_paper_says() {
+    for seed in 0..200 {
+        let case = call(seed);
+        let before = case.tables(&mut Rng::new(seed));
+        let mut after = before.clone();
+        let outcome = refine_into(
+            case.rounds,
+            &case.vertices,
+            &case.faces,
+            &case.marks,
+            &mut after,
+        );
+        assert_eq!(outcome, case.outcome());
+        assert_frame(&case, &before, &after, &outcome);
+    }
+}
+
 #[test]
 fn small_nets_are_small_distinct_and_accepted() {
     let chosen = small_nets(1, 300);
@@ -93,15 +139,18 @@ fn pairs_share_their_segment_after_every_round() {
     let mut met = BTreeSet::new();
     for seed in 0..150 {
         let pair = shared_pair(&mut Rng::new(seed));
-        for rounds in 0..=2 {
-            let [first, second] = [0, 1].map(|side| {
-                let net = &pair.nets[side];
-                assert_eq!(check_net(net), Ok(()));
-                let refined = refine_times(net.clone(), rounds);
-                let points = Boundary::new(&refined).read(pair.readings[side]);
-                points.expect("the reading exists")
-            });
-            assert_eq!(first, second);
+        let [first, second] = &pair.nets;
+        assert_eq!((check_net(first), check_net(second)), (Ok(()), Ok(())));
+        let shared = shared_readings(first, second);
+        assert!(shared.contains(&pair.readings.into()));
+        for rounds in 1..=2 {
+            let nets = [first, second].map(|net| refine_times(net.clone(), rounds));
+            let [one, other] = nets.each_ref().map(Boundary::new);
+            for &(a, b) in &shared {
+                let points = one.read(a);
+                assert!(points.is_some());
+                assert_eq!(points, other.read(b));
+            }
         }
         for reading in pair.readings {
             met.insert((reading.form, reading.way));

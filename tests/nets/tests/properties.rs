@@ -11,7 +11,7 @@ use reference::fraction::Fraction;
 use reference::net::{Net, edge};
 use reference::point::{ExactPoint, Point};
 use reference::seam::check_seam;
-use reference::step::{Directions, Rule, Surface, refine_once};
+use reference::step::{Directions, Rule, Surface, refine_once, trace};
 use reference::topology::{Star, Topology};
 
 const COORDINATE_BOUND: u32 = 268_435_456;
@@ -137,7 +137,7 @@ fn weights_are_too_small_to_leave_the_bound_in_six_rounds() {
 #[test]
 fn rounds_compose() {
     for (shape, net) in nets(Size::Small, 4) {
-        let all = refine_times(net.clone(), 3);
+        let all = trace(&net, 3).pop().expect("three steps").net;
         let parts = refine_times(refine_times(net.clone(), 1), 2);
         assert_eq!(all, parts, "{shape:?}");
     }

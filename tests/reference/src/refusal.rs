@@ -24,8 +24,8 @@ impl Refusal {
     }
 }
 
-/// Capacity of the tables that the caller provides for the results and as
-/// workspace; the scope paper calls them lent.
+/// Lengths of the tables that the caller provides for the results and as
+/// workspace; the scope paper calls these tables lent.
 #[derive(Clone, Copy, Debug, PartialEq, Eq)]
 pub struct Capacity {
     pub vertices: usize,
@@ -45,7 +45,7 @@ impl Capacity {
         }
     }
 
-    fn serve(&self, refined_faces: u128) -> bool {
+    fn serves(&self, refined_faces: u128) -> bool {
         let at_least = |length: usize, factor: u128| length as u128 >= factor * refined_faces;
         at_least(self.vertices, 12)
             && at_least(self.faces, 4)
@@ -76,7 +76,7 @@ pub fn check_call(
         return Err(Refusal::new(2, 0));
     }
     check_limits(rounds, vertex_count, face_count)?;
-    if !capacity.serve(refined_faces(face_count, rounds)) {
+    if !capacity.serves(refined_faces(face_count, rounds)) {
         return Err(Refusal::new(4, 0));
     }
     Ok(())

@@ -79,6 +79,26 @@ impl<'a> Boundary<'a> {
     }
 }
 
+/// All pairs of readings, one in each net, that are equal lists of one form:
+/// the nets share these boundary segments.
+pub fn shared_readings(first: &Net, second: &Net) -> Vec<(Reading, Reading)> {
+    let [first, second] = [first, second].map(|net| {
+        let boundary = Boundary::new(net);
+        let with_points = |reading| (reading, boundary.read(reading));
+        let readings = boundary.readings().into_iter().map(with_points);
+        readings.collect::<Vec<_>>()
+    });
+    let mut shared = Vec::new();
+    for (one, points) in &first {
+        for (other, _) in second.iter().filter(|(_, list)| list == points) {
+            if one.form == other.form {
+                shared.push((*one, *other));
+            }
+        }
+    }
+    shared
+}
+
 /// A reading that breaks the seam guarantee.
 #[derive(Clone, Copy, Debug, PartialEq, Eq)]
 pub enum SeamFault {
