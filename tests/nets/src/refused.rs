@@ -3,6 +3,7 @@
 use reference::net::Net;
 use reference::refusal::{Capacity, MAX_COORDINATE, Refusal};
 use reference::text::PROGRAM_REFINED_FACES;
+use reference::topology::Topology;
 
 use crate::accepted::{Shape, Size, accepted};
 use crate::build::to_u32;
@@ -14,13 +15,15 @@ use crate::shapes;
 /// Stands for a corner beyond the vertex table until the table is complete.
 const BEYOND: u32 = u32::MAX;
 
-/// A net with known reasons for a refusal. Vertices and faces are those
-/// concerned; for reason 9 pairs of faces with a common directed side.
+/// What is wrong with a net.
 #[derive(Clone, Debug, Default)]
 struct Flaws {
+    /// Reasons with their vertices.
     vertices: Vec<(u32, u32)>,
-    faces: Vec<(u32, u32)>,
-    pairs: Vec<[u32; 2]>,
+    /// Faces for reason 7.
+    bad_faces: Vec<u32>,
+    /// Pairs of faces with a common directed side, for reason 9.
+    repeats: Vec<[u32; 2]>,
 }
 
 impl Flaws {
@@ -31,12 +34,12 @@ impl Flaws {
     /// The lowest place for a reason, under a new numbering.
     fn place(&self, reason: u32, numbering: &Numbering) -> u32 {
         let vertex = |&(_, v): &(u32, u32)| numbering.vertices[v as usize];
-        let face = |&(_, f): &(u32, u32)| numbering.faces[f as usize];
-        let later = |pair: &[u32; 2]| pair.map(|f| numbering.faces[f as usize]).into_iter().max();
+        let face = |&f: &u32| numbering.faces[f as usize];
+        let later = |[f, g]: &[u32; 2]| face(f).max(face(g));
         let of_reason = |(r, _): &&(u32, u32)| *r == reason;
         let place = match reason {
-            7 => self.faces.iter().filter(of_reason).map(face).min(),
-            9 => self.pairs.iter().filter_map(later).min(),
+            7 => self.bad_faces.iter().map(face).min(),
+            9 => self.repeats.iter().map(later).min(),
             _ => self.vertices.iter().filter(of_reason).map(vertex).min(),
         };
         place.expect("the reason was put in")
@@ -49,15 +52,19 @@ struct Draft {
     flaws: Flaws,
     /// Vertices and faces of the sound net that the draft began with.
     sound: (usize, usize),
+    /// Vertices of the sound net with a full ring.
+    inner: Vec<u32>,
 }
 
 impl Draft {
     fn new(net: Net) -> Self {
-        let sound = (net.points.len(), net.faces.len());
+        let topology = Topology::new(&net.faces).expect("a sound net");
+        let is_inner = |&vertex: &u32| topology.star(vertex).is_some_and(|star| star.is_ring());
         Self {
-            net,
             flaws: Flaws::default(),
-            sound,
+            sound: (net.points.len(), net.faces.len()),
+            inner: (0..to_u32(net.points.len())).filter(is_inner).collect(),
+            net,
         }
     }
 
@@ -100,15 +107,7 @@ impl Draft {
             9 => self.put_repeated_side(rng),
             10 => self.put_pinch(rng),
             11 => self.put_bad_valence(rng),
-            12 => {
-                let first = self.add(&shapes::grid(2, 2));
-                // The centre is the first vertex that all four faces share.
-                let last = self.net.faces.len() - 1;
-                let centre = self.net.faces[last][0];
-                assert!(centre >= first);
-                self.net.marks[centre as usize] = 1;
-                self.flaws.vertex(12, centre);
-            }
+            12 => self.put_inner_mark(rng),
             _ => panic!("reason {reason} is not in the net"),
         }
     }
@@ -125,13 +124,13 @@ impl Draft {
         let [a, b, c] = [(); 3].map(|()| self.new_vertex());
         let last = rng.pick(&[BEYOND, a, b, c]);
         let face = self.new_face([a, b, c, last]);
-        self.flaws.faces.push((7, face));
+        self.flaws.bad_faces.push(face);
     }
 
     /// A face again, or another one on a side that is taken; each face of the
     /// sound net is used once.
     fn put_repeated_side(&mut self, rng: &mut Rng) {
-        let is_free = |&face: &usize| !self.flaws.pairs.iter().any(|[f, _]| *f == to_u32(face));
+        let is_free = |&face: &usize| !self.flaws.repeats.iter().any(|[f, _]| *f == to_u32(face));
         let free: Vec<usize> = (0..self.sound.1).filter(is_free).collect();
         if free.is_empty() {
             return;
@@ -144,15 +143,41 @@ impl Draft {
             corners[3] = self.new_vertex();
         }
         let later = self.new_face(corners);
-        self.flaws.pairs.push([to_u32(earlier), later]);
+        self.flaws.repeats.push([to_u32(earlier), later]);
     }
 
-    /// A separate square that touches the net at one vertex.
+    /// A square or a closed surface that touches the net at one vertex.
     fn put_pinch(&mut self, rng: &mut Rng) {
         let vertex = self.sound_vertex(rng);
-        let [a, b, c] = [(); 3].map(|()| self.new_vertex());
-        self.new_face([vertex, a, b, c]);
+        let faces = self.net.faces.len();
+        let other = if rng.one_in(2) {
+            shapes::grid(1, 1)
+        } else {
+            shapes::trapezohedron(3)
+        };
+        self.add(&other);
+        let last = to_u32(self.net.points.len() - 1);
+        for corner in self.net.faces[faces..].as_flattened_mut() {
+            if *corner == last {
+                *corner = vertex;
+            }
+        }
+        self.net.points.pop();
+        self.net.marks.pop();
         self.flaws.vertex(10, vertex);
+    }
+
+    /// A mark inside the net, or inside a separate one.
+    fn put_inner_mark(&mut self, rng: &mut Rng) {
+        let is_free = |&&vertex: &&u32| self.net.marks[vertex as usize] == 0;
+        let free: Vec<u32> = self.inner.iter().filter(is_free).copied().collect();
+        let vertex = if !free.is_empty() && rng.one_in(2) {
+            rng.pick(&free)
+        } else {
+            self.add(&shapes::sectors(4, 1, true))
+        };
+        self.net.marks[vertex as usize] = 1;
+        self.flaws.vertex(12, vertex);
     }
 
     /// A separate net with a ring of two, a ring of nine or more, or a fan of
