@@ -160,16 +160,24 @@ fn only_inner_points_in_the_extrapolation() {
     }
 }
 
+/// A 6 x 6 grid without its last 3 x 3 faces, in no special position. The
+/// inward corner has a fan of three.
+fn bent_grid() -> Net {
+    let outside = |vertex: &u32| vertex % 7 > 3 && vertex / 7 > 3;
+    let kept: Vec<u32> = (0..49).filter(|vertex| !outside(vertex)).collect();
+    let number = |vertex: u32| kept.partition_point(|&other| other < vertex) as u32;
+    let faces = grid(6, 6).faces.into_iter();
+    let faces: Vec<[u32; 4]> = faces
+        .filter(|face| !face.iter().any(outside))
+        .map(|face| face.map(number))
+        .collect();
+    unmarked(&common::scattered(kept.len() as u32), &faces)
+}
+
 #[test]
 fn always_the_mean_of_both_directions() {
-    // A 6 x 6 grid without its last 3 x 3 faces; the fan of three at the
-    // inward corner makes the directions differ.
-    let mut net = grid(6, 6);
-    let outside = |vertex: u32| vertex % 7 > 3 && vertex / 7 > 3;
-    net.faces.retain(|face| !face.iter().any(|&v| outside(v)));
-    for (point, other) in net.points.iter_mut().zip(common::scattered(49)) {
-        point[2] = other[2];
-    }
+    let net = bent_grid();
+    assert_eq!(common::verdict(&net), None);
     let edges = edge_points(&net);
     let surface = Surface::new(&net);
     let differs = net.faces.iter().any(|&face| {
