@@ -1,0 +1,166 @@
+//! The kinds of texts by name, and mixed series of nets and calls.
+
+use reference::net::Net;
+use reference::refusal::Capacity;
+use reference::text::PROGRAM_REFINED_FACES;
+
+use crate::accepted::{Shape, Size, accepted};
+use crate::build::to_u32;
+use crate::case::{Case, Expected, TextCase, document};
+use crate::damaged::{Damage, damage_text, damaged_tables, damaged_text, random_tables};
+use crate::refused::{TEXT_REASONS, refused_call, refused_text};
+use crate::rng::Rng;
+
+/// A kind of text.
+#[derive(Clone, Debug, PartialEq, Eq)]
+pub enum Kind {
+    /// Accepted, as large as the program serves.
+    Accepted(Shape),
+    /// Accepted, at most 12 faces, one or two rounds.
+    Small(Shape),
+    /// Well-formed with these reasons for a refusal.
+    Refused(Vec<u32>),
+    /// Damaged, otherwise sound.
+    Damaged(Damage),
+    /// Damaged, with another reason for a refusal.
+    DamagedAnd(u32),
+}
+
+impl Kind {
+    pub fn all() -> Vec<Kind> {
+        let mut kinds: Vec<Kind> = Shape::ALL.map(Kind::Accepted).to_vec();
+        kinds.extend(Shape::ALL.map(Kind::Small));
+        for (at, &first) in TEXT_REASONS.iter().enumerate() {
+            kinds.push(Kind::Refused(vec![first]));
+            for &second in &TEXT_REASONS[at + 1..] {
+                kinds.push(Kind::Refused(vec![first, second]));
+            }
+        }
+        kinds.extend(Damage::ALL.map(Kind::Damaged));
+        kinds.extend(TEXT_REASONS.map(Kind::DamagedAnd));
+        kinds
+    }
+
+    pub fn named(name: &str) -> Option<Kind> {
+        Kind::all().into_iter().find(|kind| kind.name() == name)
+    }
+
+    pub fn name(&self) -> String {
+        match self {
+            Kind::Accepted(shape) => shape.name().to_owned(),
+            Kind::Small(shape) => format!("small-{}", shape.name()),
+            Kind::Refused(reasons) => {
+                let numbers: Vec<String> = reasons.iter().map(|r| format!("{r:02}")).collect();
+                format!("refused-{}", numbers.join("-"))
+            }
+            Kind::Damaged(damage) => format!("damaged-{}", damage.name()),
+            Kind::DamagedAnd(reason) => format!("damaged-and-{reason:02}"),
+        }
+    }
+
+    pub fn make(&self, seed: u64) -> TextCase {
+        let rng = &mut Rng::new(seed);
+        match self {
+            Kind::Accepted(shape) => {
+                let net = accepted(*shape, Size::Medium, rng);
+                let most = most_rounds(&net, PROGRAM_REFINED_FACES).min(4);
+                let rounds = to_u32(rng.below(most as usize + 1));
+                accepted_text(&net, rounds, rng)
+            }
+            Kind::Small(shape) => {
+                let net = accepted(*shape, Size::Small, rng);
+                let rounds = rng.pick(&[1, 2]);
+                accepted_text(&net, rounds, rng)
+            }
+            Kind::Refused(reasons) => refused_text(reasons, rng),
+            Kind::Damaged(damage) => damaged_text(*damage, rng),
+            Kind::DamagedAnd(reason) => {
+                let sound = refused_text(&[*reason], rng).text;
+                let damage = rng.pick(&[Damage::NoLastNewline, Damage::Tab, Damage::MissingLine]);
+                damage_text(&sound, damage, rng)
+            }
+        }
+    }
+}
+
+/// The text of an accepted net; the mark column may be missing if all marks
+/// are 0.
+fn accepted_text(net: &Net, rounds: u32, rng: &mut Rng) -> TextCase {
+    let document = document(net, rounds);
+    let is_unmarked = net.marks.iter().all(|&mark| mark == 0);
+    let text = if is_unmarked && rng.one_in(2) {
+        document.to_unmarked_text()
+    } else {
+        document.to_text()
+    };
+    TextCase {
+        text: text.into_bytes(),
+        expected: Expected::Accepted,
+    }
+}
+
+/// The most rounds, up to 6, after which the net has at most `faces` faces.
+fn most_rounds(net: &Net, faces: usize) -> u32 {
+    (0..=6)
+        .rev()
+        .find(|&rounds| net.faces.len() << (2 * rounds) <= faces)
+        .unwrap_or(0)
+}
+
+/// `number` different accepted nets of at most 12 faces and 40 vertices, of
+/// all kinds in rotation, with one or two rounds each.
+pub fn small_nets(seed: u64, number: usize) -> Vec<(Net, u32)> {
+    let mut rng = Rng::new(seed);
+    let mut chosen: Vec<(Net, u32)> = Vec::new();
+    for shape in Shape::ALL.into_iter().cycle() {
+        if chosen.len() == number {
+            break;
+        }
+        let net = accepted(shape, Size::Small, &mut rng);
+        if chosen.iter().all(|(other, _)| *other != net) {
+            let rounds = rng.pick(&[1, 2]);
+            chosen.push((net, rounds));
+        }
+    }
+    chosen
+}
+
+/// A call of any kind: accepted nets of all sizes, one to three reasons for a
+/// refusal, damaged and random tables, with tables often longer than needed.
+pub fn call(seed: u64) -> Case {
+    let rng = &mut Rng::new(seed);
+    let mut case = match seed % 8 {
+        0..=3 => accepted_call(rng),
+        4 | 5 => {
+            let reasons: Vec<u32> = (0..rng.between(1, 3))
+                .map(|_| to_u32(rng.below(12)) + 1)
+                .collect();
+            refused_call(&reasons, rng)
+        }
+        6 => damaged_tables(Size::Medium, rng),
+        _ => random_tables(rng),
+    };
+    if case.expected == Expected::Accepted {
+        let surplus = |rng: &mut Rng| rng.pick(&[0, 0, 1, 7]);
+        case.capacity = Capacity {
+            vertices: case.capacity.vertices + surplus(rng),
+            faces: case.capacity.faces + surplus(rng),
+            marks: case.capacity.marks + surplus(rng),
+            workspace: case.capacity.workspace + surplus(rng),
+        };
+    }
+    case
+}
+
+/// An accepted call, rarely with many faces.
+fn accepted_call(rng: &mut Rng) -> Case {
+    let (size, faces) = match rng.below(200) {
+        0 => (Size::Large, 16_384),
+        1..=9 => (Size::Medium, 4_096),
+        10..=99 => (Size::Medium, 256),
+        _ => (Size::Small, 256),
+    };
+    let net = accepted(rng.pick(&Shape::ALL), size, rng);
+    let most = most_rounds(&net, faces) as usize;
+    Case::new(&net, to_u32(rng.below(most + 1)), Expected::Accepted)
+}

@@ -1,0 +1,40 @@
+//! Seeded nets and texts for testing the refiner.
+//!
+//! - [`accepted`]: nets that a call accepts, of every kind and size.
+//! - [`refused`]: calls and texts with one or more reasons for a refusal.
+//! - [`damaged`]: texts that lost their form, and damaged tables.
+//! - [`pairs`]: pairs of nets that share a boundary segment.
+//! - [`kind`]: all kinds by name, small nets, and a mixed series of calls.
+
+#![forbid(unsafe_code)]
+
+/// Defines an enum with the list of its cases and a name for each.
+macro_rules! named_cases {
+    (
+        $(#[$about:meta])*
+        pub enum $kind:ident { $($(#[$note:meta])* $case:ident = $name:literal,)+ }
+    ) => {
+        $(#[$about])*
+        #[derive(Clone, Copy, Debug, PartialEq, Eq, PartialOrd, Ord)]
+        pub enum $kind { $($(#[$note])* $case,)+ }
+
+        impl $kind {
+            pub const ALL: [Self; [$($name),+].len()] = [$(Self::$case),+];
+
+            pub fn name(self) -> &'static str {
+                match self { $(Self::$case => $name,)+ }
+            }
+        }
+    };
+}
+
+pub mod accepted;
+pub mod build;
+pub mod case;
+pub mod change;
+pub mod damaged;
+pub mod kind;
+pub mod pairs;
+pub mod refused;
+pub mod rng;
+pub mod shapes;

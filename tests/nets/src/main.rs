@@ -1,0 +1,64 @@
+//! Prints generated texts.
+//!
+//! - `nets list` names the kinds.
+//! - `nets make KIND SEED` prints one text.
+//! - `nets batch --seed S --count N --dir D` writes N texts of all kinds in
+//!   rotation into the folder D, and a file `list` with their paths.
+
+#![forbid(unsafe_code)]
+
+use std::error::Error;
+use std::fs;
+use std::io::{self, Write};
+use std::path::Path;
+use std::process::ExitCode;
+
+use nets::kind::Kind;
+
+const USAGE: &str = "usage: nets list | nets make KIND SEED | \
+    nets batch --seed S --count N --dir D";
+
+fn main() -> ExitCode {
+    let arguments: Vec<String> = std::env::args().skip(1).collect();
+    let arguments: Vec<&str> = arguments.iter().map(String::as_str).collect();
+    match run(&arguments) {
+        Ok(()) => ExitCode::SUCCESS,
+        Err(error) => {
+            eprintln!("nets: {error}");
+            ExitCode::FAILURE
+        }
+    }
+}
+
+fn run(arguments: &[&str]) -> Result<(), Box<dyn Error>> {
+    match *arguments {
+        ["list"] => {
+            for kind in Kind::all() {
+                println!("{}", kind.name());
+            }
+            Ok(())
+        }
+        ["make", kind, seed] => {
+            let kind = Kind::named(kind).ok_or("no such kind; see nets list")?;
+            io::stdout().write_all(&kind.make(seed.parse()?).text)?;
+            Ok(())
+        }
+        ["batch", "--seed", seed, "--count", count, "--dir", folder] => {
+            batch(seed.parse()?, count.parse()?, Path::new(folder))
+        }
+        _ => Err(USAGE.into()),
+    }
+}
+
+fn batch(seed: u64, count: u64, folder: &Path) -> Result<(), Box<dyn Error>> {
+    fs::create_dir_all(folder)?;
+    let mut list = String::new();
+    let kinds = Kind::all();
+    for (number, kind) in (0..count).zip(kinds.iter().cycle()) {
+        let path = folder.join(format!("{number:05}-{}.txt", kind.name()));
+        fs::write(&path, kind.make(seed.wrapping_add(number)).text)?;
+        list += &format!("{}\n", path.display());
+    }
+    fs::write(folder.join("list"), list)?;
+    Ok(())
+}

@@ -1,0 +1,365 @@
+//! Random calls and texts with one or more reasons for a refusal.
+
+use reference::net::Net;
+use reference::refusal::{Capacity, MAX_COORDINATE, Refusal};
+use reference::text::PROGRAM_REFINED_FACES;
+use reference::topology::Topology;
+
+use crate::accepted::{Shape, Size, accepted};
+use crate::build::to_u32;
+use crate::case::{Case, Expected, TextCase, document};
+use crate::change::{Numbering, renumber};
+use crate::rng::Rng;
+use crate::shapes;
+
+/// Stands for a corner beyond the vertex table until the table is complete.
+const BEYOND: u32 = u32::MAX;
+
+/// What is wrong with a net.
+#[derive(Clone, Debug, Default)]
+struct Flaws {
+    /// Reasons with their vertices.
+    vertices: Vec<(u32, u32)>,
+    /// Faces for reason 7.
+    bad_faces: Vec<u32>,
+    /// Pairs of faces with a common directed side, for reason 9.
+    repeats: Vec<[u32; 2]>,
+}
+
+impl Flaws {
+    fn vertex(&mut self, reason: u32, vertex: u32) {
+        self.vertices.push((reason, vertex));
+    }
+
+    /// The lowest place for a reason, under a new numbering.
+    fn place(&self, reason: u32, numbering: &Numbering) -> u32 {
+        let vertex = |&(_, v): &(u32, u32)| numbering.vertices[v as usize];
+        let face = |&f: &u32| numbering.faces[f as usize];
+        let later = |[f, g]: &[u32; 2]| face(f).max(face(g));
+        let of_reason = |(r, _): &&(u32, u32)| *r == reason;
+        let place = match reason {
+            7 => self.bad_faces.iter().map(face).min(),
+            9 => self.repeats.iter().map(later).min(),
+            _ => self.vertices.iter().filter(of_reason).map(vertex).min(),
+        };
+        place.expect("the reason was put in")
+    }
+}
+
+/// A net in the making with reasons 5 to 12 put in.
+struct Draft {
+    net: Net,
+    flaws: Flaws,
+    /// Vertices and faces of the sound net that the draft began with.
+    sound: (usize, usize),
+    /// Vertices of the sound net with a full ring.
+    inner: Vec<u32>,
+}
+
+impl Draft {
+    fn new(net: Net) -> Self {
+        let topology = Topology::new(&net.faces).expect("a sound net");
+        let is_inner = |&vertex: &u32| topology.star(vertex).is_some_and(|star| star.is_ring());
+        Self {
+            flaws: Flaws::default(),
+            sound: (net.points.len(), net.faces.len()),
+            inner: (0..to_u32(net.points.len())).filter(is_inner).collect(),
+            net,
+        }
+    }
+
+    fn sound_vertex(&self, rng: &mut Rng) -> u32 {
+        to_u32(rng.below(self.sound.0))
+    }
+
+    fn new_vertex(&mut self) -> u32 {
+        self.net.points.push([1, 2, 3]);
+        self.net.marks.push(0);
+        to_u32(self.net.points.len() - 1)
+    }
+
+    fn new_face(&mut self, corners: [u32; 4]) -> u32 {
+        self.net.faces.push(corners);
+        to_u32(self.net.faces.len() - 1)
+    }
+
+    /// Adds a separate net and returns its first vertex.
+    fn add(&mut self, other: &Net) -> u32 {
+        let first = to_u32(self.net.points.len());
+        self.net = shapes::union(std::mem::take(&mut self.net), other);
+        first
+    }
+
+    /// Puts in one of the reasons 5 to 12.
+    fn put(&mut self, reason: u32, rng: &mut Rng) {
+        match reason {
+            5 => self.put_coordinate(rng),
+            6 => {
+                let vertex = self.sound_vertex(rng);
+                self.net.marks[vertex as usize] = rng.pick(&[2, 3, 128, 255]);
+                self.flaws.vertex(6, vertex);
+            }
+            7 => self.put_bad_face(rng),
+            8 => {
+                let vertex = self.new_vertex();
+                self.flaws.vertex(8, vertex);
+            }
+            9 => self.put_repeated_side(rng),
+            10 => self.put_pinch(rng),
+            11 => self.put_bad_valence(rng),
+            12 => self.put_inner_mark(rng),
+            _ => panic!("reason {reason} is not in the net"),
+        }
+    }
+
+    fn put_coordinate(&mut self, rng: &mut Rng) {
+        let beyond = i32::try_from(MAX_COORDINATE + 1).expect("fits");
+        let value = rng.pick(&[beyond, -beyond, i32::MAX, i32::MIN]);
+        let vertex = self.sound_vertex(rng);
+        self.net.points[vertex as usize][rng.below(3)] = value;
+        self.flaws.vertex(5, vertex);
+    }
+
+    fn put_bad_face(&mut self, rng: &mut Rng) {
+        let [a, b, c] = [(); 3].map(|()| self.new_vertex());
+        let last = rng.pick(&[BEYOND, a, b, c]);
+        let face = self.new_face([a, b, c, last]);
+        self.flaws.bad_faces.push(face);
+    }
+
+    /// A face again, or another one on a side that is taken; each face of the
+    /// sound net is used once.
+    fn put_repeated_side(&mut self, rng: &mut Rng) {
+        let is_free = |&face: &usize| !self.flaws.repeats.iter().any(|[f, _]| *f == to_u32(face));
+        let free: Vec<usize> = (0..self.sound.1).filter(is_free).collect();
+        if free.is_empty() {
+            return;
+        }
+        let earlier = rng.pick(&free);
+        let mut corners = self.net.faces[earlier];
+        corners.rotate_left(rng.below(4));
+        if rng.one_in(2) {
+            corners[2] = self.new_vertex();
+            corners[3] = self.new_vertex();
+        }
+        let later = self.new_face(corners);
+        self.flaws.repeats.push([to_u32(earlier), later]);
+    }
+
+    /// A square or a closed surface that touches the net at one vertex.
+    fn put_pinch(&mut self, rng: &mut Rng) {
+        let vertex = self.sound_vertex(rng);
+        let faces = self.net.faces.len();
+        let other = if rng.one_in(2) {
+            shapes::grid(1, 1)
+        } else {
+            shapes::trapezohedron(3)
+        };
+        self.add(&other);
+        let last = to_u32(self.net.points.len() - 1);
+        for corner in self.net.faces[faces..].as_flattened_mut() {
+            if *corner == last {
+                *corner = vertex;
+            }
+        }
+        self.net.points.pop();
+        self.net.marks.pop();
+        self.flaws.vertex(10, vertex);
+    }
+
+    /// A mark inside the net, or inside a separate one.
+    fn put_inner_mark(&mut self, rng: &mut Rng) {
+        let is_free = |&&vertex: &&u32| self.net.marks[vertex as usize] == 0;
+        let free: Vec<u32> = self.inner.iter().filter(is_free).copied().collect();
+        let vertex = if !free.is_empty() && rng.one_in(2) {
+            rng.pick(&free)
+        } else {
+            self.add(&shapes::sectors(4, 1, true))
+        };
+        self.net.marks[vertex as usize] = 1;
+        self.flaws.vertex(12, vertex);
+    }
+
+    /// A separate net with a ring of two, a ring of nine or more, or a fan of
+    /// seven or more.
+    fn put_bad_valence(&mut self, rng: &mut Rng) {
+        match rng.below(4) {
+            0 => {
+                let first = self.add(&shapes::sectors(rng.between(9, 12), 1, true));
+                self.flaws.vertex(11, first);
+            }
+            1 => {
+                let first = self.add(&shapes::sectors(rng.between(7, 9), 1, false));
+                self.flaws.vertex(11, first);
+            }
+            2 => {
+                let [a, b, c, d, e] = [(); 5].map(|()| self.new_vertex());
+                self.new_face([a, b, c, d]);
+                self.new_face([a, d, e, b]);
+                self.flaws.vertex(11, a);
+            }
+            _ => {
+                let [a, b, c, d] = [(); 4].map(|()| self.new_vertex());
+                self.new_face([a, b, c, d]);
+                self.new_face([d, c, b, a]);
+                for vertex in [a, b, c, d] {
+                    self.flaws.vertex(11, vertex);
+                }
+            }
+        }
+    }
+
+    /// The net under a random numbering, and the places of its reasons.
+    fn finish(self, rng: &mut Rng) -> (Net, Flaws, Numbering) {
+        let (mut net, numbering) = renumber(&self.net, rng);
+        let vertices = to_u32(net.points.len());
+        for corner in net.faces.as_flattened_mut() {
+            if *corner == BEYOND {
+                *corner = rng.pick(&[vertices, vertices + 1, i32::MAX as u32]);
+            }
+        }
+        (net, self.flaws, numbering)
+    }
+}
+
+/// A small sound net with at least one face.
+fn base(rng: &mut Rng) -> Net {
+    loop {
+        let net = accepted(rng.pick(&Shape::ALL), Size::Small, rng);
+        if !net.faces.is_empty() {
+            return net;
+        }
+    }
+}
+
+/// A net with those of the reasons that lie in the net, and what is then
+/// expected of a call with nothing else against it.
+fn flawed(net: Net, reasons: &[u32], rng: &mut Rng) -> (Net, Expected) {
+    let mut draft = Draft::new(net);
+    let in_net: Vec<u32> = reasons
+        .iter()
+        .copied()
+        .filter(|reason| (5..=12).contains(reason))
+        .collect();
+    for &reason in &in_net {
+        draft.put(reason, rng);
+        if rng.one_in(3) {
+            draft.put(reason, rng);
+        }
+    }
+    let (net, flaws, numbering) = draft.finish(rng);
+    let expected = match in_net.iter().min() {
+        Some(&reason) => {
+            let place = flaws.place(reason, &numbering);
+            Expected::Refused(Refusal::new(reason, place))
+        }
+        None => Expected::Accepted,
+    };
+    (net, expected)
+}
+
+/// A call with these of the reasons 1 to 12 against it.
+pub fn refused_call(reasons: &[u32], rng: &mut Rng) -> Case {
+    let has = |reason| reasons.contains(&reason);
+    let (start, mut rounds) = if has(3) {
+        oversized(rng)
+    } else {
+        (base(rng), to_u32(rng.below(3)))
+    };
+    if has(1) {
+        rounds = rng.pick(&[7, 8, 100, u32::MAX]);
+    }
+    let (net, expected) = flawed(start, reasons, rng);
+    let mut case = Case::new(&net, rounds, expected);
+    if has(2) {
+        break_tables(&mut case, rng);
+    }
+    if has(4) {
+        shorten(&mut case.capacity, rng);
+    }
+    case.expected = callers_refusal(reasons).unwrap_or(case.expected);
+    case
+}
+
+/// The lowest of the reasons 1 to 4, if any.
+fn callers_refusal(reasons: &[u32]) -> Option<Expected> {
+    let lowest = reasons
+        .iter()
+        .copied()
+        .filter(|&reason| reason <= 4)
+        .min()?;
+    Some(Expected::Refused(Refusal::new(lowest, 0)))
+}
+
+/// A net and rounds with too many refined faces, faces or vertices.
+fn oversized(rng: &mut Rng) -> (Net, u32) {
+    match rng.below(3) {
+        0 => (shapes::grid(13, rng.between(5, 9)), 6),
+        1 => (shapes::grid(241, 17), 0),
+        _ => {
+            let square = shapes::grid(1, 1);
+            let squares = (0..11).fold(square.clone(), |net, _| shapes::union(net.clone(), &net));
+            (shapes::union(squares, &square), 0)
+        }
+    }
+}
+
+/// Makes a table length wrong.
+fn break_tables(case: &mut Case, rng: &mut Rng) {
+    match rng.below(4) {
+        0 => case.vertices.push(0),
+        1 => case.faces.truncate(case.faces.len() - 1),
+        2 => case.marks.push(0),
+        _ => case.marks.truncate(case.marks.len() - 1),
+    }
+}
+
+fn shorten(capacity: &mut Capacity, rng: &mut Rng) {
+    let least = [
+        capacity.vertices,
+        capacity.faces,
+        capacity.marks,
+        capacity.workspace,
+    ];
+    let mut lengths = least;
+    let chosen = rng.below(4);
+    let kept = rng.pick(&[0, least[chosen] / 2, least[chosen] - 1]);
+    lengths[chosen] = kept;
+    [
+        capacity.vertices,
+        capacity.faces,
+        capacity.marks,
+        capacity.workspace,
+    ] = lengths;
+}
+
+/// Reasons that a well-formed text can have.
+pub const TEXT_REASONS: [u32; 11] = [1, 3, 4, 5, 6, 7, 8, 9, 10, 11, 12];
+
+/// A well-formed text with these of [`TEXT_REASONS`] against it.
+pub fn refused_text(reasons: &[u32], rng: &mut Rng) -> TextCase {
+    let has = |reason| reasons.contains(&reason);
+    let start = if has(3) {
+        shapes::grid(13, rng.between(5, 6))
+    } else {
+        base(rng)
+    };
+    let (net, expected) = flawed(start, reasons, rng);
+    let largest = (0..=6)
+        .rev()
+        .find(|&rounds| net.faces.len() << (2 * rounds) <= PROGRAM_REFINED_FACES);
+    let served = largest.unwrap_or(0);
+    let rounds = if has(1) {
+        rng.pick(&[7, 8, 1000, i32::MAX as u32])
+    } else if has(3) {
+        6
+    } else if has(4) {
+        (served + 1).min(6)
+    } else {
+        served.min(2)
+    };
+    TextCase {
+        text: document(&net, rounds).to_text().into_bytes(),
+        expected: callers_refusal(reasons).unwrap_or(expected),
+    }
+}

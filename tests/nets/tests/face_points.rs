@@ -1,0 +1,107 @@
+//! Face points worked out again by searching all faces for each edge.
+
+use std::collections::BTreeMap;
+
+use nets::accepted::{Shape, Size, accepted};
+use nets::rng::Rng;
+use reference::net::{Net, edge, sides};
+use reference::point::ExactPoint;
+use reference::rules::{end_edge, four_point, midpoint};
+use reference::step::refine_once;
+use reference::topology::Topology;
+
+type Edge = (u32, u32);
+
+/// The faces with this edge as a side, in either direction.
+fn faces_with(net: &Net, (a, b): Edge) -> Vec<[u32; 4]> {
+    let has_edge = |face: &&[u32; 4]| {
+        let mut all_sides = sides(**face).into_iter();
+        all_sides.any(|side| side == (a, b) || side == (b, a))
+    };
+    net.faces.iter().filter(has_edge).copied().collect()
+}
+
+/// The edge of the neighbour across `side` that does not touch it.
+fn edge_beyond(net: &Net, face: [u32; 4], side: Edge) -> Option<Edge> {
+    let mut neighbours = faces_with(net, side).into_iter();
+    let neighbour = neighbours.find(|other| *other != face)?;
+    let mut rest = neighbour
+        .into_iter()
+        .filter(|&v| v != side.0 && v != side.1);
+    Some((rest.next()?, rest.next()?))
+}
+
+/// One direction of a face: its edges in a row, with those that are missing
+/// at an end left out.
+fn edges_in_a_row(net: &Net, face: [u32; 4], near: Edge, far: Edge) -> [Option<Edge>; 4] {
+    let [first, last] = [near, far].map(|side| edge_beyond(net, face, side));
+    [first, Some(near), Some(far), last]
+}
+
+fn point_in_a_row(row: [Option<Edge>; 4], at: impl Fn(Edge) -> ExactPoint) -> ExactPoint {
+    match row.map(|edge| edge.map(&at)) {
+        [Some(p), Some(q), Some(r), Some(s)] => four_point(p, q, r, s),
+        [None, Some(p), Some(q), Some(r)] => end_edge(p, q, r),
+        [Some(r), Some(q), Some(p), None] => end_edge(p, q, r),
+        [None, Some(p), Some(q), None] => midpoint(p, q),
+        _ => panic!("the sides are there"),
+    }
+}
+
+fn is_inner(net: &Net, edge: Option<Edge>) -> bool {
+    edge.is_some_and(|edge| faces_with(net, edge).len() == 2)
+}
+
+/// The face point if `counts` tells which direction may count alone.
+fn face_point(
+    net: &Net,
+    face: [u32; 4],
+    points: &BTreeMap<Edge, ExactPoint>,
+    counts: impl Fn([Option<Edge>; 4]) -> bool,
+) -> ExactPoint {
+    let [a, b, c, d] = face;
+    let at = |(from, to): Edge| points[&edge(from, to)];
+    let rows = [
+        edges_in_a_row(net, face, (a, b), (c, d)),
+        edges_in_a_row(net, face, (b, c), (d, a)),
+    ];
+    let [first, second] = rows.map(|row| point_in_a_row(row, at));
+    match rows.map(counts) {
+        [true, false] => first,
+        [false, true] => second,
+        _ => midpoint(first, second),
+    }
+}
+
+/// Nets of every kind with their unrounded edge points and face points.
+fn refined_nets() -> impl Iterator<Item = (Net, BTreeMap<Edge, ExactPoint>, Vec<ExactPoint>)> {
+    let seeds = Shape::ALL
+        .into_iter()
+        .flat_map(|shape| (0..12).map(move |seed| (shape, seed)));
+    seeds.map(|(shape, seed)| {
+        let net = accepted(shape, Size::Medium, &mut Rng::new(seed));
+        let edges = Topology::edges_in_order(&net.faces);
+        let mut made = refine_once(&net).made.into_iter().map(|new| new.exact);
+        let named = edges.iter().map(|&(from, to)| edge(from, to));
+        let points = named.zip(made.by_ref()).collect();
+        (net, points, made.collect())
+    })
+}
+
+#[test]
+fn face_points_are_those_of_the_paper() {
+    let (mut by_neighbours, mut by_mean) = (0, 0);
+    for (net, points, face_points) in refined_nets() {
+        assert_eq!(net.faces.len(), face_points.len());
+        for (&face, &made) in net.faces.iter().zip(&face_points) {
+            let four_inner = |row: [Option<Edge>; 4]| row.iter().all(|&edge| is_inner(&net, edge));
+            assert_eq!(face_point(&net, face, &points, four_inner), made);
+            // Two wrong readings: two neighbours suffice; always the mean.
+            let two_neighbours = |row: [Option<Edge>; 4]| row.iter().all(Option::is_some);
+            let wrong = face_point(&net, face, &points, two_neighbours);
+            by_neighbours += usize::from(wrong != made);
+            by_mean += usize::from(face_point(&net, face, &points, |_| false) != made);
+        }
+    }
+    assert!(by_neighbours > 50 && by_mean > 50);
+}

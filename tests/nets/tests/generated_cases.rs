@@ -1,0 +1,161 @@
+//! Generated cases get the answers that their makers expect.
+
+use std::collections::BTreeSet;
+
+use nets::case::{Case, Expected, TextCase};
+use nets::kind::{Kind, call, small_nets};
+use nets::pairs::shared_pair;
+use nets::refused::refused_call;
+use nets::rng::Rng;
+use reference::call::{Outcome, Tables, refine_into, refine_times};
+use reference::curve::Form;
+use reference::refusal::check_net;
+use reference::seam::{Boundary, Way, shared_readings};
+use reference::text::{answer, parse, print, refine_document};
+
+fn outcome(case: &TextCase) -> Outcome {
+    match parse(&case.text) {
+        Ok(document) => refine_document(&document),
+        Err(refusal) => refusal.into(),
+    }
+}
+
+#[test]
+fn texts_of_every_kind_get_their_answer() {
+    for kind in Kind::all() {
+        for seed in 0..12 {
+            let case = kind.make(seed);
+            let outcome = outcome(&case);
+            let name = kind.name();
+            assert!(
+                case.expected.agrees_with(&outcome),
+                "{name} {seed}: {case:?} {outcome:?}"
+            );
+            assert_eq!(answer(&case.text), print(&outcome));
+        }
+    }
+}
+
+#[test]
+fn names_of_kinds_are_distinct() {
+    let kinds = Kind::all();
+    let names: BTreeSet<String> = kinds.iter().map(Kind::name).collect();
+    assert_eq!(names.len(), kinds.len());
+    assert_eq!(Kind::named("grid"), Some(kinds[2].clone()));
+}
+
+#[test]
+fn calls_with_one_or_two_reasons_get_the_lowest() {
+    for first in 1..=12 {
+        for second in first..=12 {
+            for seed in 0..4 {
+                let case = refused_call(&[first, second], &mut Rng::new(seed));
+                let Expected::Refused(refusal) = case.expected else {
+                    panic!("no refusal expected for {first} and {second}");
+                };
+                assert_eq!(refusal.reason, first);
+                let outcome = case.outcome();
+                assert!(case.expected.agrees_with(&outcome), "{case:?} {outcome:?}");
+            }
+        }
+    }
+}
+
+#[test]
+fn mixed_calls_get_their_answer() {
+    let mut met = BTreeSet::new();
+    for seed in 0..1200 {
+        let case = call(seed);
+        let outcome = case.outcome();
+        assert!(case.expected.agrees_with(&outcome), "{seed}: {outcome:?}");
+        met.insert(match outcome {
+            Outcome::Refined { .. } => 0,
+            Outcome::Refused { reason, .. } => reason,
+        });
+    }
+    assert_eq!(met, (0..=12).collect());
+}
+
+/// What the paper says of the tables after a call, apart from the contents of
+/// the results.
+fn assert_frame(case: &Case, before: &Tables, after: &Tables, outcome: &Outcome) {
+    let (filled, cleared) = match outcome {
+        Outcome::Refined {
+            vertices,
+            faces,
+            marks,
+        } => {
+            assert_eq!(after.vertices[..vertices.len()], *vertices);
+            assert_eq!(after.faces[..faces.len()], *faces);
+            assert_eq!(after.marks[..marks.len()], *marks);
+            ([vertices.len(), faces.len(), marks.len()], true)
+        }
+        Outcome::Refused { reason, .. } => ([0; 3], *reason > 4),
+    };
+    assert_eq!(after.vertices[filled[0]..], before.vertices[filled[0]..]);
+    assert_eq!(after.faces[filled[1]..], before.faces[filled[1]..]);
+    assert_eq!(after.marks[filled[2]..], before.marks[filled[2]..]);
+    let used = if cleared {
+        (4 * case.faces.len()) << (2 * case.rounds)
+    } else {
+        0
+    };
+    assert!(after.workspace[..used].iter().all(|&word| word == 0));
+    assert_eq!(after.workspace[used..], before.workspace[used..]);
+}
+
+#[test]
+fn calls_leave_every_table_as_the_paper_says() {
+    for seed in 0..200 {
+        let case = call(seed);
+        let before = case.tables(&mut Rng::new(seed));
+        let mut after = before.clone();
+        let outcome = refine_into(
+            case.rounds,
+            &case.vertices,
+            &case.faces,
+            &case.marks,
+            &mut after,
+        );
+        assert_eq!(outcome, case.outcome());
+        assert_frame(&case, &before, &after, &outcome);
+    }
+}
+
+#[test]
+fn small_nets_are_small_distinct_and_accepted() {
+    let chosen = small_nets(1, 300);
+    assert_eq!(chosen.len(), 300);
+    for (at, (net, rounds)) in chosen.iter().enumerate() {
+        assert_eq!(check_net(net), Ok(()));
+        assert!(net.faces.len() <= 12 && net.points.len() <= 40);
+        assert!([1, 2].contains(rounds));
+        assert!(chosen[..at].iter().all(|(other, _)| other != net));
+    }
+}
+
+#[test]
+fn pairs_share_their_segment_after_every_round() {
+    let mut met = BTreeSet::new();
+    for seed in 0..150 {
+        let pair = shared_pair(&mut Rng::new(seed));
+        let [first, second] = &pair.nets;
+        assert_eq!((check_net(first), check_net(second)), (Ok(()), Ok(())));
+        let shared = shared_readings(first, second);
+        assert!(shared.contains(&pair.readings.into()));
+        for rounds in 1..=2 {
+            let nets = [first, second].map(|net| refine_times(net.clone(), rounds));
+            let [one, other] = nets.each_ref().map(Boundary::new);
+            for &(a, b) in &shared {
+                let points = one.read(a);
+                assert!(points.is_some());
+                assert_eq!(points, other.read(b));
+            }
+        }
+        for reading in pair.readings {
+            met.insert((reading.form, reading.way));
+        }
+    }
+    let all = [Form::Open, Form::Round].map(|f| [Way::With, Way::Against].map(|w| (f, w)));
+    assert_eq!(met, all.into_iter().flatten().collect());
+}

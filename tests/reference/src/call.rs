@@ -1,0 +1,128 @@
+//! The call that refines a net, with the tables it is given.
+
+use crate::net::Net;
+use crate::refusal::{Capacity, Refusal, check_call, check_net, refined_faces};
+use crate::step::refine_once;
+
+/// What a caller passes: the net, the rounds and the lengths of the tables
+/// for the results and as workspace.
+#[derive(Clone, Copy, Debug)]
+pub struct Call<'a> {
+    pub rounds: u32,
+    pub vertices: &'a [i32],
+    pub faces: &'a [u32],
+    pub marks: &'a [u8],
+    pub capacity: Capacity,
+}
+
+/// What a call reports.
+#[derive(Clone, Debug, PartialEq, Eq)]
+pub enum Outcome {
+    Refined {
+        vertices: Vec<i32>,
+        faces: Vec<u32>,
+        marks: Vec<u8>,
+    },
+    Refused {
+        reason: u32,
+        place: u32,
+    },
+}
+
+impl From<Refusal> for Outcome {
+    fn from(refusal: Refusal) -> Self {
+        Self::Refused {
+            reason: refusal.reason,
+            place: refusal.place,
+        }
+    }
+}
+
+/// The tables that a call writes, as the caller owns them.
+#[derive(Clone, Debug, PartialEq, Eq)]
+pub struct Tables {
+    pub vertices: Vec<i32>,
+    pub faces: Vec<u32>,
+    pub marks: Vec<u8>,
+    pub workspace: Vec<u32>,
+}
+
+impl Tables {
+    pub fn capacity(&self) -> Capacity {
+        Capacity {
+            vertices: self.vertices.len(),
+            faces: self.faces.len(),
+            marks: self.marks.len(),
+            workspace: self.workspace.len(),
+        }
+    }
+}
+
+/// The result of a call.
+pub fn refine(call: &Call) -> Outcome {
+    match check_call(
+        call.rounds,
+        call.vertices,
+        call.faces,
+        call.marks,
+        &call.capacity,
+    ) {
+        Ok(()) => refine_net(call),
+        Err(refusal) => refusal.into(),
+    }
+}
+
+/// The result of a call that refusals 1 to 4 do not stop.
+fn refine_net(call: &Call) -> Outcome {
+    let net = Net::from_tables(call.vertices, call.faces, call.marks);
+    match check_net(&net) {
+        Ok(()) => {
+            let refined = refine_times(net, call.rounds);
+            Outcome::Refined {
+                vertices: refined.vertex_table(),
+                faces: refined.face_table(),
+                marks: refined.marks,
+            }
+        }
+        Err(refusal) => refusal.into(),
+    }
+}
+
+/// An accepted net after `rounds` refinement steps.
+pub fn refine_times(net: Net, rounds: u32) -> Net {
+    (0..rounds).fold(net, |net, _| refine_once(&net).net)
+}
+
+/// The result of a call, and in `tables` the final state of every table.
+pub fn refine_into(
+    rounds: u32,
+    vertices: &[i32],
+    faces: &[u32],
+    marks: &[u8],
+    tables: &mut Tables,
+) -> Outcome {
+    let outcome = refine(&Call {
+        rounds,
+        vertices,
+        faces,
+        marks,
+        capacity: tables.capacity(),
+    });
+    match &outcome {
+        Outcome::Refined {
+            vertices,
+            faces,
+            marks,
+        } => {
+            tables.vertices[..vertices.len()].copy_from_slice(vertices);
+            tables.faces[..faces.len()].copy_from_slice(faces);
+            tables.marks[..marks.len()].copy_from_slice(marks);
+        }
+        Outcome::Refused { reason: 1..=4, .. } => return outcome,
+        Outcome::Refused { .. } => {}
+    }
+    let used = 16 * refined_faces(faces.len() / 4, rounds);
+    let used = usize::try_from(used).expect("the workspace was long enough");
+    tables.workspace[..used].fill(0);
+    outcome
+}

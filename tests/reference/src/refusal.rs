@@ -1,0 +1,154 @@
+//! Reasons for refusing a call, their order and their places.
+
+use crate::net::Net;
+use crate::topology::{Star, Topology};
+
+pub const MAX_ROUNDS: u32 = 6;
+pub const MAX_VERTICES: usize = 8_192;
+pub const MAX_FACES: usize = 4_096;
+pub const MAX_REFINED_FACES: u128 = 262_144;
+pub const MAX_COORDINATE: u32 = 1_048_576;
+pub const RING_SIZES: std::ops::RangeInclusive<usize> = 3..=8;
+pub const MAX_FAN: usize = 6;
+
+/// A refusal: its number in the scope paper and its place.
+#[derive(Clone, Copy, Debug, PartialEq, Eq)]
+pub struct Refusal {
+    pub reason: u32,
+    pub place: u32,
+}
+
+impl Refusal {
+    pub fn new(reason: u32, place: u32) -> Self {
+        Self { reason, place }
+    }
+}
+
+/// Lengths of the tables that the caller provides for the results and as
+/// workspace; the scope paper calls these tables lent.
+#[derive(Clone, Copy, Debug, PartialEq, Eq)]
+pub struct Capacity {
+    pub vertices: usize,
+    pub faces: usize,
+    pub marks: usize,
+    pub workspace: usize,
+}
+
+impl Capacity {
+    /// The least lengths that serve this many refined faces.
+    pub fn for_refined_faces(faces: usize) -> Self {
+        Self {
+            vertices: 12 * faces,
+            faces: 4 * faces,
+            marks: 4 * faces,
+            workspace: 16 * faces,
+        }
+    }
+
+    fn serves(&self, refined_faces: u128) -> bool {
+        let at_least = |length: usize, factor: u128| length as u128 >= factor * refined_faces;
+        at_least(self.vertices, 12)
+            && at_least(self.faces, 4)
+            && at_least(self.marks, 4)
+            && at_least(self.workspace, 16)
+    }
+}
+
+/// Faces after `rounds` steps, at most [`MAX_ROUNDS`].
+pub fn refined_faces(faces: usize, rounds: u32) -> u128 {
+    assert!(rounds <= MAX_ROUNDS, "too many rounds to count faces");
+    faces as u128 * 4_u128.pow(rounds)
+}
+
+/// Refusals 1 to 4, which look at lengths and rounds only.
+pub fn check_call(
+    rounds: u32,
+    vertices: &[i32],
+    faces: &[u32],
+    marks: &[u8],
+    capacity: &Capacity,
+) -> Result<(), Refusal> {
+    check_rounds(rounds)?;
+    let vertex_count = vertices.len() / 3;
+    let face_count = faces.len() / 4;
+    let whole_rows = vertices.len().is_multiple_of(3) && faces.len().is_multiple_of(4);
+    if !whole_rows || marks.len() != vertex_count {
+        return Err(Refusal::new(2, 0));
+    }
+    check_limits(rounds, vertex_count, face_count)?;
+    if !capacity.serves(refined_faces(face_count, rounds)) {
+        return Err(Refusal::new(4, 0));
+    }
+    Ok(())
+}
+
+/// Refusal 1.
+pub fn check_rounds(rounds: u32) -> Result<(), Refusal> {
+    if rounds > MAX_ROUNDS {
+        return Err(Refusal::new(1, 0));
+    }
+    Ok(())
+}
+
+/// Refusal 3.
+pub fn check_limits(rounds: u32, vertices: usize, faces: usize) -> Result<(), Refusal> {
+    let refined = refined_faces(faces, rounds);
+    if vertices > MAX_VERTICES || faces > MAX_FACES || refined > MAX_REFINED_FACES {
+        return Err(Refusal::new(3, 0));
+    }
+    Ok(())
+}
+
+/// Refusals 5 to 12: each reason is looked for in the whole net before the next.
+pub fn check_net(net: &Net) -> Result<(), Refusal> {
+    let vertices = net.points.len();
+    refuse(5, &net.points, |point| {
+        point.iter().any(|c| c.unsigned_abs() > MAX_COORDINATE)
+    })?;
+    refuse(6, &net.marks, |&mark| mark > 1)?;
+    refuse(7, &net.faces, |face| is_bad_face(face, vertices))?;
+    refuse(8, &used(net), |&used| !used)?;
+    let topology = Topology::new(&net.faces).map_err(|face| Refusal::new(9, face))?;
+    let stars: Vec<Option<Star>> = (0..)
+        .take(vertices)
+        .map(|vertex| topology.star(vertex))
+        .collect();
+    refuse(10, &stars, Option::is_none)?;
+    let stars: Vec<Star> = stars.into_iter().flatten().collect();
+    refuse(11, &stars, has_bad_valence)?;
+    let marked_stars: Vec<(Star, u8)> = stars.into_iter().zip(net.marks.clone()).collect();
+    refuse(12, &marked_stars, |(star, mark)| {
+        *mark == 1 && star.is_ring()
+    })
+}
+
+/// Refuses with the lowest place whose entry is bad.
+fn refuse<T>(reason: u32, entries: &[T], is_bad: impl Fn(&T) -> bool) -> Result<(), Refusal> {
+    match (0..).zip(entries).find(|(_, entry)| is_bad(entry)) {
+        Some((place, _)) => Err(Refusal::new(reason, place)),
+        None => Ok(()),
+    }
+}
+
+fn is_bad_face(face: &[u32; 4], vertices: usize) -> bool {
+    let [a, b, c, d] = *face;
+    let equal_corners = a == b || a == c || a == d || b == c || b == d || c == d;
+    equal_corners || face.iter().any(|&corner| corner as usize >= vertices)
+}
+
+/// For each vertex whether a face has it as a corner.
+fn used(net: &Net) -> Vec<bool> {
+    let mut used = vec![false; net.points.len()];
+    for &corner in net.faces.as_flattened() {
+        used[corner as usize] = true;
+    }
+    used
+}
+
+fn has_bad_valence(star: &Star) -> bool {
+    if star.is_ring() {
+        !RING_SIZES.contains(&star.face_count())
+    } else {
+        star.face_count() > MAX_FAN
+    }
+}

@@ -1,0 +1,282 @@
+//! One refinement step of an accepted net.
+
+use std::collections::BTreeMap;
+
+use crate::net::{Net, edge, sides};
+use crate::point::ExactPoint;
+use crate::rules::{end_edge, four_point, mean, midpoint, reflect, virtual_point};
+use crate::topology::{BoundaryLoops, Star, Topology};
+
+/// The rule that makes a new point.
+#[derive(Clone, Copy, Debug, PartialEq, Eq, Hash, PartialOrd, Ord)]
+pub enum Rule {
+    /// Boundary edge with four consecutive points of its boundary segment.
+    BoundaryInside,
+    /// First or last edge of an open boundary segment of two or more edges.
+    EndEdge,
+    /// The only edge of an open boundary segment.
+    OneEdge,
+    /// Edge of two faces.
+    InnerEdge,
+    /// Face point; the directions start from sides 0 and 1.
+    Face {
+        neighbours: [u8; 2],
+        used: Directions,
+    },
+}
+
+/// The directions whose results make a face point.
+#[derive(Clone, Copy, Debug, PartialEq, Eq, Hash, PartialOrd, Ord)]
+pub enum Directions {
+    /// Only the direction from side 0.
+    First,
+    /// Only the direction from side 1.
+    Second,
+    /// The mean of both.
+    Both,
+}
+
+/// A new point before rounding.
+#[derive(Clone, Copy, Debug, PartialEq, Eq)]
+pub struct NewPoint {
+    pub rule: Rule,
+    pub exact: ExactPoint,
+}
+
+/// The result of one direction of a face.
+#[derive(Clone, Copy, Debug, PartialEq, Eq)]
+pub struct Direction {
+    /// Neighbouring faces in this direction, 0 to 2.
+    pub neighbours: u8,
+    /// Whether all four edges are there and inner.
+    pub four_inner: bool,
+    pub point: ExactPoint,
+}
+
+/// A refined net with the origin of its new vertices: `made[i]` belongs to
+/// vertex `V + i`, the edge points first.
+#[derive(Clone, Debug, PartialEq, Eq)]
+pub struct Step {
+    pub net: Net,
+    pub made: Vec<NewPoint>,
+}
+
+/// Refines an accepted net, or the result of refining one, once.
+pub fn refine_once(net: &Net) -> Step {
+    let surface = Surface::new(net);
+    let edges = Topology::edges_in_order(&net.faces);
+    let mut made: Vec<NewPoint> = Vec::with_capacity(edges.len() + net.faces.len());
+    let mut numbers = BTreeMap::new();
+    let mut edge_points = BTreeMap::new();
+    for (number, &(from, to)) in (net.points.len()..).zip(&edges) {
+        let point = surface.edge_point(from, to);
+        numbers.insert(edge(from, to), number);
+        edge_points.insert(edge(from, to), point.exact);
+        made.push(point);
+    }
+    for &face in &net.faces {
+        made.push(surface.face_point(face, &edge_points));
+    }
+
+    let first_face_point = net.points.len() + edges.len();
+    let mut refined = Net {
+        points: net.points.clone(),
+        faces: Vec::with_capacity(4 * net.faces.len()),
+        marks: net.marks.clone(),
+    };
+    refined
+        .points
+        .extend(made.iter().map(|new| new.exact.round()));
+    refined.marks.resize(refined.points.len(), 0);
+    for (centre, &face) in (first_face_point..).zip(&net.faces) {
+        refined.faces.extend(split(face, centre, &numbers));
+    }
+    Step { net: refined, made }
+}
+
+/// The first `rounds` steps of an accepted net, each with the origin of its
+/// new vertices.
+pub fn trace(net: &Net, rounds: u32) -> Vec<Step> {
+    let mut steps: Vec<Step> = Vec::new();
+    for _ in 0..rounds {
+        let last = steps.last().map_or(net, |step| &step.net);
+        steps.push(refine_once(last));
+    }
+    steps
+}
+
+/// The four faces of a split face: corner i, point of side i, face point,
+/// point of side i-1.
+fn split(face: [u32; 4], centre: usize, numbers: &BTreeMap<(u32, u32), usize>) -> [[u32; 4]; 4] {
+    let vertex = |number: usize| u32::try_from(number).expect("vertex number fits");
+    let middles = sides(face).map(|(from, to)| vertex(numbers[&edge(from, to)]));
+    std::array::from_fn(|i| [face[i], middles[i], vertex(centre), middles[(i + 3) % 4]])
+}
+
+/// A net with its adjacency, as the rules see it.
+pub struct Surface<'a> {
+    net: &'a Net,
+    topology: Topology,
+    boundary: BoundaryLoops,
+}
+
+impl<'a> Surface<'a> {
+    pub fn new(net: &'a Net) -> Self {
+        let topology = Topology::new(&net.faces).expect("the sides of the net are distinct");
+        let boundary = topology.boundary();
+        Self {
+            net,
+            topology,
+            boundary,
+        }
+    }
+
+    pub fn topology(&self) -> &Topology {
+        &self.topology
+    }
+
+    pub fn edge_point(&self, from: u32, to: u32) -> NewPoint {
+        if self.topology.is_inner(from, to) {
+            NewPoint {
+                rule: Rule::InnerEdge,
+                exact: four_point(
+                    self.virtual_point(from, to),
+                    self.exact(from),
+                    self.exact(to),
+                    self.virtual_point(to, from),
+                ),
+            }
+        } else {
+            self.boundary_point(from, to)
+        }
+    }
+
+    /// The point on the boundary side from `from` to `to`.
+    fn boundary_point(&self, from: u32, to: u32) -> NewPoint {
+        let [p, q] = [from, to].map(|vertex| self.exact(vertex));
+        let before = || self.exact(self.boundary.before[&from]);
+        let after = || self.exact(self.boundary.after[&to]);
+        let (rule, exact) = match (self.net.is_marked(from), self.net.is_marked(to)) {
+            (true, true) => (Rule::OneEdge, midpoint(p, q)),
+            (true, false) => (Rule::EndEdge, end_edge(p, q, after())),
+            (false, true) => (Rule::EndEdge, end_edge(q, p, before())),
+            (false, false) => (Rule::BoundaryInside, four_point(before(), p, q, after())),
+        };
+        NewPoint { rule, exact }
+    }
+
+    /// The extrapolated point P* of a boundary vertex.
+    pub fn extrapolated(&self, vertex: u32) -> ExactPoint {
+        let star = self.star(vertex);
+        assert!(!star.is_ring(), "only boundary vertices are extrapolated");
+        let inner = &star.neighbours[1..star.neighbours.len() - 1];
+        let far = if inner.is_empty() {
+            self.exact(star.opposites[0])
+        } else {
+            mean(&self.exact_all(inner))
+        };
+        reflect(self.exact(vertex), far)
+    }
+
+    /// The neighbours and opposite corners of a vertex as a closed ring; at a
+    /// boundary vertex the extrapolated points close it. The fan runs from
+    /// its first neighbour b to its last neighbour c: then come P* as a
+    /// neighbour, c* between c and P*, and b* between P* and b.
+    pub fn closed_ring(&self, vertex: u32) -> (Vec<ExactPoint>, Vec<ExactPoint>) {
+        let star = self.star(vertex);
+        let mut neighbours = self.exact_all(&star.neighbours);
+        let mut opposites = self.exact_all(&star.opposites);
+        if !star.is_ring() {
+            let first = star.neighbours[0];
+            let last = star.neighbours[star.neighbours.len() - 1];
+            neighbours.push(self.extrapolated(vertex));
+            opposites.push(self.extrapolated(last));
+            opposites.push(self.extrapolated(first));
+        }
+        (neighbours, opposites)
+    }
+
+    /// The virtual point at `vertex` for its inner edge towards `other`.
+    pub fn virtual_point(&self, vertex: u32, other: u32) -> ExactPoint {
+        let towards = self
+            .star(vertex)
+            .neighbours
+            .iter()
+            .position(|&neighbour| neighbour == other)
+            .expect("the edge starts at the vertex");
+        let (neighbours, opposites) = self.closed_ring(vertex);
+        virtual_point(&neighbours, &opposites, towards)
+    }
+
+    /// Both directions of a face, from side 0 and from side 1.
+    pub fn directions(
+        &self,
+        face: [u32; 4],
+        edge_points: &BTreeMap<(u32, u32), ExactPoint>,
+    ) -> [Direction; 2] {
+        let [side0, side1, side2, side3] = sides(face);
+        [(side0, side2), (side1, side3)].map(|(near, far)| self.direction(near, far, edge_points))
+    }
+
+    fn direction(
+        &self,
+        near: (u32, u32),
+        far: (u32, u32),
+        edge_points: &BTreeMap<(u32, u32), ExactPoint>,
+    ) -> Direction {
+        let at = |(a, b): (u32, u32)| edge_points[&edge(a, b)];
+        let beyond = [self.edge_beyond(near), self.edge_beyond(far)];
+        let (neighbours, point) = match beyond {
+            [Some(first), Some(last)] => (2, four_point(at(first), at(near), at(far), at(last))),
+            [Some(first), None] => (1, end_edge(at(far), at(near), at(first))),
+            [None, Some(last)] => (1, end_edge(at(near), at(far), at(last))),
+            [None, None] => (0, midpoint(at(near), at(far))),
+        };
+        let four_inner = beyond
+            .iter()
+            .all(|edge| edge.is_some_and(|(a, b)| self.topology.is_inner(a, b)));
+        Direction {
+            neighbours,
+            four_inner,
+            point,
+        }
+    }
+
+    /// The opposite edge of the neighbour across a side of a face.
+    fn edge_beyond(&self, (from, to): (u32, u32)) -> Option<(u32, u32)> {
+        let wedge = self.topology.wedge(to, from)?;
+        Some((wedge.opposite, wedge.next))
+    }
+
+    pub fn face_point(
+        &self,
+        face: [u32; 4],
+        edge_points: &BTreeMap<(u32, u32), ExactPoint>,
+    ) -> NewPoint {
+        let [first, second] = self.directions(face, edge_points);
+        let (used, exact) = match (first.four_inner, second.four_inner) {
+            (true, false) => (Directions::First, first.point),
+            (false, true) => (Directions::Second, second.point),
+            _ => (Directions::Both, midpoint(first.point, second.point)),
+        };
+        let neighbours = [first.neighbours, second.neighbours];
+        NewPoint {
+            rule: Rule::Face { neighbours, used },
+            exact,
+        }
+    }
+
+    fn star(&self, vertex: u32) -> Star {
+        self.topology
+            .star(vertex)
+            .expect("the faces at a vertex form a ring or a fan")
+    }
+
+    fn exact(&self, vertex: u32) -> ExactPoint {
+        self.net.point(vertex).into()
+    }
+
+    fn exact_all(&self, vertices: &[u32]) -> Vec<ExactPoint> {
+        vertices.iter().map(|&vertex| self.exact(vertex)).collect()
+    }
+}

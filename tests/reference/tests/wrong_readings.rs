@@ -1,0 +1,225 @@
+//! Believable wrong readings of the paper: each is written out here and gives
+//! another answer than the reference on a concrete net.
+
+mod common;
+
+use std::collections::BTreeMap;
+
+use common::{cube, fan, grid, square, unmarked, wheel, with_marks};
+use reference::fraction::Fraction;
+use reference::net::{Net, edge};
+use reference::point::{ExactPoint, Point};
+use reference::rules::{four_point, midpoint, reflect, virtual_point};
+use reference::step::{Directions, Rule, Surface, refine_once};
+use reference::topology::Topology;
+
+type EdgePoints = BTreeMap<(u32, u32), ExactPoint>;
+
+/// The inner edge point from `p` to `q` with another rule for virtual points.
+fn inner_edge_with(
+    net: &Net,
+    [p, q]: [u32; 2],
+    rule: impl Fn(&[ExactPoint], &[ExactPoint], usize) -> ExactPoint,
+) -> ExactPoint {
+    let surface = Surface::new(net);
+    let at = |vertex: u32, other: u32| {
+        let (neighbours, opposites) = surface.closed_ring(vertex);
+        rule(&neighbours, &opposites, position(&surface, vertex, other))
+    };
+    let [exact_p, exact_q] = [p, q].map(|vertex| ExactPoint::from(net.point(vertex)));
+    four_point(at(p, q), exact_p, exact_q, at(q, p))
+}
+
+fn position(surface: &Surface, vertex: u32, other: u32) -> usize {
+    let star = surface.topology().star(vertex).expect("an accepted net");
+    let mut neighbours = star.neighbours.iter();
+    neighbours.position(|&n| n == other).expect("a neighbour")
+}
+
+/// The unrounded edge points of a net.
+fn edge_points(net: &Net) -> EdgePoints {
+    let surface = Surface::new(net);
+    Topology::edges_in_order(&net.faces)
+        .into_iter()
+        .map(|(a, b)| (edge(a, b), surface.edge_point(a, b).exact))
+        .collect()
+}
+
+fn at(points: &[ExactPoint], index: usize) -> ExactPoint {
+    points[index % points.len()]
+}
+
+fn sum(points: &[ExactPoint]) -> ExactPoint {
+    points.iter().copied().sum()
+}
+
+/// The virtual point with 1/`divisor` in the place of 1/9.
+fn virtual_point_over(divisor: i128, l: &[ExactPoint], k: &[ExactPoint], j: usize) -> ExactPoint {
+    let n = l.len();
+    let count = i128::try_from(n).expect("small");
+    let near_l = at(l, j + n - 1) + at(l, j) + at(l, j + 1);
+    let near_k = at(k, j + n - 2) + at(k, j + n - 1) + at(k, j) + at(k, j + 1);
+    sum(l) * 4 / count - near_l + near_k / divisor - sum(k) * 4 / (divisor * count)
+}
+
+#[test]
+fn one_fifth_for_one_ninth() {
+    let net = cube();
+    let edge_of_cube = |divisor| {
+        inner_edge_with(&net, [0, 4], |l, k, j| virtual_point_over(divisor, l, k, j)).round()
+    };
+    assert_eq!(edge_of_cube(5), [0, -594, -594]);
+    assert_eq!(edge_of_cube(9), [0, -590, -590]);
+    let right = Surface::new(&net).edge_point(0, 4).exact.round();
+    assert_eq!(right, [0, -590, -590]);
+}
+
+#[test]
+fn rounding_edge_points_before_the_face_point() {
+    let mut net = with_marks(square(), &[0, 1, 2, 3]);
+    net.points[0][2] = 1;
+    let rounded: EdgePoints = edge_points(&net)
+        .into_iter()
+        .map(|(edge, exact)| (edge, exact.round().into()))
+        .collect();
+    let wrong = Surface::new(&net).face_point(net.faces[0], &rounded);
+    assert_eq!(wrong.exact.round(), [8, 8, 1]);
+    assert_eq!(refine_once(&net).net.points[8], [8, 8, 0]);
+}
+
+/// A strip whose lower side from vertex 0 to vertex 3 is one open boundary
+/// segment; the upper side is free.
+fn strip(upper: [Point; 4]) -> Net {
+    let mut points = vec![[0, 0, 0], [16, 0, 0], [32, 0, 0], [80, 0, 0]];
+    points.extend(upper);
+    let faces = [[0, 1, 5, 4], [1, 2, 6, 5], [2, 3, 7, 6]];
+    with_marks(unmarked(&points, &faces), &[0, 3])
+}
+
+#[test]
+fn a_segment_end_treated_as_cyclic() {
+    let near = strip([[0, 16, 0], [16, 16, 0], [32, 16, 0], [80, 16, 0]]);
+    let far = strip([[0, 64, 9], [16, 64, 0], [32, 64, 0], [80, 90, 9]]);
+    let cyclic = |net: &Net| {
+        let [before, p, q, after] = [4, 0, 1, 2].map(|v: u32| ExactPoint::from(net.point(v)));
+        four_point(before, p, q, after).round()
+    };
+    assert_ne!(cyclic(&near), cyclic(&far), "the next patch bends the seam");
+    for net in [near, far] {
+        assert_eq!(refine_once(&net).net.points[8], [8, 0, 0]);
+    }
+}
+
+#[test]
+fn dropping_a_repeated_opposite_corner() {
+    let net = cube();
+    let wrong = inner_edge_with(&net, [0, 4], |l, k, j| {
+        let n = l.len();
+        assert_eq!(n, 3);
+        let count = i128::try_from(n).expect("small");
+        let near_l = at(l, j + n - 1) + at(l, j) + at(l, j + 1);
+        sum(l) * 4 / count - near_l + sum(k) / 9 - sum(k) * 4 / (9 * count)
+    });
+    let right = Surface::new(&net).edge_point(0, 4).exact;
+    assert_ne!(wrong.round(), [0, -590, -590]);
+    assert_eq!(right.round(), [0, -590, -590]);
+}
+
+#[test]
+fn extrapolated_corners_swapped() {
+    let net = fan(3);
+    let wrong = inner_edge_with(&net, [0, 2], |l, k, j| {
+        let mut swapped = k.to_vec();
+        if l.len() == 5 {
+            swapped.swap(3, 4);
+        }
+        virtual_point(l, &swapped, j)
+    });
+    let surface = Surface::new(&net);
+    let right = surface.edge_point(0, 2).exact;
+    assert_ne!(wrong, right);
+    // Vertex 0 has the fan 1, 2, 3, 4: c = 4 stands before P*, b = 1 after it.
+    let (l, k) = surface.closed_ring(0);
+    assert_eq!(l[4], surface.extrapolated(0));
+    assert_eq!(k[3], surface.extrapolated(4));
+    assert_eq!(k[4], surface.extrapolated(1));
+}
+
+#[test]
+fn only_inner_points_in_the_extrapolation() {
+    // The middle edge of two squares joins two boundary vertices; its far end
+    // counts although it is no inner point. The wrong reading takes the
+    // corner opposite in one of the faces instead.
+    let mut net = grid(2, 1);
+    net.points[4][2] = 6;
+    let exact = |vertex: u32| ExactPoint::from(net.point(vertex));
+    let right = Surface::new(&net).extrapolated(1);
+    assert_eq!(right, reflect(exact(1), exact(4)));
+    for opposite in [3, 5] {
+        assert_ne!(right, reflect(exact(1), exact(opposite)));
+    }
+}
+
+/// A 6 x 6 grid without its last 3 x 3 faces, in no special position. The
+/// inward corner has a fan of three.
+fn bent_grid() -> Net {
+    let outside = |vertex: &u32| vertex % 7 > 3 && vertex / 7 > 3;
+    let kept: Vec<u32> = (0..49).filter(|vertex| !outside(vertex)).collect();
+    let number = |vertex: u32| kept.partition_point(|&other| other < vertex) as u32;
+    let faces = grid(6, 6).faces.into_iter();
+    let faces: Vec<[u32; 4]> = faces
+        .filter(|face| !face.iter().any(outside))
+        .map(|face| face.map(number))
+        .collect();
+    unmarked(&common::scattered(kept.len() as u32), &faces)
+}
+
+#[test]
+fn always_the_mean_of_both_directions() {
+    let net = bent_grid();
+    assert_eq!(common::verdict(&net), None);
+    let edges = edge_points(&net);
+    let surface = Surface::new(&net);
+    let differs = net.faces.iter().any(|&face| {
+        let new = surface.face_point(face, &edges);
+        let [first, second] = surface.directions(face, &edges).map(|d| d.point);
+        let alone = new.exact == first || new.exact == second;
+        !is_mean(new.rule) && alone && new.exact != midpoint(first, second)
+    });
+    assert!(differs);
+}
+
+fn is_mean(rule: Rule) -> bool {
+    matches!(
+        rule,
+        Rule::Face {
+            used: Directions::Both,
+            ..
+        }
+    )
+}
+
+#[test]
+fn halves_to_even_or_upwards() {
+    let half = |numerator| Fraction::new(numerator, 2);
+    let up = |value: Fraction| {
+        (value + half(1))
+            .numerator()
+            .div_euclid((value + half(1)).denominator())
+    };
+    assert_eq!((up(half(-1475)), half(-1475).round()), (-737, -738));
+    assert_eq!(half(1).round(), 1, "to even gives 0");
+    assert_eq!(half(5).round(), 3, "to even gives 2");
+}
+
+#[test]
+fn the_nearer_vertex_before_the_lower_number() {
+    // Vertex 0 has a ring of nine (11); two faces touch at a later one (10).
+    let mut net = wheel(9);
+    let first = u32::try_from(net.points.len()).expect("small");
+    net.points.extend(common::scattered(3));
+    net.marks.extend([0; 3]);
+    net.faces.push([18, first, first + 1, first + 2]);
+    assert_eq!(common::verdict(&net), Some((10, 18)));
+    assert_eq!(common::verdict(&wheel(9)), Some((11, 0)));
+}
