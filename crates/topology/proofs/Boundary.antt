@@ -252,13 +252,13 @@ module _ (S : Shape) (v : ℕ) (l : List ℕ) (ok : Manifold S v l) where
   to-inj h g o q e = sym (boundary-end h o) ∙ ap (boundaryInto S l) e ∙ boundary-end g q
 
   -- a vertex that starts a boundary half-edge ends one, and the other way round
-  pub starts-ends : (p : ℕ) → p < v → boundaryFrom S l p < length l → boundaryInto S l p < length l
+  pub starts-ends : (p : ℕ) → boundaryFrom S l p < length l → boundaryInto S l p < length l
   unfolding back
-  starts-ends p b c = let e = ap (boundaryInto S l) (boundaryFrom-at S l p c) in let o = back-on (boundaryFrom S l p) (boundaryFrom-on S l p c) in rw e at (o .lt)
+  starts-ends p c = let e = ap (boundaryInto S l) (boundaryFrom-at S l p c) in let o = back-on (boundaryFrom S l p) (boundaryFrom-on S l p c) in rw e at (o .lt)
 
-  pub ends-starts : (p : ℕ) → p < v → boundaryInto S l p < length l → boundaryFrom S l p < length l
+  pub ends-starts : (p : ℕ) → boundaryInto S l p < length l → boundaryFrom S l p < length l
   unfolding along
-  ends-starts p b c = let e = ap (boundaryFrom S l) (boundaryInto-at S l p c) in let o = along-on (boundaryInto S l p) (boundaryInto-on S l p c) in rw e at (o .lt)
+  ends-starts p c = let e = ap (boundaryFrom S l) (boundaryInto-at S l p c) in let o = along-on (boundaryInto S l p) (boundaryInto-on S l p c) in rw e at (o .lt)
 
   -- ---- k steps
 
