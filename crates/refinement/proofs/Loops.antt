@@ -75,9 +75,22 @@ module _ (S : Shape) (v : ℕ) (l : List ℕ) (ok : Manifold S v l) where
 
 module _ (v : ℕ) (mark mark′ : ℕ → Bool) (old : (p : ℕ) → p < v → mark′ p ≡ mark p) (new : (p : ℕ) → v ≤ p → mark′ p ≡ false)
     (s s′ : ℕ → ℕ) (inside : (k : ℕ) → s k < v) (even : (k : ℕ) → s′ (2 * k) ≡ s k) (odd : (k : ℕ) → v ≤ s′ (suc (2 * k))) where
-  pub mark-even : (k : ℕ) → mark′ (s′ (2 * k)) ≡ mark (s k)
+  mark-even : (k : ℕ) → mark′ (s′ (2 * k)) ≡ mark (s k)
   mark-even k = ap mark′ (even k) ∙ old (s k) (inside k)
 
-  pub between-refined : (n : ℕ) → ((k : ℕ) → 0 < k → k < n → mark (s k) ≡ false) → (k : ℕ) → 0 < k → k < 2 * n → mark′ (s′ k) ≡ false
+  between-refined : (n : ℕ) → ((k : ℕ) → 0 < k → k < n → mark (s k) ≡ false) → (k : ℕ) → 0 < k → k < 2 * n → mark′ (s′ k) ≡ false
   between-refined n f k b c = parity k (λ k. 0 < k → k < 2 * n → mark′ (s′ k) ≡ false)
       (λ j b c. mark-even j ∙ f j (omega arith) (omega arith)) (λ j b c. new (s′ (suc (2 * j))) (odd j)) b c
+
+-- from a marked vertex to the next, along the sides and against them: n edges before a round, 2n after it
+module _ (S : Shape) (v : ℕ) (l : List ℕ) (ok : Manifold S v l) (mark mark′ : ℕ → Bool) (old : (p : ℕ) → p < v → mark′ p ≡ mark p) (new : (p : ℕ) → v ≤ p → mark′ p ≡ false)
+    (n h : ℕ) (o : OnBoundary S l h) where
+  pub stretch-along : ((k : ℕ) → 0 < k → k < n → mark (from l (iterate (along S l) k h)) ≡ false)
+      → (k : ℕ) → 0 < k → k < 2 * n → mark′ (from (refined S v l) (iterate (along quads (refined S v l)) k (4 * h))) ≡ false
+  stretch-along = between-refined v mark mark′ old new (λ (k : ℕ). from l (iterate (along S l) k h)) (λ (k : ℕ). from (refined S v l) (iterate (along quads (refined S v l)) k (4 * h)))
+      (λ k. ok .oriented .below (iterate (along S l) k h) (alongs-on S v l ok k h o .lt)) (λ k. along-vertex S v l ok k h o) (λ k. let e = along-edge S v l ok k h o in omega arith) n
+
+  pub stretch-back : ((k : ℕ) → 0 < k → k < n → mark (from l (iterate (back S l) k h)) ≡ false)
+      → (k : ℕ) → 0 < k → k < 2 * n → mark′ (from (refined S v l) (iterate (back quads (refined S v l)) k (4 * h))) ≡ false
+  stretch-back = between-refined v mark mark′ old new (λ (k : ℕ). from l (iterate (back S l) k h)) (λ (k : ℕ). from (refined S v l) (iterate (back quads (refined S v l)) k (4 * h)))
+      (λ k. ok .oriented .below (iterate (back S l) k h) (backs-on S v l ok k h o .lt)) (λ k. back-vertex S v l ok k h o) (λ k. let e = back-edge S v l ok k h o in omega arith) n
