@@ -60,16 +60,28 @@ module _ (S : Shape) (v : ℕ) (l : List ℕ) (ok : Manifold S v l) where
   pub back-edge : (k h : ℕ) → OnBoundary S l h → from (refined S v l) (iterate (back quads (refined S v l)) (suc (2 * k)) (4 * h)) ≡ v + edge S l (iterate (back S l) (suc k) h)
   back-edge k h o = ap (from (refined S v l)) (backs-odd k h o) ∙ second-from S v l ok (iterate (back S l) (suc k) h) (backs-on S v l ok (suc k) h o)
 
-  -- ---- a loop of n half-edges becomes one of 2n
+-- ---- a loop of n half-edges becomes one of 2n, along the sides and against them
 
-  pub loop-refined : (n h : ℕ) → OnBoundary S l h → iterate (along S l) n h ≡ h → iterate (along quads (refined S v l)) (2 * n) (4 * h) ≡ 4 * h
-  loop-refined n h o e = alongs-even n h o ∙ ap (λ (x : ℕ). 4 * x) e
+not-before : (n h : ℕ) (s s′ odd : ℕ → ℕ) → ((k : ℕ) → s′ (2 * k) ≡ 4 * s k) → ((k : ℕ) → s′ (suc (2 * k)) ≡ 4 * odd k + 3) → ((k : ℕ) → 0 < k → k < n → s k ≡ h → ⊥)
+    → (k : ℕ) → 0 < k → k < 2 * n → s′ k ≡ 4 * h → ⊥
+not-before n h s s′ odd e₀ e₁ f k b c e = parity k (λ k. 0 < k → k < 2 * n → s′ k ≡ 4 * h → ⊥)
+    (λ j b c e. let x = e₀ j in f j (omega arith) (omega arith) (omega arith))
+    (λ j b c e. let x = e₁ j in omega arith) b c e
 
-  pub loop-not-before : (n h : ℕ) → OnBoundary S l h → ((k : ℕ) → 0 < k → k < n → iterate (along S l) k h ≡ h → ⊥)
-      → (k : ℕ) → 0 < k → k < 2 * n → iterate (along quads (refined S v l)) k (4 * h) ≡ 4 * h → ⊥
-  loop-not-before n h o f k b c e = parity k (λ k. 0 < k → k < 2 * n → iterate (along quads (refined S v l)) k (4 * h) ≡ 4 * h → ⊥)
-      (λ j b c e. let x = alongs-even j h o in f j (omega arith) (omega arith) (omega arith))
-      (λ j b c e. let x = alongs-odd j h o in omega arith) b c e
+module _ (S : Shape) (v : ℕ) (l : List ℕ) (ok : Manifold S v l) (n h : ℕ) (o : OnBoundary S l h) where
+  pub loop-along : iterate (along S l) n h ≡ h → iterate (along quads (refined S v l)) (2 * n) (4 * h) ≡ 4 * h
+  loop-along e = alongs-even S v l ok n h o ∙ ap (λ (x : ℕ). 4 * x) e
+
+  pub loop-along-before : ((k : ℕ) → 0 < k → k < n → iterate (along S l) k h ≡ h → ⊥) → (k : ℕ) → 0 < k → k < 2 * n → iterate (along quads (refined S v l)) k (4 * h) ≡ 4 * h → ⊥
+  loop-along-before = not-before n h (λ (k : ℕ). iterate (along S l) k h) (λ (k : ℕ). iterate (along quads (refined S v l)) k (4 * h)) (λ (k : ℕ). S .next (iterate (along S l) k h))
+      (λ k. alongs-even S v l ok k h o) (λ k. alongs-odd S v l ok k h o)
+
+  pub loop-back : iterate (back S l) n h ≡ h → iterate (back quads (refined S v l)) (2 * n) (4 * h) ≡ 4 * h
+  loop-back e = backs-even S v l ok n h o ∙ ap (λ (x : ℕ). 4 * x) e
+
+  pub loop-back-before : ((k : ℕ) → 0 < k → k < n → iterate (back S l) k h ≡ h → ⊥) → (k : ℕ) → 0 < k → k < 2 * n → iterate (back quads (refined S v l)) k (4 * h) ≡ 4 * h → ⊥
+  loop-back-before = not-before n h (λ (k : ℕ). iterate (back S l) k h) (λ (k : ℕ). iterate (back quads (refined S v l)) k (4 * h)) (λ (k : ℕ). S .next (iterate (back S l) (suc k) h))
+      (λ k. backs-even S v l ok k h o) (λ k. backs-odd S v l ok k h o)
 
 -- ---- old marks stay and new ones are 0: from a marked vertex to the next there is no mark on the way, before a round and after it
 
