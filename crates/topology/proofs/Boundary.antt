@@ -1,8 +1,8 @@
--- The boundary: what leaves and enters a vertex of a ring or a fan; and the loops of a manifold net, walked along the sides and against them.
+-- The boundary: what leaves and enters a vertex of a ring or a fan; and that of a manifold net, from half-edge to half-edge.
 use mathlib.Core.Path.{_≡_, refl, sym, ap, _∙_, subst}
-use mathlib.Core.Bool.{Bool, true}
+use mathlib.Core.Bool.{true}
 use mathlib.Core.List.{List}
-use Prim.Native.Nat.{ℕ, zero, suc, _+_, _-_, _≤_, _<_}
+use Prim.Native.Nat.{ℕ, suc, _-_, _≤_, _<_}
 use native.Mathlib.Decide.{decLt}
 use native.Mathlib.Omega.{arith}
 use lib.ListN.{length}
@@ -11,13 +11,12 @@ use borrow.Author.Tests.{eq-eqb, eqb-true, lt-ltb, le-ltb}
 use Rattle.search.specs.Search.{first, iterate}
 use Rattle.search.proofs.Tests.{and-on, and-left, and-right}
 use Rattle.search.proofs.First.{first-le, first-holds, first-reach, first-only, first-none}
-use Rattle.search.proofs.Iterate.{iterate-add, iterate-meets}
 use Rattle.topology.specs.Shape.{Shape}
 use Rattle.topology.specs.HalfEdge.{from, to, mate}
 use Rattle.topology.specs.Boundary.{OnBoundary, isBoundaryFrom, isBoundaryInto, boundaryFrom, boundaryInto, along, back}
 use Rattle.topology.specs.Vertex.{leaves, valence, turn, turns, start, Ring, Fan}
 use Rattle.topology.specs.Manifold.{Oriented, Around, ring, fan, Manifold}
-use Rattle.topology.proofs.Mates.{mate-le, mate-only, ends-differ}
+use Rattle.topology.proofs.Mates.{mate-le}
 use Rattle.topology.proofs.Turn.{turns-from}
 use Rattle.topology.proofs.Rings.{ring-valence, ring-mates, ring-turns, ring-at, fan-valence, fan-first, fan-last}
 
@@ -134,7 +133,7 @@ module _ (S : Shape) (v : ℕ) (l : List ℕ) (ok : Oriented S v l) where
       leaves-at : (k : ℕ) → k < m → from l (turns S l k h) ≡ p
       leaves-at k b = turns-from S v l ok p h k (f .walk .leaves) (λ j c. f .walk .inside j (omega arith))
 
--- ---- loops
+-- ---- from half-edge to half-edge
 
 module _ (S : Shape) (v : ℕ) (l : List ℕ) (ok : Manifold S v l) where
   -- where a vertex has no boundary half-edge it has a ring, where it has one a fan; each from `start`, and of as many faces as there are
@@ -259,63 +258,3 @@ module _ (S : Shape) (v : ℕ) (l : List ℕ) (ok : Manifold S v l) where
   pub ends-starts : (p : ℕ) → boundaryInto S l p < length l → boundaryFrom S l p < length l
   unfolding along
   ends-starts p c = let e = ap (boundaryFrom S l) (boundaryInto-at S l p c) in let o = along-on (boundaryInto S l p) (boundaryInto-on S l p c) in rw e at (o .lt)
-
-  -- ---- k steps
-
-  pub alongs-on : (k h : ℕ) → OnBoundary S l h → OnBoundary S l (iterate (along S l) k h)
-  unfolding iterate
-  alongs-on zero h o = o
-  alongs-on (suc k) h o = along-on (iterate (along S l) k h) (alongs-on k h o)
-
-  pub backs-on : (k h : ℕ) → OnBoundary S l h → OnBoundary S l (iterate (back S l) k h)
-  unfolding iterate
-  backs-on zero h o = o
-  backs-on (suc k) h o = back-on (iterate (back S l) k h) (backs-on k h o)
-
-  along-inj : (x y : ℕ) → OnBoundary S l x → OnBoundary S l y → OnBoundary S l (along S l x) → along S l x ≡ along S l y → x ≡ y
-  along-inj x y a b c e = sym (back-along x a) ∙ ap (back S l) e ∙ back-along y b
-
-  -- from where a test holds one comes to the next place where it holds, along the sides and against them
-  pub along-meets : (h : ℕ) → OnBoundary S l h → (stop : ℕ → Bool) → stop h ≡ true → first (λ (k : ℕ). stop (iterate (along S l) (suc k) h)) (length l) < length l
-  along-meets h o stop t = iterate-meets (along S l) (OnBoundary S l) along-inj (length l) h (λ x q. q .lt) (λ j. alongs-on j h o) stop t
-
-  pub back-meets : (h : ℕ) → OnBoundary S l h → (stop : ℕ → Bool) → stop h ≡ true → first (λ (k : ℕ). stop (iterate (back S l) (suc k) h)) (length l) < length l
-  back-meets h o stop t = iterate-meets (back S l) (OnBoundary S l) (λ x y a b c e. sym (along-back x a) ∙ ap (along S l) e ∙ along-back y b) (length l) h (λ x q. q .lt) (λ j. backs-on j h o) stop t
-
-  -- the loop closes within as many steps as there are half-edges
-  pub loop-closes : (h : ℕ) → OnBoundary S l h → first (λ (k : ℕ). eqb (iterate (along S l) (suc k) h) h) (length l) < length l
-  loop-closes h o = along-meets h o (λ (g : ℕ). eqb g h) (eq-eqb h h refl)
-
-  -- and has three half-edges or more: two, there and back, would be mates
-  pub along-not : (h : ℕ) → OnBoundary S l h → along S l h ≡ h → ⊥
-  along-not h o e = ends-differ S v l (ok .oriented) h (o .lt) (ap (from l) (sym e) ∙ along-from h o)
-
-  pub along-along-not : (h : ℕ) → OnBoundary S l h → along S l (along S l h) ≡ h → ⊥
-  along-along-not h o e =
-      let q = along-on h o in
-      let m = mate-only S v l (ok .oriented) h (along S l h) (record { lt = q .lt; start = along-from h o; end = sym (along-from (along S l h) q) ∙ ap (from l) e }) in
-      let x = q .lt in let y = o .none in omega arith
-
-  pub loop-three : (n h : ℕ) → OnBoundary S l h → 0 < n → iterate (along S l) n h ≡ h → 3 ≤ n
-  unfolding iterate
-  loop-three zero h o b e = omega arith
-  loop-three (suc zero) h o b e = absurd (along-not h o e)
-  loop-three (suc (suc zero)) h o b e = absurd (along-along-not h o e)
-  loop-three (suc (suc (suc n))) h o b e = omega arith
-
-  -- ---- going back undoes going along; on a loop of n half-edges it goes along from the other end
-  pub backs-alongs : (k h : ℕ) → OnBoundary S l h → iterate (back S l) k (iterate (along S l) k h) ≡ h
-  unfolding iterate
-  backs-alongs zero h o = refl
-  backs-alongs (suc k) h o =
-      let x : suc k ≡ k + 1 = omega arith in
-      ap (λ (j : ℕ). iterate (back S l) j (along S l (iterate (along S l) k h))) x
-      ∙ iterate-add (back S l) k 1 (along S l (iterate (along S l) k h))
-      ∙ ap (iterate (back S l) k) (back-along (iterate (along S l) k h) (alongs-on k h o))
-      ∙ backs-alongs k h o
-
-  pub backs-loop : (n h : ℕ) → OnBoundary S l h → iterate (along S l) n h ≡ h → (k : ℕ) → k ≤ n → iterate (back S l) k h ≡ iterate (along S l) (n - k) h
-  backs-loop n h o e k b =
-      let x : k + (n - k) ≡ n = omega arith in
-      let y : iterate (along S l) k (iterate (along S l) (n - k) h) ≡ h = sym (iterate-add (along S l) k (n - k) h) ∙ ap (λ (j : ℕ). iterate (along S l) j h) x ∙ e in
-      ap (iterate (back S l) k) (sym y) ∙ backs-alongs k (iterate (along S l) (n - k) h) (alongs-on (n - k) h o)
