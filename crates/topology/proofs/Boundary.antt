@@ -23,27 +23,27 @@ use Rattle.topology.proofs.Rings.{ring-valence, ring-mates, ring-turns,
 -- ---- the two tests
 
 module _ (S : Shape) (l : List ℕ) (p g : ℕ) where
-  pub from-on : mate S l g ≡ length l → from l g ≡ p → isBoundaryFrom S l p g ≡ true
+  from-on : mate S l g ≡ length l → from l g ≡ p → isBoundaryFrom S l p g ≡ true
   unfolding isBoundaryFrom
   from-on a b = and-on _ _ (eq-eqb _ _ a) (eq-eqb _ _ b)
 
-  pub from-none : isBoundaryFrom S l p g ≡ true → mate S l g ≡ length l
+  from-none : isBoundaryFrom S l p g ≡ true → mate S l g ≡ length l
   unfolding isBoundaryFrom
   from-none t = eqb-true (mate S l g) (length l) (and-left (eqb (mate S l g) (length l)) (eqb (from l g) p) t)
 
-  pub from-at : isBoundaryFrom S l p g ≡ true → from l g ≡ p
+  from-at : isBoundaryFrom S l p g ≡ true → from l g ≡ p
   unfolding isBoundaryFrom
   from-at t = eqb-true (from l g) p (and-right (eqb (mate S l g) (length l)) (eqb (from l g) p) t)
 
-  pub into-on : mate S l g ≡ length l → to S l g ≡ p → isBoundaryInto S l p g ≡ true
+  into-on : mate S l g ≡ length l → to S l g ≡ p → isBoundaryInto S l p g ≡ true
   unfolding isBoundaryInto
   into-on a b = and-on _ _ (eq-eqb _ _ a) (eq-eqb _ _ b)
 
-  pub into-none : isBoundaryInto S l p g ≡ true → mate S l g ≡ length l
+  into-none : isBoundaryInto S l p g ≡ true → mate S l g ≡ length l
   unfolding isBoundaryInto
   into-none t = eqb-true (mate S l g) (length l) (and-left (eqb (mate S l g) (length l)) (eqb (to S l g) p) t)
 
-  pub into-at : isBoundaryInto S l p g ≡ true → to S l g ≡ p
+  into-at : isBoundaryInto S l p g ≡ true → to S l g ≡ p
   unfolding isBoundaryInto
   into-at t = eqb-true (to S l g) p (and-right (eqb (mate S l g) (length l)) (eqb (to S l g) p) t)
 

@@ -88,7 +88,7 @@ module _ (S : Shape) (v : ℕ) (l : List ℕ) (ok : Oriented S v l) where
 
   -- ---- edge numbers
 
-  -- the half-edge at which the edge of h is first met-first
+  -- the half-edge at which the edge of h is first met
   lead : ℕ → ℕ
   lead h = min h (mate S l h)
 
@@ -142,7 +142,7 @@ module _ (S : Shape) (v : ℕ) (l : List ℕ) (ok : Oriented S v l) where
           let mh : mate S l h < length l = omega arith in
           inl (sym (mate-back g j m) ∙ ap (mate S l) x ∙ mate-back h k mh)
 
-  -- every number below the number of edgeCount is an edge's
+  -- every number below the number of edges is an edge's
   pub edge-onto : (e : ℕ) → e < edgeCount S l → (h : ℕ) × (h < length l) × (edge S l h ≡ e)
   unfolding edge edgeCount firstMet
   edge-onto e k =

@@ -156,7 +156,7 @@ module _ (S : Shape) (v : ℕ) (l : List ℕ) (ok : Oriented S v l) where
         go k c d (yes i) = let x = r .walk .inside (suc k) i in let y : turns S l (suc k) h ≡ length l = ap (turn S l) d ∙ e in let z : ⊥ = omega arith in absurd z
         go k c d (no i) = let x : m - 1 ≡ k = omega arith in rw x d
 
-    -- its neighbours are pairwise distinct; no half-edge leaves p for the last of them, from which the side before the last half-edge comes
+    -- its neighbours are pairwise distinct; the last of them is where the side before the last half-edge begins
     pub fan-neighbours : (i j : ℕ) → i < j → j < m → to S l (turns S l i h) ≡ to S l (turns S l j h) → ⊥
     fan-neighbours = walk-neighbours p h m (r .walk) fan-not-back
 
