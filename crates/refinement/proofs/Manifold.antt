@@ -114,3 +114,9 @@ module _ (v : ℕ) (l : List ℕ) where
 
   pub vertices-after-le : Manifold quads v l → (k : ℕ) → verticesAfter k v l ≤ 4 ^ k * length l
   vertices-after-le ok k = let a = vertices-le quads (verticesAfter k v l) (cornersAfter k v l) (manifold-after ok k) in let b = length-after k in omega arith
+
+  -- old vertices keep their numbers
+  pub vertices-after-ge : (k : ℕ) → v ≤ verticesAfter k v l
+  unfolding verticesAfter
+  vertices-after-ge zero = omega arith
+  vertices-after-ge (suc k) = let i = vertices-after-ge k in omega arith
