@@ -176,17 +176,17 @@ module _ (S : Shape) (v : ℕ) (l : List ℕ) (ok : Manifold S v l) where
       go (ring h m s t r) = let x = ring-boundaryFrom S v l (ok .oriented) p h m r in let z : ⊥ = omega arith in absurd z
       go (fan h m t r) = let d = fan-valence S v l (ok .oriented) p h m r in let s = r .some in (omega arith, omega arith)
 
-  -- the ends of a boundary half-edge
   pub to-lt : (h : ℕ) → h < length l → to S l h < v
   unfolding to
   to-lt h k = ok .oriented .below (S .next h) (ok .oriented .shape .next-lt h k)
 
-  pub boundary-start : (h : ℕ) → OnBoundary S l h → boundaryFrom S l (from l h) ≡ h
-  boundary-start h o = go (ok .around (from l h) (ok .oriented .below h (o .lt)))
+  -- the only boundary half-edge that leaves p, and the only one that enters p
+  pub boundaryFrom-is : (p h : ℕ) → OnBoundary S l h → from l h ≡ p → boundaryFrom S l p ≡ h
+  boundaryFrom-is p h o e = go (ok .around p (let b = ok .oriented .below h (o .lt) in omega arith))
     where
-      go : Around S l (from l h) → boundaryFrom S l (from l h) ≡ h
-      go (ring h₀ m s t r) = let x = ring-mates S v l (ok .oriented) (from l h) h₀ m r h (o .lt) refl in let y = o .none in let z : ⊥ = omega arith in absurd z
-      go (fan h₀ m t r) = fan-boundaryFrom S v l (ok .oriented) (from l h) h₀ m r ∙ sym (fan-first S v l (ok .oriented) (from l h) h₀ m r h (o .lt) refl (o .none))
+      go : Around S l p → boundaryFrom S l p ≡ h
+      go (ring g m s t r) = let x = ring-mates S v l (ok .oriented) p g m r h (o .lt) e in let y = o .none in let z : ⊥ = omega arith in absurd z
+      go (fan g m t r) = fan-boundaryFrom S v l (ok .oriented) p g m r ∙ sym (fan-first S v l (ok .oriented) p g m r h (o .lt) e (o .none))
 
   end-fan : (h : ℕ) → OnBoundary S l h → (g : ℕ) × (m : ℕ) × Fan S l (to S l h) g m
   end-fan h o = go (ok .around (to S l h) (to-lt h (o .lt)))
@@ -195,15 +195,17 @@ module _ (S : Shape) (v : ℕ) (l : List ℕ) (ok : Manifold S v l) where
       go (ring g m s t r) = let x = ring-boundaryInto S v l (ok .oriented) (to S l h) g m r in let y = boundaryInto-reach S l h o in let k = o .lt in let z : ⊥ = omega arith in absurd z
       go (fan g m t r) = (g, m, r)
 
-  pub boundary-end : (h : ℕ) → OnBoundary S l h → boundaryInto S l (to S l h) ≡ h
-  boundary-end h o = let f = end-fan h o in fan-boundaryInto S v l (ok .oriented) (to S l h) (f .0) (f .1) (f .2) ∙ fan-into S v l (ok .oriented) (to S l h) (f .0) (f .1) (f .2) h o refl
+  pub boundaryInto-is : (p h : ℕ) → OnBoundary S l h → to S l h ≡ p → boundaryInto S l p ≡ h
+  boundaryInto-is p h o e =
+      let f = end-fan h o in
+      ap (boundaryInto S l) (sym e) ∙ fan-boundaryInto S v l (ok .oriented) (to S l h) (f .0) (f .1) (f .2) ∙ fan-into S v l (ok .oriented) (to S l h) (f .0) (f .1) (f .2) h o refl
 
   end-open : (h : ℕ) → OnBoundary S l h → boundaryFrom S l (to S l h) < length l
   unfolding iterate
   end-open h o = let f = end-fan h o in let r = f .2 in let e = fan-boundaryFrom S v l (ok .oriented) (to S l h) (f .0) (f .1) r in let k = r .walk .inside 0 (r .some) in omega arith
 
   start-fan : (h : ℕ) → OnBoundary S l h → Fan S l (from l h) (start S l (from l h)) (valence l (from l h))
-  start-fan h o = let e = boundary-start h o in let k = o .lt in fan-start (from l h) (ok .oriented .below h k) (omega arith)
+  start-fan h o = let e = boundaryFrom-is (from l h) h o refl in let k = o .lt in fan-start (from l h) (ok .oriented .below h k) (omega arith)
 
   -- the half-edge after h is on the boundary and leaves the end of h; the one before it enters its start
   pub along-on : (h : ℕ) → OnBoundary S l h → OnBoundary S l (along S l h)
@@ -237,18 +239,27 @@ module _ (S : Shape) (v : ℕ) (l : List ℕ) (ok : Manifold S v l) where
 
   pub back-along : (h : ℕ) → OnBoundary S l h → back S l (along S l h) ≡ h
   unfolding back
-  back-along h o = ap (boundaryInto S l) (along-from h o) ∙ boundary-end h o
+  back-along h o = boundaryInto-is (from l (along S l h)) h o (sym (along-from h o))
 
   pub along-back : (h : ℕ) → OnBoundary S l h → along S l (back S l h) ≡ h
   unfolding along
-  along-back h o = ap (boundaryFrom S l) (back-to h o) ∙ boundary-start h o
+  along-back h o = boundaryFrom-is (to S l (back S l h)) h o (sym (back-to h o))
+
+  -- whatever boundary half-edge leaves the end of h is the one after it, and whatever enters its start the one before
+  pub along-is : (h g : ℕ) → OnBoundary S l g → from l g ≡ to S l h → along S l h ≡ g
+  unfolding along
+  along-is h g o e = boundaryFrom-is (to S l h) g o e
+
+  pub back-is : (h g : ℕ) → OnBoundary S l g → to S l g ≡ from l h → back S l h ≡ g
+  unfolding back
+  back-is h g o e = boundaryInto-is (from l h) g o e
 
   -- a boundary half-edge is known by its start, and by its end
   pub from-inj : (h g : ℕ) → OnBoundary S l h → OnBoundary S l g → from l h ≡ from l g → h ≡ g
-  from-inj h g o q e = sym (boundary-start h o) ∙ ap (boundaryFrom S l) e ∙ boundary-start g q
+  from-inj h g o q e = sym (boundaryFrom-is (from l g) h o e) ∙ boundaryFrom-is (from l g) g q refl
 
   pub to-inj : (h g : ℕ) → OnBoundary S l h → OnBoundary S l g → to S l h ≡ to S l g → h ≡ g
-  to-inj h g o q e = sym (boundary-end h o) ∙ ap (boundaryInto S l) e ∙ boundary-end g q
+  to-inj h g o q e = sym (boundaryInto-is (to S l g) h o e) ∙ boundaryInto-is (to S l g) g q refl
 
   -- a vertex that starts a boundary half-edge ends one, and the other way round
   pub starts-ends : (p : ℕ) → boundaryFrom S l p < length l → boundaryInto S l p < length l
