@@ -104,6 +104,21 @@ module _ (v : ℕ) (l : List ℕ) where
       let p : 4 ^ suc k ≡ 4 * 4 ^ k = omega arith in
       rw p (omega arith)
 
+  -- "After k rounds there are F × 4^k faces"
+  pub whole-after : length l % 4 ≡ 0 → (k : ℕ) → length (cornersAfter k v l) % 4 ≡ 0
+  unfolding cornersAfter
+  whole-after w zero = w
+  whole-after w (suc k) = let e = length-refined quads (verticesAfter k v l) (cornersAfter k v l) in omega arith
+
+  pub faces-after : length l % 4 ≡ 0 → (k : ℕ) → quads .faces (length (cornersAfter k v l)) ≡ 4 ^ k * quads .faces (length l)
+  unfolding cornersAfter
+  faces-after w zero = omega arith
+  faces-after w (suc k) =
+      let e = quads-refined (verticesAfter k v l) (cornersAfter k v l) (whole-after w k) in
+      let i = faces-after w k in
+      let p : 4 ^ suc k ≡ 4 * 4 ^ k = omega arith in
+      rw p (omega arith)
+
   pub manifold-after : Manifold quads v l → (k : ℕ) → Manifold quads (verticesAfter k v l) (cornersAfter k v l)
   unfolding verticesAfter cornersAfter
   manifold-after ok zero = ok
