@@ -7,10 +7,10 @@ use native.Mathlib.Omega.{arith}
 use lib.ListN.{length}
 use Rattle.topology.specs.Shape.{Shape, quads}
 use Rattle.topology.specs.HalfEdge.{from, to, mate, edge}
-use Rattle.topology.specs.Boundary.{OnBoundary, boundaryFrom, boundaryInto, along, back}
+use Rattle.topology.specs.Boundary.{OnBoundary, boundaryFrom, boundaryInto, along, back, Way, withSides, againstSides, step, passed}
 use Rattle.topology.specs.Vertex.{valence, start}
 use Rattle.topology.specs.Manifold.{Manifold}
-use Rattle.topology.proofs.Boundary.{boundary-start, boundary-end, back-on, back-to, boundaryFrom-le, boundaryFrom-on, boundaryFrom-at, to-lt}
+use Rattle.topology.proofs.Boundary.{boundaryFrom-is, boundaryInto-is, back-on, back-to, boundaryFrom-le, boundaryFrom-on, boundaryFrom-at, to-lt}
 use Rattle.refinement.specs.Refined.{refinedVertices, refined}
 use Rattle.refinement.proofs.Corners.{length-refined, quad}
 use Rattle.refinement.proofs.Mates.{mate₀-none, mate₃}
@@ -45,17 +45,17 @@ module _ (S : Shape) (v : ℕ) (l : List ℕ) (ok : Manifold S v l) where
 
   -- ---- at a vertex
 
-  refined-start : (g p : ℕ) → OnBoundary quads (refined S v l) g → from (refined S v l) g ≡ p → boundaryFrom quads (refined S v l) p ≡ g
-  refined-start g p o e = ap (boundaryFrom quads (refined S v l)) (sym e) ∙ boundary-start quads (refinedVertices S v l) (refined S v l) (manifold-refined S v l ok) g o
+  refined-start : (p g : ℕ) → OnBoundary quads (refined S v l) g → from (refined S v l) g ≡ p → boundaryFrom quads (refined S v l) p ≡ g
+  refined-start = boundaryFrom-is quads (refinedVertices S v l) (refined S v l) (manifold-refined S v l ok)
 
-  refined-end : (g p : ℕ) → OnBoundary quads (refined S v l) g → to quads (refined S v l) g ≡ p → boundaryInto quads (refined S v l) p ≡ g
-  refined-end g p o e = ap (boundaryInto quads (refined S v l)) (sym e) ∙ boundary-end quads (refinedVertices S v l) (refined S v l) (manifold-refined S v l ok) g o
+  refined-end : (p g : ℕ) → OnBoundary quads (refined S v l) g → to quads (refined S v l) g ≡ p → boundaryInto quads (refined S v l) p ≡ g
+  refined-end = boundaryInto-is quads (refinedVertices S v l) (refined S v l) (manifold-refined S v l ok)
 
   pub boundaryFrom-old : (p : ℕ) → p < v → boundaryFrom quads (refined S v l) p ≡ 4 * boundaryFrom S l p
   boundaryFrom-old p b = go (decLt (boundaryFrom S l p) (length l))
     where
       go : Dec (boundaryFrom S l p < length l) → boundaryFrom quads (refined S v l) p ≡ 4 * boundaryFrom S l p
-      go (yes c) = let o = boundaryFrom-on S l p c in refined-start (4 * boundaryFrom S l p) p (first-half (boundaryFrom S l p) o) (first-from (boundaryFrom S l p) o ∙ boundaryFrom-at S l p c)
+      go (yes c) = let o = boundaryFrom-on S l p c in refined-start p (4 * boundaryFrom S l p) (first-half (boundaryFrom S l p) o) (first-from (boundaryFrom S l p) o ∙ boundaryFrom-at S l p c)
       go (no c) =
           let e : boundaryFrom S l p ≡ length l = omega (arith, boundaryFrom-le S l p) in
           let n = length-refined S v l in
@@ -63,13 +63,13 @@ module _ (S : Shape) (v : ℕ) (l : List ℕ) (ok : Manifold S v l) where
           omega arith
 
   pub boundaryFrom-edge : (h : ℕ) → OnBoundary S l h → boundaryFrom quads (refined S v l) (v + edge S l h) ≡ 4 * S .next h + 3
-  boundaryFrom-edge h o = refined-start (4 * S .next h + 3) (v + edge S l h) (second-half h o) (second-from h o)
+  boundaryFrom-edge h o = refined-start (v + edge S l h) (4 * S .next h + 3) (second-half h o) (second-from h o)
 
   pub boundaryInto-old : (h : ℕ) → OnBoundary S l h → boundaryInto quads (refined S v l) (to S l h) ≡ 4 * S .next h + 3
-  boundaryInto-old h o = refined-end (4 * S .next h + 3) (to S l h) (second-half h o) (second-to h o)
+  boundaryInto-old h o = refined-end (to S l h) (4 * S .next h + 3) (second-half h o) (second-to h o)
 
   pub boundaryInto-edge : (h : ℕ) → OnBoundary S l h → boundaryInto quads (refined S v l) (v + edge S l h) ≡ 4 * h
-  boundaryInto-edge h o = refined-end (4 * h) (v + edge S l h) (first-half h o) (first-to h o)
+  boundaryInto-edge h o = refined-end (v + edge S l h) (4 * h) (first-half h o) (first-to h o)
 
   -- ---- one step along, and one back
 
@@ -90,3 +90,14 @@ module _ (S : Shape) (v : ℕ) (l : List ℕ) (ok : Manifold S v l) where
   back-first h o =
       let b = back-on S v l ok h o in
       ap (boundaryInto quads (refined S v l)) (first-from h o ∙ sym (back-to S v l ok h o)) ∙ boundaryInto-old (back S l h) b
+
+  -- one step either way
+  pub step-first : (w : Way) (h : ℕ) → OnBoundary S l h → step quads (refined S v l) w (4 * h) ≡ 4 * S .next (passed S l w h) + 3
+  unfolding step passed
+  step-first withSides h o = along-first h o
+  step-first againstSides h o = back-first h o
+
+  pub step-second : (w : Way) (h : ℕ) → OnBoundary S l h → step quads (refined S v l) w (4 * S .next (passed S l w h) + 3) ≡ 4 * step S l w h
+  unfolding step passed
+  step-second withSides h o = along-second h o
+  step-second againstSides h o = back-second (back S l h) (back-on S v l ok h o)

@@ -14,43 +14,9 @@ use Rattle.search.proofs.Quarters.{quarters, quarters₂, below-four}
 use Rattle.topology.specs.Shape.{Shape, quads}
 use Rattle.topology.specs.HalfEdge.{from, to, mate, edgeCount, edge}
 use Rattle.topology.specs.Manifold.{Oriented}
-use Rattle.topology.proofs.Shape.{quads-lawful, face-prev, prev-inj, next-not}
+use Rattle.topology.proofs.Shape.{quads-lawful, four-sides, face-prev, prev-inj, next-not}
 use Rattle.topology.proofs.Mates.{to-prev, mate-is, mate-face, ends-differ, edge-lt, edge-same}
 use Rattle.refinement.specs.Refined.{refinedVertices, corner, refined}
-
--- ---- the half-edges of a refined face, in turn
-
-pub next₀ : (h : ℕ) → quads .next (4 * h) ≡ 4 * h + 1
-unfolding quads
-next₀ h = omega arith
-
-pub next₁ : (h : ℕ) → quads .next (4 * h + 1) ≡ 4 * h + 2
-unfolding quads
-next₁ h = omega arith
-
-pub next₂ : (h : ℕ) → quads .next (4 * h + 2) ≡ 4 * h + 3
-unfolding quads
-next₂ h = omega arith
-
-pub next₃ : (h : ℕ) → quads .next (4 * h + 3) ≡ 4 * h
-unfolding quads
-next₃ h = omega arith
-
-pub prev₀ : (h : ℕ) → quads .prev (4 * h) ≡ 4 * h + 3
-unfolding quads
-prev₀ h = omega arith
-
-pub prev₁ : (h : ℕ) → quads .prev (4 * h + 1) ≡ 4 * h
-unfolding quads
-prev₁ h = omega arith
-
-pub prev₂ : (h : ℕ) → quads .prev (4 * h + 2) ≡ 4 * h + 1
-unfolding quads
-prev₂ h = omega arith
-
-pub prev₃ : (h : ℕ) → quads .prev (4 * h + 3) ≡ 4 * h + 2
-unfolding quads
-prev₃ h = omega arith
 
 pub length-refined : (S : Shape) (v : ℕ) (l : List ℕ) → length (refined S v l) ≡ 4 * length l
 unfolding refined
@@ -90,10 +56,10 @@ quad S v l h k =
       from₁ = f₁;
       from₂ = f₂;
       from₃ = f₃;
-      to₀ = ap (from (refined S v l)) (next₀ h) ∙ f₁;
-      to₁ = ap (from (refined S v l)) (next₁ h) ∙ f₂;
-      to₂ = ap (from (refined S v l)) (next₂ h) ∙ f₃;
-      to₃ = ap (from (refined S v l)) (next₃ h) ∙ f₀;
+      to₀ = ap (from (refined S v l)) (four-sides h .next₀) ∙ f₁;
+      to₁ = ap (from (refined S v l)) (four-sides h .next₁) ∙ f₂;
+      to₂ = ap (from (refined S v l)) (four-sides h .next₂) ∙ f₃;
+      to₃ = ap (from (refined S v l)) (four-sides h .next₃) ∙ f₀;
     }
 
 -- the zones of its corners: old vertices, edge points, face points

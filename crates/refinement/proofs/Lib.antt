@@ -6,3 +6,4 @@ pub mod Boundary
 pub mod Loops
 pub mod Tables
 pub mod Examples
+pub mod Marks

@@ -1,4 +1,4 @@
--- The loops of a refined net: each step along the boundary, or back, becomes two, and what is marked stays.
+-- The loops of a refined net: each step along the boundary, with the sides or against them, becomes two; and what is marked stays.
 use mathlib.Core.Path.{_≡_, refl, ap, _∙_}
 use mathlib.Core.Bool.{Bool, false}
 use mathlib.Core.List.{List}
@@ -8,76 +8,55 @@ use Rattle.search.specs.Search.{iterate}
 use Rattle.search.proofs.Quarters.{parity}
 use Rattle.topology.specs.Shape.{Shape, quads}
 use Rattle.topology.specs.HalfEdge.{from, edge}
-use Rattle.topology.specs.Boundary.{OnBoundary, along, back}
+use Rattle.topology.specs.Boundary.{OnBoundary, Way, step, passed}
 use Rattle.topology.specs.Manifold.{Manifold}
-use Rattle.topology.proofs.Boundary.{back-on, alongs-on, backs-on}
+use Rattle.topology.proofs.Loops.{passed-on, steps-on}
 use Rattle.refinement.specs.Refined.{refined}
-use Rattle.refinement.proofs.Boundary.{first-from, second-from, along-first, along-second, back-first, back-second}
+use Rattle.refinement.proofs.Boundary.{first-from, second-from, step-first, step-second}
 
-module _ (S : Shape) (v : ℕ) (l : List ℕ) (ok : Manifold S v l) where
-  -- ---- along the sides
-
-  pub alongs-even : (k h : ℕ) → OnBoundary S l h → iterate (along quads (refined S v l)) (2 * k) (4 * h) ≡ 4 * iterate (along S l) k h
+module _ (S : Shape) (v : ℕ) (l : List ℕ) (ok : Manifold S v l) (w : Way) where
+  pub steps-even : (k h : ℕ) → OnBoundary S l h → iterate (step quads (refined S v l) w) (2 * k) (4 * h) ≡ 4 * iterate (step S l w) k h
   unfolding iterate
-  alongs-even zero h o = refl
-  alongs-even (suc k) h o =
-      let g = alongs-on S v l ok k h o in
+  steps-even zero h o = refl
+  steps-even (suc k) h o =
+      let g = steps-on S v l ok w k h o in
       let e : 2 * suc k ≡ suc (suc (2 * k)) = omega arith in
-      rw e (ap (λ (x : ℕ). along quads (refined S v l) (along quads (refined S v l) x)) (alongs-even k h o)
-      ∙ ap (along quads (refined S v l)) (along-first S v l ok (iterate (along S l) k h) g)
-      ∙ along-second S v l ok (iterate (along S l) k h) g)
+      rw e (ap (λ (x : ℕ). step quads (refined S v l) w (step quads (refined S v l) w x)) (steps-even k h o)
+      ∙ ap (step quads (refined S v l) w) (step-first S v l ok w (iterate (step S l w) k h) g)
+      ∙ step-second S v l ok w (iterate (step S l w) k h) g)
 
-  pub alongs-odd : (k h : ℕ) → OnBoundary S l h → iterate (along quads (refined S v l)) (suc (2 * k)) (4 * h) ≡ 4 * S .next (iterate (along S l) k h) + 3
+  pub steps-odd : (k h : ℕ) → OnBoundary S l h → iterate (step quads (refined S v l) w) (suc (2 * k)) (4 * h) ≡ 4 * S .next (passed S l w (iterate (step S l w) k h)) + 3
   unfolding iterate
-  alongs-odd k h o = ap (along quads (refined S v l)) (alongs-even k h o) ∙ along-first S v l ok (iterate (along S l) k h) (alongs-on S v l ok k h o)
+  steps-odd k h o = ap (step quads (refined S v l) w) (steps-even k h o) ∙ step-first S v l ok w (iterate (step S l w) k h) (steps-on S v l ok w k h o)
 
   -- the vertices on the way: the old ones, and between each two the point of the edge
-  pub along-vertex : (k h : ℕ) → OnBoundary S l h → from (refined S v l) (iterate (along quads (refined S v l)) (2 * k) (4 * h)) ≡ from l (iterate (along S l) k h)
-  along-vertex k h o = ap (from (refined S v l)) (alongs-even k h o) ∙ first-from S v l ok (iterate (along S l) k h) (alongs-on S v l ok k h o)
+  pub steps-vertex : (k h : ℕ) → OnBoundary S l h → from (refined S v l) (iterate (step quads (refined S v l) w) (2 * k) (4 * h)) ≡ from l (iterate (step S l w) k h)
+  steps-vertex k h o = ap (from (refined S v l)) (steps-even k h o) ∙ first-from S v l ok (iterate (step S l w) k h) (steps-on S v l ok w k h o)
 
-  pub along-edge : (k h : ℕ) → OnBoundary S l h → from (refined S v l) (iterate (along quads (refined S v l)) (suc (2 * k)) (4 * h)) ≡ v + edge S l (iterate (along S l) k h)
-  along-edge k h o = ap (from (refined S v l)) (alongs-odd k h o) ∙ second-from S v l ok (iterate (along S l) k h) (alongs-on S v l ok k h o)
+  pub steps-edge : (k h : ℕ) → OnBoundary S l h → from (refined S v l) (iterate (step quads (refined S v l) w) (suc (2 * k)) (4 * h)) ≡ v + edge S l (passed S l w (iterate (step S l w) k h))
+  steps-edge k h o =
+      let g : ℕ = iterate (step S l w) k h in
+      ap (from (refined S v l)) (steps-odd k h o) ∙ second-from S v l ok (passed S l w g) (passed-on S v l ok w g (steps-on S v l ok w k h o))
 
-  -- ---- against the sides
+  -- a loop of n half-edges becomes one of 2n
+  module _ (n h : ℕ) (o : OnBoundary S l h) where
+    pub loop-refined : iterate (step S l w) n h ≡ h → iterate (step quads (refined S v l) w) (2 * n) (4 * h) ≡ 4 * h
+    loop-refined e = steps-even n h o ∙ ap (λ (x : ℕ). 4 * x) e
 
-  pub backs-even : (k h : ℕ) → OnBoundary S l h → iterate (back quads (refined S v l)) (2 * k) (4 * h) ≡ 4 * iterate (back S l) k h
-  unfolding iterate
-  backs-even zero h o = refl
-  backs-even (suc k) h o =
-      let g = backs-on S v l ok k h o in
-      let e : 2 * suc k ≡ suc (suc (2 * k)) = omega arith in
-      rw e (ap (λ (x : ℕ). back quads (refined S v l) (back quads (refined S v l) x)) (backs-even k h o)
-      ∙ ap (back quads (refined S v l)) (back-first S v l ok (iterate (back S l) k h) g)
-      ∙ back-second S v l ok (back S l (iterate (back S l) k h)) (back-on S v l ok (iterate (back S l) k h) g))
+    pub loop-not-before : ((k : ℕ) → 0 < k → k < n → iterate (step S l w) k h ≡ h → ⊥) → (k : ℕ) → 0 < k → k < 2 * n → iterate (step quads (refined S v l) w) k (4 * h) ≡ 4 * h → ⊥
+    loop-not-before f k = parity k (λ k. 0 < k → k < 2 * n → iterate (step quads (refined S v l) w) k (4 * h) ≡ 4 * h → ⊥)
+        (λ j b c e. let x = steps-even j h o in f j (omega arith) (omega arith) (omega arith))
+        (λ j b c e. let x = steps-odd j h o in omega arith)
 
-  pub backs-odd : (k h : ℕ) → OnBoundary S l h → iterate (back quads (refined S v l)) (suc (2 * k)) (4 * h) ≡ 4 * S .next (iterate (back S l) (suc k) h) + 3
-  unfolding iterate
-  backs-odd k h o = ap (back quads (refined S v l)) (backs-even k h o) ∙ back-first S v l ok (iterate (back S l) k h) (backs-on S v l ok k h o)
+    -- old marks stay and new ones are none: a stretch of n edges, from a marked vertex to the next, becomes one of 2n
+    module _ (mark mark′ : ℕ → Bool) (old : (p : ℕ) → p < v → mark′ p ≡ mark p) (new : (p : ℕ) → v ≤ p → mark′ p ≡ false) where
+      pub mark-even : (k : ℕ) → mark′ (from (refined S v l) (iterate (step quads (refined S v l) w) (2 * k) (4 * h))) ≡ mark (from l (iterate (step S l w) k h))
+      mark-even k = ap mark′ (steps-vertex k h o) ∙ old (from l (iterate (step S l w) k h)) (ok .oriented .below (iterate (step S l w) k h) (steps-on S v l ok w k h o .lt))
 
-  pub back-vertex : (k h : ℕ) → OnBoundary S l h → from (refined S v l) (iterate (back quads (refined S v l)) (2 * k) (4 * h)) ≡ from l (iterate (back S l) k h)
-  back-vertex k h o = ap (from (refined S v l)) (backs-even k h o) ∙ first-from S v l ok (iterate (back S l) k h) (backs-on S v l ok k h o)
+      pub mark-odd : (k : ℕ) → mark′ (from (refined S v l) (iterate (step quads (refined S v l) w) (suc (2 * k)) (4 * h))) ≡ false
+      mark-odd k = ap mark′ (steps-edge k h o) ∙ new (v + edge S l (passed S l w (iterate (step S l w) k h))) (omega arith)
 
-  pub back-edge : (k h : ℕ) → OnBoundary S l h → from (refined S v l) (iterate (back quads (refined S v l)) (suc (2 * k)) (4 * h)) ≡ v + edge S l (iterate (back S l) (suc k) h)
-  back-edge k h o = ap (from (refined S v l)) (backs-odd k h o) ∙ second-from S v l ok (iterate (back S l) (suc k) h) (backs-on S v l ok (suc k) h o)
-
-  -- ---- a loop of n half-edges becomes one of 2n
-
-  pub loop-refined : (n h : ℕ) → OnBoundary S l h → iterate (along S l) n h ≡ h → iterate (along quads (refined S v l)) (2 * n) (4 * h) ≡ 4 * h
-  loop-refined n h o e = alongs-even n h o ∙ ap (λ (x : ℕ). 4 * x) e
-
-  pub loop-not-before : (n h : ℕ) → OnBoundary S l h → ((k : ℕ) → 0 < k → k < n → iterate (along S l) k h ≡ h → ⊥)
-      → (k : ℕ) → 0 < k → k < 2 * n → iterate (along quads (refined S v l)) k (4 * h) ≡ 4 * h → ⊥
-  loop-not-before n h o f k b c e = parity k (λ k. 0 < k → k < 2 * n → iterate (along quads (refined S v l)) k (4 * h) ≡ 4 * h → ⊥)
-      (λ j b c e. let x = alongs-even j h o in f j (omega arith) (omega arith) (omega arith))
-      (λ j b c e. let x = alongs-odd j h o in omega arith) b c e
-
--- ---- old marks stay and new ones are 0: from a marked vertex to the next there is no mark on the way, before a round and after it
-
-module _ (v : ℕ) (mark mark′ : ℕ → Bool) (old : (p : ℕ) → p < v → mark′ p ≡ mark p) (new : (p : ℕ) → v ≤ p → mark′ p ≡ false)
-    (s s′ : ℕ → ℕ) (inside : (k : ℕ) → s k < v) (even : (k : ℕ) → s′ (2 * k) ≡ s k) (odd : (k : ℕ) → v ≤ s′ (suc (2 * k))) where
-  pub mark-even : (k : ℕ) → mark′ (s′ (2 * k)) ≡ mark (s k)
-  mark-even k = ap mark′ (even k) ∙ old (s k) (inside k)
-
-  pub between-refined : (n : ℕ) → ((k : ℕ) → 0 < k → k < n → mark (s k) ≡ false) → (k : ℕ) → 0 < k → k < 2 * n → mark′ (s′ k) ≡ false
-  between-refined n f k b c = parity k (λ k. 0 < k → k < 2 * n → mark′ (s′ k) ≡ false)
-      (λ j b c. mark-even j ∙ f j (omega arith) (omega arith)) (λ j b c. new (s′ (suc (2 * j))) (odd j)) b c
+      pub stretch-refined : ((k : ℕ) → 0 < k → k < n → mark (from l (iterate (step S l w) k h)) ≡ false)
+          → (k : ℕ) → 0 < k → k < 2 * n → mark′ (from (refined S v l) (iterate (step quads (refined S v l) w) k (4 * h))) ≡ false
+      stretch-refined f k = parity k (λ k. 0 < k → k < 2 * n → mark′ (from (refined S v l) (iterate (step quads (refined S v l) w) k (4 * h))) ≡ false)
+          (λ j b c. mark-even j ∙ f j (omega arith) (omega arith)) (λ j b c. mark-odd j)

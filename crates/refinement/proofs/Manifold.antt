@@ -1,5 +1,5 @@
 -- The refined net of a manifold net is manifold: refusals 7 to 11 hold nowhere in it, after any number of rounds.
-use mathlib.Core.Path.{_≡_, subst}
+use mathlib.Core.Path.{_≡_, sym, _∙_, subst}
 use mathlib.Core.List.{List}
 use Prim.Native.Nat.{ℕ, _^_, zero, suc, _+_, _-_, _*_, _%_, _≤_, _<_}
 use native.Mathlib.Decide.{decLt}
@@ -7,9 +7,12 @@ use native.Mathlib.Omega.{arith}
 use lib.ListN.{length}
 use Rattle.topology.specs.Shape.{Shape, Lawful, quads}
 use Rattle.topology.specs.HalfEdge.{mate, edgeCount, edge}
+use Rattle.topology.specs.Boundary.{OnBoundary}
+use Rattle.topology.specs.Vertex.{valence, Ring, Fan}
 use Rattle.topology.specs.Manifold.{Around, ring, fan, Manifold}
 use Rattle.topology.proofs.Mates.{mate-le, edge-onto}
 use Rattle.topology.proofs.Shape.{quads-lawful}
+use Rattle.topology.proofs.Rings.{ring-valence, fan-valence}
 use Rattle.topology.proofs.Vertices.{vertices-le}
 use Rattle.refusals.specs.Refusals.{Unrefused}
 use Rattle.refusals.proofs.Manifold.{manifold-if, unrefused-if}
@@ -45,6 +48,30 @@ module _ (S : Shape) (v : ℕ) (l : List ℕ) (ok : Manifold S v l) where
     around = λ p b. where-is p b (decLt p v) (decLt p (v + edgeCount S l));
   }
 
+  -- ---- how many faces there are at each of its vertices
+
+  refined-ring : (p h m : ℕ) → Ring quads (refined S v l) p h m → valence (refined S v l) p ≡ m
+  refined-ring = ring-valence quads (refinedVertices S v l) (refined S v l) (oriented-refined S v l (ok .oriented))
+
+  refined-fan : (p h m : ℕ) → Fan quads (refined S v l) p h m → valence (refined S v l) p ≡ m
+  refined-fan = fan-valence quads (refinedVertices S v l) (refined S v l) (oriented-refined S v l (ok .oriented))
+
+  pub valence-old : (p : ℕ) → p < v → valence (refined S v l) p ≡ valence l p
+  valence-old p b = go (ok .around p b)
+    where
+      go : Around S l p → valence (refined S v l) p ≡ valence l p
+      go (ring h m s t r) = refined-ring p (4 * h) m (ring-refined S v l (ok .oriented) p h m b r) ∙ sym (ring-valence S v l (ok .oriented) p h m r)
+      go (fan h m t r) = refined-fan p (4 * h) m (fan-refined S v l (ok .oriented) p h m b r) ∙ sym (fan-valence S v l (ok .oriented) p h m r)
+
+  pub valence-inner : (h : ℕ) → h < length l → mate S l h < length l → valence (refined S v l) (v + edge S l h) ≡ 4
+  valence-inner h a m = refined-ring (v + edge S l h) (4 * h + 1) 4 (edge-ring S v l (ok .oriented) h a m)
+
+  pub valence-boundary : (h : ℕ) → OnBoundary S l h → valence (refined S v l) (v + edge S l h) ≡ 2
+  valence-boundary h o = refined-fan (v + edge S l h) (4 * S .next h + 3) 2 (edge-fan S v l (ok .oriented) h (o .lt) (o .none))
+
+  pub valence-face : (h : ℕ) → h < length l → valence (refined S v l) (v + edgeCount S l + S .face h) ≡ S .sides h
+  valence-face h a = refined-ring (v + edgeCount S l + S .face h) (4 * h + 2) (S .sides h) (face-ring S v l (ok .oriented) h a)
+
 -- ---- refusals 7 to 11
 
 pub unrefused-refined : (S : Shape) (v : ℕ) (l : List ℕ) → Lawful S (length l) → Unrefused S v l → Unrefused quads (refinedVertices S v l) (refined S v l)
@@ -77,6 +104,21 @@ module _ (v : ℕ) (l : List ℕ) where
       let p : 4 ^ suc k ≡ 4 * 4 ^ k = omega arith in
       rw p (omega arith)
 
+  -- "After k rounds there are F × 4^k faces"
+  pub whole-after : length l % 4 ≡ 0 → (k : ℕ) → length (cornersAfter k v l) % 4 ≡ 0
+  unfolding cornersAfter
+  whole-after w zero = w
+  whole-after w (suc k) = let e = length-refined quads (verticesAfter k v l) (cornersAfter k v l) in omega arith
+
+  pub faces-after : length l % 4 ≡ 0 → (k : ℕ) → quads .faces (length (cornersAfter k v l)) ≡ 4 ^ k * quads .faces (length l)
+  unfolding cornersAfter
+  faces-after w zero = omega arith
+  faces-after w (suc k) =
+      let e = quads-refined (verticesAfter k v l) (cornersAfter k v l) (whole-after w k) in
+      let i = faces-after w k in
+      let p : 4 ^ suc k ≡ 4 * 4 ^ k = omega arith in
+      rw p (omega arith)
+
   pub manifold-after : Manifold quads v l → (k : ℕ) → Manifold quads (verticesAfter k v l) (cornersAfter k v l)
   unfolding verticesAfter cornersAfter
   manifold-after ok zero = ok
@@ -87,3 +129,9 @@ module _ (v : ℕ) (l : List ℕ) where
 
   pub vertices-after-le : Manifold quads v l → (k : ℕ) → verticesAfter k v l ≤ 4 ^ k * length l
   vertices-after-le ok k = let a = vertices-le quads (verticesAfter k v l) (cornersAfter k v l) (manifold-after ok k) in let b = length-after k in omega arith
+
+  -- old vertices keep their numbers
+  pub vertices-after-ge : (k : ℕ) → v ≤ verticesAfter k v l
+  unfolding verticesAfter
+  vertices-after-ge zero = omega arith
+  vertices-after-ge (suc k) = let i = vertices-after-ge k in omega arith

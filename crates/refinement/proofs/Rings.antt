@@ -12,10 +12,10 @@ use Rattle.topology.specs.HalfEdge.{from, mate, edgeCount, edge}
 use Rattle.topology.specs.Boundary.{back}
 use Rattle.topology.specs.Vertex.{turn, turns, Walk, Ring, Fan}
 use Rattle.topology.specs.Manifold.{Oriented}
-use Rattle.topology.proofs.Shape.{nexts-lt}
+use Rattle.topology.proofs.Shape.{four-sides, nexts-lt}
 use Rattle.topology.proofs.Mates.{mate-back, mate-not, edge-lt, edge-same}
 use Rattle.refinement.specs.Refined.{refined}
-use Rattle.refinement.proofs.Corners.{prev₀, prev₁, prev₂, prev₃, length-refined, quad}
+use Rattle.refinement.proofs.Corners.{length-refined, quad}
 use Rattle.refinement.proofs.Mates.{mate₀, mate₀-none, mate₁, mate₂, mate₃}
 
 module _ (S : Shape) (v : ℕ) (l : List ℕ) (ok : Oriented S v l) where
@@ -23,7 +23,7 @@ module _ (S : Shape) (v : ℕ) (l : List ℕ) (ok : Oriented S v l) where
 
   pub turn-refined : (h : ℕ) → h < length l → turn quads (refined S v l) (4 * h) ≡ 4 * turn S l h
   unfolding turn
-  turn-refined h k = ap (mate quads (refined S v l)) (prev₀ h) ∙ mate₃ S v l ok h k
+  turn-refined h k = ap (mate quads (refined S v l)) (four-sides h .prev₀) ∙ mate₃ S v l ok h k
 
   pub turns-refined : (h k : ℕ) → ((j : ℕ) → j < k → turns S l j h < length l) → turns quads (refined S v l) k (4 * h) ≡ 4 * turns S l k h
   unfolding iterate
@@ -67,20 +67,20 @@ module _ (S : Shape) (v : ℕ) (l : List ℕ) (ok : Oriented S v l) where
 
   turn₁ : (h : ℕ) → h < length l → mate S l h < length l → turn quads (refined S v l) (4 * h + 1) ≡ 4 * S .next (mate S l h) + 3
   unfolding turn
-  turn₁ h k m = ap (mate quads (refined S v l)) (prev₁ h) ∙ mate₀ S v l ok h k m
+  turn₁ h k m = ap (mate quads (refined S v l)) (four-sides h .prev₁) ∙ mate₀ S v l ok h k m
 
   turn₁-none : (h : ℕ) → h < length l → mate S l h ≡ length l → turn quads (refined S v l) (4 * h + 1) ≡ 4 * length l
   unfolding turn
-  turn₁-none h k m = ap (mate quads (refined S v l)) (prev₁ h) ∙ mate₀-none S v l ok h k m
+  turn₁-none h k m = ap (mate quads (refined S v l)) (four-sides h .prev₁) ∙ mate₀-none S v l ok h k m
 
   turn₂ : (h : ℕ) → h < length l → turn quads (refined S v l) (4 * h + 2) ≡ 4 * S .next h + 2
   unfolding turn
-  turn₂ h k = ap (mate quads (refined S v l)) (prev₂ h) ∙ mate₁ S v l ok h k
+  turn₂ h k = ap (mate quads (refined S v l)) (four-sides h .prev₂) ∙ mate₁ S v l ok h k
 
-  -- from the half of the side h on the other side of its end
+  -- the second half of the side h turns to the half-edge that leaves its point for the face point
   turn₃ : (h : ℕ) → h < length l → turn quads (refined S v l) (4 * S .next h + 3) ≡ 4 * h + 1
   unfolding turn
-  turn₃ h k = ap (mate quads (refined S v l)) (prev₃ (S .next h)) ∙ mate₂ S v l ok (S .next h) (ok .shape .next-lt h k) ∙ ap (λ (x : ℕ). 4 * x + 1) (ok .shape .prev-next h)
+  turn₃ h k = ap (mate quads (refined S v l)) (four-sides (S .next h) .prev₃) ∙ mate₂ S v l ok (S .next h) (ok .shape .next-lt h k) ∙ ap (λ (x : ℕ). 4 * x + 1) (ok .shape .prev-next h)
 
   -- what leaves the point of the side h
   at-edge : (h : ℕ) → h < length l → (P : ℕ → Type 0) → P (4 * h + 1) → P (4 * S .next h + 3)

@@ -1,7 +1,9 @@
 -- One round on the faces of a net of v vertices, with corners l in the shape S.
+use mathlib.Core.Bool.{cond}
 use mathlib.Core.List.{List}
 use Prim.Native.Nat.{ℕ, zero, suc, _+_, _*_, _/_, _%_}
-use lib.ListN.{length}
+use lib.ListN.{length, getD}
+use lib.Dec.{ltb}
 use Rattle.lists.specs.Tabulate.{tabulate}
 use Rattle.topology.specs.Shape.{Shape, quads}
 use Rattle.topology.specs.HalfEdge.{from, edgeCount, edge}
@@ -22,6 +24,10 @@ corner S v l h (suc (suc (suc j))) = v + edge S l (S .prev h)
 unfoldable pub refined : Shape → ℕ → List ℕ → List ℕ
 refined S v l = tabulate (4 * length l) (λ (g : ℕ). corner S v l (g / 4) (g % 4))
 
+-- "Old marks stay; new ones are 0."
+unfoldable pub refinedMarks : Shape → ℕ → List ℕ → List ℕ → List ℕ
+refinedMarks S v l marks = tabulate (refinedVertices S v l) (λ (p : ℕ). cond (ltb p v) (getD marks p 0) 0)
+
 -- the number of vertices and the corners after k rounds of a net with four-sided faces
 unfoldable mutual
   pub verticesAfter : ℕ → ℕ → List ℕ → ℕ
@@ -31,3 +37,8 @@ unfoldable mutual
   pub cornersAfter : ℕ → ℕ → List ℕ → List ℕ
   cornersAfter zero v l = l
   cornersAfter (suc k) v l = refined quads (verticesAfter k v l) (cornersAfter k v l)
+
+-- the marks after k rounds
+unfoldable pub marksAfter : ℕ → ℕ → List ℕ → List ℕ → List ℕ
+marksAfter zero v l marks = marks
+marksAfter (suc k) v l marks = refinedMarks quads (verticesAfter k v l) (cornersAfter k v l) (marksAfter k v l marks)

@@ -1,4 +1,4 @@
--- Refusals 8, 10 and 11 hold nowhere in an oriented net exactly where it is manifold.
+-- An oriented net is manifold exactly if refusals 8, 10 and 11 hold nowhere in it.
 use mathlib.Core.Path.{_≡_, sym, ap, _∙_, subst}
 use mathlib.Core.Bool.{false, _||_}
 use mathlib.Core.Logic.{_⊎_, inl, inr}

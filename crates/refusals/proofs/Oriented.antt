@@ -1,4 +1,4 @@
--- Refusals 7 and 9 hold nowhere exactly in oriented nets; and their places.
+-- A net is oriented exactly if refusals 7 and 9 hold nowhere in it; and their places.
 use mathlib.Core.Path.{_≡_, sym, ap, _∙_}
 use mathlib.Core.Bool.{Bool, true, false, _&&_}
 use mathlib.Core.List.{List}
@@ -10,25 +10,24 @@ use lib.Dec.{eqb, leb, ltb}
 use borrow.Author.Tests.{eq-eqb, eqb-true, eqb-false, leb-false, lt-leb, lt-ltb, ltb-true}
 use Rattle.search.specs.Search.{first, any, iterate}
 use Rattle.search.proofs.Tests.{clash, refuted, and-on, and-left, and-right, or-off, or-left, or-right}
-use Rattle.search.proofs.First.{first-before, first-reach, first-none, any-off, any-which}
+use Rattle.search.proofs.First.{first-before, first-reach, first-none, any-on, any-off, any-which}
 use Rattle.topology.specs.Shape.{Shape, Lawful}
 use Rattle.topology.specs.HalfEdge.{from, to}
 use Rattle.topology.specs.Manifold.{Oriented}
-use Rattle.topology.proofs.Shape.{nexts-lt, face-nexts}
+use Rattle.topology.proofs.Shape.{face-earlier, nexts-lt, face-nexts}
 use Rattle.refusals.specs.Refusals.{badCorner, repeatedSide}
 
 -- the face of the first half-edge at which a test holds is the lowest face with such a half-edge
 pub place-least : (S : Shape) (n : ℕ) → Lawful S n → (t : ℕ → Bool) (h : ℕ) → h < n → t h ≡ true → S .face (first t n) ≤ S .face h
 place-least S n c t h b e = c .face-le (first t n) h (first-reach t n h b e) b
 
--- no half-edge of the face: none before the first one, and none at all where there is none
-pub place-none : (S : Shape) (n : ℕ) → Lawful S n → (t : ℕ → Bool) (h : ℕ) → h < n → first t n < n → S .face h < S .face (first t n) → t h ≡ false
-place-none S n c t h b k e = refuted (t h) (λ i. let x = place-least S n c t h b i in omega arith)
+-- no half-edge of a face before that place has it
+pub place-none : (S : Shape) (n : ℕ) → Lawful S n → (t : ℕ → Bool) (h : ℕ) → h < n → S .face h < S .face (first t n) → t h ≡ false
+place-none S n c t h b e = refuted (t h) (λ i. let x = place-least S n c t h b i in omega arith)
 
 -- ---- the tests fail: the net is oriented
 
-module _ (S : Shape) (v : ℕ) (l : List ℕ) (w : Lawful S (length l))
-    (no7 : first (badCorner S v l) (length l) ≡ length l) (no9 : first (repeatedSide S l) (length l) ≡ length l) where
+module _ (S : Shape) (v : ℕ) (l : List ℕ) (w : Lawful S (length l)) (no7 : first (badCorner S v l) (length l) ≡ length l) where
   corner : (h : ℕ) → h < length l → badCorner S v l h ≡ false
   corner h b = first-before (badCorner S v l) (length l) h (omega arith)
 
@@ -51,26 +50,43 @@ module _ (S : Shape) (v : ℕ) (l : List ℕ) (w : Lawful S (length l))
       go zero c d = d
       go (suc k) c d = absurd (differs h k a c (ap (from l) d ∙ sym e))
 
-  -- no side runs as one of an earlier face
-  fresh : (h g : ℕ) → h < length l → g < length l → S .face g < S .face h → from l g ≡ from l h → to S l g ≡ to S l h → ⊥
+  -- then 9 holds at h exactly if a half-edge before h has its ends
+  pub repeated-if : (h g : ℕ) → h < length l → g < h → from l g ≡ from l h → to S l g ≡ to S l h → repeatedSide S l h ≡ true
   unfolding repeatedSide
-  fresh h g a b c s e =
+  repeated-if h g a b s e =
       let q : ℕ → Bool = λ g. ltb (S .face g) (S .face h) && (eqb (from l g) (from l h) && eqb (to S l g) (to S l h)) in
-      let o = any-off q (length l) g (first-before (repeatedSide S l) (length l) h (omega arith)) b in
-      clash (q g) (and-on _ _ (lt-ltb _ _ c) (and-on _ _ (eq-eqb _ _ s) (eq-eqb _ _ e))) o
+      any-on q (length l) g (omega arith) (and-on _ _ (lt-ltb _ _ (earlier (decLt (S .face g) (S .face h)))) (and-on _ _ (eq-eqb _ _ s) (eq-eqb _ _ e)))
+    where
+      earlier : Dec (S .face g < S .face h) → S .face g < S .face h
+      earlier (yes c) = c
+      earlier (no c) = let x = w .face-le g h (omega arith) a in let y = apart g h (omega arith) a (omega arith) s in let z : ⊥ = omega arith in absurd z
 
-  pub oriented-if : Oriented S v l
-  oriented-if = record {
+  pub oriented-if : first (repeatedSide S l) (length l) ≡ length l → Oriented S v l
+  oriented-if no9 = record {
     shape = w;
     below = below;
     apart = apart;
-    once = λ h g a b s e. go h g a b s e (decLt (S .face h) (S .face g)) (decLt (S .face g) (S .face h));
+    once = λ h g a b s e. go h g a b s e (decLt h g) (decLt g h);
   }
     where
-      go : (h g : ℕ) → h < length l → g < length l → from l h ≡ from l g → to S l h ≡ to S l g → Dec (S .face h < S .face g) → Dec (S .face g < S .face h) → h ≡ g
-      go h g a b s e (yes c) d = absurd (fresh g h b a c s e)
-      go h g a b s e (no c) (yes d) = absurd (fresh h g a b d (sym s) (sym e))
-      go h g a b s e (no c) (no d) = apart h g a b (omega arith) s
+      fresh : (h : ℕ) → h < length l → repeatedSide S l h ≡ false
+      fresh h b = first-before (repeatedSide S l) (length l) h (omega arith)
+
+      go : (h g : ℕ) → h < length l → g < length l → from l h ≡ from l g → to S l h ≡ to S l g → Dec (h < g) → Dec (g < h) → h ≡ g
+      go h g a b s e (yes c) d = clash (repeatedSide S l g) (repeated-if g h b c s e) (fresh g b)
+      go h g a b s e (no c) (yes d) = clash (repeatedSide S l h) (repeated-if h g a d (sym s) (sym e)) (fresh h a)
+      go h g a b s e (no c) (no d) = omega arith
+
+pub repeated-which : (S : Shape) (l : List ℕ) → Lawful S (length l) → (h : ℕ) → repeatedSide S l h ≡ true → (g : ℕ) × (g < h) × (from l g ≡ from l h) × (to S l g ≡ to S l h)
+unfolding repeatedSide
+repeated-which S l w h t =
+    let q : ℕ → Bool = λ g. ltb (S .face g) (S .face h) && (eqb (from l g) (from l h) && eqb (to S l g) (to S l h)) in
+    let r = any-which q (length l) t in
+    let g : ℕ = r .0 in
+    let i = ltb (S .face g) (S .face h) in let j = eqb (from l g) (from l h) in let k = eqb (to S l g) (to S l h) in
+    let x = ltb-true (S .face g) (S .face h) (and-left i (j && k) (r .2)) in
+    let y = and-right i (j && k) (r .2) in
+    (g, face-earlier S (length l) w g h (r .1) x, eqb-true (from l g) (from l h) (and-left j k y), eqb-true (to S l g) (to S l h) (and-right j k y))
 
 -- ---- and back
 
@@ -86,17 +102,10 @@ module _ (S : Shape) (v : ℕ) (l : List ℕ) (ok : Oriented S v l) where
       ok .shape .not-before h (suc (r .0)) b (omega arith) (omega (arith, r .1)) e))
 
   side-off : (h : ℕ) → h < length l → repeatedSide S l h ≡ false
-  unfolding repeatedSide
-  side-off h b =
-      let q : ℕ → Bool = λ g. ltb (S .face g) (S .face h) && (eqb (from l g) (from l h) && eqb (to S l g) (to S l h)) in
-      refuted (any q (length l)) (λ t.
-      let r = any-which q (length l) t in
-      let g : ℕ = r .0 in
-      let i = ltb (S .face g) (S .face h) in let j = eqb (from l g) (from l h) in let k = eqb (to S l g) (to S l h) in
-      let x = ltb-true (S .face g) (S .face h) (and-left i (j && k) (r .2)) in
-      let y = and-right i (j && k) (r .2) in
-      let e = ap (S .face) (ok .once g h (r .1) b (eqb-true (from l g) (from l h) (and-left j k y)) (eqb-true (to S l g) (to S l h) (and-right j k y))) in
-      omega arith)
+  side-off h b = refuted (repeatedSide S l h) (λ t.
+      let r = repeated-which S l (ok .shape) h t in
+      let e = ok .once (r .0) h (let x = r .1 in omega arith) b (r .2) (r .3) in
+      omega (arith, r .1))
 
   pub no-7 : first (badCorner S v l) (length l) ≡ length l
   no-7 = first-none (badCorner S v l) (length l) (λ h b t. clash _ t (corner-off h b))

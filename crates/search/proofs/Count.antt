@@ -1,5 +1,5 @@
 -- The laws of `count`. Assumes nothing.
-use mathlib.Core.Path.{_≡_, refl}
+use mathlib.Core.Path.{_≡_, refl, _∙_}
 use mathlib.Core.Bool.{Bool, true, false}
 use mathlib.Core.Logic.{_⊎_, inl, inr}
 use Prim.Native.Nat.{ℕ, zero, suc, _+_, _≤_, _<_}
@@ -65,3 +65,8 @@ pub count-le : (p : ℕ → Bool) (n : ℕ) → count p n ≤ n
 unfolding count
 count-le p zero = omega arith
 count-le p (suc n) = cond-elim (λ r. count p n + r ≤ suc n) (p n) 1 0 (λ e. omega (arith, count-le p n)) (λ e. omega (arith, count-le p n))
+
+pub count-none : (p : ℕ → Bool) (n : ℕ) → ((k : ℕ) → k < n → p k ≡ false) → count p n ≡ 0
+unfolding count
+count-none p zero f = refl
+count-none p (suc n) f = count-same p n (f n (omega arith)) ∙ count-none p n (λ k h. f k (omega arith))

@@ -11,7 +11,7 @@ use borrow.Author.Tests.{eq-eqb, eqb-true, ne-eqb}
 use Rattle.search.specs.Search.{first, count}
 use Rattle.search.proofs.Tests.{clash, decided, refuted}
 use Rattle.search.proofs.First.{first-holds, first-before}
-use Rattle.search.proofs.Count.{count-more, count-same, count-cong}
+use Rattle.search.proofs.Count.{count-none, count-more, count-same, count-cong}
 
 -- the test p at all numbers but x
 unfoldable without : (ℕ → Bool) → ℕ → ℕ → Bool
@@ -27,11 +27,6 @@ without-self p x = let e = eq-eqb x x refl in rw e
 
 without-not : (p : ℕ → Bool) (x y : ℕ) → without p x y ≡ true → y ≡ x → ⊥
 without-not p x y t e = clash (without p x x) (subst (λ (z : ℕ). without p x z ≡ true) e t) (without-self p x)
-
-count-none : (p : ℕ → Bool) (n : ℕ) → ((k : ℕ) → k < n → p k ≡ false) → count p n ≡ 0
-unfolding count
-count-none p zero f = refl
-count-none p (suc n) f = count-same p n (f n (omega arith)) ∙ count-none p n (λ k h. f k (omega arith))
 
 count-without : (p : ℕ → Bool) (x n : ℕ) → x < n → p x ≡ true → count p n ≡ count (without p x) n + 1
 count-without p x zero h t = absurd (not-suc-le-zero h)

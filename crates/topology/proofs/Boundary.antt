@@ -1,8 +1,8 @@
--- The boundary: what leaves and enters a vertex of a ring or a fan; and the loops of a manifold net, walked along the sides and against them.
+-- The boundary: what leaves and enters a vertex of a ring or a fan; and that of a manifold net, from half-edge to half-edge.
 use mathlib.Core.Path.{_≡_, refl, sym, ap, _∙_, subst}
-use mathlib.Core.Bool.{Bool, true}
+use mathlib.Core.Bool.{true}
 use mathlib.Core.List.{List}
-use Prim.Native.Nat.{ℕ, zero, suc, _+_, _-_, _≤_, _<_}
+use Prim.Native.Nat.{ℕ, suc, _-_, _≤_, _<_}
 use native.Mathlib.Decide.{decLt}
 use native.Mathlib.Omega.{arith}
 use lib.ListN.{length}
@@ -11,40 +11,39 @@ use borrow.Author.Tests.{eq-eqb, eqb-true, lt-ltb, le-ltb}
 use Rattle.search.specs.Search.{first, iterate}
 use Rattle.search.proofs.Tests.{and-on, and-left, and-right}
 use Rattle.search.proofs.First.{first-le, first-holds, first-reach, first-only, first-none}
-use Rattle.search.proofs.Iterate.{iterate-add, iterate-meets}
 use Rattle.topology.specs.Shape.{Shape}
 use Rattle.topology.specs.HalfEdge.{from, to, mate}
 use Rattle.topology.specs.Boundary.{OnBoundary, isBoundaryFrom, isBoundaryInto, boundaryFrom, boundaryInto, along, back}
 use Rattle.topology.specs.Vertex.{leaves, valence, turn, turns, start, Ring, Fan}
 use Rattle.topology.specs.Manifold.{Oriented, Around, ring, fan, Manifold}
-use Rattle.topology.proofs.Mates.{mate-le, mate-only, ends-differ}
+use Rattle.topology.proofs.Mates.{mate-le}
 use Rattle.topology.proofs.Turn.{turns-from}
 use Rattle.topology.proofs.Rings.{ring-valence, ring-mates, ring-turns, ring-at, fan-valence, fan-first, fan-last}
 
 -- ---- the two tests
 
 module _ (S : Shape) (l : List ℕ) (p g : ℕ) where
-  pub from-on : mate S l g ≡ length l → from l g ≡ p → isBoundaryFrom S l p g ≡ true
+  from-on : mate S l g ≡ length l → from l g ≡ p → isBoundaryFrom S l p g ≡ true
   unfolding isBoundaryFrom
   from-on a b = and-on _ _ (eq-eqb _ _ a) (eq-eqb _ _ b)
 
-  pub from-none : isBoundaryFrom S l p g ≡ true → mate S l g ≡ length l
+  from-none : isBoundaryFrom S l p g ≡ true → mate S l g ≡ length l
   unfolding isBoundaryFrom
   from-none t = eqb-true (mate S l g) (length l) (and-left (eqb (mate S l g) (length l)) (eqb (from l g) p) t)
 
-  pub from-at : isBoundaryFrom S l p g ≡ true → from l g ≡ p
+  from-at : isBoundaryFrom S l p g ≡ true → from l g ≡ p
   unfolding isBoundaryFrom
   from-at t = eqb-true (from l g) p (and-right (eqb (mate S l g) (length l)) (eqb (from l g) p) t)
 
-  pub into-on : mate S l g ≡ length l → to S l g ≡ p → isBoundaryInto S l p g ≡ true
+  into-on : mate S l g ≡ length l → to S l g ≡ p → isBoundaryInto S l p g ≡ true
   unfolding isBoundaryInto
   into-on a b = and-on _ _ (eq-eqb _ _ a) (eq-eqb _ _ b)
 
-  pub into-none : isBoundaryInto S l p g ≡ true → mate S l g ≡ length l
+  into-none : isBoundaryInto S l p g ≡ true → mate S l g ≡ length l
   unfolding isBoundaryInto
   into-none t = eqb-true (mate S l g) (length l) (and-left (eqb (mate S l g) (length l)) (eqb (to S l g) p) t)
 
-  pub into-at : isBoundaryInto S l p g ≡ true → to S l g ≡ p
+  into-at : isBoundaryInto S l p g ≡ true → to S l g ≡ p
   unfolding isBoundaryInto
   into-at t = eqb-true (to S l g) p (and-right (eqb (mate S l g) (length l)) (eqb (to S l g) p) t)
 
@@ -134,7 +133,7 @@ module _ (S : Shape) (v : ℕ) (l : List ℕ) (ok : Oriented S v l) where
       leaves-at : (k : ℕ) → k < m → from l (turns S l k h) ≡ p
       leaves-at k b = turns-from S v l ok p h k (f .walk .leaves) (λ j c. f .walk .inside j (omega arith))
 
--- ---- loops
+-- ---- from half-edge to half-edge
 
 module _ (S : Shape) (v : ℕ) (l : List ℕ) (ok : Manifold S v l) where
   -- where a vertex has no boundary half-edge it has a ring, where it has one a fan; each from `start`, and of as many faces as there are
@@ -177,17 +176,17 @@ module _ (S : Shape) (v : ℕ) (l : List ℕ) (ok : Manifold S v l) where
       go (ring h m s t r) = let x = ring-boundaryFrom S v l (ok .oriented) p h m r in let z : ⊥ = omega arith in absurd z
       go (fan h m t r) = let d = fan-valence S v l (ok .oriented) p h m r in let s = r .some in (omega arith, omega arith)
 
-  -- the ends of a boundary half-edge
   pub to-lt : (h : ℕ) → h < length l → to S l h < v
   unfolding to
   to-lt h k = ok .oriented .below (S .next h) (ok .oriented .shape .next-lt h k)
 
-  pub boundary-start : (h : ℕ) → OnBoundary S l h → boundaryFrom S l (from l h) ≡ h
-  boundary-start h o = go (ok .around (from l h) (ok .oriented .below h (o .lt)))
+  -- the only boundary half-edge that leaves p, and the only one that enters p
+  pub boundaryFrom-is : (p h : ℕ) → OnBoundary S l h → from l h ≡ p → boundaryFrom S l p ≡ h
+  boundaryFrom-is p h o e = go (ok .around p (let b = ok .oriented .below h (o .lt) in omega arith))
     where
-      go : Around S l (from l h) → boundaryFrom S l (from l h) ≡ h
-      go (ring h₀ m s t r) = let x = ring-mates S v l (ok .oriented) (from l h) h₀ m r h (o .lt) refl in let y = o .none in let z : ⊥ = omega arith in absurd z
-      go (fan h₀ m t r) = fan-boundaryFrom S v l (ok .oriented) (from l h) h₀ m r ∙ sym (fan-first S v l (ok .oriented) (from l h) h₀ m r h (o .lt) refl (o .none))
+      go : Around S l p → boundaryFrom S l p ≡ h
+      go (ring g m s t r) = let x = ring-mates S v l (ok .oriented) p g m r h (o .lt) e in let y = o .none in let z : ⊥ = omega arith in absurd z
+      go (fan g m t r) = fan-boundaryFrom S v l (ok .oriented) p g m r ∙ sym (fan-first S v l (ok .oriented) p g m r h (o .lt) e (o .none))
 
   end-fan : (h : ℕ) → OnBoundary S l h → (g : ℕ) × (m : ℕ) × Fan S l (to S l h) g m
   end-fan h o = go (ok .around (to S l h) (to-lt h (o .lt)))
@@ -196,15 +195,17 @@ module _ (S : Shape) (v : ℕ) (l : List ℕ) (ok : Manifold S v l) where
       go (ring g m s t r) = let x = ring-boundaryInto S v l (ok .oriented) (to S l h) g m r in let y = boundaryInto-reach S l h o in let k = o .lt in let z : ⊥ = omega arith in absurd z
       go (fan g m t r) = (g, m, r)
 
-  pub boundary-end : (h : ℕ) → OnBoundary S l h → boundaryInto S l (to S l h) ≡ h
-  boundary-end h o = let f = end-fan h o in fan-boundaryInto S v l (ok .oriented) (to S l h) (f .0) (f .1) (f .2) ∙ fan-into S v l (ok .oriented) (to S l h) (f .0) (f .1) (f .2) h o refl
+  pub boundaryInto-is : (p h : ℕ) → OnBoundary S l h → to S l h ≡ p → boundaryInto S l p ≡ h
+  boundaryInto-is p h o e =
+      let f = end-fan h o in
+      ap (boundaryInto S l) (sym e) ∙ fan-boundaryInto S v l (ok .oriented) (to S l h) (f .0) (f .1) (f .2) ∙ fan-into S v l (ok .oriented) (to S l h) (f .0) (f .1) (f .2) h o refl
 
   end-open : (h : ℕ) → OnBoundary S l h → boundaryFrom S l (to S l h) < length l
   unfolding iterate
   end-open h o = let f = end-fan h o in let r = f .2 in let e = fan-boundaryFrom S v l (ok .oriented) (to S l h) (f .0) (f .1) r in let k = r .walk .inside 0 (r .some) in omega arith
 
   start-fan : (h : ℕ) → OnBoundary S l h → Fan S l (from l h) (start S l (from l h)) (valence l (from l h))
-  start-fan h o = let e = boundary-start h o in let k = o .lt in fan-start (from l h) (ok .oriented .below h k) (omega arith)
+  start-fan h o = let e = boundaryFrom-is (from l h) h o refl in let k = o .lt in fan-start (from l h) (ok .oriented .below h k) (omega arith)
 
   -- the half-edge after h is on the boundary and leaves the end of h; the one before it enters its start
   pub along-on : (h : ℕ) → OnBoundary S l h → OnBoundary S l (along S l h)
@@ -238,84 +239,33 @@ module _ (S : Shape) (v : ℕ) (l : List ℕ) (ok : Manifold S v l) where
 
   pub back-along : (h : ℕ) → OnBoundary S l h → back S l (along S l h) ≡ h
   unfolding back
-  back-along h o = ap (boundaryInto S l) (along-from h o) ∙ boundary-end h o
+  back-along h o = boundaryInto-is (from l (along S l h)) h o (sym (along-from h o))
 
   pub along-back : (h : ℕ) → OnBoundary S l h → along S l (back S l h) ≡ h
   unfolding along
-  along-back h o = ap (boundaryFrom S l) (back-to h o) ∙ boundary-start h o
+  along-back h o = boundaryFrom-is (to S l (back S l h)) h o (sym (back-to h o))
+
+  -- whatever boundary half-edge leaves the end of h is the one after it, and whatever enters its start the one before
+  pub along-is : (h g : ℕ) → OnBoundary S l g → from l g ≡ to S l h → along S l h ≡ g
+  unfolding along
+  along-is h g o e = boundaryFrom-is (to S l h) g o e
+
+  pub back-is : (h g : ℕ) → OnBoundary S l g → to S l g ≡ from l h → back S l h ≡ g
+  unfolding back
+  back-is h g o e = boundaryInto-is (from l h) g o e
 
   -- a boundary half-edge is known by its start, and by its end
   pub from-inj : (h g : ℕ) → OnBoundary S l h → OnBoundary S l g → from l h ≡ from l g → h ≡ g
-  from-inj h g o q e = sym (boundary-start h o) ∙ ap (boundaryFrom S l) e ∙ boundary-start g q
+  from-inj h g o q e = sym (boundaryFrom-is (from l g) h o e) ∙ boundaryFrom-is (from l g) g q refl
 
   pub to-inj : (h g : ℕ) → OnBoundary S l h → OnBoundary S l g → to S l h ≡ to S l g → h ≡ g
-  to-inj h g o q e = sym (boundary-end h o) ∙ ap (boundaryInto S l) e ∙ boundary-end g q
+  to-inj h g o q e = sym (boundaryInto-is (to S l g) h o e) ∙ boundaryInto-is (to S l g) g q refl
 
   -- a vertex that starts a boundary half-edge ends one, and the other way round
-  pub starts-ends : (p : ℕ) → p < v → boundaryFrom S l p < length l → boundaryInto S l p < length l
+  pub starts-ends : (p : ℕ) → boundaryFrom S l p < length l → boundaryInto S l p < length l
   unfolding back
-  starts-ends p b c = let e = ap (boundaryInto S l) (boundaryFrom-at S l p c) in let o = back-on (boundaryFrom S l p) (boundaryFrom-on S l p c) in rw e at (o .lt)
+  starts-ends p c = let e = ap (boundaryInto S l) (boundaryFrom-at S l p c) in let o = back-on (boundaryFrom S l p) (boundaryFrom-on S l p c) in rw e at (o .lt)
 
-  pub ends-starts : (p : ℕ) → p < v → boundaryInto S l p < length l → boundaryFrom S l p < length l
+  pub ends-starts : (p : ℕ) → boundaryInto S l p < length l → boundaryFrom S l p < length l
   unfolding along
-  ends-starts p b c = let e = ap (boundaryFrom S l) (boundaryInto-at S l p c) in let o = along-on (boundaryInto S l p) (boundaryInto-on S l p c) in rw e at (o .lt)
-
-  -- ---- k steps
-
-  pub alongs-on : (k h : ℕ) → OnBoundary S l h → OnBoundary S l (iterate (along S l) k h)
-  unfolding iterate
-  alongs-on zero h o = o
-  alongs-on (suc k) h o = along-on (iterate (along S l) k h) (alongs-on k h o)
-
-  pub backs-on : (k h : ℕ) → OnBoundary S l h → OnBoundary S l (iterate (back S l) k h)
-  unfolding iterate
-  backs-on zero h o = o
-  backs-on (suc k) h o = back-on (iterate (back S l) k h) (backs-on k h o)
-
-  along-inj : (x y : ℕ) → OnBoundary S l x → OnBoundary S l y → OnBoundary S l (along S l x) → along S l x ≡ along S l y → x ≡ y
-  along-inj x y a b c e = sym (back-along x a) ∙ ap (back S l) e ∙ back-along y b
-
-  -- from where a test holds one comes to the next place where it holds, along the sides and against them
-  pub along-meets : (h : ℕ) → OnBoundary S l h → (stop : ℕ → Bool) → stop h ≡ true → first (λ (k : ℕ). stop (iterate (along S l) (suc k) h)) (length l) < length l
-  along-meets h o stop t = iterate-meets (along S l) (OnBoundary S l) along-inj (length l) h (λ x q. q .lt) (λ j. alongs-on j h o) stop t
-
-  pub back-meets : (h : ℕ) → OnBoundary S l h → (stop : ℕ → Bool) → stop h ≡ true → first (λ (k : ℕ). stop (iterate (back S l) (suc k) h)) (length l) < length l
-  back-meets h o stop t = iterate-meets (back S l) (OnBoundary S l) (λ x y a b c e. sym (along-back x a) ∙ ap (along S l) e ∙ along-back y b) (length l) h (λ x q. q .lt) (λ j. backs-on j h o) stop t
-
-  -- the loop closes within as many steps as there are half-edges
-  pub loop-closes : (h : ℕ) → OnBoundary S l h → first (λ (k : ℕ). eqb (iterate (along S l) (suc k) h) h) (length l) < length l
-  loop-closes h o = along-meets h o (λ (g : ℕ). eqb g h) (eq-eqb h h refl)
-
-  -- and has three half-edges or more: two, there and back, would be mates
-  pub along-not : (h : ℕ) → OnBoundary S l h → along S l h ≡ h → ⊥
-  along-not h o e = ends-differ S v l (ok .oriented) h (o .lt) (ap (from l) (sym e) ∙ along-from h o)
-
-  pub along-along-not : (h : ℕ) → OnBoundary S l h → along S l (along S l h) ≡ h → ⊥
-  along-along-not h o e =
-      let q = along-on h o in
-      let m = mate-only S v l (ok .oriented) h (along S l h) (record { lt = q .lt; start = along-from h o; end = sym (along-from (along S l h) q) ∙ ap (from l) e }) in
-      let x = q .lt in let y = o .none in omega arith
-
-  pub loop-three : (n h : ℕ) → OnBoundary S l h → 0 < n → iterate (along S l) n h ≡ h → 3 ≤ n
-  unfolding iterate
-  loop-three zero h o b e = omega arith
-  loop-three (suc zero) h o b e = absurd (along-not h o e)
-  loop-three (suc (suc zero)) h o b e = absurd (along-along-not h o e)
-  loop-three (suc (suc (suc n))) h o b e = omega arith
-
-  -- ---- going back undoes going along; on a loop of n half-edges it goes along from the other end
-  pub backs-alongs : (k h : ℕ) → OnBoundary S l h → iterate (back S l) k (iterate (along S l) k h) ≡ h
-  unfolding iterate
-  backs-alongs zero h o = refl
-  backs-alongs (suc k) h o =
-      let x : suc k ≡ k + 1 = omega arith in
-      ap (λ (j : ℕ). iterate (back S l) j (along S l (iterate (along S l) k h))) x
-      ∙ iterate-add (back S l) k 1 (along S l (iterate (along S l) k h))
-      ∙ ap (iterate (back S l) k) (back-along (iterate (along S l) k h) (alongs-on k h o))
-      ∙ backs-alongs k h o
-
-  pub backs-loop : (n h : ℕ) → OnBoundary S l h → iterate (along S l) n h ≡ h → (k : ℕ) → k ≤ n → iterate (back S l) k h ≡ iterate (along S l) (n - k) h
-  backs-loop n h o e k b =
-      let x : k + (n - k) ≡ n = omega arith in
-      let y : iterate (along S l) k (iterate (along S l) (n - k) h) ≡ h = sym (iterate-add (along S l) k (n - k) h) ∙ ap (λ (j : ℕ). iterate (along S l) j h) x ∙ e in
-      ap (iterate (back S l) k) (sym y) ∙ backs-alongs k (iterate (along S l) (n - k) h) (alongs-on (n - k) h o)
+  ends-starts p c = let e = ap (boundaryFrom S l) (boundaryInto-at S l p c) in let o = along-on (boundaryInto S l p) (boundaryInto-on S l p c) in rw e at (o .lt)

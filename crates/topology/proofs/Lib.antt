@@ -3,5 +3,7 @@ pub mod Mates
 pub mod Turn
 pub mod Rings
 pub mod Boundary
+pub mod Walks
+pub mod Loops
 pub mod Faces
 pub mod Vertices

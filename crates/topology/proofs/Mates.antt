@@ -30,13 +30,13 @@ pub record Mates (S : Shape) (l : List ℕ) (h g : ℕ) : Type 0 where
   pub start : from l g ≡ to S l h
   pub end : to S l g ≡ from l h
 
-against-true : (S : Shape) (l : List ℕ) (h g : ℕ) → from l g ≡ to S l h → to S l g ≡ from l h → opposed S l h g ≡ true
+opposed-on : (S : Shape) (l : List ℕ) (h g : ℕ) → from l g ≡ to S l h → to S l g ≡ from l h → opposed S l h g ≡ true
 unfolding opposed
-against-true S l h g a b = and-on _ _ (eq-eqb _ _ a) (eq-eqb _ _ b)
+opposed-on S l h g a b = and-on _ _ (eq-eqb _ _ a) (eq-eqb _ _ b)
 
-against-mates : (S : Shape) (l : List ℕ) (h g : ℕ) → g < length l → opposed S l h g ≡ true → Mates S l h g
+opposed-mates : (S : Shape) (l : List ℕ) (h g : ℕ) → g < length l → opposed S l h g ≡ true → Mates S l h g
 unfolding opposed
-against-mates S l h g k t = record {
+opposed-mates S l h g k t = record {
   lt = k;
   start = eqb-true (from l g) (to S l h) (and-left (eqb (from l g) (to S l h)) (eqb (to S l g) (from l h)) t);
   end = eqb-true (to S l g) (from l h) (and-right (eqb (from l g) (to S l h)) (eqb (to S l g) (from l h)) t);
@@ -48,11 +48,11 @@ mate-le S l h = first-le (opposed S l h) (length l)
 
 pub mate-is : (S : Shape) (l : List ℕ) (h : ℕ) → mate S l h < length l → Mates S l h (mate S l h)
 unfolding mate
-mate-is S l h k = against-mates S l h (mate S l h) k (first-holds (opposed S l h) (length l) k)
+mate-is S l h k = opposed-mates S l h (mate S l h) k (first-holds (opposed S l h) (length l) k)
 
 pub mate-none : (S : Shape) (l : List ℕ) (h : ℕ) → ((g : ℕ) → Mates S l h g → ⊥) → mate S l h ≡ length l
 unfolding mate
-mate-none S l h f = first-none (opposed S l h) (length l) (λ g k t. f g (against-mates S l h g k t))
+mate-none S l h f = first-none (opposed S l h) (length l) (λ g k t. f g (opposed-mates S l h g k t))
 
 module _ (S : Shape) (v : ℕ) (l : List ℕ) (ok : Oriented S v l) where
   pub mates-same : (h g k : ℕ) → Mates S l h g → Mates S l h k → g ≡ k
@@ -60,8 +60,8 @@ module _ (S : Shape) (v : ℕ) (l : List ℕ) (ok : Oriented S v l) where
 
   pub mate-only : (h g : ℕ) → Mates S l h g → mate S l h ≡ g
   unfolding mate
-  mate-only h g m = first-only (opposed S l h) (length l) g (m .lt) (against-true S l h g (m .start) (m .end))
-      (λ k j t. mates-same h k g (against-mates S l h k j t) m)
+  mate-only h g m = first-only (opposed S l h) (length l) g (m .lt) (opposed-on S l h g (m .start) (m .end))
+      (λ k j t. mates-same h k g (opposed-mates S l h k j t) m)
 
   pub mate-back : (h : ℕ) → h < length l → mate S l h < length l → mate S l (mate S l h) ≡ h
   mate-back h k m = let r = mate-is S l h m in mate-only (mate S l h) h (record { lt = k; start = sym (r .end); end = sym (r .start) })
@@ -88,7 +88,7 @@ module _ (S : Shape) (v : ℕ) (l : List ℕ) (ok : Oriented S v l) where
 
   -- ---- edge numbers
 
-  -- the half-edge at which the edge of h is first met-first
+  -- the half-edge at which the edge of h is first met
   lead : ℕ → ℕ
   lead h = min h (mate S l h)
 
@@ -104,8 +104,8 @@ module _ (S : Shape) (v : ℕ) (l : List ℕ) (ok : Oriented S v l) where
   unfolding firstMet
   met-first h k = lt-ltb h (mate S l h) k
 
-  lead-met-first : (h : ℕ) → h < length l → firstMet S l (lead h) ≡ true
-  lead-met-first h k = ⊎-elim (λ a. rw (a .0) (met-first h (a .1)))
+  lead-met : (h : ℕ) → h < length l → firstMet S l (lead h) ≡ true
+  lead-met h k = ⊎-elim (λ a. rw (a .0) (met-first h (a .1)))
       (λ a. let m : mate S l h < length l = omega arith in let b = mate-back h k m in rw (a .0) (met-first (mate S l h) (rw b (a .1)))) (lead-cases h k)
 
   lead-lt : (h : ℕ) → h < length l → lead h < length l
@@ -114,7 +114,7 @@ module _ (S : Shape) (v : ℕ) (l : List ℕ) (ok : Oriented S v l) where
 
   pub edge-lt : (h : ℕ) → h < length l → edge S l h < edgeCount S l
   unfolding edge edgeCount lead
-  edge-lt h k = count-under (firstMet S l) (lead h) (length l) (lead-lt h k) (lead-met-first h k)
+  edge-lt h k = count-under (firstMet S l) (lead h) (length l) (lead-lt h k) (lead-met h k)
 
   pub edge-mate : (h : ℕ) → h < length l → mate S l h < length l → edge S l (mate S l h) ≡ edge S l h
   unfolding edge
@@ -129,7 +129,7 @@ module _ (S : Shape) (v : ℕ) (l : List ℕ) (ok : Oriented S v l) where
   edge-same h g k j e = go (lead-cases h k) (lead-cases g j)
     where
       s : lead h ≡ lead g
-      s = count-inj (firstMet S l) (lead h) (lead g) (lead-met-first h k) (lead-met-first g j) e
+      s = count-inj (firstMet S l) (lead h) (lead g) (lead-met h k) (lead-met g j) e
 
       go : ((lead h ≡ h) × (h < mate S l h)) ⊎ ((lead h ≡ mate S l h) × (mate S l h < h)) → ((lead g ≡ g) × (g < mate S l g)) ⊎ ((lead g ≡ mate S l g) × (mate S l g < g))
           → (g ≡ h) ⊎ ((g ≡ mate S l h) × (mate S l h < length l))
@@ -142,7 +142,7 @@ module _ (S : Shape) (v : ℕ) (l : List ℕ) (ok : Oriented S v l) where
           let mh : mate S l h < length l = omega arith in
           inl (sym (mate-back g j m) ∙ ap (mate S l) x ∙ mate-back h k mh)
 
-  -- every number below the number of edgeCount is an edge's
+  -- every number below the number of edges is an edge's
   pub edge-onto : (e : ℕ) → e < edgeCount S l → (h : ℕ) × (h < length l) × (edge S l h ≡ e)
   unfolding edge edgeCount firstMet
   edge-onto e k =
@@ -159,7 +159,7 @@ edge-new S l h b = let e : min h (mate S l h) ≡ h = omega arith in ap (count (
 pub edge-old : (S : Shape) (v : ℕ) (l : List ℕ) → Oriented S v l → (h : ℕ) → h < length l → mate S l h < h → edge S l h ≡ edge S l (mate S l h)
 edge-old S v l ok h k b = sym (edge-mate S v l ok h k (omega arith))
 
--- the next number after h
+-- and how many numbers are taken after h
 pub count-new : (S : Shape) (l : List ℕ) (h : ℕ) → h < mate S l h → count (firstMet S l) (suc h) ≡ count (firstMet S l) h + 1
 unfolding firstMet
 count-new S l h b = count-more (firstMet S l) h (lt-ltb h (mate S l h) b)

@@ -18,10 +18,10 @@ use Rattle.search.proofs.Pigeonhole.{Listed, listed-le, listed-all, listed-coun
 use Rattle.search.proofs.Iterate.{iterate-add, iterate-cancel}
 use Rattle.topology.specs.Shape.{Shape}
 use Rattle.topology.specs.HalfEdge.{from, to, mate}
-use Rattle.topology.specs.Vertex.{leaves, valence, turn, turns, stops, facesMet, Walk, Ring, Fan}
+use Rattle.topology.specs.Vertex.{leaves, valence, turn, turns, unturn, stops, facesMet, Walk, Ring, Fan}
 use Rattle.topology.specs.Manifold.{Oriented}
 use Rattle.topology.proofs.Mates.{mate-is, mate-only, to-prev}
-use Rattle.topology.proofs.Turn.{turn-le, turn-inj, turn-back, turned-mate, turns-from, turns-listed}
+use Rattle.topology.proofs.Turn.{turn-le, turn-inj, turn-unturn, turned-mate, turns-from, turns-listed}
 
 module _ (S : Shape) (v : ℕ) (l : List ℕ) (ok : Oriented S v l) where
   -- a walk that does not come back too soon has as many half-edges as leave the vertex
@@ -156,7 +156,7 @@ module _ (S : Shape) (v : ℕ) (l : List ℕ) (ok : Oriented S v l) where
         go k c d (yes i) = let x = r .walk .inside (suc k) i in let y : turns S l (suc k) h ≡ length l = ap (turn S l) d ∙ e in let z : ⊥ = omega arith in absurd z
         go k c d (no i) = let x : m - 1 ≡ k = omega arith in rw x d
 
-    -- its neighbours are pairwise distinct; no half-edge leaves p for the last of them, from which the side before the last half-edge comes
+    -- its neighbours are pairwise distinct; the last of them is where the side before the last half-edge begins
     pub fan-neighbours : (i j : ℕ) → i < j → j < m → to S l (turns S l i h) ≡ to S l (turns S l j h) → ⊥
     fan-neighbours = walk-neighbours p h m (r .walk) fan-not-back
 
@@ -214,11 +214,11 @@ module _ (S : Shape) (v : ℕ) (l : List ℕ) (ok : Oriented S v l) where
     }
 
     pub full-ring : mate S l h < length l → Ring S l p h (facesMet S l h)
-    unfolding facesMet iterate to
+    unfolding facesMet iterate to unturn
     full-ring m =
         let j = ok .shape .next-lt (mate S l h) m in
         let r = walked .all (S .next (mate S l h)) j (mate-is S l h m .end ∙ s) in
-        let e : turns S l (suc (r .0)) h ≡ h = ap (turn S l) (r .2) ∙ turn-back S v l ok h a m in
+        let e : turns S l (suc (r .0)) h ≡ h = ap (turn S l) (r .2) ∙ turn-unturn S v l ok h a m in
         record { walk = walked; some = omega arith; back = closed (r .0) (r .1) e; not-before = not-back p h a s }
       where
         closed : (k : ℕ) → k < facesMet S l h → turns S l (suc k) h ≡ h → turns S l (facesMet S l h) h ≡ h

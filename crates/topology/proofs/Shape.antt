@@ -1,6 +1,7 @@
 -- Laws of a lawful shape; four-sided faces are one. Assumes nothing.
 use mathlib.Core.Path.{_≡_, refl, sym, ap, _∙_}
 use Prim.Native.Nat.{ℕ, zero, suc, _+_, _-_, _*_, _/_, _%_, _<_}
+use native.Mathlib.Decide.{decLt}
 use native.Mathlib.Omega.{arith}
 use Rattle.search.specs.Search.{iterate}
 use Rattle.topology.specs.Shape.{Shape, Lawful, quads}
@@ -34,6 +35,21 @@ quads-lawful n w = record {
   all = λ h g a b e. ((g % 4 + 4 - h % 4) % 4, omega arith, quads-iterate h ((g % 4 + 4 - h % 4) % 4) ∙ omega arith);
 }
 
+-- the sides of face h, in turn
+pub record FourSides (h : ℕ) : Type 0 where
+  pub next₀ : quads .next (4 * h) ≡ 4 * h + 1
+  pub next₁ : quads .next (4 * h + 1) ≡ 4 * h + 2
+  pub next₂ : quads .next (4 * h + 2) ≡ 4 * h + 3
+  pub next₃ : quads .next (4 * h + 3) ≡ 4 * h
+  pub prev₀ : quads .prev (4 * h) ≡ 4 * h + 3
+  pub prev₁ : quads .prev (4 * h + 1) ≡ 4 * h
+  pub prev₂ : quads .prev (4 * h + 2) ≡ 4 * h + 1
+  pub prev₃ : quads .prev (4 * h + 3) ≡ 4 * h + 2
+
+pub four-sides : (h : ℕ) → FourSides h
+unfolding quads
+four-sides h = record { next₀ = omega arith; next₁ = omega arith; next₂ = omega arith; next₃ = omega arith; prev₀ = omega arith; prev₁ = omega arith; prev₂ = omega arith; prev₃ = omega arith }
+
 module _ (S : Shape) (n : ℕ) (c : Lawful S n) where
   pub face-prev : (h : ℕ) → S .face (S .prev h) ≡ S .face h
   face-prev h = sym (c .face-next (S .prev h)) ∙ ap (S .face) (c .next-prev h)
@@ -48,6 +64,14 @@ module _ (S : Shape) (n : ℕ) (c : Lawful S n) where
   pub next-next-not : (h : ℕ) → h < n → S .next (S .next h) ≡ h → ⊥
   unfolding iterate
   next-next-not h k e = c .not-before h 2 k (omega arith) (omega (arith, c .three h k)) e
+
+  -- an earlier face has earlier half-edges
+  pub face-earlier : (g h : ℕ) → g < n → S .face g < S .face h → g < h
+  face-earlier g h b e = go (decLt g h)
+    where
+      go : Dec (g < h) → g < h
+      go (yes a) = a
+      go (no a) = let x = c .face-le h g (omega arith) b in let z : ⊥ = omega arith in absurd z
 
   -- k sides on, in the same face
   pub nexts-lt : (k h : ℕ) → h < n → iterate (S .next) k h < n

@@ -10,7 +10,7 @@ use Rattle.search.proofs.Iterate.{iterate-cancel}
 use Rattle.search.proofs.Pigeonhole.{Listed}
 use Rattle.topology.specs.Shape.{Shape}
 use Rattle.topology.specs.HalfEdge.{from, to, mate}
-use Rattle.topology.specs.Vertex.{leaves, turn, turns}
+use Rattle.topology.specs.Vertex.{leaves, turn, turns, unturn}
 use Rattle.topology.specs.Manifold.{Oriented}
 use Rattle.topology.proofs.Shape.{prev-inj}
 use Rattle.topology.proofs.Mates.{to-prev, mate-le, mate-is, mate-back}
@@ -36,23 +36,41 @@ module _ (S : Shape) (v : ℕ) (l : List ℕ) (ok : Oriented S v l) where
   unfolding turn
   turn-to x c = mate-is S l (S .prev x) c .end
 
-  -- one turns to h from the half-edge after its mate, and to no half-edge without a mate
-  pub turn-back : (h : ℕ) → h < length l → mate S l h < length l → turn S l (S .next (mate S l h)) ≡ h
-  unfolding turn
-  turn-back h a m = ap (mate S l) (ok .shape .prev-next (mate S l h)) ∙ mate-back S v l ok h a m
+  -- unturning undoes turning, and turning undoes it; no half-edge without a mate is turned to
+  pub turn-unturn : (h : ℕ) → h < length l → mate S l h < length l → turn S l (unturn S l h) ≡ h
+  unfolding turn unturn
+  turn-unturn h a m = ap (mate S l) (ok .shape .prev-next (mate S l h)) ∙ mate-back S v l ok h a m
+
+  pub unturn-turn : (x : ℕ) → x < length l → turn S l x < length l → unturn S l (turn S l x) ≡ x
+  unfolding turn unturn
+  unturn-turn x a c = ap (S .next) (mate-back S v l ok (S .prev x) (ok .shape .prev-lt x a) c) ∙ ok .shape .next-prev x
 
   pub turned-mate : (x : ℕ) → x < length l → turn S l x < length l → mate S l (turn S l x) < length l
   unfolding turn
   turned-mate x a c = let i = ok .shape .prev-lt x a in let e = mate-back S v l ok (S .prev x) i c in rw e i
 
-  pub turn-undone : (x : ℕ) → x < length l → turn S l x < length l → S .next (mate S l (turn S l x)) ≡ x
-  unfolding turn
-  turn-undone x a c = ap (S .next) (mate-back S v l ok (S .prev x) (ok .shape .prev-lt x a) c) ∙ ok .shape .next-prev x
+  pub unturn-lt : (h : ℕ) → mate S l h < length l → unturn S l h < length l
+  unfolding unturn
+  unturn-lt h m = ok .shape .next-lt (mate S l h) m
+
+  pub unturn-from : (h : ℕ) → mate S l h < length l → from l (unturn S l h) ≡ from l h
+  unfolding unturn to
+  unturn-from h m = mate-is S l h m .end
 
   pub turns-from : (p h k : ℕ) → from l h ≡ p → ((j : ℕ) → j ≤ k → turns S l j h < length l) → from l (turns S l k h) ≡ p
   unfolding iterate
   turns-from p h zero s f = s
   turns-from p h (suc k) s f = turn-from (turns S l k h) (f (suc k) (omega arith)) ∙ turns-from p h k s (λ j b. f j (omega arith))
+
+  -- k turns and j of them undone
+  pub unturns-turns : (h j k : ℕ) → ((i : ℕ) → i ≤ j + k → turns S l i h < length l) → iterate (unturn S l) j (turns S l (j + k) h) ≡ turns S l k h
+  unfolding iterate
+  unturns-turns h zero k f = let e : 0 + k ≡ k = omega arith in ap (λ (i : ℕ). turns S l i h) e
+  unturns-turns h (suc j) k f =
+      let e : suc j + k ≡ j + suc k = omega arith in
+      ap (λ (i : ℕ). unturn S l (iterate (unturn S l) j (turns S l i h))) e
+      ∙ ap (unturn S l) (unturns-turns h j (suc k) (λ i b. f i (omega arith)))
+      ∙ unturn-turn (turns S l k h) (f k (omega arith)) (f (suc k) (omega arith))
 
   -- turns that do not come back to h before m are m different half-edges that leave p
   pub turns-listed : (p h m : ℕ) → from l h ≡ p → ((k : ℕ) → k < m → turns S l k h < length l) → ((k : ℕ) → 0 < k → k < m → turns S l k h ≡ h → ⊥)

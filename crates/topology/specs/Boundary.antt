@@ -34,3 +34,20 @@ along S l h = boundaryFrom S l (to S l h)
 
 unfoldable pub back : Shape → List ℕ → ℕ → ℕ
 back S l h = boundaryInto S l (from l h)
+
+-- "Either may be read with the sides or against them."
+pub data Way : Type 0 where
+  withSides againstSides : Way
+
+unfoldable pub other : Way → Way
+other withSides = againstSides
+other againstSides = withSides
+
+-- one step round a loop, and the half-edge whose edge it passes: from the start of h it comes to the start of `step S l w h`
+unfoldable pub step : Shape → List ℕ → Way → ℕ → ℕ
+step S l withSides h = along S l h
+step S l againstSides h = back S l h
+
+unfoldable pub passed : Shape → List ℕ → Way → ℕ → ℕ
+passed S l withSides h = h
+passed S l againstSides h = back S l h

@@ -25,6 +25,10 @@ turn S l h = mate S l (S .prev h)
 abbrev pub turns : Shape → List ℕ → ℕ → ℕ → ℕ
 turns S l k h = iterate (turn S l) k h
 
+-- turning the other way, where h has a mate
+unfoldable pub unturn : Shape → List ℕ → ℕ → ℕ
+unturn S l h = S .next (mate S l h)
+
 -- where turning round p starts: at the boundary half-edge that leaves p, if there is one
 unfoldable pub start : Shape → List ℕ → ℕ → ℕ
 start S l p = cond (ltb (boundaryFrom S l p) (length l)) (boundaryFrom S l p) (first (leaves l p) (length l))
