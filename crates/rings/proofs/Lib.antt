@@ -1,0 +1,3 @@
+pub mod Examples
+pub mod Periodic
+pub mod Virtual

@@ -1,0 +1,1 @@
+// Rings, virtual points and their weights.
