@@ -11,13 +11,12 @@ use lib.IntN.{ℤ, pos, natAbs, _+ℤ_, _-ℤ_, _*ℤ_}
 use Rattle.lists.proofs.Table.{everyBelow, below-at}
 use Rattle.integers.specs.Sum.{sum}
 use Rattle.integers.proofs.AbsoluteValue.{abs-add, abs-mul}
-use Rattle.integers.proofs.Polynomial.{var, _⊞_, _⊟_, _⊠_, same}
-use Rattle.integers.proofs.Sum.{sum-cong}
+use Rattle.integers.proofs.Polynomial.{var, _⊟_, _⊠_, same}
 use Rattle.curve.specs.Weights.{Weights, kobbelt}
 use Rattle.rings.specs.Ring.{Periodic}
 use Rattle.rings.specs.RingWeights.{virtualZ, virtualNumerator, oneAt, weightL, weightK}
-use Rattle.rings.proofs.Periodic.{sum-sub}
-use Rattle.rings.proofs.Virtual.{virtual-weighted}
+use Rattle.rings.proofs.Periodic.{periodic-sub}
+use Rattle.rings.proofs.Virtual.{virtual-weighted, virtual-sub}
 use Rattle.rings.proofs.Ties.{over-840}
 
 -- f 0 + f 1 + .., of n naturals
@@ -121,19 +120,11 @@ boundary-norm n t h k =
 -- ---- two rings, at places counted from the edge
 module _ (n : ℕ) (l k l′ k′ : ℕ → ℤ) (h : 3 ≤ n) (rl : Periodic n l) (rk : Periodic n k) (rl′ : Periodic n l′) (rk′ : Periodic n k′) (j : ℕ) where
   module _ (w : Weights) where
-    -- the virtual point of a difference is the difference of the virtual points
-    virtual-sub : virtualZ w n l k j -ℤ virtualZ w n l′ k′ j ≡ sum n (λ (d : ℕ). weightL w n d *ℤ (l (j + d) -ℤ l′ (j + d)) +ℤ weightK w n d *ℤ (k (j + d) -ℤ k′ (j + d)))
-    virtual-sub =
-        ap₂ _-ℤ_ (virtual-weighted w n l k rl rk j h) (virtual-weighted w n l′ k′ rl′ rk′ j h)
-        ∙ sym (sum-sub n (λ (d : ℕ). weightL w n d *ℤ l (j + d) +ℤ weightK w n d *ℤ k (j + d)) (λ (d : ℕ). weightL w n d *ℤ l′ (j + d) +ℤ weightK w n d *ℤ k′ (j + d)))
-        ∙ sum-cong n (λ (d : ℕ). (weightL w n d *ℤ l (j + d) +ℤ weightK w n d *ℤ k (j + d)) -ℤ (weightL w n d *ℤ l′ (j + d) +ℤ weightK w n d *ℤ k′ (j + d)))
-        (λ (d : ℕ). weightL w n d *ℤ (l (j + d) -ℤ l′ (j + d)) +ℤ weightK w n d *ℤ (k (j + d) -ℤ k′ (j + d)))
-        (λ d z. same ((var 0 ⊠ var 1 ⊞ var 2 ⊠ var 3) ⊟ (var 0 ⊠ var 4 ⊞ var 2 ⊠ var 5)) (var 0 ⊠ (var 1 ⊟ var 4) ⊞ var 2 ⊠ (var 3 ⊟ var 5)) (weightL w n d ∷ l (j + d) ∷ weightK w n d ∷ k (j + d) ∷ l′ (j + d) ∷ k′ (j + d) ∷ []) refl)
-
     pub virtual-near : (p q : ℕ → ℕ) (B : ℕ) → ((d : ℕ) → d < n → natAbs (l (j + d) -ℤ l′ (j + d)) ≤ p d * B) → ((d : ℕ) → d < n → natAbs (k (j + d) -ℤ k′ (j + d)) ≤ q d * B)
         → natAbs (virtualZ w n l k j -ℤ virtualZ w n l′ k′ j) ≤ norm w n p q * B
     virtual-near p q B a b =
-        subst (λ (z : ℤ). natAbs z ≤ norm w n p q * B) (sym virtual-sub)
+        subst (λ (z : ℤ). natAbs z ≤ norm w n p q * B)
+        (sym (virtual-weighted w n (λ (d : ℕ). l d -ℤ l′ d) (λ (d : ℕ). k d -ℤ k′ d) (periodic-sub n l l′ rl rl′) (periodic-sub n k k′ rk rk′) j h) ∙ virtual-sub w n l k l′ k′ j)
         (weighted-abs n (weightL w n) (weightK w n) (λ (d : ℕ). l (j + d) -ℤ l′ (j + d)) (λ (d : ℕ). k (j + d) -ℤ k′ (j + d)) p q B a b)
 
   -- at such weights, from a bound c n of the norm at (9, 1)

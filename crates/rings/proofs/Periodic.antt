@@ -32,6 +32,9 @@ module _ {A : Type 0} (n : ℕ) (f : ℕ → A) where
   pub wrap-same : Periodic n f → (i : ℕ) → wrap n f i ≡ f i
   wrap-same r i = sym (again-times r (i / n) (i % n)) ∙ ap f (mod-add-div' i n)
 
+pub periodic-sub : (n : ℕ) (f g : ℕ → ℤ) → Periodic n f → Periodic n g → Periodic n (λ (d : ℕ). f d -ℤ g d)
+periodic-sub n f g r s = record { again = λ i. ap₂ _-ℤ_ (r .again i) (s .again i) }
+
 -- ---- sums
 pub sum-const : (n : ℕ) (c : ℤ) → sum n (λ (d : ℕ). c) ≡ pos n *ℤ c
 unfolding sum

@@ -11,7 +11,7 @@ use Rattle.integers.proofs.Polynomial.{Poly, var, lit, _⊞_, _⊟_, _⊠_, sam
 use Rattle.curve.specs.Weights.{Weights}
 use Rattle.rings.specs.Ring.{Periodic}
 use Rattle.rings.specs.RingWeights.{virtualZ, oneAt, weightL, weightK}
-use Rattle.rings.proofs.Periodic.{sum-const, sum-turned, sum-one-at}
+use Rattle.rings.proofs.Periodic.{sum-const, sum-sub, sum-turned, sum-one-at}
 
 -- the formula over its parts: near, far, n, the two sums, the three neighbours and the four corners; as a polynomial, and as a number
 abbrev formula : (near far n sl sk a b c d e f g : Poly) → Poly
@@ -64,18 +64,6 @@ module _ (w : Weights) (n : ℕ) (f : ℕ → ℤ) (h : 3 ≤ n) where
       ∙ ap (λ (t : ℤ). (W *ℤ negsuc 3) *ℤ sum n f +ℤ (W *ℤ N) *ℤ t) four
       ∙ same ((var 0 ⊠ lit (negsuc 3)) ⊠ var 2 ⊞ (var 0 ⊠ var 1) ⊠ var 3) (var 0 ⊠ (var 1 ⊠ var 3 ⊟ lit (pos 4) ⊠ var 2)) (W ∷ N ∷ sum n f ∷ (f (n - 2) +ℤ f (n - 1) +ℤ f 0 +ℤ f 1) ∷ []) refl
 
--- the weights sum to near · n, the denominator
-pub weights-sum : (w : Weights) (n : ℕ) → 3 ≤ n → sum n (λ (d : ℕ). weightL w n d +ℤ weightK w n d) ≡ pos (w .near * n)
-weights-sum w n h =
-    let u : ℕ → ℤ = λ d. pos 1 in
-    sum-cong n (λ (d : ℕ). weightL w n d +ℤ weightK w n d) (λ (d : ℕ). weightL w n d *ℤ pos 1 +ℤ weightK w n d *ℤ pos 1)
-    (λ d l. same (var 0 ⊞ var 1) (var 0 ⊠ lit (pos 1) ⊞ var 1 ⊠ lit (pos 1)) (weightL w n d ∷ weightK w n d ∷ []) refl)
-    ∙ sum-add n (λ (d : ℕ). weightL w n d *ℤ pos 1) (λ (d : ℕ). weightK w n d *ℤ pos 1)
-    ∙ ap₂ _+ℤ_ (weighted-l w n u h) (weighted-k w n u h)
-    ∙ ap (λ (s : ℤ). formulaZ w n s s (pos 1) (pos 1) (pos 1) (pos 1) (pos 1) (pos 1) (pos 1)) (sum-const n (pos 1))
-    ∙ same (formula (var 0) (var 1) (var 2) (var 2 ⊠ lit (pos 1)) (var 2 ⊠ lit (pos 1)) (lit (pos 1)) (lit (pos 1)) (lit (pos 1)) (lit (pos 1)) (lit (pos 1)) (lit (pos 1)) (lit (pos 1)))
-    (var 0 ⊠ var 2) (pos (w .near) ∷ pos (w .far) ∷ pos n ∷ []) refl
-
 -- ---- the formula
 module _ (w : Weights) (n : ℕ) (l k : ℕ → ℤ) (rl : Periodic n l) (rk : Periodic n k) (j : ℕ) where
   -- it is the weighted sum round the ring
@@ -111,6 +99,39 @@ module _ (w : Weights) (n : ℕ) (l k : ℕ → ℤ) (rl : Periodic n l) (rk : P
   virtual-turned =
       rw (zero-add (n - 1), zero-add (n - 2), add-zero j)
       (ap₂ (λ (s t : ℤ). formulaZ w n s t (l (j + (n - 1))) (l j) (l (j + 1)) (k (j + (n - 2))) (k (j + (n - 1))) (k j) (k (j + 1))) (sum-turned n l rl j) (sum-turned n k rk j))
+
+-- it is additive in the ring, and constant on constants
+pub virtual-sub : (w : Weights) (n : ℕ) (l k l′ k′ : ℕ → ℤ) (j : ℕ)
+    → virtualZ w n (λ (d : ℕ). l d -ℤ l′ d) (λ (d : ℕ). k d -ℤ k′ d) j ≡ virtualZ w n l k j -ℤ virtualZ w n l′ k′ j
+unfolding virtualZ
+virtual-sub w n l k l′ k′ j =
+    let i₁ : ℕ = j + (n - 1) in
+    let i₂ : ℕ = j + (n - 2) in
+    ap₂ (λ (s t : ℤ). formulaZ w n s t (l i₁ -ℤ l′ i₁) (l j -ℤ l′ j) (l (j + 1) -ℤ l′ (j + 1)) (k i₂ -ℤ k′ i₂) (k i₁ -ℤ k′ i₁) (k j -ℤ k′ j) (k (j + 1) -ℤ k′ (j + 1))) (sum-sub n l l′) (sum-sub n k k′)
+    ∙ same
+    (formula (var 0) (var 1) (var 2) (var 3 ⊟ var 12) (var 4 ⊟ var 13) (var 5 ⊟ var 14) (var 6 ⊟ var 15) (var 7 ⊟ var 16) (var 8 ⊟ var 17) (var 9 ⊟ var 18) (var 10 ⊟ var 19) (var 11 ⊟ var 20))
+    (formula (var 0) (var 1) (var 2) (var 3) (var 4) (var 5) (var 6) (var 7) (var 8) (var 9) (var 10) (var 11)
+    ⊟ formula (var 0) (var 1) (var 2) (var 12) (var 13) (var 14) (var 15) (var 16) (var 17) (var 18) (var 19) (var 20))
+    (pos (w .near) ∷ pos (w .far) ∷ pos n
+    ∷ sum n l ∷ sum n k ∷ l i₁ ∷ l j ∷ l (j + 1) ∷ k i₂ ∷ k i₁ ∷ k j ∷ k (j + 1)
+    ∷ sum n l′ ∷ sum n k′ ∷ l′ i₁ ∷ l′ j ∷ l′ (j + 1) ∷ k′ i₂ ∷ k′ i₁ ∷ k′ j ∷ k′ (j + 1) ∷ []) refl
+
+pub virtual-constant : (w : Weights) (n : ℕ) (c : ℤ) (j : ℕ) → virtualZ w n (λ (d : ℕ). c) (λ (d : ℕ). c) j ≡ pos (w .near * n) *ℤ c
+unfolding virtualZ
+virtual-constant w n c j =
+    ap (λ (s : ℤ). formulaZ w n s s c c c c c c c) (sum-const n c)
+    ∙ same (formula (var 0) (var 1) (var 2) (var 2 ⊠ var 3) (var 2 ⊠ var 3) (var 3) (var 3) (var 3) (var 3) (var 3) (var 3) (var 3)) (var 0 ⊠ var 2 ⊠ var 3) (pos (w .near) ∷ pos (w .far) ∷ pos n ∷ c ∷ []) refl
+
+-- the weights sum to near · n, the denominator
+pub weights-sum : (w : Weights) (n : ℕ) → 3 ≤ n → sum n (λ (d : ℕ). weightL w n d +ℤ weightK w n d) ≡ pos (w .near * n)
+weights-sum w n h =
+    let u : ℕ → ℤ = λ d. pos 1 in
+    let r : Periodic n u = record { again = λ i. refl } in
+    sum-cong n (λ (d : ℕ). weightL w n d +ℤ weightK w n d) (λ (d : ℕ). weightL w n d *ℤ pos 1 +ℤ weightK w n d *ℤ pos 1)
+    (λ d l. same (var 0 ⊞ var 1) (var 0 ⊠ lit (pos 1) ⊞ var 1 ⊠ lit (pos 1)) (weightL w n d ∷ weightK w n d ∷ []) refl)
+    ∙ sym (virtual-weighted w n u u r r 0 h)
+    ∙ virtual-constant w n (pos 1) 0
+    ∙ same (var 0 ⊠ lit (pos 1)) (var 0) (pos (w .near * n) ∷ []) refl
 
 -- at valence 4 it is the neighbour straight across
 pub virtual-across : (w : Weights) (l k : ℕ → ℤ) → Periodic 4 l → Periodic 4 k → (j : ℕ) → virtualZ w 4 l k j ≡ pos (w .near * 4) *ℤ l (j + 2)

@@ -1,8 +1,8 @@
 -- `rings::weight` meets its contract: its table computes to that of the formula. Assumes nothing.
 use mathlib.Core.Path.{_≡_}
-use Prim.Native.Nat.{ℕ, _+_, _-_, _*_}
+use Prim.Native.Nat.{ℕ, _+_, _-_, _*_, _≤_}
 use native.Mathlib.Omega.{arith}
-use lib.IntN.{ℤ, pos}
+use lib.IntN.{ℤ, pos, natAbs}
 use lib.ListN.{getD}
 use mir.Syntax.{w32}
 use mir.Val.{SFits}
@@ -36,8 +36,9 @@ returns c =
     let h = c .before .pre in
     let t = table-at n o (h .0) (h .1) (h .2) in
     let x : ℤ = getD table ((n - 3) * 16 + o) (pos 0) in
-    let f : SFits w32 x = search needs in
-    (simp toZ-ofZ (t .0), simp toZ-ofZ (rw (t .0) (t .1)))
+    let b : natAbs x ≤ 36 = rw (t .0) (t .1) in
+    let f : SFits w32 x = fits-abs w32 x (omega arith) in
+    (simp toZ-ofZ (t .0), simp toZ-ofZ b)
 
 pub weight-spec : {M : Type 1} → statement M
 weight-spec = tie.close (tie.spec sub-i mul-i add-i mul-result array-copy-out-result returns)
