@@ -4,7 +4,7 @@ use mathlib.Core.Path.{_≡_, refl, sym, ap, ap₂, subst, _∙_}
 use mathlib.Core.Bool.{Bool, cond}
 use mathlib.Core.List.{List, [], _∷_}
 use Prim.Native.Nat.{ℕ, zero, suc, _+_, _-_, _*_, _/_, _≤_, _<_}
-use native.Mathlib.Nat.{add-mul, mul-add, zero-add, suc-add, mul-assoc, mul-comm, mul-left-comm, one-mul, mul-le-mul, mul-le-mul-left, mul-le-mul-right, le-trans, le-refl, le-of-eq}
+use native.Mathlib.Nat.{add-mul, mul-add, zero-add, suc-add, mul-assoc, mul-comm, mul-left-comm, one-mul, mul-le-mul, mul-le-mul-left, mul-le-mul-right, le-refl, le-of-eq}
 use native.Mathlib.Omega.{arith}
 use lib.Dec.{eqb, leb, leb→le}
 use lib.IntN.{ℤ, pos, natAbs, _+ℤ_, _-ℤ_, _*ℤ_}

@@ -3,7 +3,7 @@
 --
 -- Corner i has the ring l i, k i of valence n i, counted from side i: l i 0 is corner i + 1, l i 1 is corner i - 1, k i 0 the opposite corner. Beyond side i lies
 -- the edge from l i (n i - 1), beside corner i, to l (i + 1) 2, beside corner i + 1; and straight across there are k i (n i - 2) and k (i + 1) 2.
-use mathlib.Core.Path.{_≡_, refl, sym, ap, ap₂, _∙_}
+use mathlib.Core.Path.{_≡_, refl, ap, ap₂, subst, _∙_}
 use mathlib.Core.List.{List, [], _∷_}
 use Prim.Native.Nat.{ℕ, zero, suc, _+_, _-_, _*_, _≤_, _<_}
 use native.Mathlib.Nat.{zero-add, mul-pos}
@@ -133,3 +133,43 @@ module _ (w : Weights) (c : ℕ → ℤ) (n : ℕ → ℕ) (l k : ℕ → ℕ �
     common (suc (suc zero)) h = ap natAbs (same ((var 1 ⊠ var 2 ⊠ var 4) ⊠ (var 0 ⊠ var 3)) (var 0 ⊠ (var 1 ⊠ var 2 ⊠ var 3 ⊠ var 4)) (pos (w .near) ∷ pos (n 0) ∷ pos (n 1) ∷ pos (n 2) ∷ pos (n 3) ∷ []) refl)
     common (suc (suc (suc zero))) h = ap natAbs (same ((var 1 ⊠ var 2 ⊠ var 3) ⊠ (var 0 ⊠ var 4)) (var 0 ⊠ (var 1 ⊠ var 2 ⊠ var 3 ⊠ var 4)) (pos (w .near) ∷ pos (n 0) ∷ pos (n 1) ∷ pos (n 2) ∷ pos (n 3) ∷ []) refl)
     common (suc (suc (suc (suc i)))) h = absurd (omega arith)
+
+    valence : (i : ℕ) → i < 4 → 0 < n i
+    valence i h = let r = rings i h .some in omega arith
+
+    some : 0 < D
+    unfolding D
+    some = mul-pos near (mul-pos (mul-pos (mul-pos (valence 0 (omega arith)) (valence 1 (omega arith))) (valence 2 (omega arith))) (valence 3 (omega arith)))
+
+    -- the corners' numbers over D
+    abbrev virtualOver : ℕ → ℕ → ℤ
+    virtualOver j i = pos (cofactor n i) *ℤ virtualZ w (n i) (l i) (k i) j
+
+    compatible : (i : ℕ) → i < 4 → Compatible w (virtualOver 0 i) (virtualOver 1 i) (pos D *ℤ l i (n i - 1)) (pos D *ℤ l i 2) (pos D *ℤ k i (n i - 2)) (pos D *ℤ k i 2)
+    compatible i h =
+        let r = rings i h in
+        subst (λ (u : ℕ). Compatible w (virtualOver 0 i) (virtualOver 1 i) (pos u *ℤ l i (n i - 1)) (pos u *ℤ l i 2) (pos u *ℤ k i (n i - 2)) (pos u *ℤ k i 2)) (common i h)
+        (virtual-compatible w (n i) (l i) (k i) (cofactor n i) (r .some) (r .neighbours) (r .corners))
+
+    equals-at : (i j : ℕ) → i < 4 → Equals (virtualAt i j) (virtualOver j i) D
+    equals-at i j h =
+        let o : w .near * n i * 1 ≡ w .near * n i = omega arith in
+        equals-cong refl (ap (λ (t : ℕ). cofactor n i * t) o ∙ common i h)
+        (equals-scaled (cofactor n i) (equals-virtual w near (n i) (λ (d : ℕ). whole (l i d)) (λ (d : ℕ). whole (k i d)) (l i) (k i) 1 (valence i h) (λ d. equals-whole (l i d)) (λ d. equals-whole (k i d)) j))
+
+    equals-point : (x : ℤ) → Equals (whole x) (pos D *ℤ x) D
+    equals-point x = let o : D * 1 ≡ D = omega arith in equals-cong refl o (equals-scaled D (equals-whole x))
+
+    equals-side : (i e : ℕ) → i < 4 → e < 4 → Equals (sideAt i e) (interior w (virtualOver 0 i) (pos D *ℤ c i) (pos D *ℤ c e) (virtualOver 1 e)) (scale w * D)
+    equals-side i e h g = equals-interior w apart (equals-at i 0 h) (equals-point (c i)) (equals-point (c e)) (equals-at e 1 g)
+
+    equals-beyond : (i e : ℕ) → Equals (beyondAt i e) (interior w (pos D *ℤ k i (n i - 2)) (pos D *ℤ l i (n i - 1)) (pos D *ℤ l e 2) (pos D *ℤ k e 2)) (scale w * D)
+    equals-beyond i e = equals-interior w apart (equals-point (k i (n i - 2))) (equals-point (l i (n i - 1))) (equals-point (l e 2)) (equals-point (k e 2))
+
+    -- Paper 01: "both directions agree exactly"
+    pub both-directions : Same (directionTwo w (beyondAt 0 1) (sideAt 0 1) (sideAt 2 3) (beyondAt 2 3)) (directionTwo w (beyondAt 1 2) (sideAt 1 2) (sideAt 3 0) (beyondAt 3 0))
+    both-directions =
+        directions-agree w (λ i. pos D *ℤ c i) (virtualOver 0) (virtualOver 1) (λ i. pos D *ℤ l i (n i - 1)) (λ i. pos D *ℤ l i 2) (λ i. pos D *ℤ k i (n i - 2)) (λ i. pos D *ℤ k i 2) compatible
+        (scale w * D) apart (mul-pos apart some)
+        (equals-beyond 0 1) (equals-side 0 1 (omega arith) (omega arith)) (equals-side 2 3 (omega arith) (omega arith)) (equals-beyond 2 3)
+        (equals-beyond 1 2) (equals-side 1 2 (omega arith) (omega arith)) (equals-side 3 0 (omega arith) (omega arith)) (equals-beyond 3 0)

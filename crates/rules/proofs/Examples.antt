@@ -8,7 +8,7 @@ use Rattle.rounding.specs.Rounding.{round}
 use Rattle.curve.specs.Weights.{Weights, kobbelt}
 use Rattle.fractions.specs.Fraction.{Fraction, whole, _×ᶠ_, sumᶠ, toWhole}
 use Rattle.rings.specs.Ring.{wrap, virtual}
-use Rattle.rules.specs.Rules.{endPoint, extrapolated, extrapolatedCorner, innerEdge, directionTwo, directionOne, meanOfBoth}
+use Rattle.rules.specs.Rules.{extrapolated, extrapolatedCorner, innerEdge, directionTwo, directionOne, meanOfBoth}
 
 abbrev ring : List ℤ → ℕ → ℕ → Fraction
 ring l n = wrap n (λ (i : ℕ). whole (getD l i (pos 0)))

@@ -1,12 +1,11 @@
 -- How far a coordinate can grow: a round takes B to at most 55/24 B + 1/2, and six rounds from 1,048,576 stay within 268,435,456. Assumes nothing.
-use mathlib.Core.Path.{_≡_}
 use mathlib.Core.Bool.{Bool}
 use Prim.Native.Nat.{ℕ, zero, suc, _+_, _*_, _/_, _≤_, _<_}
 use native.Mathlib.Nat.{mul-add, mul-left-comm, le-of-mul-le-mul-left}
 use native.Mathlib.Omega.{arith}
 use lib.Dec.{leb, leb→le}
 use lib.IntN.{ℤ, natAbs}
-use Rattle.lists.proofs.Table.{everyBelow, below-at}
+use Rattle.lists.proofs.Table.{below-at}
 use Rattle.rounding.specs.Rounding.{round}
 use Rattle.rounding.proofs.Laws.{round-size}
 

@@ -1,7 +1,7 @@
 -- Three laws of each rule, in whole numbers over its denominator: it is additive in its points, so it speaks of differences; it spreads a difference by at most
 -- its norm; it is constant on constants. The norms are 3 for an extrapolated point, 20/16 for the curve's rules, 11/6 for an edge point and 55/24 for a face
 -- point. Those of the curve's rules hold at any tame weights, the others are at paper 01's. Assumes nothing.
-use mathlib.Core.Path.{_≡_, refl, sym, ap, ap₂, subst, _∙_}
+use mathlib.Core.Path.{_≡_, refl, sym, ap, subst, _∙_}
 use mathlib.Core.List.{List, [], _∷_}
 use Prim.Native.Nat.{ℕ, _+_, _-_, _*_, _/_, _≤_, _<_}
 use native.Mathlib.Nat.{mul-assoc, mul-le-mul-left}
@@ -9,9 +9,9 @@ use native.Mathlib.Omega.{arith}
 use lib.IntN.{ℤ, pos, natAbs, _+ℤ_, _-ℤ_, _*ℤ_}
 use Rattle.integers.specs.Sum.{sum}
 use Rattle.integers.proofs.AbsoluteValue.{abs-add, abs-sub, abs-mul}
-use Rattle.integers.proofs.Polynomial.{Poly, var, lit, _⊞_, _⊟_, _⊠_, same}
+use Rattle.integers.proofs.Polynomial.{var, lit, _⊞_, _⊟_, _⊠_, same}
 use Rattle.integers.proofs.Sum.{abs-sum}
-use Rattle.curve.specs.Weights.{Weights, kobbelt, scale, interior, endEdge, singleEdge}
+use Rattle.curve.specs.Weights.{Weights, kobbelt, interior, endEdge, singleEdge}
 use Rattle.curve.proofs.Distance.{Tame, interior-size, end-size, single-size}
 use Rattle.rings.proofs.Periodic.{sum-const, sum-sub}
 use Rattle.rules.specs.Numerators.{extrapolatedZ, extrapolatedCornerZ, innerEdgeZ}
@@ -130,8 +130,8 @@ inner-constant c =
     same (lit (pos 4082400) ⊠ (var 0 ⊞ var 0) ⊟ (lit (pos 453600) ⊠ var 0 ⊞ lit (pos 453600) ⊠ var 0)) (lit (pos 7257600) ⊠ var 0) (c ∷ []) refl
 
 -- a boundary edge's numerator over 16, which differs by at most 20 d
-pub boundary-near : (n n′ : ℤ) (d : ℕ) → natAbs (n -ℤ n′) ≤ 20 * d → natAbs (pos 453600 *ℤ n -ℤ pos 453600 *ℤ n′) ≤ 13305600 * d
-boundary-near n n′ d a =
+pub boundary-edge-near : (n n′ : ℤ) (d : ℕ) → natAbs (n -ℤ n′) ≤ 20 * d → natAbs (pos 453600 *ℤ n -ℤ pos 453600 *ℤ n′) ≤ 13305600 * d
+boundary-edge-near n n′ d a =
     let e = ap natAbs (same (lit (pos 453600) ⊠ var 0 ⊟ lit (pos 453600) ⊠ var 1) (lit (pos 453600) ⊠ (var 0 ⊟ var 1)) (n ∷ n′ ∷ []) refl) in
     let f = abs-mul (pos 453600) (n -ℤ n′) in
     omega arith

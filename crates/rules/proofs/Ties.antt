@@ -6,11 +6,10 @@ use Prim.Native.Nat.{ℕ, _+_, _-_, _*_, _/_, _≤_, _<_}
 use native.Mathlib.Nat.{mul-assoc, mul-comm}
 use native.Mathlib.Omega.{arith}
 use lib.Dec.{eqb, eqb→eq}
-use lib.IntN.{ℤ, pos, _+ℤ_, _-ℤ_, _*ℤ_}
-use Rattle.lists.proofs.Table.{everyBelow, below-at}
+use lib.IntN.{ℤ, pos, _+ℤ_, _*ℤ_}
+use Rattle.lists.proofs.Table.{below-at}
 use Rattle.integers.specs.Sum.{sum}
 use Rattle.integers.proofs.Polynomial.{var, lit, _⊞_, _⊟_, _⊠_, same}
-use Rattle.rounding.specs.Rounding.{round}
 use Rattle.curve.specs.Weights.{Weights, kobbelt, scale, interior, endEdge, singleEdge}
 use Rattle.curve.specs.Curve.{rounded}
 use Rattle.fractions.specs.Fraction.{Fraction, whole, toWhole, Equals}
