@@ -1,0 +1,1 @@
+// Exact fractions: the definitions are in specs/, their laws are in proofs/. No function.

@@ -1,0 +1,6 @@
+pub mod Examples
+pub mod Periodic
+pub mod Virtual
+pub mod Ties
+pub mod Norm
+pub mod Table

@@ -1,0 +1,45 @@
+-- The virtual point in whole numbers: over near · n, which is 9n, as a formula and as a sum of weights; and a ring held in a list.
+use mathlib.Core.Bool.{cond}
+use mathlib.Core.List.{List}
+use Prim.Native.Nat.{ℕ, _+_, _-_, _/_, _≤_, _<_}
+use lib.Dec.{eqb, ltb}
+use lib.IntN.{ℤ, pos, natAbs, _+ℤ_, _-ℤ_, _*ℤ_}
+use lib.ListN.{getD}
+use Rattle.integers.specs.Sum.{sum}
+use Rattle.curve.specs.Weights.{Weights, kobbelt}
+use Rattle.rings.specs.Ring.{wrap}
+
+-- the formula of `virtual`, times near · n
+unfoldable pub virtualZ : Weights → (n : ℕ) (l k : ℕ → ℤ) (j : ℕ) → ℤ
+virtualZ w n l k j =
+    pos (w .near) *ℤ (pos 4 *ℤ sum n l -ℤ pos n *ℤ (l (j + (n - 1)) +ℤ l j +ℤ l (j + 1)))
+    +ℤ pos (w .far) *ℤ (pos n *ℤ (k (j + (n - 2)) +ℤ k (j + (n - 1)) +ℤ k j +ℤ k (j + 1)) -ℤ pos 4 *ℤ sum n k)
+
+-- over 453,600, which is 9 · 840 · 60, from a ring over 60; n from 3 to 8 divides 840
+abbrev pub virtualNumerator : (n : ℕ) (l k : ℕ → ℤ) (j : ℕ) → ℤ
+virtualNumerator n l k j = pos (840 / n) *ℤ virtualZ kobbelt n l k j
+
+-- 1 at place e, else 0
+abbrev pub oneAt : ℕ → ℕ → ℤ
+oneAt e d = cond (eqb d e) (pos 1) (pos 0)
+
+-- the weights over near · n of the neighbour and of the opposite corner d places on from the edge. A place that the formula names twice counts twice: for
+-- n = 3 the corner at 1 is both k_(j-2) and k_(j+1).
+abbrev pub weightL : Weights → ℕ → ℕ → ℤ
+weightL w n d = pos (w .near) *ℤ (pos 4 -ℤ pos n *ℤ (oneAt (n - 1) d +ℤ oneAt 0 d +ℤ oneAt 1 d))
+
+abbrev pub weightK : Weights → ℕ → ℕ → ℤ
+weightK w n d = pos (w .far) *ℤ (pos n *ℤ (oneAt (n - 2) d +ℤ oneAt (n - 1) d +ℤ oneAt 0 d +ℤ oneAt 1 d) -ℤ pos 4)
+
+-- Paper 01: "The weights for n = 3 to 8 are a constant table over 9n". Its row for n has eight places for neighbours, then eight for opposite corners, 0 where
+-- there is none.
+abbrev pub entry : Weights → ℕ → ℕ → ℤ
+entry w n o = cond (ltb o 8) (cond (ltb o n) (weightL w n o) (pos 0)) (cond (ltb (o - 8) n) (weightK w n (o - 8)) (pos 0))
+
+-- the ring of the first n values of a list
+abbrev pub ringOf : ℕ → List ℤ → ℕ → ℤ
+ringOf n l = wrap n (λ (i : ℕ). getD l i (pos 0))
+
+-- the first n values of a list are within B of zero
+pub record BoundedFirst (n B : ℕ) (l : List ℤ) : Type 0 where
+  pub at : (i : ℕ) → i < n → natAbs (getD l i (pos 0)) ≤ B

@@ -1,0 +1,1 @@
+// The point rules without a net: definitions in specs/, laws in proofs/. No function.
