@@ -16,7 +16,8 @@ use Rattle.topology.specs.Manifold.{Manifold}
 use Rattle.topology.proofs.Shape.{quads-lawful}
 use Rattle.refusals.proofs.Manifold.{manifold-if}
 use Rattle.refusals.specs.Refusals.{badMark, badCorner, isolated, repeatedSide, nonManifold, badValence, markedRing}
-use Rattle.verdict.specs.Call.{Net, Room, Call, finalFaces}
+use Rattle.tables.specs.Net.{Net}
+use Rattle.verdict.specs.Call.{Room, Call, finalFaces}
 use Rattle.verdict.specs.Verdict.{Verdict, accepted, refused, orElse, refusedIf, refusedAt, roomVerdict, limitsVerdict, callVerdict, badCoordinate, adjacencyVerdict, netVerdict, verdict}
 use Rattle.verdict.proofs.Examples
 

@@ -1,14 +1,7 @@
 -- A call as the caller makes it.
-use mathlib.Core.List.{List}
 use Prim.Native.Nat.{ℕ, _*_, _/_, _^_}
-use lib.IntN.{ℤ}
 use lib.ListN.{length}
-
--- "The vertex table has three numbers per vertex, the face table four vertex numbers (32-bit, from 0) per face, the mark table one byte per vertex"
-pub record Net : Type 0 where
-  pub vertices : List ℤ
-  pub faces : List ℕ
-  pub marks : List ℕ
+use Rattle.tables.specs.Net.{Net}
 
 -- how many numbers the output tables and the work table hold
 pub record Room : Type 0 where

@@ -9,7 +9,8 @@ use Rattle.tables.specs.Tables.{cleared}
 use Rattle.search.specs.Search.{first}
 use Rattle.topology.specs.Shape.{quads}
 use Rattle.refusals.specs.Refusals.{badMark, badCorner, isolated, repeatedSide, nonManifold, badValence, markedRing}
-use Rattle.verdict.specs.Call.{Net, Room, Call, finalFaces}
+use Rattle.tables.specs.Net.{Net}
+use Rattle.verdict.specs.Call.{Room, Call, finalFaces}
 
 pub data Verdict : Type 0 where
   accepted : Verdict

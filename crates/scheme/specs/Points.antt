@@ -1,0 +1,86 @@
+-- The exact new points of one round, on one coordinate p of the vertices of a net with four-sided faces l.
+use mathlib.Core.Bool.{Bool, cond, _&&_}
+use mathlib.Core.List.{List}
+use Prim.Native.Nat.{ℕ, _*_, _+_}
+use lib.Dec.{eqb, ltb}
+use lib.IntN.{ℤ}
+use lib.ListN.{length, getD}
+use Rattle.curve.specs.Weights.{Weights}
+use Rattle.fractions.specs.Fraction.{Fraction, whole}
+use Rattle.rules.specs.Rules.{interiorPoint, endPoint, midpoint, innerEdge, directionTwo, directionOne, directionNone, meanOfBoth}
+use Rattle.topology.specs.Shape.{quads}
+use Rattle.topology.specs.HalfEdge.{from, to, mate}
+use Rattle.topology.specs.Boundary.{along, back}
+use Rattle.scheme.specs.Rings.{virtualAt}
+
+-- "1 corner, 0 not"
+unfoldable pub marked : List ℕ → ℕ → Bool
+marked marks v = eqb (getD marks v 0) 1
+
+-- ---- edges: which rule makes the point on the edge of h, by adjacency and marks alone
+-- "A loop is cut at its marked vertices into open stretches": whether a boundary edge lies inside its segment, starts it, ends it, or is all of it
+pub data EdgeRule : Type 0 where
+  insideSegment startOfSegment endOfSegment wholeSegment innerRule : EdgeRule
+
+unfoldable pub edgeRule : List ℕ → List ℕ → ℕ → EdgeRule
+edgeRule l marks h =
+    cond (ltb (mate quads l h) (length l)) innerRule
+    (cond (marked marks (from l h))
+    (cond (marked marks (to quads l h)) wholeSegment startOfSegment)
+    (cond (marked marks (to quads l h)) endOfSegment insideSegment))
+
+unfoldable pub edgeValue : Weights → List ℕ → (ℕ → ℤ) → ℕ → EdgeRule → Fraction
+edgeValue w l p h insideSegment =
+    interiorPoint w (whole (p (from l (back quads l h)))) (whole (p (from l h))) (whole (p (to quads l h))) (whole (p (to quads l (along quads l h))))
+edgeValue w l p h startOfSegment = endPoint w (whole (p (from l h))) (whole (p (to quads l h))) (whole (p (to quads l (along quads l h))))
+edgeValue w l p h endOfSegment = endPoint w (whole (p (to quads l h))) (whole (p (from l h))) (whole (p (from l (back quads l h))))
+edgeValue w l p h wholeSegment = midpoint (whole (p (from l h))) (whole (p (to quads l h)))
+edgeValue w l p h innerRule = innerEdge w (whole (p (from l h))) (whole (p (to quads l h))) (virtualAt w l p h) (virtualAt w l p (mate quads l h))
+
+-- the exact point on the edge of h
+unfoldable pub edgePoint : Weights → List ℕ → List ℕ → (ℕ → ℤ) → ℕ → Fraction
+edgePoint w l marks p h = edgeValue w l p h (edgeRule l marks h)
+
+-- ---- faces
+-- the side opposite h in its face; and "beyond each, the opposite edge of the neighbour"
+unfoldable pub across : ℕ → ℕ
+across h = quads .next (quads .next h)
+
+unfoldable pub beyond : List ℕ → ℕ → ℕ
+beyond l h = across (mate quads l h)
+
+-- "In each direction take two opposite sides and, beyond each, the opposite edge of the neighbour.": the direction of the side h, from the edge points e
+unfoldable pub direction : Weights → List ℕ → (ℕ → Fraction) → ℕ → Fraction
+direction w l e h =
+    cond (ltb (mate quads l h) (length l))
+    (cond (ltb (mate quads l (across h)) (length l))
+    (directionTwo w (e (beyond l h)) (e h) (e (across h)) (e (beyond l (across h))))
+    (directionOne w (e (across h)) (e h) (e (beyond l h))))
+    (cond (ltb (mate quads l (across h)) (length l))
+    (directionOne w (e h) (e (across h)) (e (beyond l (across h))))
+    (directionNone (e h) (e (across h))))
+
+-- whether the direction of the side h "has four inner edges"
+unfoldable pub inner : List ℕ → ℕ → Bool
+inner l h = ltb (mate quads l h) (length l)
+
+unfoldable pub fourInner : List ℕ → ℕ → Bool
+fourInner l h = inner l h && inner l (across h) && inner l (beyond l h) && inner l (beyond l (across h))
+
+-- "If exactly one direction has four inner edges, it alone counts. Otherwise the mean of both.": the first direction is that of side 0, the second that of side 1
+pub data FaceRule : Type 0 where
+  firstAlone secondAlone bothDirections : FaceRule
+
+unfoldable pub faceRule : List ℕ → ℕ → FaceRule
+faceRule l f =
+    cond (fourInner l (4 * f)) (cond (fourInner l (4 * f + 1)) bothDirections firstAlone)
+    (cond (fourInner l (4 * f + 1)) secondAlone bothDirections)
+
+unfoldable pub faceValue : Weights → List ℕ → (ℕ → Fraction) → ℕ → FaceRule → Fraction
+faceValue w l e f firstAlone = direction w l e (4 * f)
+faceValue w l e f secondAlone = direction w l e (4 * f + 1)
+faceValue w l e f bothDirections = meanOfBoth (direction w l e (4 * f)) (direction w l e (4 * f + 1))
+
+-- "Face points use the unrounded edge points."
+unfoldable pub facePoint : Weights → List ℕ → List ℕ → (ℕ → ℤ) → ℕ → Fraction
+facePoint w l marks p f = faceValue w l (edgePoint w l marks p) f (faceRule l f)

@@ -1,0 +1,45 @@
+-- One round on a whole net, and k rounds.
+use mathlib.Core.Bool.{cond}
+use mathlib.Core.List.{List}
+use Prim.Native.Nat.{ℕ, zero, suc, _+_, _-_, _*_, _/_, _%_}
+use lib.Dec.{eqb, ltb}
+use lib.IntN.{ℤ, pos}
+use lib.ListN.{length, getD}
+use Rattle.lists.specs.Tabulate.{tabulate}
+use Rattle.search.specs.Search.{first}
+use Rattle.tables.specs.Net.{Net}
+use Rattle.curve.specs.Weights.{Weights}
+use Rattle.fractions.specs.Fraction.{toWhole}
+use Rattle.topology.specs.Shape.{quads}
+use Rattle.topology.specs.HalfEdge.{edgeCount, edge}
+use Rattle.refinement.specs.Refined.{refinedVertices, refined, refinedMarks}
+use Rattle.scheme.specs.Points.{edgePoint, facePoint}
+
+-- the half-edge at which edge e is first met
+unfoldable pub edgeAt : List ℕ → ℕ → ℕ
+edgeAt l e = first (λ (h : ℕ). eqb (edge quads l h) e) (length l)
+
+-- "Refined vertices are the old ones, then one per edge, then one per face." "Every new coordinate is worked out exactly as a fraction and rounded once."
+unfoldable pub refinedCoordinate : Weights → ℕ → List ℕ → List ℕ → (ℕ → ℤ) → ℕ → ℤ
+refinedCoordinate w v l marks p i =
+    cond (ltb i v) (p i)
+    (cond (ltb i (v + edgeCount quads l)) (toWhole (edgePoint w l marks p (edgeAt l (i - v))))
+    (toWhole (facePoint w l marks p (i - (v + edgeCount quads l)))))
+
+-- coordinate a of the vertices of a table
+unfoldable pub axis : List ℤ → ℕ → ℕ → ℤ
+axis vs a i = getD vs (3 * i + a) (pos 0)
+
+unfoldable pub step : Weights → Net → Net
+step w m =
+    let v = length (m .marks) in
+    record {
+      vertices = tabulate (3 * refinedVertices quads v (m .faces)) (λ (i : ℕ). refinedCoordinate w v (m .faces) (m .marks) (axis (m .vertices) (i % 3)) (i / 3));
+      faces = refined quads v (m .faces);
+      marks = refinedMarks quads v (m .faces) (m .marks);
+    }
+
+-- "Zero rounds copies the net."
+unfoldable pub steps : Weights → ℕ → Net → Net
+steps w zero m = m
+steps w (suc k) m = step w (steps w k m)

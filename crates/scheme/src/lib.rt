@@ -1,0 +1,1 @@
+// One refinement step on a net: definitions in specs/, laws in proofs/. No function.
