@@ -11,7 +11,7 @@ use lib.Seq.{getD-set-same, getD-set-other, getD-take, getD-drop, take-set-le, d
 use borrow.Author.Tests.{eq-eqb, ne-eqb, eqb-true}
 use Rattle.search.specs.Search.{firstFrom, first}
 use Rattle.search.proofs.Tests.{refuted, clash}
-use Rattle.search.proofs.First.{from-le, from-ge, from-holds, from-before, from-hit, from-pass, from-end, Passed, passed-skip, passed-start}
+use Rattle.search.proofs.First.{from-le, from-ge, from-holds, from-before, from-hit, from-pass, from-end, Passed, passed-start, passed-skip, passed-next, passed-hit, passed-end}
 use Rattle.topology.specs.Shape.{quads}
 use Rattle.topology.specs.HalfEdge.{from, mate}
 use Rattle.topology.specs.Vertex.{leaves}
@@ -174,3 +174,69 @@ outside-then a e a′ e′ w w₁ w₂ h k s t =
       front = s .front ∙ sym (take-take a a′ w₁ h) ∙ ap (take a) (t .front) ∙ take-take a a′ w h;
       rest = s .rest ∙ subst (λ (m : ℕ). drop m w₁ ≡ drop m w) d (sym (drop-drop (e - e′) e′ w₁) ∙ ap (drop (e - e′)) (t .rest) ∙ drop-drop (e - e′) e′ w);
     }
+
+-- ---- the heads below v are none
+pub record Cleared (l w : List ℕ) (v : ℕ) : Type 0 where
+  pub none : (u : ℕ) → u < v → getD w (length l + u) 0 ≡ length l
+
+pub cleared-start : (l w : List ℕ) → Cleared l w 0
+cleared-start l w = record { none = λ u h. let z : ⊥ = omega arith in absurd z }
+
+pub cleared-next : (l w : List ℕ) (v : ℕ) → length l + v < length w → Cleared l w v → Cleared l (set w (length l + v) (length l)) (v + 1)
+cleared-next l w v b c = record { none = λ u h. go u h (ℕ-discrete u v) }
+  where
+    go : (u : ℕ) → u < v + 1 → Dec (u ≡ v) → getD (set w (length l + v) (length l)) (length l + u) 0 ≡ length l
+    go u h (yes e) = rw e (getD-set-same w (length l + v) (length l) 0 b)
+    go u h (no n) = getD-set-other w (length l + v) (length l + u) (length l) 0 (omega arith) ∙ c .none u (omega arith)
+
+pub cleared-all : (l w : List ℕ) (v : ℕ) → length l ≤ v → Cleared l w v → Chained l w (length l)
+cleared-all l w v b c = chained-none l w (λ u h. c .none u (omega arith))
+
+-- ---- a walk along the chain of v, in search of a half-edge that passes q
+
+pub record Walk (q : ℕ → Bool) (l : List ℕ) (v g : ℕ) : Type 0 where
+  pub chain : OnChain l v g
+  pub passed : Passed q g
+
+module _ (q : ℕ → Bool) (l w : List ℕ) (v : ℕ) (imp : (j : ℕ) → q j ≡ true → leaves l v j ≡ true) (c : Chained l w 0) where
+  pub walk-start : v < length l → Walk q l v (getD w (length l + v) 0)
+  walk-start h = let e = c .heads v h in rw e (record {
+    chain = on-chain l v 0 (omega arith);
+    passed = passed-chain q l v 0 imp (passed-start q);
+  })
+
+  pub walk-turn : (g : ℕ) → Walk q l v g → g < length l → q g ≡ false → Walk q l v (getD w (2 * length l + g) 0)
+  walk-turn g k h f =
+      let e = c .nexts g (omega arith) h in
+      let b = k .chain .leaving h in
+      rw (e, b) (record {
+        chain = on-chain l v (g + 1) (omega arith);
+        passed = passed-chain q l v (g + 1) imp (passed-next q g (k .passed) f);
+      })
+
+pub walk-rises : (l w : List ℕ) (g : ℕ) → Chained l w 0 → g < length l → g < getD w (2 * length l + g) 0
+walk-rises l w g c h = let e = c .nexts g (omega arith) h in let b = chain-ge l (getD l g 0) (g + 1) in omega arith
+
+module _ (q : ℕ → Bool) (l : List ℕ) (v g : ℕ) (k : Walk q l v g) where
+  pub walk-hit : g < length l → q g ≡ true → g ≡ first q (length l)
+  walk-hit h t = passed-hit q (length l) g (k .passed) h t
+
+  pub walk-end : length l ≤ g → g ≡ first q (length l)
+  walk-end h = passed-end q (length l) g (k .passed) (k .chain .within) h
+
+-- ---- the mates of the half-edges below h are written
+pub record MatedBelow (l w : List ℕ) (h : ℕ) : Type 0 where
+  pub mates : (g : ℕ) → g < h → getD w g 0 ≡ mate quads l g
+
+pub mated-start : (l w : List ℕ) → MatedBelow l w 0
+mated-start l w = record { mates = λ g a. let z : ⊥ = omega arith in absurd z }
+
+pub mated-next : (l w : List ℕ) (h x : ℕ) → h < length w → x ≡ mate quads l h → MatedBelow l w h → MatedBelow l (set w h x) (h + 1)
+mated-next l w h x b e m = record { mates = λ g a. go g a (ℕ-discrete g h) }
+  where
+    go : (g : ℕ) → g < h + 1 → Dec (g ≡ h) → getD (set w h x) g 0 ≡ mate quads l g
+    go g a (yes i) = rw i (getD-set-same w h x 0 b ∙ e)
+    go g a (no n) = getD-set-other w h g x 0 n ∙ m .mates g (omega arith)
+
+pub mated-all : (l w : List ℕ) (h : ℕ) → length l ≤ h → MatedBelow l w h → MateTable l w
+mated-all l w h b m = record { mates = λ g a. m .mates g (omega arith) }

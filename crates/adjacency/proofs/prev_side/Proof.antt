@@ -1,24 +1,22 @@
+-- `prev_side` meets its contract. Assumes nothing.
+use native.Mathlib.Omega.{arith}
 use borrow.Author.Needs.{needs}
+use Rattle.topology.specs.Shape.{quads}
 use Rattle.adjacency.proofs.prev_side.Statement.{statement}
 use Rattle.adjacency.proofs.prev_side.Tie as tie
-use Rattle.adjacency.proofs.prev_side.Reads as reads
-use Rattle.adjacency.proofs.prev_side.Lts as lts
 
--- src/lib.rt:24:5
 mul-result : tie.Need-mul-result
 mul-result c = search needs
 
--- src/lib.rt:24:20
 add-result : tie.Need-add-result
 add-result c = search needs
 
--- src/lib.rt:24:5
 add-result-2 : tie.Need-add-result-2
 add-result-2 c = search needs
 
--- src/lib.rt:20:1
 returns : tie.Need-returns
-returns c = ?
+unfolding quads
+returns c = omega arith
 
 pub prev-side-spec : {M : Type 1} → statement M
 prev-side-spec = tie.close (tie.spec mul-result add-result add-result-2 returns)
