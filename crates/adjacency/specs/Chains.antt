@@ -1,0 +1,51 @@
+-- The half-edges that leave each vertex, chained in the order of their numbers, and the mates, in a table w that is lent. With n half-edges the mate of g
+-- is at g, the head of the chain of v at n + v, and the half-edge after g in its chain at 2n + g; n stands for 'none'.
+use mathlib.Core.Path.{_≡_}
+use mathlib.Core.Bool.{Bool, _&&_}
+use mathlib.Core.List.{List}
+use Prim.Native.Nat.{ℕ, _+_, _-_, _*_, _%_, _^_, _≤_, _<_}
+use lib.ListN.{length, getD, take, drop}
+use lib.Dec.{eqb}
+use Rattle.search.specs.Search.{firstFrom}
+use Rattle.topology.specs.Shape.{Shape, quads}
+use Rattle.topology.specs.HalfEdge.{from, to, mate}
+use Rattle.topology.specs.Vertex.{leaves}
+
+-- whether the half-edge g runs from the vertex a to the vertex b
+unfoldable pub side : Shape → List ℕ → ℕ → ℕ → ℕ → Bool
+side S l a b g = eqb (from l g) a && eqb (to S l g) b
+
+-- the first half-edge from i on that leaves v, or none
+unfoldable pub chainFrom : List ℕ → ℕ → ℕ → ℕ
+chainFrom l v i = firstFrom (leaves l v) (length l - i) i
+
+-- every corner is below v
+pub record InRange (v : ℕ) (l : List ℕ) : Type 0 where
+  pub below : (g : ℕ) → g < length l → getD l g 0 < v
+
+-- corners l by fours, each below their number, and a table w with room for three numbers per half-edge
+pub record Tables (l w : List ℕ) : Type 0 where
+  pub fours : length l % 4 ≡ 0
+  pub small : length l < 2 ^ 24
+  pub corners : InRange (length l) l
+  pub room : 3 * length l ≤ length w
+
+-- the chains of the half-edges from h on
+pub record Chained (l w : List ℕ) (h : ℕ) : Type 0 where
+  pub heads : (v : ℕ) → v < length l → getD w (length l + v) 0 ≡ chainFrom l v h
+  pub nexts : (g : ℕ) → h ≤ g → g < length l → getD w (2 * length l + g) 0 ≡ chainFrom l (getD l g 0) (g + 1)
+
+-- the mates
+pub record MateTable (l w : List ℕ) : Type 0 where
+  pub mates : (g : ℕ) → g < length l → getD w g 0 ≡ mate quads l g
+
+-- what w holds once chains and mates are built
+pub record Adjacency (l w : List ℕ) : Type 0 where
+  pub tables : Tables l w
+  pub chains : Chained l w 0
+  pub mated : MateTable l w
+
+-- w′ is w but for the numbers from a up to e
+pub record SameOutside (a e : ℕ) (w w′ : List ℕ) : Type 0 where
+  pub front : take a w′ ≡ take a w
+  pub rest : drop e w′ ≡ drop e w
