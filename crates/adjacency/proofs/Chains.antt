@@ -19,7 +19,7 @@ use Rattle.adjacency.specs.Chains.{chainFrom, InRange, Tables, Chained, 
 
 -- ---- the first half-edge from i on that leaves v
 
-leaves-if : (l : List ℕ) (v g : ℕ) → getD l g 0 ≡ v → leaves l v g ≡ true
+pub leaves-if : (l : List ℕ) (v g : ℕ) → getD l g 0 ≡ v → leaves l v g ≡ true
 unfolding leaves from
 leaves-if l v g e = eq-eqb (getD l g 0) v e
 
