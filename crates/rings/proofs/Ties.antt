@@ -15,7 +15,7 @@ use Rattle.fractions.specs.Fraction.{Fraction, Equals}
 use Rattle.fractions.proofs.Laws.{equals-cong, equals-scaled, equals-add, equals-sub, equals-times, equals-over, equals-sum, equals-reduced}
 use Rattle.rings.specs.Ring.{Periodic, virtual}
 use Rattle.rings.specs.RingWeights.{virtualZ, virtualNumerator}
-use Rattle.rings.proofs.Virtual.{virtual-across}
+use Rattle.rings.proofs.Virtual.{virtual-constant, virtual-across}
 
 -- ---- at any valence and any weights, the ring being given over e
 module _ (w : Weights) (some : 0 < w .near) (n : ℕ) (l k : ℕ → Fraction) (L K : ℕ → ℤ) (e : ℕ) (h : 0 < n)
@@ -66,3 +66,12 @@ equals-numerator n l k L K h g el ek j =
     let r : 9 * n * 60 ≡ n * 540 = omega arith in
     let e : q * (9 * n * 60) ≡ 453600 = ap (λ (t : ℕ). q * t) r ∙ sym (mul-assoc q n 540) ∙ ap (λ (t : ℕ). t * 540) (over-840 n h g) in
     equals-cong refl e (equals-scaled q (equals-virtual kobbelt (omega arith) n l k L K 60 (omega arith) el ek j))
+
+-- a constant ring gives the constant
+pub numerator-constant : (n : ℕ) → 3 ≤ n → n ≤ 8 → (c : ℤ) (j : ℕ) → virtualNumerator n (λ (d : ℕ). pos 60 *ℤ c) (λ (d : ℕ). pos 60 *ℤ c) j ≡ pos 453600 *ℤ c
+numerator-constant n h g c j =
+    let q : ℕ = 840 / n in
+    ap (λ (t : ℤ). pos q *ℤ t) (virtual-constant kobbelt n (pos 60 *ℤ c) j)
+    ∙ same (var 0 ⊠ (lit (pos 9) ⊠ var 1 ⊠ (lit (pos 60) ⊠ var 2))) (var 0 ⊠ var 1 ⊠ (lit (pos 540) ⊠ var 2)) (pos q ∷ pos n ∷ c ∷ []) refl
+    ∙ ap (λ (t : ℕ). pos t *ℤ (pos 540 *ℤ c)) (over-840 n h g)
+    ∙ same (lit (pos 840) ⊠ (lit (pos 540) ⊠ var 0)) (lit (pos 453600) ⊠ var 0) (c ∷ []) refl

@@ -113,7 +113,7 @@ const WEIGHTS: [i32; 96] = [
 ];
 
 // The weight at valence n of ring point o: below 8 a neighbour, from 8 on an opposite corner.
-pub fn weight(n: usize, o: usize) -> i32
+fn weight(n: usize, o: usize) -> i32
     requires { ⌜ (3 ≤ n) × (n ≤ 8) × (o < 16) ⌝ }
     ensures { λ r. ⌜ (r ≡ entry kobbelt n o) × (natAbs r ≤ 36) ⌝ }
 {
@@ -122,7 +122,7 @@ pub fn weight(n: usize, o: usize) -> i32
 }
 
 // What the neighbour x and the opposite corner y, d places on from the edge, add to the virtual point times 9n.
-pub fn ring_term(n: usize, d: usize, x: i64, y: i64) -> i64
+fn ring_term(n: usize, d: usize, x: i64, y: i64) -> i64
     requires { ⌜ (3 ≤ n) × (n ≤ 8) × (d < n) × (natAbs x ≤ 2 ^ 40) × (natAbs y ≤ 2 ^ 40) ⌝ }
     ensures { λ r. ⌜ r ≡ weightL kobbelt n d *ℤ x +ℤ weightK kobbelt n d *ℤ y ⌝ }
 {
@@ -132,7 +132,7 @@ pub fn ring_term(n: usize, d: usize, x: i64, y: i64) -> i64
 }
 
 // The same, the two points read from the ring, d places on from edge j.
-pub fn term_from(l: &[i64; 8], k: &[i64; 8], n: usize, j: usize, d: usize) -> i64
+fn term_from(l: &[i64; 8], k: &[i64; 8], n: usize, j: usize, d: usize) -> i64
     requires { ⌜ (3 ≤ n) × (n ≤ 8) × (j < n) × (d < n) × BoundedFirst n (2 ^ 40) (now l) × BoundedFirst n (2 ^ 40) (now k) ⌝ }
     ensures { λ r. ⌜ r ≡ weightL kobbelt n d *ℤ ringOf n (now (l .entry)) (j + d) +ℤ weightK kobbelt n d *ℤ ringOf n (now (k .entry)) (j + d) ⌝ }
 {
