@@ -107,11 +107,11 @@ inside-norm n h k =
     let e : n - 3 + 3 ≡ n = omega arith in
     subst (λ (m : ℕ). norm kobbelt m once once ≤ 40 * m) e (leb→le (norm kobbelt (n - 3 + 3) once once) (40 * (n - 3 + 3)) (below-at 6 inside tt (n - 3) (omega arith)))
 
--- the edge is no neighbour of P*, so t is below n - 1 (and above 0)
+-- the edge is an inner one, so P* is 2 to n - 2 places on from it; the test takes every place below n - 1
 boundary : ℕ → Bool
 boundary n = everyBelow (n - 1) (λ t. leb (norm kobbelt n (threeAt t) (threeAround t)) (51 * n))
 
-pub boundary-norm : (n t : ℕ) → n ≤ 8 → t < n - 1 → norm kobbelt n (threeAt t) (threeAround t) ≤ 51 * n
+boundary-norm : (n t : ℕ) → n ≤ 8 → t < n - 1 → norm kobbelt n (threeAt t) (threeAround t) ≤ 51 * n
 unfolding boundary
 boundary-norm n t h k =
     leb→le (norm kobbelt n (threeAt t) (threeAround t)) (51 * n)

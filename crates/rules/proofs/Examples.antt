@@ -8,7 +8,7 @@ use Rattle.rounding.specs.Rounding.{round}
 use Rattle.curve.specs.Weights.{Weights, kobbelt}
 use Rattle.fractions.specs.Fraction.{Fraction, whole, _×ᶠ_, sumᶠ, toWhole}
 use Rattle.rings.specs.Ring.{wrap, virtual}
-use Rattle.rules.specs.Rules.{extrapolated, extrapolatedCorner, innerEdge, directionTwo, directionOne, meanOfBoth}
+use Rattle.rules.specs.Rules.{interiorPoint, endPoint, midpoint, extrapolated, extrapolatedCorner, innerEdge, directionTwo, directionOne, meanOfBoth}
 
 abbrev ring : List ℤ → ℕ → ℕ → Fraction
 ring l n = wrap n (λ (i : ℕ). whole (getD l i (pos 0)))
@@ -28,12 +28,12 @@ cubeOpposite = let v : Fraction = virtual kobbelt 3 (ring (high ∷ low ∷ high
 
 -- "edge point (0,-590,-590)"
 cube-edge : toWhole (cubeEdge kobbelt) ≡ negsuc 589
-unfolding virtual sumᶠ round
+unfolding interiorPoint virtual sumᶠ round
 cube-edge = refl
 
 -- "Taking 1/5 for 1/9: the cube's edge point becomes -594"
 cube-edge-fifth : toWhole (cubeEdge (record { near = 5; far = 1 })) ≡ negsuc 593
-unfolding virtual sumᶠ round
+unfolding interiorPoint virtual sumᶠ round
 cube-edge-fifth = refl
 
 abbrev cubeDirection : Fraction
@@ -41,11 +41,11 @@ cubeDirection = directionTwo kobbelt cubeOpposite (cubeEdge kobbelt) (cubeEdge k
 
 -- "the face at z = -540 gets (0,0,-738) from -737.5"
 cube-face : toWhole (meanOfBoth cubeDirection cubeDirection) ≡ negsuc 737
-unfolding virtual sumᶠ round
+unfolding interiorPoint midpoint virtual sumᶠ round
 cube-face = refl
 
 cube-face-exact : toWhole (2 ×ᶠ meanOfBoth cubeDirection cubeDirection) ≡ negsuc 1474
-unfolding virtual sumᶠ round
+unfolding interiorPoint midpoint virtual sumᶠ round
 cube-face-exact = refl
 
 -- ---- "two by two squares of side 16, four outer corners marked, centre raised to z = 16, rest 0": z at the edge from the middle M of a side to the centre.
@@ -67,7 +67,7 @@ gridEdge = innerEdge kobbelt (whole (pos 0)) (whole (pos 16)) (virtual kobbelt 4
 
 -- "inner edge points have z = 10"
 grid-edge : toWhole gridEdge ≡ pos 10
-unfolding virtual sumᶠ round
+unfolding interiorPoint extrapolated extrapolatedCorner virtual sumᶠ round
 grid-edge = refl
 
 -- every boundary edge point has z = 0
@@ -76,9 +76,9 @@ gridDirection = directionOne kobbelt (whole (pos 0)) gridEdge (whole (pos 0))
 
 -- "face points z = 6 (100/16)"
 grid-face : toWhole (meanOfBoth gridDirection gridDirection) ≡ pos 6
-unfolding virtual sumᶠ round
+unfolding interiorPoint endPoint midpoint extrapolated extrapolatedCorner virtual sumᶠ round
 grid-face = refl
 
 grid-face-exact : toWhole (16 ×ᶠ meanOfBoth gridDirection gridDirection) ≡ pos 100
-unfolding virtual sumᶠ round
+unfolding interiorPoint endPoint midpoint extrapolated extrapolatedCorner virtual sumᶠ round
 grid-face-exact = refl
