@@ -13,7 +13,8 @@ use Rattle.rules.specs.Rules.{interiorPoint, endPoint, midpoint, extrapo
 abbrev ring : List ℤ → ℕ → ℕ → Fraction
 ring l n = wrap n (λ (i : ℕ). whole (getD l i (pos 0)))
 
--- ---- "cube with corners at ±540": the coordinates at -540 of an edge, both of whose ends have one ring, and those at 540
+-- ---- "cube with corners at ±540": one coordinate, at an edge of the face where it is -540, along the face, and at the opposite edge. The two ends of an edge
+-- are mirror images, with one virtual point.
 abbrev low : ℤ
 low = negsuc 539
 
@@ -50,17 +51,17 @@ cube-face-exact = refl
 
 -- ---- "two by two squares of side 16, four outer corners marked, centre raised to z = 16, rest 0": z at the edge from the middle M of a side to the centre.
 -- M is in two faces; b and c are outer corners, in one face each, whose opposite corner is the centre.
-abbrev starM : Fraction
-starM = extrapolated (whole (pos 0)) 1 (λ i. whole (pos 16))
+abbrev extrapolatedM : Fraction
+extrapolatedM = extrapolated (whole (pos 0)) 1 (λ i. whole (pos 16))
 
-abbrev starCorner : Fraction
-starCorner = extrapolatedCorner (whole (pos 0)) (whole (pos 16))
+abbrev extrapolatedOuter : Fraction
+extrapolatedOuter = extrapolatedCorner (whole (pos 0)) (whole (pos 16))
 
 abbrev gridL : ℕ → Fraction
-gridL = wrap 4 (λ (i : ℕ). getD (whole (pos 0) ∷ whole (pos 16) ∷ whole (pos 0) ∷ starM ∷ []) i (whole (pos 0)))
+gridL = wrap 4 (λ (i : ℕ). getD (whole (pos 0) ∷ whole (pos 16) ∷ whole (pos 0) ∷ extrapolatedM ∷ []) i (whole (pos 0)))
 
 abbrev gridK : ℕ → Fraction
-gridK = wrap 4 (λ (i : ℕ). getD (whole (pos 0) ∷ whole (pos 0) ∷ starCorner ∷ starCorner ∷ []) i (whole (pos 0)))
+gridK = wrap 4 (λ (i : ℕ). getD (whole (pos 0) ∷ whole (pos 0) ∷ extrapolatedOuter ∷ extrapolatedOuter ∷ []) i (whole (pos 0)))
 
 abbrev gridEdge : Fraction
 gridEdge = innerEdge kobbelt (whole (pos 0)) (whole (pos 16)) (virtual kobbelt 4 gridL gridK 1) (virtual kobbelt 4 (λ i. whole (pos 0)) (λ i. whole (pos 0)) 0)
