@@ -1,6 +1,6 @@
 -- Turning round a vertex by the table of mates.
 use mathlib.Core.Path.{_≡_, refl, sym, ap, _∙_}
-use mathlib.Core.Bool.{Bool, true, false, _||_}
+use mathlib.Core.Bool.{true, false}
 use mathlib.Core.List.{List}
 use Prim.Native.Nat.{ℕ, suc, _+_, _≤_, _<_}
 use native.Mathlib.Numerals.{add-one}
@@ -8,7 +8,7 @@ use native.Mathlib.Omega.{arith}
 use lib.ListN.{length, getD}
 use lib.Dec.{eqb}
 use borrow.Author.Tests.{eq-eqb, ne-eqb}
-use Rattle.search.specs.Search.{first, iterate}
+use Rattle.search.specs.Search.{iterate}
 use Rattle.search.proofs.Tests.{or-off, or-on}
 use Rattle.search.proofs.First.{Passed, passed-start, passed-next, passed-hit, passed-le}
 use Rattle.topology.specs.Shape.{quads}

@@ -1,8 +1,7 @@
 -- `meets_all` meets its contract: k turns from h lead to g, and turning has not stopped before. Assumes nothing.
-use Prim.Native.Nat.{ℕ, _+_, _-_, _≤_}
+use Prim.Native.Nat.{ℕ, _-_, _≤_}
 use mathlib.Core.Path.{sym, ap}
 use native.Mathlib.Omega.{arith}
-use lib.ListN.{length}
 use lib.Dec.{eqb}
 use Rattle.topology.specs.Shape.{quads}
 use Rattle.vertices.proofs.Turning.{turn-read, Turned, turned-start, turned-next, met-none, met-back, met-more}
