@@ -1,6 +1,6 @@
 -- Turning round a vertex by the table of mates.
 use mathlib.Core.Path.{_≡_, refl, sym, ap, _∙_}
-use mathlib.Core.Bool.{Bool, true, false, _||_}
+use mathlib.Core.Bool.{true, false}
 use mathlib.Core.List.{List}
 use Prim.Native.Nat.{ℕ, suc, _+_, _≤_, _<_}
 use native.Mathlib.Numerals.{add-one}
@@ -8,19 +8,14 @@ use native.Mathlib.Omega.{arith}
 use lib.ListN.{length, getD}
 use lib.Dec.{eqb}
 use borrow.Author.Tests.{eq-eqb, ne-eqb}
-use Rattle.search.specs.Search.{first, iterate}
+use Rattle.search.specs.Search.{iterate}
 use Rattle.search.proofs.Tests.{or-off, or-on}
 use Rattle.search.proofs.First.{Passed, passed-start, passed-next, passed-hit, passed-le}
 use Rattle.topology.specs.Shape.{quads}
-use Rattle.topology.specs.HalfEdge.{mate}
 use Rattle.topology.specs.Vertex.{turn, turns, stops, facesMet}
 use Rattle.topology.proofs.Shape.{quads-lawful}
 use Rattle.topology.proofs.Turn.{turn-le}
 use Rattle.adjacency.specs.Chains.{Adjacency}
-
--- the turn from g, read at i in the table
-pub turn-read : (l w : List ℕ) (g i : ℕ) → Adjacency l w → g < length l → i ≡ quads .prev g → getD w i 0 ≡ mate quads l (quads .prev g)
-turn-read l w g i a b e = rw e (a .mated .mates (quads .prev g) (quads-lawful (length l) (a .tables .fours) .prev-lt g b))
 
 -- k turns from h lead to g, and turning has not stopped before
 pub record Turned (l : List ℕ) (h k g : ℕ) : Type 0 where
@@ -32,36 +27,37 @@ pub turned-start : (l : List ℕ) (h : ℕ) → h < length l → Turned l h 0 h
 unfolding iterate
 turned-start l h b = record { at = refl; inside = b; passed = passed-start (stops quads l h) }
 
--- the turn from g leads to x
-module _ (l : List ℕ) (h k g x : ℕ) (t : Turned l h k g) (e : x ≡ mate quads l (quads .prev g)) where
-  next-turn : x ≡ turns quads l (suc k) h
-  unfolding iterate turn
-  next-turn = e ∙ ap (turn quads l) (t .at)
-
-  turned-le : x ≤ length l
+-- the turn from g, read at i in the table
+module _ (l w : List ℕ) (h k g i : ℕ) (a : Adjacency l w) (t : Turned l h k g) (e : i ≡ quads .prev g) where
+  next-turn : getD w i 0 ≡ turn quads l g
   unfolding turn
-  turned-le = let b = turn-le quads l g in omega arith
+  next-turn = rw e (a .mated .mates (quads .prev g) (quads-lawful (length l) (a .tables .fours) .prev-lt g (t .inside)))
+
+  next-turns : getD w i 0 ≡ turns quads l (suc k) h
+  unfolding iterate
+  next-turns = next-turn ∙ ap (turn quads l) (t .at)
 
   met : k < length l → stops quads l h k ≡ true → k + 1 ≡ facesMet quads l h
   unfolding facesMet
   met b s = add-one k ∙ ap suc (passed-hit (stops quads l h) (length l) k (t .passed) b s)
 
   -- no face
-  pub met-none : k < length l → x ≡ length l → k + 1 ≡ facesMet quads l h
+  pub met-none : k < length l → getD w i 0 ≡ length l → k + 1 ≡ facesMet quads l h
   unfolding stops
-  met-none b n = let i = eq-eqb (turns quads l (suc k) h) (length l) (sym next-turn ∙ n) in met b (rw i)
+  met-none b n = let z = eq-eqb (turns quads l (suc k) h) (length l) (sym next-turns ∙ n) in met b (rw z)
 
   -- back at h
-  pub met-back : k < length l → x ≡ h → k + 1 ≡ facesMet quads l h
+  pub met-back : k < length l → getD w i 0 ≡ h → k + 1 ≡ facesMet quads l h
   unfolding stops
-  met-back b n = met b (or-on (eqb (turns quads l (suc k) h) (length l)) _ (eq-eqb (turns quads l (suc k) h) h (sym next-turn ∙ n)))
+  met-back b n = met b (or-on (eqb (turns quads l (suc k) h) (length l)) _ (eq-eqb (turns quads l (suc k) h) h (sym next-turns ∙ n)))
 
-  pub turned-next : (x ≡ length l → ⊥) → (x ≡ h → ⊥) → Turned l h (k + 1) x
+  pub turned-next : (getD w i 0 ≡ length l → ⊥) → (getD w i 0 ≡ h → ⊥) → Turned l h (k + 1) (getD w i 0)
   unfolding stops
   turned-next n m = record {
-    at = next-turn ∙ ap (λ (i : ℕ). turns quads l i h) (sym (add-one k));
-    inside = let b = turned-le in omega arith;
-    passed = passed-next (stops quads l h) k (t .passed) (or-off _ _ (ne-eqb (turns quads l (suc k) h) (length l) (λ i. n (next-turn ∙ i))) (ne-eqb (turns quads l (suc k) h) h (λ i. m (next-turn ∙ i))));
+    at = next-turns ∙ ap (λ (j : ℕ). turns quads l j h) (sym (add-one k));
+    inside = omega (arith, next-turn, turn-le quads l g, n);
+    passed = passed-next (stops quads l h) k (t .passed)
+        (or-off _ _ (ne-eqb (turns quads l (suc k) h) (length l) (λ z. n (next-turns ∙ z))) (ne-eqb (turns quads l (suc k) h) h (λ z. m (next-turns ∙ z))));
   }
 
 -- d turns that do not stop: more than d faces

@@ -1,6 +1,6 @@
 // The faces round a vertex, met along its chain of half-edges and by turning from mate to mate; refusals 10 to 12.
 ghost use mathlib.Core.Path.{_≡_};
-ghost use Prim.Native.Nat.{ℕ, _≤_, _<_};
+ghost use Prim.Native.Nat.{_≤_, _<_};
 ghost use lib.ListN.{length};
 ghost use lib.Dec.{eqb};
 ghost use Rattle.search.specs.Search.{first};

@@ -1,12 +1,9 @@
 -- `bad_valence` meets its contract. Assumes nothing.
-use Prim.Native.Nat.{_<_, _≤_}
-use mathlib.Core.Path.{_≡_, sym, ap, _∙_}
+use mathlib.Core.Path.{sym, ap, _∙_}
 use native.Mathlib.Omega.{arith}
 use borrow.Author.Needs.{needs}
-use lib.ListN.{length}
 use lib.Dec.{ltb}
 use Rattle.topology.specs.Shape.{quads}
-use Rattle.topology.specs.Boundary.{boundaryFrom}
 use Rattle.topology.proofs.Boundary.{boundaryFrom-le}
 use Rattle.refusals.proofs.Manifold.{badValence-fan}
 use Rattle.vertices.proofs.Refused.{ring-few, ring-many}

@@ -2,7 +2,7 @@
 use Prim.Native.Nat.{_+_, _-_, _*_}
 use mathlib.Core.Path.{sym, _∙_}
 use native.Mathlib.Omega.{arith}
-use lib.ListN.{length, getD}
+use lib.ListN.{length}
 use Rattle.topology.specs.Shape.{quads}
 use Rattle.topology.specs.Boundary.{isBoundaryFrom, boundaryFrom}
 use Rattle.adjacency.proofs.Chains.{Walk, walk-start, walk-turn, walk-rises, walk-hit, walk-end}

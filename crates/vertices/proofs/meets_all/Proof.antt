@@ -1,11 +1,10 @@
 -- `meets_all` meets its contract: k turns from h lead to g, and turning has not stopped before. Assumes nothing.
-use Prim.Native.Nat.{ℕ, _+_, _-_, _≤_}
+use Prim.Native.Nat.{ℕ, _-_, _≤_}
 use mathlib.Core.Path.{sym, ap}
 use native.Mathlib.Omega.{arith}
-use lib.ListN.{length}
 use lib.Dec.{eqb}
 use Rattle.topology.specs.Shape.{quads}
-use Rattle.vertices.proofs.Turning.{turn-read, Turned, turned-start, turned-next, met-none, met-back, met-more}
+use Rattle.vertices.proofs.Turning.{Turned, turned-start, turned-next, met-none, met-back, met-more}
 use Rattle.vertices.proofs.meets_all.Statement.{statement}
 use Rattle.vertices.proofs.meets_all.Tie as tie
 
@@ -36,34 +35,16 @@ add-k : tie.Need-add-k Inv-loop μ-loop
 add-k c = omega arith
 
 returns : tie.Need-returns Inv-loop μ-loop
-returns c =
-    let s = c .before .before .before .before .before .before .before in
-    let l = s .args .faces .now in
-    let t = c .before .before .before .before .loop .inv .1 in
-    let g = c .before .before .before .before .loop .g in
-    let e = turn-read l (s .args .work .now) g _ (s .pre .0) (t .inside) (c .before .before .prev-side .ensures) in
-    ap (λ (m : ℕ). eqb m (s .args .d)) (met-none l (s .args .h) _ g _ t e (omega arith) (c .if1 .taken))
+returns c = ap (λ (m : ℕ). eqb m (c .before .before .before .before .before .before .before .args .d)) (met-none _ _ _ _ _ _ (c .before .before .before .before .before .before .before .pre .0) (c .before .before .before .before .loop .inv .1) (c .before .before .prev-side .ensures) (omega arith) (c .if1 .taken))
 
 returns-2 : tie.Need-returns-2 Inv-loop μ-loop
-returns-2 c =
-    let s = c .before .before .before .before .before .before .before .before in
-    let l = s .args .faces .now in
-    let t = c .before .before .before .before .before .loop .inv .1 in
-    let g = c .before .before .before .before .before .loop .g in
-    let e = turn-read l (s .args .work .now) g _ (s .pre .0) (t .inside) (c .before .before .before .prev-side .ensures) in
-    ap (λ (m : ℕ). eqb m (s .args .d)) (met-back l (s .args .h) _ g _ t e (omega arith) (c .if2 .taken))
+returns-2 c = ap (λ (m : ℕ). eqb m (c .before .before .before .before .before .before .before .before .args .d)) (met-back _ _ _ _ _ _ (c .before .before .before .before .before .before .before .before .pre .0) (c .before .before .before .before .before .loop .inv .1) (c .before .before .before .prev-side .ensures) (omega arith) (c .if2 .taken))
 
 loop-less : tie.Need-loop-less Inv-loop μ-loop
 loop-less c = omega arith
 
 loop-again : tie.Need-loop-again Inv-loop μ-loop
-loop-again c =
-    let s = c .before .before .before .before .before .before .before .before in
-    let l = s .args .faces .now in
-    let t = c .before .before .before .before .before .loop .inv .1 in
-    let g = c .before .before .before .before .before .loop .g in
-    let e = turn-read l (s .args .work .now) g _ (s .pre .0) (t .inside) (c .before .before .before .prev-side .ensures) in
-    (omega arith, turned-next l (s .args .h) _ g _ t e (c .before .if1 .left) (c .if2 .left))
+loop-again c = (omega arith, turned-next _ _ _ _ _ _ (c .before .before .before .before .before .before .before .before .pre .0) (c .before .before .before .before .before .loop .inv .1) (c .before .before .before .prev-side .ensures) (c .before .if1 .left) (c .if2 .left))
 
 returns-3 : tie.Need-returns-3 Inv-loop μ-loop
 returns-3 c = sym (met-more _ _ _ _ _ (c .before .loop .inv .1) (c .loop-test .left) (omega arith))

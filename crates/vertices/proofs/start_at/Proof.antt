@@ -1,5 +1,5 @@
 -- `start_at` meets its contract: the boundary half-edge, if there is one, and else the head of the chain. Assumes nothing.
-use Prim.Native.Nat.{_+_, _<_}
+use Prim.Native.Nat.{_+_}
 use mathlib.Core.Path.{_≡_, sym, _∙_}
 use native.Mathlib.Omega.{arith}
 use borrow.Author.Needs.{needs}
