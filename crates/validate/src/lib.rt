@@ -102,9 +102,10 @@ pub fn check(
     work: &mut [u32],
 ) -> Answer
     ensures { λ r. ⌜ found (verdictOf r) (now (work .exit)) ≡ checked (record {
-        rounds = rounds;
-        net = record { vertices = now (vertices .entry); faces = now (faces .entry); marks = now (marks .entry) };
-        room = record { vertices = «out_vertices»; faces = «out_faces»; marks = «out_marks»; work = length (now (work .entry)) } }) (now (work .entry)) ⌝ }
+      rounds = rounds;
+      net = record { vertices = now (vertices .entry); faces = now (faces .entry); marks = now (marks .entry) };
+      room = record { vertices = «out_vertices»; faces = «out_faces»; marks = «out_marks»; work = length (now (work .entry)) };
+    }) (now (work .entry)) ⌝ }
 {
     let fault = limits::limits(
         rounds,

@@ -204,3 +204,10 @@ at-hit r t n place v i e h = let f : ltb (first t n) n ≡ true = lt-ltb (first 
 
 pub at-pass : (r : ℕ) (t : ℕ → Bool) (n : ℕ) (place : ℕ → ℕ) (u v : Verdict) (i : ℕ) → i ≡ first t n → n ≤ i → u ≡ v → u ≡ orElse (refusedAt r t n place) v
 at-pass r t n place u v i e h k = let f : ltb (first t n) n ≡ false = le-ltb (first t n) n (rw e at h) in rw f k
+
+-- the same at the end of the chain
+pub last-hit : (r : ℕ) (t : ℕ → Bool) (n : ℕ) (place : ℕ → ℕ) (i : ℕ) → i ≡ first t n → i < n → refused r (place i) ≡ refusedAt r t n place
+last-hit r t n place i e h = let f : ltb (first t n) n ≡ true = lt-ltb (first t n) n (rw e at h) in rw (f, e)
+
+pub last-pass : (r : ℕ) (t : ℕ → Bool) (n : ℕ) (place : ℕ → ℕ) (i : ℕ) → i ≡ first t n → n ≤ i → accepted ≡ refusedAt r t n place
+last-pass r t n place i e h = let f : ltb (first t n) n ≡ false = le-ltb (first t n) n (rw e at h) in rw f

@@ -1,53 +1,52 @@
+-- `validate::examine_net` meets its contract: the tests in their order. Assumes nothing.
+use mathlib.Core.Path.{_≡_, refl, sym, ap, _∙_}
+use Prim.Native.Nat.{ℕ, _*_, _/_, _≤_, _<_}
+use native.Mathlib.Omega.{arith}
+use lib.ListN.{length, drop}
+use Rattle.verdict.specs.Verdict.{Verdict, accepted, refused, orElse, refusedAt, vertexVerdict, adjacencyVerdict, facesVerdict, netVerdict}
+use Rattle.refusals.specs.Refusals.{badMark, badCorner, isolated, repeatedSide}
+use Rattle.topology.specs.Shape.{quads}
+use Rattle.verdict.proofs.Accepted.{at-hit, at-pass}
+use Rattle.adjacency.proofs.Chains.{in-range-if}
+use Rattle.verdict.specs.Verdict.{badCoordinate}
+use Rattle.validate.proofs.Laws.{never, all}
 use borrow.Author.Needs.{needs}
 use Rattle.validate.proofs.examine_net.Statement.{statement}
 use Rattle.validate.proofs.examine_net.Tie as tie
-use Rattle.validate.proofs.examine_net.Reads as reads
-use Rattle.validate.proofs.examine_net.Lts as lts
-use Rattle.adjacency.proofs.face_of.Reads as face-of-reads
-use Rattle.scan.proofs.first_bad_coordinate.Reads as first-bad-coordinate-reads
-use Rattle.scan.proofs.first_bad_corner.Reads as first-bad-corner-reads
-use Rattle.scan.proofs.first_bad_mark.Reads as first-bad-mark-reads
-use Rattle.validate.proofs.examine_faces.Reads as examine-faces-reads
 
--- src/lib.rt:77:9
 first-bad-coordinate-requires : tie.Need-first-bad-coordinate-requires
 first-bad-coordinate-requires c κs = search needs
 
--- src/lib.rt:79:9
 returns : tie.Need-returns
-returns c = ?
+unfolding netVerdict
+returns c = let s = c .before .before .before .before .before in let vs = s .args .vertices .now in record { verdict = at-hit 5 (badCoordinate vs) (length vs) (λ i. i / 3) _ _ (c .before .first-bad-coordinate .ensures) (c .if1 .taken); mated = λ e. never 5 _ e; rest = refl }
 
--- src/lib.rt:81:9
 first-bad-mark-requires : tie.Need-first-bad-mark-requires
 first-bad-mark-requires c κs = search needs
 
--- src/lib.rt:83:9
 returns-2 : tie.Need-returns-2
-returns-2 c = ?
+unfolding netVerdict
+returns-2 c = let s = c .before .before .before .before .before .before .before in let vs = s .args .vertices .now in let m = s .args .marks .now in record { verdict = at-pass 5 (badCoordinate vs) (length vs) (λ i. i / 3) _ _ _ (c .before .before .before .first-bad-coordinate .ensures) (c .before .before .if1 .left) (at-hit 6 (badMark m) (length m) (λ p. p) _ _ (c .before .first-bad-mark .ensures) (c .if2 .taken)); mated = λ e. never 6 _ e; rest = refl }
 
--- src/lib.rt:85:9
 first-bad-corner-requires : tie.Need-first-bad-corner-requires
-first-bad-corner-requires c κs = search needs
+first-bad-corner-requires c κs = let s = c .before .before .before .before .before .before .before in let f = s .pre .few in (s .pre .fours, omega arith)
 
--- src/lib.rt:87:35
 face-of-requires : tie.Need-face-of-requires
 face-of-requires c κs = search needs
 
--- src/lib.rt:87:9
 returns-3 : tie.Need-returns-3
-returns-3 c = ?
+unfolding netVerdict
+returns-3 c = let s = c .before .before .before .before .before .before .before .before .before .before in let vs = s .args .vertices .now in let m = s .args .marks .now in let l = s .args .faces .now in record { verdict = at-pass 5 (badCoordinate vs) (length vs) (λ i. i / 3) _ _ _ (c .before .before .before .before .before .before .first-bad-coordinate .ensures) (c .before .before .before .before .before .if1 .left) (at-pass 6 (badMark m) (length m) (λ p. p) _ _ _ (c .before .before .before .before .first-bad-mark .ensures) (c .before .before .before .if2 .left) (ap (refused 7) (c .face-of .ensures) ∙ at-hit 7 (badCorner quads (length m) l) (length l) (quads .face) _ _ (c .before .before .first-bad-corner .ensures) (c .before .if3 .taken))); mated = λ e. never 7 _ e; rest = refl }
 
--- src/lib.rt:89:5
 examine-faces-requires : tie.Need-examine-faces-requires
-examine-faces-requires c κs = ?
+examine-faces-requires c κs = let s = c .before .before .before .before .before .before .before .before .before .before in let l = s .args .faces .now in let v = length (s .args .marks .now) in (s .pre, in-range-if quads v l (all (badCorner quads v l) (length l) _ (c .before .before .first-bad-corner .ensures) (c .before .if3 .left)))
 
--- src/lib.rt:73:1
 same-length : tie.Need-same-length
 same-length c = search needs
 
--- src/lib.rt:73:1
 returns-4 : tie.Need-returns-4
-returns-4 c = ?
+unfolding netVerdict
+returns-4 c = let s = c .before .before .before .before .before .before .before .before .before .before .before .before .before in let vs = s .args .vertices .now in let m = s .args .marks .now in let l = s .args .faces .now in let x = c .before .before .examine-faces .ensures in record { verdict = at-pass 5 (badCoordinate vs) (length vs) (λ i. i / 3) _ _ _ (c .before .before .before .before .before .before .before .before .before .first-bad-coordinate .ensures) (c .before .before .before .before .before .before .before .before .if1 .left) (at-pass 6 (badMark m) (length m) (λ p. p) _ _ _ (c .before .before .before .before .before .before .before .first-bad-mark .ensures) (c .before .before .before .before .before .before .if2 .left) (at-pass 7 (badCorner quads (length m) l) (length l) (quads .face) _ _ _ (c .before .before .before .before .before .first-bad-corner .ensures) (c .before .before .before .before .if3 .left) (x .verdict))); mated = x .mated; rest = x .rest }
 
 pub examine-net-spec : {M : Type 1} → statement M
 examine-net-spec =
