@@ -1,0 +1,91 @@
+-- Laws of tables written over in part, from the last place to the first, four numbers at a time. Assumes nothing.
+use mathlib.Core.Path.{_≡_, refl, sym, _∙_}
+use mathlib.Core.List.{List}
+use Prim.Native.Nat.{ℕ, _+_, _≤_, _<_}
+use native.Mathlib.Decide.{ℕ-discrete, decLt}
+use native.Mathlib.Omega.{arith}
+use lib.ListN.{length, getD, set, drop, length-set}
+use lib.Seq.{getD-set-same, getD-set-other}
+use Rattle.lists.specs.Tabulate.{tabulate}
+use Rattle.lists.proofs.Tabulate.{length-tabulate, getD-tabulate}
+use Rattle.lists.proofs.Parts.{joined}
+use Rattle.tables.specs.Tables.{filled}
+use Rattle.growth.specs.Growth.{putFour, Written}
+
+pub written-none : (a : ℕ) (f : ℕ → ℕ) (w : List ℕ) → Written a a f w w
+written-none a f w = record {
+  before = λ k h. refl;
+  inside = λ k h g. let z : ⊥ = omega arith in absurd z;
+  behind = λ k h. refl;
+}
+
+-- first from b on, then up to b
+pub written-then : (a b e : ℕ) (f : ℕ → ℕ) (w w₁ w₂ : List ℕ) → a ≤ b → b ≤ e → Written b e f w w₁ → Written a b f w₁ w₂ → Written a e f w w₂
+written-then a b e f w w₁ w₂ ab be x y = record {
+  before = λ k h. y .before k h ∙ x .before k (omega arith);
+  inside = λ k h g. go k h g (decLt k b);
+  behind = λ k h. y .behind k (omega arith) ∙ x .behind k h;
+}
+  where
+    go : (k : ℕ) → a ≤ k → k < e → Dec (k < b) → getD w₂ k 0 ≡ f k
+    go k h g (yes l) = y .inside k h l
+    go k h g (no l) = y .behind k (omega arith) ∙ x .inside k (omega arith) g
+
+pub written-as : (a e : ℕ) (f g : ℕ → ℕ) (w w′ : List ℕ) → ((k : ℕ) → a ≤ k → k < e → f k ≡ g k) → Written a e f w w′ → Written a e g w w′
+written-as a e f g w w′ s x = record {
+  before = x .before;
+  inside = λ k h l. x .inside k h l ∙ s k h l;
+  behind = x .behind;
+}
+
+written-one : (i : ℕ) (f : ℕ → ℕ) (w : List ℕ) (x : ℕ) → i < length w → x ≡ f i → Written i (i + 1) f w (set w i x)
+written-one i f w x h e = record {
+  before = λ k l. getD-set-other w i k x 0 (omega arith);
+  inside = λ k l g. let p : k ≡ i = omega arith in rw p (getD-set-same w i x 0 h ∙ e);
+  behind = λ k l. getD-set-other w i k x 0 (omega arith);
+}
+
+-- first up to b, then from b on
+written-on : (a b e : ℕ) (f : ℕ → ℕ) (w w₁ w₂ : List ℕ) → a ≤ b → b ≤ e → Written a b f w w₁ → Written b e f w₁ w₂ → Written a e f w w₂
+written-on a b e f w w₁ w₂ ab be x y = record {
+  before = λ k h. y .before k (omega arith) ∙ x .before k h;
+  inside = λ k h g. go k h g (decLt k b);
+  behind = λ k h. y .behind k h ∙ x .behind k (omega arith);
+}
+  where
+    go : (k : ℕ) → a ≤ k → k < e → Dec (k < b) → getD w₂ k 0 ≡ f k
+    go k h g (yes l) = y .before k l ∙ x .inside k h l
+    go k h g (no l) = y .inside k (omega arith) g
+
+pub length-four : (w : List ℕ) (i a b c d : ℕ) → length (putFour w i a b c d) ≡ length w
+unfolding putFour
+length-four w i a b c d = simp length-set
+
+pub written-four : (i : ℕ) (f : ℕ → ℕ) (w : List ℕ) (a b c d : ℕ) → i + 4 ≤ length w → a ≡ f i → b ≡ f (i + 1) → c ≡ f (i + 2) → d ≡ f (i + 3)
+    → Written i (i + 4) f w (putFour w i a b c d)
+unfolding putFour
+written-four i f w a b c d h ea eb ec ed =
+    let w₁ : List ℕ = set w i a in
+    let w₂ : List ℕ = set w₁ (i + 1) b in
+    let w₃ : List ℕ = set w₂ (i + 2) c in
+    let l₁ : length w₁ ≡ length w = length-set w i a in
+    let l₂ : length w₂ ≡ length w₁ = length-set w₁ (i + 1) b in
+    let l₃ : length w₃ ≡ length w₂ = length-set w₂ (i + 2) c in
+    let e₂ : i + 1 + 1 ≡ i + 2 = omega arith in
+    let e₃ : i + 2 + 1 ≡ i + 3 = omega arith in
+    let e₄ : i + 3 + 1 ≡ i + 4 = omega arith in
+    let x₁ : Written i (i + 1) f w w₁ = written-one i f w a (omega arith) ea in
+    let x₂ : Written (i + 1) (i + 2) f w₁ w₂ = rw e₂ at (written-one (i + 1) f w₁ b (omega arith) eb) in
+    let x₃ : Written (i + 2) (i + 3) f w₂ w₃ = rw e₃ at (written-one (i + 2) f w₂ c (omega arith) ec) in
+    let x₄ : Written (i + 3) (i + 4) f w₃ (set w₃ (i + 3) d) = rw e₄ at (written-one (i + 3) f w₃ d (omega arith) ed) in
+    written-on i (i + 3) (i + 4) f w w₃ (set w₃ (i + 3) d) (omega arith) (omega arith)
+    (written-on i (i + 2) (i + 3) f w w₂ w₃ (omega arith) (omega arith) (written-on i (i + 1) (i + 2) f w w₁ w₂ (omega arith) (omega arith) x₁ x₂) x₃) x₄
+
+-- all of the front is written
+pub written-all : (n : ℕ) (f : ℕ → ℕ) (w w′ : List ℕ) → n ≤ length w → length w′ ≡ length w → Written 0 n f w w′ → w′ ≡ filled (tabulate n f) w
+unfolding filled
+written-all n f w w′ h l x =
+    let t = length-tabulate n f in
+    joined 0 w′ (tabulate n f) w (omega arith) l
+    (λ k g. x .inside k (omega arith) (omega arith) ∙ sym (getD-tabulate n f k 0 (omega arith)))
+    (λ k g. x .behind k (omega arith))

@@ -1,0 +1,57 @@
+// One round's topology on lent tables, in place: edge numbers, refined faces, refined mates and refined marks.
+ghost use mathlib.Core.Path.{_≡_};
+ghost use Prim.Native.Nat.{ℕ, _+_, _*_, _/_, _%_, _≤_, _<_};
+ghost use mathlib.Core.List.{_++_};
+ghost use lib.ListN.{length, getD, set, take};
+ghost use Rattle.search.specs.Search.{count};
+ghost use Rattle.topology.specs.Shape.{quads};
+ghost use Rattle.topology.specs.HalfEdge.{firstMet, edgeCount, edge};
+ghost use Rattle.refinement.specs.Refined.{refined};
+ghost use Rattle.refinement.specs.Mates.{mates, refinedMate, refinedMates};
+ghost use Rattle.tables.specs.Tables.{filled};
+ghost use Rattle.growth.specs.Growth.{edges, Mated, Numbered, cornerBy, firstMate, putFour, Written, FaceIn, Net, MatesIn, extended};
+
+// Numbers the edge of half-edge h, where `edges` are met before; the answer is how many are met then.
+fn number_side(faces: &[u32], work: &mut [u32], h: usize, edges: usize) -> usize
+    requires { ⌜ Mated (now faces) (now work) ⌝ }
+    requires { ⌜ Numbered (now faces) (now work) h ⌝ }
+    requires { ⌜ (h < length (now faces)) × (edges ≡ count (firstMet quads (now faces)) h) ⌝ }
+    ensures { λ r. ⌜ r ≡ count (firstMet quads (now (faces .entry))) (h + 1) ⌝ }
+    ensures { λ _. ⌜ now (work .exit) ≡ set (now (work .entry)) (length (now (faces .entry)) + h) (edge quads (now (faces .entry)) h) ⌝ }
+{
+    let n = faces.len();
+    let mate = work[h] as usize;
+    if h < mate {
+        work[n + h] = edges as u32;
+        return edges + 1;
+    }
+    work[n + h] = work[n + mate];
+    edges
+}
+
+// Numbers the edges as they are first met; the answer is their number. The mates must be there and stay.
+pub fn number_edges(faces: &[u32], work: &mut [u32]) -> usize
+    requires { ⌜ Mated (now faces) (now work) ⌝ }
+    ensures { λ r. ⌜ r ≡ edgeCount quads (now (faces .entry)) ⌝ }
+    ensures { λ _. ⌜ now (work .exit) ≡ filled (mates quads (now (faces .entry)) ++ edges quads (now (faces .entry))) (now (work .entry)) ⌝ }
+{
+    let n = faces.len();
+    let mut edges = 0;
+    let mut h = 0;
+    while h < n {
+        edges = number_side(faces, &mut *work, h, edges);
+        h += 1;
+    }
+    edges
+}
+
+// Writes four numbers from the place `at` on.
+fn put_four(table: &mut [u32], at: usize, a: u32, b: u32, c: u32, d: u32)
+    requires { ⌜ at + 4 ≤ length (now table) ⌝ }
+    ensures { λ _. ⌜ now (table .exit) ≡ putFour (now (table .entry)) at a b c d ⌝ }
+{
+    table[at] = a;
+    table[at + 1] = b;
+    table[at + 2] = c;
+    table[at + 3] = d;
+}
