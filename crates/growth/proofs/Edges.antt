@@ -1,22 +1,20 @@
 -- Laws of edge numbers in a table behind the mates.
 use mathlib.Core.Path.{_≡_, refl, sym, ap, _∙_, subst}
 use mathlib.Core.List.{List, _++_}
-use Prim.Native.Nat.{ℕ, suc, _+_, _-_, _*_, _≤_, _<_, min}
-use native.Mathlib.Decide.{decLt}
+use Prim.Native.Nat.{ℕ, _+_, _*_, _≤_, _<_, min}
 use native.Mathlib.Numerals.{add-one}
 use native.Mathlib.Omega.{arith}
-use lib.ListN.{length, getD, set, take, length-append, List·getD-append}
+use lib.ListN.{length, getD, set, length-append, length-set, List·getD-append}
 use lib.Seq.{getD-append-add}
 use Rattle.search.specs.Search.{count}
 use Rattle.search.proofs.Count.{count-le}
 use Rattle.lists.proofs.Tabulate.{length-tabulate, getD-tabulate}
-use Rattle.topology.specs.Shape.{Shape, Lawful, quads}
-use Rattle.topology.specs.HalfEdge.{mate, firstMet, edgeCount, edge}
-use Rattle.topology.specs.Manifold.{Oriented}
-use Rattle.topology.proofs.Mates.{mate-le, mate-not, edge-new, edge-old, count-new, count-old}
+use Rattle.lists.proofs.Parts.{stored-below, stored-above, joined}
+use Rattle.topology.specs.Shape.{Shape, quads}
+use Rattle.topology.specs.HalfEdge.{mate, firstMet, edge}
+use Rattle.topology.proofs.Mates.{mate-not, edge-new, edge-old, count-new, count-old}
 use Rattle.refinement.specs.Mates.{mates}
 use Rattle.refinement.proofs.Tables.{length-mates, getD-mates}
-use Rattle.adjacency.specs.Chains.{MateTable}
 use Rattle.tables.specs.Tables.{filled}
 use Rattle.growth.specs.Growth.{edges, Mated, Numbered}
 
@@ -69,7 +67,47 @@ module _ (l : List ℕ) where
       let m = length-mates quads l in
       subst (λ (n : ℕ). getD (mates quads l ++ edges quads l) (n + h) 0 ≡ edge quads l h) m (getD-append-add (mates quads l) (edges quads l) h 0 ∙ getD-edges quads l h b)
 
--- the table while half-edges below h are numbered
-pub record NumberedOver (l w₀ w : List ℕ) (h : ℕ) : Type 0 where
+-- the table w, from w₀, while the half-edges below h are numbered
+pub record Numbering (l w₀ w : List ℕ) (h : ℕ) : Type 0 where
+  pub le : h ≤ length l
+  pub kept : length w ≡ length w₀
   pub done : (k : ℕ) → k < length l + h → getD w k 0 ≡ getD (mates quads l ++ edges quads l) k 0
   pub rest : (k : ℕ) → length l + h ≤ k → getD w k 0 ≡ getD w₀ k 0
+
+pub numbering-none : (l w : List ℕ) → Mated l w → Numbering l w w 0
+numbering-none l w ok = record {
+  le = omega arith;
+  kept = refl;
+  done = λ k b. let c : k < length l = omega arith in ok .mated .mates k c ∙ sym (both-mate l k c);
+  rest = λ k b. refl;
+}
+
+module _ (l w₀ w : List ℕ) (h : ℕ) (now : Numbering l w₀ w h) where
+  pub numbering-mated : Mated l w₀ → Mated l w
+  numbering-mated ok = record {
+    oriented = ok .oriented;
+    small = ok .small;
+    room = let r = ok .room in let k = now .kept in omega arith;
+    mated = record { mates = λ g b. now .done g (omega arith) ∙ both-mate l g b };
+  }
+
+  pub numbering-numbered : Numbered l w h
+  numbering-numbered = record { numbers = λ g b. let e = now .le in now .done (length l + g) (omega arith) ∙ both-edge l g (omega arith) }
+
+  pub numbering-next : h < length l → length l + h < length w → Numbering l w₀ (set w (length l + h) (edge quads l h)) (h + 1)
+  numbering-next b r =
+      let e = both-edge l h b in
+      let a : length l + h + 1 ≡ length l + (h + 1) = omega arith in
+      rw (← e) (record {
+        le = omega arith;
+        kept = simp length-set (now .kept);
+        done = λ k c. stored-below 0 w (mates quads l ++ edges quads l) (length l + h) r (now .done) k (omega arith);
+        rest = λ k c. stored-above 0 w w₀ (length l + h) (getD (mates quads l ++ edges quads l) (length l + h) 0) (now .rest) k (omega arith);
+      })
+
+pub numbering-all : (l w₀ w : List ℕ) (h : ℕ) → 2 * length l ≤ length w₀ → length l ≤ h → Numbering l w₀ w h → w ≡ filled (mates quads l ++ edges quads l) w₀
+unfolding filled
+numbering-all l w₀ w h r b now =
+    let n = length-both l in
+    let e = now .le in
+    joined 0 w (mates quads l ++ edges quads l) w₀ (omega arith) (now .kept) (λ k c. now .done k (omega arith)) (λ k c. now .rest k (omega arith))

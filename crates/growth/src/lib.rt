@@ -55,3 +55,37 @@ fn put_four(table: &mut [u32], at: usize, a: u32, b: u32, c: u32, d: u32)
     table[at + 2] = c;
     table[at + 3] = d;
 }
+
+// Writes the four refined faces of face f over those that came in its place.
+fn refine_face(faces: &mut [u32], work: &[u32], n: usize, v: usize, edges: usize, f: usize)
+    requires { ⌜ FaceIn n v edges f (now faces) (now work) ⌝ }
+    ensures { λ _. ⌜ Written (16 * f) (16 * f + 16) (λ (k : ℕ). cornerBy quads v edges (λ (h : ℕ). getD (now (faces .entry)) h 0) (λ (h : ℕ). getD (now (work .entry)) (n + h) 0) (k / 4) (k % 4)) (now (faces .entry)) (now (faces .exit)) ⌝ }
+{
+    let h = 4 * f;
+    let first = v as u32;
+    let point = (v + edges + f) as u32;
+    let e = n + h;
+    let p = first + work[e];
+    let q = first + work[e + 1];
+    let r = first + work[e + 2];
+    let s = first + work[e + 3];
+    let a = faces[h];
+    let b = faces[h + 1];
+    let c = faces[h + 2];
+    let d = faces[h + 3];
+    put_four(&mut *faces, 16 * f + 12, d, s, point, r);
+    put_four(&mut *faces, 16 * f + 8, c, r, point, q);
+    put_four(&mut *faces, 16 * f + 4, b, q, point, p);
+    put_four(&mut *faces, 16 * f, a, p, point, s);
+}
+
+// The mate of side 0 of a refined face at a half-edge with the mate m, of n half-edges.
+fn first_mate(n: u32, m: u32) -> u32
+    requires { ⌜ (m ≤ n) × (n ≤ 262144) ⌝ }
+    ensures { λ r. ⌜ r ≡ firstMate n m ⌝ }
+{
+    if m < n {
+        return 16 * (m / 4) + 4 * ((m + 1) % 4) + 3;
+    }
+    4 * n
+}
