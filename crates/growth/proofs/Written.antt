@@ -1,10 +1,10 @@
 -- Laws of tables written over in part, from the last place to the first, four numbers at a time. Assumes nothing.
-use mathlib.Core.Path.{_≡_, refl, sym, _∙_}
+use mathlib.Core.Path.{_≡_, refl, sym, ap, ap₂, _∙_}
 use mathlib.Core.List.{List}
-use Prim.Native.Nat.{ℕ, _+_, _≤_, _<_}
-use native.Mathlib.Decide.{ℕ-discrete, decLt}
+use Prim.Native.Nat.{ℕ, _+_, _*_, _/_, _%_, _≤_, _<_}
+use native.Mathlib.Decide.{decLt}
 use native.Mathlib.Omega.{arith}
-use lib.ListN.{length, getD, set, drop, length-set}
+use lib.ListN.{length, getD, set, length-set}
 use lib.Seq.{getD-set-same, getD-set-other}
 use Rattle.lists.specs.Tabulate.{tabulate}
 use Rattle.lists.proofs.Tabulate.{length-tabulate, getD-tabulate}
@@ -61,7 +61,7 @@ pub length-four : (w : List ℕ) (i a b c d : ℕ) → length (putFour w i a b c
 unfolding putFour
 length-four w i a b c d = simp length-set
 
-pub written-four : (i : ℕ) (f : ℕ → ℕ) (w : List ℕ) (a b c d : ℕ) → i + 4 ≤ length w → a ≡ f i → b ≡ f (i + 1) → c ≡ f (i + 2) → d ≡ f (i + 3)
+written-four : (i : ℕ) (f : ℕ → ℕ) (w : List ℕ) (a b c d : ℕ) → i + 4 ≤ length w → a ≡ f i → b ≡ f (i + 1) → c ≡ f (i + 2) → d ≡ f (i + 3)
     → Written i (i + 4) f w (putFour w i a b c d)
 unfolding putFour
 written-four i f w a b c d h ea eb ec ed =
@@ -80,6 +80,42 @@ written-four i f w a b c d h ea eb ec ed =
     let x₄ : Written (i + 3) (i + 4) f w₃ (set w₃ (i + 3) d) = rw e₄ at (written-one (i + 3) f w₃ d (omega arith) ed) in
     written-on i (i + 3) (i + 4) f w w₃ (set w₃ (i + 3) d) (omega arith) (omega arith)
     (written-on i (i + 2) (i + 3) f w w₂ w₃ (omega arith) (omega arith) (written-on i (i + 1) (i + 2) f w w₁ w₂ (omega arith) (omega arith) x₁ x₂) x₃) x₄
+
+-- four numbers given by G, from 4h on
+written-quarter : (G : ℕ → ℕ → ℕ) (i h : ℕ) (w w′ : List ℕ) → i ≡ 4 * h → i + 4 ≤ length w → w′ ≡ putFour w i (G h 0) (G h 1) (G h 2) (G h 3) → Written i (i + 4) (λ (k : ℕ). G (k / 4) (k % 4)) w w′
+written-quarter G i h w w′ e b p =
+    let q₀ : i / 4 ≡ h = omega arith in
+    let q₁ : (i + 1) / 4 ≡ h = omega arith in
+    let q₂ : (i + 2) / 4 ≡ h = omega arith in
+    let q₃ : (i + 3) / 4 ≡ h = omega arith in
+    let r₀ : i % 4 ≡ 0 = omega arith in
+    let r₁ : (i + 1) % 4 ≡ 1 = omega arith in
+    let r₂ : (i + 2) % 4 ≡ 2 = omega arith in
+    let r₃ : (i + 3) % 4 ≡ 3 = omega arith in
+    rw p (written-four i (λ (k : ℕ). G (k / 4) (k % 4)) w (G h 0) (G h 1) (G h 2) (G h 3) b (sym (ap₂ G q₀ r₀)) (sym (ap₂ G q₁ r₁)) (sym (ap₂ G q₂ r₂)) (sym (ap₂ G q₃ r₃)))
+
+-- the sixteen numbers of a face
+pub written-face : (G : ℕ → ℕ → ℕ) (f : ℕ) (w w₁ w₂ w₃ w₄ : List ℕ) → 16 * f + 16 ≤ length w
+    → w₁ ≡ putFour w (16 * f + 12) (G (4 * f + 3) 0) (G (4 * f + 3) 1) (G (4 * f + 3) 2) (G (4 * f + 3) 3)
+    → w₂ ≡ putFour w₁ (16 * f + 8) (G (4 * f + 2) 0) (G (4 * f + 2) 1) (G (4 * f + 2) 2) (G (4 * f + 2) 3)
+    → w₃ ≡ putFour w₂ (16 * f + 4) (G (4 * f + 1) 0) (G (4 * f + 1) 1) (G (4 * f + 1) 2) (G (4 * f + 1) 3)
+    → w₄ ≡ putFour w₃ (16 * f) (G (4 * f) 0) (G (4 * f) 1) (G (4 * f) 2) (G (4 * f) 3)
+    → Written (16 * f) (16 * f + 16) (λ (k : ℕ). G (k / 4) (k % 4)) w w₄
+written-face G f w w₁ w₂ w₃ w₄ b p₁ p₂ p₃ p₄ =
+    let g : ℕ → ℕ = λ k. G (k / 4) (k % 4) in
+    let l₁ : length w₁ ≡ length w = ap length p₁ ∙ length-four _ _ _ _ _ _ in
+    let l₂ : length w₂ ≡ length w₁ = ap length p₂ ∙ length-four _ _ _ _ _ _ in
+    let l₃ : length w₃ ≡ length w₂ = ap length p₃ ∙ length-four _ _ _ _ _ _ in
+    let e₁ : 16 * f + 12 + 4 ≡ 16 * f + 16 = omega arith in
+    let e₂ : 16 * f + 8 + 4 ≡ 16 * f + 12 = omega arith in
+    let e₃ : 16 * f + 4 + 4 ≡ 16 * f + 8 = omega arith in
+    let x₁ : Written (16 * f + 12) (16 * f + 16) g w w₁ = rw e₁ at (written-quarter G (16 * f + 12) (4 * f + 3) w w₁ (omega arith) (omega arith) p₁) in
+    let x₂ : Written (16 * f + 8) (16 * f + 12) g w₁ w₂ = rw e₂ at (written-quarter G (16 * f + 8) (4 * f + 2) w₁ w₂ (omega arith) (omega arith) p₂) in
+    let x₃ : Written (16 * f + 4) (16 * f + 8) g w₂ w₃ = rw e₃ at (written-quarter G (16 * f + 4) (4 * f + 1) w₂ w₃ (omega arith) (omega arith) p₃) in
+    let x₄ : Written (16 * f) (16 * f + 4) g w₃ w₄ = written-quarter G (16 * f) (4 * f) w₃ w₄ (omega arith) (omega arith) p₄ in
+    written-then (16 * f) (16 * f + 4) (16 * f + 16) g w w₃ w₄ (omega arith) (omega arith)
+    (written-then (16 * f + 4) (16 * f + 8) (16 * f + 16) g w w₂ w₃ (omega arith) (omega arith)
+    (written-then (16 * f + 8) (16 * f + 12) (16 * f + 16) g w w₁ w₂ (omega arith) (omega arith) x₁ x₂) x₃) x₄
 
 -- all of the front is written
 pub written-all : (n : ℕ) (f : ℕ → ℕ) (w w′ : List ℕ) → n ≤ length w → length w′ ≡ length w → Written 0 n f w w′ → w′ ≡ filled (tabulate n f) w

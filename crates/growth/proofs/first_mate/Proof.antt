@@ -1,40 +1,37 @@
+-- `first_mate` meets its contract. Assumes nothing.
+use native.Mathlib.Omega.{arith}
 use borrow.Author.Needs.{needs}
+use borrow.Author.Tests.{lt-ltb, le-ltb}
+use Rattle.topology.specs.Shape.{quads}
+use Rattle.growth.specs.Growth.{firstMate}
 use Rattle.growth.proofs.first_mate.Statement.{statement}
 use Rattle.growth.proofs.first_mate.Tie as tie
-use Rattle.growth.proofs.first_mate.Reads as reads
-use Rattle.growth.proofs.first_mate.Lts as lts
 
--- src/lib.rt:88:16
 mul-result : tie.Need-mul-result
 mul-result c = search needs
 
--- src/lib.rt:88:37
 add-result : tie.Need-add-result
 add-result c = search needs
 
--- src/lib.rt:88:31
 mul-result-2 : tie.Need-mul-result-2
 mul-result-2 c = search needs
 
--- src/lib.rt:88:16
 add-result-2 : tie.Need-add-result-2
 add-result-2 c = search needs
 
--- src/lib.rt:88:16
 add-result-3 : tie.Need-add-result-3
 add-result-3 c = search needs
 
--- src/lib.rt:88:9
 returns : tie.Need-returns
-returns c = ?
+unfolding firstMate quads
+returns c = rw (lt-ltb _ _ (c .if1 .taken)) (omega arith)
 
--- src/lib.rt:90:5
 mul-result-3 : tie.Need-mul-result-3
 mul-result-3 c = search needs
 
--- src/lib.rt:83:1
 returns-2 : tie.Need-returns-2
-returns-2 c = ?
+unfolding firstMate
+returns-2 c = rw (le-ltb _ _ (c .if1 .left))
 
 pub first-mate-spec : {M : Type 1} → statement M
 first-mate-spec =
