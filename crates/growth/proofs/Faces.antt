@@ -1,7 +1,7 @@
 -- Laws of corners refined in place.
-use mathlib.Core.Path.{_≡_, refl, sym, ap, ap₂, _∙_, subst}
+use mathlib.Core.Path.{_≡_, refl, sym, ap, _∙_, subst}
 use mathlib.Core.List.{List}
-use Prim.Native.Nat.{ℕ, _+_, _*_, _/_, _%_, _≤_, _<_}
+use Prim.Native.Nat.{ℕ, _+_, _-_, _*_, _/_, _%_, _≤_, _<_}
 use native.Mathlib.Nat.{add-assoc, add-zero}
 use native.Mathlib.Omega.{arith}
 use lib.ListN.{length, getD, take}
@@ -13,9 +13,9 @@ use Rattle.topology.proofs.Shape.{four-sides}
 use Rattle.topology.proofs.Mates.{edges-le}
 use Rattle.refinement.specs.Refined.{corner, refined}
 use Rattle.tables.specs.Tables.{filled}
-use Rattle.growth.specs.Growth.{Numbered, cornerBy, putFour, Written, FaceIn, Net}
+use Rattle.growth.specs.Growth.{cornerBy, putFour, Written, FaceIn, Net}
 use Rattle.growth.proofs.Edges.{edge-le}
-use Rattle.growth.proofs.Written.{written-then, written-as, written-face, written-all}
+use Rattle.growth.proofs.Written.{written-as, written-face, Refining, refining-all}
 
 -- the numbers that a face's corners and edges give
 module _ (n v count f : ℕ) (c w : List ℕ) where
@@ -49,7 +49,7 @@ module _ (n v count f : ℕ) (c w : List ℕ) where
 pub side-le : (n v count f : ℕ) (c w : List ℕ) (i : ℕ) → i < 4 → FaceIn n v count f c w → getD w (n + 4 * f + i) 0 ≤ n
 side-le n v count f c w i b ok = let e = side n v count f c w i in let r = ok .lt in rw e (ok .below (4 * f + i) (omega arith))
 
--- ---- the loop: faces from f on are refined
+-- ---- the loop
 
 corner-by : (S : Shape) (v : ℕ) (l : List ℕ) (c e : ℕ → ℕ) (h : ℕ) → c h ≡ from l h → e h ≡ edge S l h → e (S .prev h) ≡ edge S l (S .prev h) → (j : ℕ) → j < 4
     → cornerBy S v (edgeCount S l) c e h j ≡ corner S v l h j
@@ -68,7 +68,6 @@ module _ (n v count : ℕ) (faces w : List ℕ) (ok : Net n v count faces w) whe
   unfolding l
   number-at g b = let e = length-l in subst (λ (m : ℕ). getD w (m + g) 0 ≡ edge quads l g) e (ok .numbered .numbers g b)
 
-  -- face f comes next, in a table of which only the numbers from 16 (f + 1) on were written
   pub face-in : (c : List ℕ) (f : ℕ) → length c ≡ length faces → 4 * f + 4 ≤ n → FaceIn n v count f c w
   face-in c f e b = record {
     small = ok .small;
@@ -80,18 +79,18 @@ module _ (n v count : ℕ) (faces w : List ℕ) (ok : Net n v count faces w) whe
     below = λ g a. let x = number-at g a in let y = edge-le quads l g in omega arith;
   }
 
-  pub faces-turn : (f : ℕ) (c c′ : List ℕ) → 4 * f + 4 ≤ n → Written (16 * (f + 1)) (4 * n) (λ (k : ℕ). corner quads v (take n faces) (k / 4) (k % 4)) faces c
-      → Written (16 * f) (16 * f + 16) (λ (k : ℕ). cornerBy quads v count (λ (h : ℕ). getD c h 0) (λ (h : ℕ). getD w (n + h) 0) (k / 4) (k % 4)) c c′
-      → Written (16 * f) (4 * n) (λ (k : ℕ). corner quads v (take n faces) (k / 4) (k % 4)) faces c′
+  -- the corners of face f - 1 are still the old ones
+  pub corners-as : (c c′ : List ℕ) (f : ℕ) → 0 < f → Refining n (λ (k : ℕ). corner quads v (take n faces) (k / 4) (k % 4)) faces c f
+      → Written (16 * (f - 1)) (16 * (f - 1) + 16) (λ (k : ℕ). cornerBy quads v count (λ (h : ℕ). getD c h 0) (λ (h : ℕ). getD w (n + h) 0) (k / 4) (k % 4)) c c′
+      → Written (16 * (f - 1)) (16 * (f - 1) + 16) (λ (k : ℕ). corner quads v (take n faces) (k / 4) (k % 4)) c c′
   unfolding l from quads
-  faces-turn f c c′ b x y =
-      let e : 16 * (f + 1) ≡ 16 * f + 16 = omega arith in
-      written-then (16 * f) (16 * f + 16) (4 * n) (λ (k : ℕ). corner quads v l (k / 4) (k % 4)) faces c c′ (omega arith) (omega arith) (rw e at x)
-      (written-as (16 * f) (16 * f + 16) _ _ c c′ (λ k h g. rw (ok .counted) (corner-by quads v l (λ (h : ℕ). getD c h 0) (λ (h : ℕ). getD w (n + h) 0) (k / 4)
-      (x .before (k / 4) (omega arith) ∙ sym (getD-take n faces (k / 4) 0 (omega arith)))
+  corners-as c c′ f p x y =
+      let b = x .le in
+      written-as (16 * (f - 1)) (16 * (f - 1) + 16) _ _ c c′ (λ k h g. rw (ok .counted) (corner-by quads v l (λ (h : ℕ). getD c h 0) (λ (h : ℕ). getD w (n + h) 0) (k / 4)
+      (x .written .before (k / 4) (omega arith) ∙ sym (getD-take n faces (k / 4) 0 (omega arith)))
       (number-at (k / 4) (omega arith))
-      (number-at (quads .prev (k / 4)) (omega arith)) (k % 4) (omega arith))) y)
+      (number-at (quads .prev (k / 4)) (omega arith)) (k % 4) (omega arith))) y
 
-  pub faces-done : (c : List ℕ) → length c ≡ length faces → Written 0 (4 * n) (λ (k : ℕ). corner quads v (take n faces) (k / 4) (k % 4)) faces c → c ≡ filled (refined quads v (take n faces)) faces
+  pub corners-all : (c : List ℕ) (f : ℕ) → f ≤ 0 → Refining n (λ (k : ℕ). corner quads v (take n faces) (k / 4) (k % 4)) faces c f → c ≡ filled (refined quads v (take n faces)) faces
   unfolding refined l
-  faces-done c e x = let m = length-l in rw m (written-all (4 * n) (λ (k : ℕ). corner quads v (take n faces) (k / 4) (k % 4)) faces c (ok .room) e x)
+  corners-all c f z x = let m = length-l in rw m (refining-all n (λ (k : ℕ). corner quads v (take n faces) (k / 4) (k % 4)) faces c f (ok .room) z x)

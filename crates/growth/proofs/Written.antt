@@ -1,7 +1,7 @@
 -- Laws of tables written over in part, from the last place to the first, four numbers at a time. Assumes nothing.
 use mathlib.Core.Path.{_≡_, refl, sym, ap, ap₂, _∙_}
 use mathlib.Core.List.{List}
-use Prim.Native.Nat.{ℕ, _+_, _*_, _/_, _%_, _≤_, _<_}
+use Prim.Native.Nat.{ℕ, _+_, _-_, _*_, _/_, _%_, _≤_, _<_}
 use native.Mathlib.Decide.{decLt}
 use native.Mathlib.Omega.{arith}
 use lib.ListN.{length, getD, set, length-set}
@@ -12,7 +12,7 @@ use Rattle.lists.proofs.Parts.{joined}
 use Rattle.tables.specs.Tables.{filled}
 use Rattle.growth.specs.Growth.{putFour, Written}
 
-pub written-none : (a : ℕ) (f : ℕ → ℕ) (w : List ℕ) → Written a a f w w
+written-none : (a : ℕ) (f : ℕ → ℕ) (w : List ℕ) → Written a a f w w
 written-none a f w = record {
   before = λ k h. refl;
   inside = λ k h g. let z : ⊥ = omega arith in absurd z;
@@ -20,7 +20,7 @@ written-none a f w = record {
 }
 
 -- first from b on, then up to b
-pub written-then : (a b e : ℕ) (f : ℕ → ℕ) (w w₁ w₂ : List ℕ) → a ≤ b → b ≤ e → Written b e f w w₁ → Written a b f w₁ w₂ → Written a e f w w₂
+written-then : (a b e : ℕ) (f : ℕ → ℕ) (w w₁ w₂ : List ℕ) → a ≤ b → b ≤ e → Written b e f w w₁ → Written a b f w₁ w₂ → Written a e f w w₂
 written-then a b e f w w₁ w₂ ab be x y = record {
   before = λ k h. y .before k h ∙ x .before k (omega arith);
   inside = λ k h g. go k h g (decLt k b);
@@ -117,11 +117,30 @@ written-face G f w w₁ w₂ w₃ w₄ b p₁ p₂ p₃ p₄ =
     (written-then (16 * f + 4) (16 * f + 8) (16 * f + 16) g w w₂ w₃ (omega arith) (omega arith)
     (written-then (16 * f + 8) (16 * f + 12) (16 * f + 16) g w w₁ w₂ (omega arith) (omega arith) x₁ x₂) x₃) x₄
 
--- all of the front is written
-pub written-all : (n : ℕ) (f : ℕ → ℕ) (w w′ : List ℕ) → n ≤ length w → length w′ ≡ length w → Written 0 n f w w′ → w′ ≡ filled (tabulate n f) w
-unfolding filled
-written-all n f w w′ h l x =
-    let t = length-tabulate n f in
-    joined 0 w′ (tabulate n f) w (omega arith) l
-    (λ k g. x .inside k (omega arith) (omega arith) ∙ sym (getD-tabulate n f k 0 (omega arith)))
-    (λ k g. x .behind k (omega arith))
+-- ---- a loop over faces, from the last to the first: of the 4n numbers of g over the front of w, those from 16f on are written in u
+pub record Refining (n : ℕ) (g : ℕ → ℕ) (w u : List ℕ) (f : ℕ) : Type 0 where
+  pub le : 4 * f ≤ n
+  pub kept : length u ≡ length w
+  pub written : Written (16 * f) (4 * n) g w u
+
+module _ (n : ℕ) (g : ℕ → ℕ) (w : List ℕ) where
+  pub refining-none : n % 4 ≡ 0 → Refining n g w w (n / 4)
+  refining-none h = let e : 16 * (n / 4) ≡ 4 * n = omega arith in record { le = omega arith; kept = refl; written = rw e (written-none (4 * n) g w) }
+
+  pub refining-next : (u u′ : List ℕ) (f : ℕ) → 0 < f → Refining n g w u f → length u′ ≡ length u → Written (16 * (f - 1)) (16 * (f - 1) + 16) g u u′ → Refining n g w u′ (f - 1)
+  refining-next u u′ f h x k y =
+      let b = x .le in
+      let e : 16 * f ≡ 16 * (f - 1) + 16 = omega arith in
+      record {
+        le = omega arith;
+        kept = k ∙ x .kept;
+        written = written-then (16 * (f - 1)) (16 * (f - 1) + 16) (4 * n) g w u u′ (omega arith) (omega arith) (rw e at (x .written)) y;
+      }
+
+  pub refining-all : (u : List ℕ) (f : ℕ) → 4 * n ≤ length w → f ≤ 0 → Refining n g w u f → u ≡ filled (tabulate (4 * n) g) w
+  unfolding filled
+  refining-all u f h z x =
+      let t = length-tabulate (4 * n) g in
+      joined 0 u (tabulate (4 * n) g) w (omega arith) (x .kept)
+      (λ k b. x .written .inside k (omega arith) (omega arith) ∙ sym (getD-tabulate (4 * n) g k 0 (omega arith)))
+      (λ k b. x .written .behind k (omega arith))

@@ -68,6 +68,13 @@ pub record Net (n v count : ℕ) (faces w : List ℕ) : Type 0 where
   pub numbered : Numbered (take n faces) w n
   pub counted : count ≡ edgeCount quads (take n faces)
 
+-- the mates of face f of n half-edges, in a table that has room for the refined ones
+pub record SidesIn (n f : ℕ) (w : List ℕ) : Type 0 where
+  pub small : n ≤ 262144
+  pub lt : 4 * f + 4 ≤ n
+  pub room : 4 * n ≤ length w
+  pub below : (g : ℕ) → 4 * f ≤ g → g < 4 * f + 4 → getD w g 0 ≤ n
+
 -- a mate for each of n half-edges, by fours, and room for four times as many
 pub record MatesIn (n : ℕ) (w : List ℕ) : Type 0 where
   pub fours : n % 4 ≡ 0

@@ -9,7 +9,7 @@ ghost use Rattle.topology.specs.HalfEdge.{firstMet, edgeCount, edge};
 ghost use Rattle.refinement.specs.Refined.{refined};
 ghost use Rattle.refinement.specs.Mates.{mates, refinedMate, refinedMates};
 ghost use Rattle.tables.specs.Tables.{filled};
-ghost use Rattle.growth.specs.Growth.{edges, Mated, Numbered, cornerBy, firstMate, putFour, Written, FaceIn, Net, MatesIn, extended};
+ghost use Rattle.growth.specs.Growth.{edges, Mated, Numbered, cornerBy, firstMate, putFour, Written, FaceIn, Net, SidesIn, MatesIn, extended};
 
 // Numbers the edge of half-edge h, where `edges` are met before; the answer is how many are met then.
 fn number_side(faces: &[u32], work: &mut [u32], h: usize, edges: usize) -> usize
@@ -88,4 +88,62 @@ fn first_mate(n: u32, m: u32) -> u32
         return 16 * (m / 4) + 4 * ((m + 1) % 4) + 3;
     }
     4 * n
+}
+
+// Refines the faces in place, from the last to the first.
+pub fn refine_faces(faces: &mut [u32], work: &[u32], n: usize, v: usize, edges: usize)
+    requires { ⌜ Net n v edges (now faces) (now work) ⌝ }
+    ensures { λ _. ⌜ now (faces .exit) ≡ filled (refined quads v (take n (now (faces .entry)))) (now (faces .entry)) ⌝ }
+{
+    let mut f = n / 4;
+    while f > 0 {
+        f -= 1;
+        refine_face(&mut *faces, work, n, v, edges, f);
+    }
+}
+
+// Writes the mates of the four refined faces of face f, from the mates of its sides.
+fn refine_sides(work: &mut [u32], n: usize, f: usize)
+    requires { ⌜ SidesIn n f (now work) ⌝ }
+    ensures { λ _. ⌜ Written (16 * f) (16 * f + 16) (λ (k : ℕ). refinedMate quads n (λ (h : ℕ). getD (now (work .entry)) h 0) (k / 4) (k % 4)) (now (work .entry)) (now (work .exit)) ⌝ }
+{
+    let h = 4 * f;
+    let a = work[h];
+    let b = work[h + 1];
+    let c = work[h + 2];
+    let d = work[h + 3];
+    let none = n as u32;
+    let p = first_mate(none, a);
+    let q = first_mate(none, b);
+    let r = first_mate(none, c);
+    let s = first_mate(none, d);
+    let g = 16 * f as u32;
+    put_four(&mut *work, 16 * f + 12, s, g + 2, g + 9, 4 * c);
+    put_four(&mut *work, 16 * f + 8, r, g + 14, g + 5, 4 * b);
+    put_four(&mut *work, 16 * f + 4, q, g + 10, g + 1, 4 * a);
+    put_four(&mut *work, 16 * f, p, g + 6, g + 13, 4 * d);
+}
+
+// Extends the marks of v vertices by 0, to `count` marks.
+pub fn extend_marks(marks: &mut [u8], v: usize, count: usize)
+    requires { ⌜ (v ≤ count) × (count ≤ length (now marks)) ⌝ }
+    ensures { λ _. ⌜ now (marks .exit) ≡ filled (extended v count (now (marks .entry))) (now (marks .entry)) ⌝ }
+{
+    let mut p = v;
+    while p < count {
+        marks[p] = 0;
+        p += 1;
+    }
+}
+
+// Refines the mates in place, from the last face to the first.
+pub fn refine_mates(work: &mut [u32], n: usize)
+    requires { ⌜ MatesIn n (now work) ⌝ }
+    ensures { λ _. ⌜ now (work .exit) ≡ filled (refinedMates quads (take n (now (work .entry)))) (now (work .entry)) ⌝ }
+{
+    let mut f = n / 4;
+    while f > 0 {
+        f -= 1;
+        refine_sides(&mut *work, n, f);
+    }
 }
