@@ -3,3 +3,4 @@ pub mod Edges
 pub mod Faces
 pub mod Mates
 pub mod Marks
+pub mod Round

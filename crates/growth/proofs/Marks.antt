@@ -9,15 +9,8 @@ use lib.Dec.{ltb}
 use borrow.Author.Tests.{lt-ltb, le-ltb}
 use Rattle.lists.proofs.Tabulate.{length-tabulate, getD-tabulate}
 use Rattle.lists.proofs.Parts.{stored-below, stored-above, joined}
-use Rattle.topology.specs.Shape.{Shape}
-use Rattle.refinement.specs.Refined.{refinedVertices, refinedMarks}
 use Rattle.tables.specs.Tables.{filled}
 use Rattle.growth.specs.Growth.{extended}
-
--- the marks of the refined net
-pub extended-refined : (S : Shape) (v : ℕ) (l marks : List ℕ) → extended v (refinedVertices S v l) marks ≡ refinedMarks S v l marks
-unfolding extended refinedMarks
-extended-refined S v l marks = refl
 
 module _ (v count : ℕ) (marks : List ℕ) where
   length-extended : length (extended v count marks) ≡ count

@@ -1,18 +1,14 @@
 -- Laws of mates refined in place.
-use mathlib.Core.Path.{_≡_, refl, sym, ap, _∙_}
+use mathlib.Core.Path.{_≡_, refl, sym, _∙_}
 use mathlib.Core.List.{List}
 use Prim.Native.Nat.{ℕ, _+_, _-_, _*_, _/_, _%_, _≤_, _<_}
 use native.Mathlib.Omega.{arith}
 use lib.ListN.{length, getD, take}
-use lib.Seq.{length-take-le, getD-take, ext-getD}
+use lib.Seq.{length-take-le, getD-take}
 use Rattle.search.proofs.Quarters.{below-four}
 use Rattle.topology.specs.Shape.{Shape, quads}
-use Rattle.topology.specs.Manifold.{Oriented}
 use Rattle.topology.proofs.Shape.{four-sides}
-use Rattle.refinement.specs.Refined.{refined}
-use Rattle.refinement.specs.Mates.{mates, refinedMate, refinedMates}
-use Rattle.refinement.proofs.Tables.{length-mates, getD-mates, mates-refined}
-use Rattle.adjacency.specs.Chains.{MateTable}
+use Rattle.refinement.specs.Mates.{refinedMate, refinedMates}
 use Rattle.tables.specs.Tables.{filled}
 use Rattle.growth.specs.Growth.{firstMate, putFour, Written, SidesIn, MatesIn}
 use Rattle.growth.proofs.Written.{written-as, written-face, Refining, refining-all}
@@ -77,16 +73,3 @@ module _ (n : ℕ) (w : List ℕ) (ok : MatesIn n w) where
       let r = ok .room in
       let m = length-take-le n w (omega arith) in
       rw m (refining-all n (λ (k : ℕ). refinedMate quads n (λ (h : ℕ). getD (take n w) h 0) (k / 4) (k % 4)) w u f r z x)
-
--- ---- for callers
-
--- the front of a table that holds the mates
-pub mates-front : (l w : List ℕ) → length l ≤ length w → MateTable l w → take (length l) w ≡ mates quads l
-mates-front l w r t =
-    let a = length-take-le (length l) w r in
-    let b = length-mates quads l in
-    ext-getD 0 (take (length l) w) (mates quads l) (a ∙ sym b) (λ k h. getD-take (length l) w k 0 (omega arith) ∙ t .mates k (omega arith) ∙ sym (getD-mates quads l k (omega arith)))
-
--- mates refined in place are the mates of the refined net
-pub refined-mates : (v : ℕ) (l w : List ℕ) → Oriented quads v l → length l ≤ length w → MateTable l w → refinedMates quads (take (length l) w) ≡ mates quads (refined quads v l)
-refined-mates v l w ok r t = ap (refinedMates quads) (mates-front l w r t) ∙ sym (mates-refined quads v l ok)

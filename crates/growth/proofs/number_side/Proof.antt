@@ -44,9 +44,10 @@ returns c =
     let l = s .args .faces .now in
     let w = s .args .work .now in
     let p = s .pre .1 .1 in
-    let b = c .if1 .taken in
-    (ap (λ (n : ℕ). n + 1) (p .1) ∙ counted-new l w (s .args .h) (p .0) (s .pre .0) (s .pre .1 .0) b,
-    ap (set w (length l + s .args .h)) (p .1 ∙ number-new l w (s .args .h) (p .0) (s .pre .0) (s .pre .1 .0) b))
+    let b = c .if1 .taken in (
+      ap (λ (n : ℕ). n + 1) (p .1) ∙ counted-new l w (s .args .h) (p .0) (s .pre .0) (s .pre .1 .0) b,
+      ap (set w (length l + s .args .h)) (p .1 ∙ number-new l w (s .args .h) (p .0) (s .pre .0) (s .pre .1 .0) b),
+    )
 
 add-work-2 : tie.Need-add-work-2
 add-work-2 c = search needs
@@ -75,9 +76,10 @@ returns-2 c =
     let l = s .args .faces .now in
     let w = s .args .work .now in
     let p = s .pre .1 .1 in
-    let b = c .before .if1 .left in
-    (p .1 ∙ counted-old l w (s .args .h) (p .0) (s .pre .0) (s .pre .1 .0) b,
-    ap (set w (length l + s .args .h)) (number-old l w (s .args .h) (p .0) (s .pre .0) (s .pre .1 .0) b))
+    let b = c .before .if1 .left in (
+      p .1 ∙ counted-old l w (s .args .h) (p .0) (s .pre .0) (s .pre .1 .0) b,
+      ap (set w (length l + s .args .h)) (number-old l w (s .args .h) (p .0) (s .pre .0) (s .pre .1 .0) b),
+    )
 
 pub number-side-spec : {M : Type 1} → statement M
 number-side-spec =
