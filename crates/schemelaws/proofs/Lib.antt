@@ -1,0 +1,2 @@
+pub mod Fans
+pub mod Ties
