@@ -1,2 +1,3 @@
 pub mod Fans
 pub mod Ties
+pub mod Coordinates
