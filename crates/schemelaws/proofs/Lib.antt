@@ -1,3 +1,4 @@
 pub mod Fans
 pub mod Ties
 pub mod Coordinates
+pub mod Norm
