@@ -2,3 +2,5 @@ pub mod Fans
 pub mod Ties
 pub mod Coordinates
 pub mod Norm
+pub mod Constant
+pub mod Steps

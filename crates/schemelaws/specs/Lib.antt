@@ -1,1 +1,2 @@
 pub mod Numerators
+pub mod Nets
