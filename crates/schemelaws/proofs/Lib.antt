@@ -4,3 +4,4 @@ pub mod Coordinates
 pub mod Norm
 pub mod Constant
 pub mod Steps
+pub mod Growth

@@ -62,14 +62,14 @@ module _ (w : Weights) (m : Net) where
       ∙ refined-old w (length (m .marks)) (m .faces) (m .marks) (axis (m .vertices) (i % 3)) (i / 3) (omega arith)
       ∙ ap (λ (j : ℕ). getD (m .vertices) j (pos 0)) e
 
--- if refusals 6 to 12 hold nowhere in a net, they hold nowhere in its refined net
-module _ (w : Weights) (m : Net) (ok : Refinable m) where
-  pub refinable-manifold : Manifold quads (length (m .marks)) (m .faces)
-  refinable-manifold = manifold-if quads (length (m .marks)) (m .faces) (quads-lawful (length (m .faces)) (ok .fours)) (ok .no7to11)
+pub refinable-manifold : (m : Net) → Refinable m → Manifold quads (length (m .marks)) (m .faces)
+refinable-manifold m ok = manifold-if quads (length (m .marks)) (m .faces) (quads-lawful (length (m .faces)) (ok .fours)) (ok .no7to11)
 
-  pub refinable-step : Refinable (step w m)
+-- if refusals 6 to 12 hold nowhere in a net, they hold nowhere in its refined net
+module _ (w : Weights) (m : Net) where
+  pub refinable-step : Refinable m → Refinable (step w m)
   unfolding step
-  refinable-step =
+  refinable-step ok =
       let v : ℕ = length (m .marks) in
       let c = length-marks quads v (m .faces) (m .marks) in
       let e = length-refined quads v (m .faces) in
@@ -78,7 +78,7 @@ module _ (w : Weights) (m : Net) (ok : Refinable m) where
         fours = omega arith;
         no6 = rw c (no-6-refined quads v (m .faces) (m .marks) (ok .no6));
         no7to11 = rw c (unrefused-refined quads v (m .faces) (quads-lawful (length (m .faces)) (ok .fours)) (ok .no7to11));
-        no12 = rw c (no-12-refined quads v (m .faces) (m .marks) refinable-manifold (ok .no12));
+        no12 = rw c (no-12-refined quads v (m .faces) (m .marks) (refinable-manifold m ok) (ok .no12));
       }
 
 -- ---- k rounds
