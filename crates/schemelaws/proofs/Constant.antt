@@ -26,7 +26,7 @@ use Rattle.topology.specs.Manifold.{Manifold}
 use Rattle.scheme.specs.Rings.{oppositeCorner, fanEnd, fanPlace}
 use Rattle.scheme.specs.Points.{EdgeRule, insideSegment, startOfSegment, endOfSegment, wholeSegment, innerRule, edgeRule, across, beyond, FaceRule, firstAlone, secondAlone, bothDirections, faceRule}
 use Rattle.schemelaws.specs.Numerators.{extrapolatedAtZ, fanNeighbourZ, fanCornerZ, ringNeighbourZ, ringCornerZ, ringVirtualZ, fanVirtualZ, virtualAtZ, edgeValueZ, edgeZ, directionZ, faceValueZ, faceZ}
-use Rattle.schemelaws.proofs.Fans.{fan-at, fan-le, first-end, last-end, ring-ge, ring-le}
+use Rattle.schemelaws.proofs.Vertices.{fan-at, fan-le, first-end, last-end, ring-ge, ring-le}
 use Rattle.schemelaws.proofs.Ties.{rule-inner, across-lt, side₀-lt, side₁-lt}
 
 numerator-constant : (n : ℕ) (c : ℤ) (j : ℕ) → 3 ≤ n → n ≤ 8 → virtualNumerator n (λ (i : ℕ). pos 60 *ℤ c) (λ (i : ℕ). pos 60 *ℤ c) j ≡ pos 453600 *ℤ c

@@ -13,7 +13,6 @@ use lib.IntN.{ℤ, pos, natAbs, _+ℤ_, _-ℤ_, _*ℤ_}
 use lib.ListN.{length}
 use borrow.Author.Tests.{ltb-true, ltb-false, eqb-true, eqb-false, eq-eqb, ne-eqb}
 use Rattle.search.specs.Search.{iterate}
-use Rattle.search.proofs.Iterate.{iterate-add}
 use Rattle.integers.proofs.AbsoluteValue.{abs-mul, abs-add}
 use Rattle.integers.proofs.Polynomial.{var, lit, _⊞_, _⊟_, _⊠_, same}
 use Rattle.curve.specs.Weights.{kobbelt, interior, endEdge, singleEdge}
@@ -24,14 +23,14 @@ use Rattle.rules.proofs.Norm.{tame, interior-near, end-near, single-near, extra
 use Rattle.topology.specs.Shape.{quads}
 use Rattle.topology.specs.HalfEdge.{from, to, mate}
 use Rattle.topology.specs.Boundary.{OnBoundary, boundaryFrom, along, back}
-use Rattle.topology.specs.Vertex.{valence, turn, turns}
+use Rattle.topology.specs.Vertex.{valence, turns}
 use Rattle.topology.specs.Manifold.{Manifold}
 use Rattle.topology.proofs.Mates.{mate-le, mate-is, mate-back}
 use Rattle.topology.proofs.Boundary.{to-lt, along-on, back-on}
 use Rattle.scheme.specs.Rings.{oppositeCorner, fanEnd, fanPlace}
 use Rattle.scheme.specs.Points.{EdgeRule, insideSegment, startOfSegment, endOfSegment, wholeSegment, innerRule, edgeRule, across, beyond, FaceRule, firstAlone, secondAlone, bothDirections, faceRule}
 use Rattle.schemelaws.specs.Numerators.{extrapolatedAtZ, fanNeighbourZ, fanCornerZ, ringNeighbourZ, ringCornerZ, ringVirtualZ, fanVirtualZ, virtualAtZ, edgeValueZ, edgeZ, directionZ, faceValueZ, faceZ}
-use Rattle.schemelaws.proofs.Fans.{opposite-below, boundary-below, fan-at, fan-le, fanEnd-below, fanOpposite-below, first-end, last-end, place-at, place-inner, ring-of, ring-ge, ring-le, turns-lt}
+use Rattle.schemelaws.proofs.Vertices.{opposite-below, boundary-below, fan-at, fan-le, fanEnd-below, fanOpposite-below, first-end, last-end, place-at, place-inner, ring-of, ring-ge, ring-le, turns-lt, neighbours-periodic, corners-periodic}
 use Rattle.schemelaws.proofs.Ties.{rule-inner, across-lt, side₀-lt, side₁-lt}
 use Rattle.schemelaws.proofs.Coordinates.{edge-inner}
 
@@ -158,9 +157,9 @@ module _ (v : ℕ) (l : List ℕ) (ok : Manifold quads v l) (p p′ : ℕ → �
     unfolding ringVirtualZ ringNeighbourZ ringCornerZ
     ring-virtual-near =
         let n : ℕ = valence l (from l h) in
-        let again : (i : ℕ) → turns quads l (i + n) h ≡ turns quads l i h = λ i. iterate-add (turn quads l) i n h ∙ ap (turns quads l i) (ring-of v l ok h k b .back) in
-        let rl : (q : ℕ → ℤ) → Periodic n (ringNeighbourZ l q h) = λ q. record { again = λ i. ap (λ (g : ℕ). pos 60 *ℤ q (to quads l g)) (again i) } in
-        let rk : (q : ℕ → ℤ) → Periodic n (ringCornerZ l q h) = λ q. record { again = λ i. ap (λ (g : ℕ). pos 60 *ℤ q (oppositeCorner l g)) (again i) } in
+        let r = ring-of v l ok h k b in
+        let rl : (q : ℕ → ℤ) → Periodic n (ringNeighbourZ l q h) = λ q. neighbours-periodic l q (from l h) h n r in
+        let rk : (q : ℕ → ℤ) → Periodic n (ringCornerZ l q h) = λ q. corners-periodic l q (from l h) h n r in
         inside-numerator-near n (ringNeighbourZ l p h) (ringCornerZ l p h) (ringNeighbourZ l p′ h) (ringCornerZ l p′ h) (ring-ge v l ok h k b) (rl p) (rk p) (rl p′) (rk p′) 0 (ring-le v l ok h k b) d
         (λ i c. rw (zero-add i) (sixty (to quads l (turns quads l i h)) (to-lt quads v l ok (turns quads l i h) (turns-lt v l ok h k b i c))))
         (λ i c. rw (zero-add i) (sixty (oppositeCorner l (turns quads l i h)) (opposite-below v l ok (turns quads l i h) (turns-lt v l ok h k b i c))))

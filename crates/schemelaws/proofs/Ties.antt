@@ -24,7 +24,7 @@ use Rattle.topology.proofs.Mates.{mate-is}
 use Rattle.scheme.specs.Rings.{oppositeCorner, fanEnd, extrapolatedAt, fanNeighbour, fanCorner, fanPlace, ringVirtual, fanVirtual, virtualAt}
 use Rattle.scheme.specs.Points.{EdgeRule, insideSegment, startOfSegment, endOfSegment, wholeSegment, innerRule, marked, edgeRule, edgeValue, edgePoint, across, beyond, direction, FaceRule, firstAlone, secondAlone, bothDirections, faceRule, faceValue, facePoint}
 use Rattle.schemelaws.specs.Numerators.{extrapolatedAtZ, fanNeighbourZ, fanCornerZ, ringNeighbourZ, ringCornerZ, ringVirtualZ, fanVirtualZ, virtualAtZ, edgeValueZ, edgeZ, directionZ, faceValueZ, faceZ}
-use Rattle.schemelaws.proofs.Fans.{fan-at, fan-le, first-end, last-end, ring-ge, ring-le}
+use Rattle.schemelaws.proofs.Vertices.{fan-at, fan-le, first-end, last-end, ring-ge, ring-le}
 
 -- a choice is tied where both its sides are
 equals-cond : (b : Bool) {x y : Fraction} {z w : ℤ} {d : ℕ} → (b ≡ true → Equals x z d) → (b ≡ false → Equals y w d) → Equals (cond b x y) (cond b z w) d

@@ -1,22 +1,26 @@
--- The fan of a boundary vertex P of a manifold net: its faces, and its neighbours and opposite corners, of which the two end neighbours lie on the boundary.
+-- The vertices of a manifold net: the fan of a boundary vertex P, whose two end neighbours lie on the boundary, and the ring of an inner one, which comes round.
 use mathlib.Core.Path.{_≡_, refl, sym, ap, _∙_, subst}
 use mathlib.Core.List.{List}
 use Prim.Native.Nat.{ℕ, zero, suc, _+_, _-_, _≤_, _<_}
 use native.Mathlib.Omega.{arith}
+use lib.IntN.{ℤ, pos, _*ℤ_}
 use lib.ListN.{length}
 use borrow.Author.Tests.{eq-eqb, eqb-true}
 use lib.Dec.{eqb}
 use Rattle.search.specs.Search.{first, iterate}
+use Rattle.search.proofs.Iterate.{iterate-add}
 use Rattle.search.proofs.First.{first-holds, first-reach}
+use Rattle.rings.specs.Ring.{Periodic}
 use Rattle.topology.specs.Shape.{quads}
 use Rattle.topology.specs.HalfEdge.{from, to, mate}
 use Rattle.topology.specs.Boundary.{OnBoundary, boundaryFrom, along, back}
-use Rattle.topology.specs.Vertex.{valence, turns, Ring, Fan}
+use Rattle.topology.specs.Vertex.{valence, turn, turns, Ring, Fan}
 use Rattle.topology.specs.Manifold.{Manifold}
 use Rattle.topology.proofs.Boundary.{boundaryFrom-le, boundaryFrom-on, boundaryFrom-at, boundaryFrom-is, to-lt, along-on, back-on, ring-start, ring-range}
 use Rattle.topology.proofs.Rings.{ring-at}
 use Rattle.topology.proofs.Walks.{fan-from, fan-from-le, back-turns}
 use Rattle.scheme.specs.Rings.{oppositeCorner, fanEnd, fanPlace}
+use Rattle.schemelaws.specs.Numerators.{ringNeighbourZ, ringCornerZ}
 
 module _ (v : ℕ) (l : List ℕ) (ok : Manifold quads v l) where
   pub opposite-below : (h : ℕ) → h < length l → oppositeCorner l h < v
@@ -103,3 +107,16 @@ module _ (v : ℕ) (l : List ℕ) (ok : Manifold quads v l) where
     -- all turns stay in the net
     pub turns-lt : (i : ℕ) → i < valence l (from l h) → turns quads l i h < length l
     turns-lt i c = ring-of .walk .inside i c
+
+-- ---- a full ring comes round
+module _ (l : List ℕ) (p : ℕ → ℤ) (P h n : ℕ) (r : Ring quads l P h n) where
+  again : (i : ℕ) → turns quads l (i + n) h ≡ turns quads l i h
+  again i = iterate-add (turn quads l) i n h ∙ ap (turns quads l i) (r .back)
+
+  pub neighbours-periodic : Periodic n (ringNeighbourZ l p h)
+  unfolding ringNeighbourZ
+  neighbours-periodic = record { again = λ i. ap (λ (g : ℕ). pos 60 *ℤ p (to quads l g)) (again i) }
+
+  pub corners-periodic : Periodic n (ringCornerZ l p h)
+  unfolding ringCornerZ
+  corners-periodic = record { again = λ i. ap (λ (g : ℕ). pos 60 *ℤ p (oppositeCorner l g)) (again i) }
