@@ -6,3 +6,4 @@ pub mod Constant
 pub mod Steps
 pub mod Growth
 pub mod Straight
+pub mod Beyond

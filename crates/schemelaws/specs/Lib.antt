@@ -1,2 +1,3 @@
 pub mod Numerators
 pub mod Nets
+pub mod Agreement
