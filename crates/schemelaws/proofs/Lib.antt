@@ -7,3 +7,4 @@ pub mod Steps
 pub mod Growth
 pub mod Straight
 pub mod Beyond
+pub mod Directions
