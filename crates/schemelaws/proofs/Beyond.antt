@@ -2,7 +2,7 @@
 -- straight across from there.
 use mathlib.Core.Path.{_≡_, refl, sym, ap, _∙_, subst}
 use mathlib.Core.List.{List}
-use Prim.Native.Nat.{ℕ, suc, _+_, _-_, _≤_, _<_}
+use Prim.Native.Nat.{ℕ, suc, _-_, _≤_, _<_}
 use native.Mathlib.Omega.{arith}
 use lib.ListN.{length}
 use Rattle.search.specs.Search.{iterate}
@@ -14,7 +14,6 @@ use Rattle.topology.proofs.Mates.{mate-is, mate-back}
 use Rattle.topology.proofs.Turn.{turn-inj, turn-unturn}
 use Rattle.scheme.specs.Rings.{oppositeCorner}
 use Rattle.scheme.specs.Points.{across, beyond}
-use Rattle.schemelaws.proofs.Ties.{across-lt}
 
 module _ (v : ℕ) (l : List ℕ) (ok : Manifold quads v l) where
   -- ---- the four sides of a face
@@ -22,10 +21,6 @@ module _ (v : ℕ) (l : List ℕ) (ok : Manifold quads v l) where
     pub prev-across : quads .prev (across h) ≡ quads .next h
     unfolding across
     prev-across = ok .oriented .shape .prev-next (quads .next h)
-
-    pub across-prev : across (quads .prev h) ≡ quads .next h
-    unfolding across
-    across-prev = ap (quads .next) (ok .oriented .shape .next-prev h)
 
     pub opposite-across : oppositeCorner l h ≡ from l (across h)
     unfolding oppositeCorner to across

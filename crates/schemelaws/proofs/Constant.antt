@@ -1,29 +1,29 @@
 -- A round is constant on constants: where every vertex has the coordinate c, so have all virtual, edge and face points, in numerators over the fixed
 -- denominators.
 use mathlib.Core.Path.{_≡_, refl, ap, ap₂, _∙_}
-use mathlib.Core.Bool.{Bool, true, false, cond}
+use mathlib.Core.Bool.{true, cond}
 use mathlib.Core.List.{List, [], _∷_}
-use Prim.Native.Nat.{ℕ, suc, _+_, _-_, _*_, _/_, _%_, _≤_, _<_}
+use Prim.Native.Nat.{ℕ, _+_, _-_, _*_, _/_, _%_, _≤_, _<_}
 use native.Mathlib.Omega.{arith}
 use lib.Dec.{eqb, ltb}
 use lib.IntN.{ℤ, pos, _+ℤ_, _*ℤ_}
 use lib.ListN.{length}
 use borrow.Author.Tests.{ltb-true, ltb-false, eqb-false}
 use Rattle.search.proofs.Tests.{cond-elim}
-use Rattle.integers.proofs.Polynomial.{var, lit, _⊞_, _⊟_, _⊠_, same}
+use Rattle.integers.proofs.Polynomial.{var, lit, _⊞_, _⊠_, same}
 use Rattle.curve.specs.Weights.{kobbelt, interior, endEdge, singleEdge}
 use Rattle.rings.specs.Ring.{wrap}
-use Rattle.rings.specs.RingWeights.{virtualZ, virtualNumerator}
+use Rattle.rings.specs.RingWeights.{virtualNumerator}
 use Rattle.rings.proofs.Virtual.{virtual-constant}
 use Rattle.rings.proofs.Ties.{over-840}
 use Rattle.rules.specs.Numerators.{extrapolatedZ, extrapolatedCornerZ, innerEdgeZ}
 use Rattle.rules.proofs.Norm.{interior-constant, end-constant, single-constant, extrapolated-constant, extrapolated-corner-constant, inner-constant}
 use Rattle.topology.specs.Shape.{quads}
-use Rattle.topology.specs.HalfEdge.{from, to, mate}
+use Rattle.topology.specs.HalfEdge.{from, mate}
 use Rattle.topology.specs.Boundary.{boundaryFrom}
-use Rattle.topology.specs.Vertex.{valence, turns}
+use Rattle.topology.specs.Vertex.{valence}
 use Rattle.topology.specs.Manifold.{Manifold}
-use Rattle.scheme.specs.Rings.{oppositeCorner, fanEnd, fanPlace}
+use Rattle.scheme.specs.Rings.{fanEnd, fanPlace}
 use Rattle.scheme.specs.Points.{EdgeRule, insideSegment, startOfSegment, endOfSegment, wholeSegment, innerRule, edgeRule, across, beyond, FaceRule, firstAlone, secondAlone, bothDirections, faceRule}
 use Rattle.schemelaws.specs.Numerators.{extrapolatedAtZ, fanNeighbourZ, fanCornerZ, ringNeighbourZ, ringCornerZ, ringVirtualZ, fanVirtualZ, virtualAtZ, edgeValueZ, edgeZ, directionZ, faceValueZ, faceZ}
 use Rattle.schemelaws.proofs.Vertices.{fan-at, fan-le, first-end, last-end, ring-ge, ring-le}

@@ -1,9 +1,9 @@
 -- The coordinates that a round gives: old points stay, and each new one is a numerator rounded once. The point of an inner edge is the same from both its
 -- half-edges, so it does not matter at which of them it is worked out.
-use mathlib.Core.Path.{_≡_, refl, sym, ap, ap₂, _∙_}
+use mathlib.Core.Path.{_≡_, refl, sym, ap, _∙_}
 use mathlib.Core.Bool.{false}
 use mathlib.Core.List.{List, [], _∷_}
-use Prim.Native.Nat.{ℕ, _+_, _-_, _≤_, _<_, min}
+use Prim.Native.Nat.{ℕ, _+_, _-_, _<_, min}
 use native.Mathlib.Decide.{decLt}
 use native.Mathlib.Omega.{arith}
 use lib.Dec.{eqb}
@@ -22,7 +22,7 @@ use Rattle.rules.specs.Numerators.{innerEdgeZ}
 use Rattle.topology.specs.Shape.{quads}
 use Rattle.topology.specs.HalfEdge.{from, to, mate, edgeCount, edge}
 use Rattle.topology.specs.Manifold.{Oriented, Manifold}
-use Rattle.topology.proofs.Mates.{mate-is, mate-back, mate-not, mate-le, edge-lt, edge-mate, edge-same}
+use Rattle.topology.proofs.Mates.{mate-is, mate-back, mate-not, edge-lt, edge-mate, edge-same}
 use Rattle.scheme.specs.Points.{edgePoint, facePoint}
 use Rattle.scheme.specs.Step.{edgeAt, refinedCoordinate}
 use Rattle.schemelaws.specs.Numerators.{virtualAtZ, edgeValueZ, edgeZ, faceZ}

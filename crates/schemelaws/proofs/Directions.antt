@@ -5,7 +5,7 @@ use mathlib.Core.List.{List, [], _∷_}
 use Prim.Native.Nat.{ℕ, zero, suc, _+_, _-_, _*_, _/_, _≤_, _<_}
 use native.Mathlib.Nat.{add-comm, mul-left-comm}
 use native.Mathlib.Omega.{arith}
-use lib.IntN.{ℤ, pos, _+ℤ_, _-ℤ_, _*ℤ_}
+use lib.IntN.{ℤ, pos, _*ℤ_}
 use lib.ListN.{length}
 use borrow.Author.Tests.{lt-ltb}
 use Rattle.search.specs.Search.{iterate}
@@ -15,7 +15,7 @@ use Rattle.integers.proofs.Polynomial.{var, lit, _⊞_, _⊟_, _⊠_, same}
 use Rattle.curve.specs.Weights.{kobbelt, interior}
 use Rattle.fractions.specs.Fraction.{Equals, Same}
 use Rattle.fractions.proofs.Laws.{equals-cong, same-of-equals}
-use Rattle.rings.specs.RingWeights.{virtualZ, virtualNumerator}
+use Rattle.rings.specs.RingWeights.{virtualNumerator}
 use Rattle.rings.proofs.Virtual.{virtual-turned}
 use Rattle.rings.proofs.Ties.{over-840}
 use Rattle.rules.specs.Numerators.{innerEdgeZ}
@@ -37,7 +37,7 @@ use Rattle.schemelaws.proofs.Vertices.{ring-of, ring-ge, ring-le, neigh
 use Rattle.schemelaws.proofs.Ties.{across-lt, side₀-lt, side₁-lt, equals-edge, equals-direction}
 use Rattle.schemelaws.proofs.Coordinates.{edge-inner}
 use Rattle.schemelaws.proofs.Straight.{virtual-inside, edge-straight}
-use Rattle.schemelaws.proofs.Beyond.{next-across, across-across, across-next, across-prev, opposite-across, turn-next, last-turn, last-neighbour, start-straight, two-turns, third-neighbour, end-straight}
+use Rattle.schemelaws.proofs.Beyond.{next-across, across-next, opposite-across, turn-next, last-neighbour, start-straight, two-turns, third-neighbour, end-straight}
 
 module _ (v : ℕ) (l : List ℕ) (ok : Manifold quads v l) (f : ℕ) (reg : Regular l f) where
   -- ---- the sides of the face
@@ -56,9 +56,6 @@ module _ (v : ℕ) (l : List ℕ) (ok : Manifold quads v l) (f : ℕ) (reg : Reg
         subst P (x .2) (below-four (λ (i : ℕ). P (iterate (quads .next) i h)) p₀ p₁ p₂ (subst P (sym (next-across v l ok h (s .lt))) p₃) (x .0) (x .1))
 
     -- the ring of the corner that h leaves
-    abbrev n : ℕ
-    n = valence l (from l h)
-
     ring : Ring quads l (from l h) h (valence l (from l h))
     ring = ring-of v l ok h (s .lt) (let e = reg .corners h s in omega arith)
 

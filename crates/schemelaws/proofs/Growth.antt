@@ -1,12 +1,12 @@
 -- How large coordinates become: the sizes of edge and face points, one round and six. Paper 01: "every coordinate stays within 268,435,456".
-use mathlib.Core.Path.{_≡_, refl, sym, ap, ap₂, _∙_, subst}
+use mathlib.Core.Path.{_≡_, refl, ap, _∙_, subst}
 use mathlib.Core.List.{List, [], _∷_}
 use Prim.Native.Nat.{ℕ, zero, suc, _+_, _-_, _*_, _/_, _%_, _≤_, _<_}
 use native.Mathlib.Decide.{decLt}
-use native.Mathlib.Nat.{le-trans, mul-add, mul-left-comm, le-of-mul-le-mul-left}
+use native.Mathlib.Nat.{mul-add, mul-left-comm, le-of-mul-le-mul-left}
 use native.Mathlib.Omega.{arith}
-use lib.IntN.{ℤ, pos, natAbs, _+ℤ_, _-ℤ_, _*ℤ_, *ℤ-zero}
-use lib.ListN.{length, getD}
+use lib.IntN.{ℤ, pos, natAbs, _-ℤ_, _*ℤ_}
+use lib.ListN.{length}
 use Rattle.integers.proofs.AbsoluteValue.{abs-mul, abs-add, abs-sub}
 use Rattle.integers.proofs.Polynomial.{var, lit, _⊞_, _⊟_, _⊠_, same}
 use Rattle.rounding.specs.Rounding.{round}

@@ -4,28 +4,28 @@ use mathlib.Core.Path.{_≡_, refl, sym, ap, ap₂, _∙_, subst}
 use mathlib.Core.Bool.{Bool, true, false, cond}
 use mathlib.Core.Logic.{_⊎_, inl, inr, ⊎-elim}
 use mathlib.Core.List.{List, [], _∷_}
-use Prim.Native.Nat.{ℕ, suc, _+_, _-_, _*_, _/_, _%_, _≤_, _<_}
+use Prim.Native.Nat.{ℕ, suc, _+_, _-_, _*_, _%_, _≤_, _<_}
 use native.Mathlib.Nat.{zero-add, mod-lt, mod-eq-of-lt, mod-eq-sub-mod}
 use native.Mathlib.Decide.{decLt, ℕ-discrete}
 use native.Mathlib.Omega.{arith}
 use lib.Dec.{eqb, ltb}
 use lib.IntN.{ℤ, pos, natAbs, _+ℤ_, _-ℤ_, _*ℤ_}
 use lib.ListN.{length}
-use borrow.Author.Tests.{ltb-true, ltb-false, eqb-true, eqb-false, eq-eqb, ne-eqb}
+use borrow.Author.Tests.{ltb-true, ltb-false, eqb-false, eq-eqb, ne-eqb}
 use Rattle.search.specs.Search.{iterate}
 use Rattle.integers.proofs.AbsoluteValue.{abs-mul, abs-add}
 use Rattle.integers.proofs.Polynomial.{var, lit, _⊞_, _⊟_, _⊠_, same}
 use Rattle.curve.specs.Weights.{kobbelt, interior, endEdge, singleEdge}
 use Rattle.rings.specs.Ring.{Periodic, wrap}
 use Rattle.rings.proofs.Periodic.{wrap-periodic}
-use Rattle.rings.proofs.Norm.{threeAt, threeAround, inside-numerator-near, boundary-numerator-near}
+use Rattle.rings.proofs.Norm.{inside-numerator-near, boundary-numerator-near}
 use Rattle.rules.proofs.Norm.{tame, interior-near, end-near, single-near, extrapolated-near, extrapolated-corner-near, inner-near, boundary-edge-near}
 use Rattle.topology.specs.Shape.{quads}
 use Rattle.topology.specs.HalfEdge.{from, to, mate}
 use Rattle.topology.specs.Boundary.{OnBoundary, boundaryFrom, along, back}
 use Rattle.topology.specs.Vertex.{valence, turns}
 use Rattle.topology.specs.Manifold.{Manifold}
-use Rattle.topology.proofs.Mates.{mate-le, mate-is, mate-back}
+use Rattle.topology.proofs.Mates.{mate-le, mate-back}
 use Rattle.topology.proofs.Boundary.{to-lt, along-on, back-on}
 use Rattle.scheme.specs.Rings.{oppositeCorner, fanEnd, fanPlace}
 use Rattle.scheme.specs.Points.{EdgeRule, insideSegment, startOfSegment, endOfSegment, wholeSegment, innerRule, edgeRule, across, beyond, FaceRule, firstAlone, secondAlone, bothDirections, faceRule}

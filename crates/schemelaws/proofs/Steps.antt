@@ -1,10 +1,10 @@
 -- The net after a round and after k rounds: its tables and their lengths, that drawn points and marks stay, and that it is refinable again.
-use mathlib.Core.Path.{_≡_, refl, sym, ap, ap₂, _∙_, subst}
+use mathlib.Core.Path.{_≡_, refl, sym, ap, ap₂, _∙_}
 use mathlib.Core.List.{List}
 use Prim.Native.Nat.{ℕ, zero, suc, _+_, _*_, _/_, _%_, _≤_, _<_}
 use native.Mathlib.Decide.{decLt}
 use native.Mathlib.Omega.{arith}
-use lib.IntN.{ℤ, pos}
+use lib.IntN.{pos}
 use lib.ListN.{length, getD, List·getD-eq-default}
 use Rattle.lists.proofs.Tabulate.{length-tabulate, getD-tabulate}
 use Rattle.tables.specs.Net.{Net}
@@ -12,7 +12,7 @@ use Rattle.curve.specs.Weights.{Weights}
 use Rattle.topology.specs.Shape.{quads}
 use Rattle.topology.specs.Manifold.{Manifold}
 use Rattle.topology.proofs.Shape.{quads-lawful}
-use Rattle.refusals.proofs.Manifold.{manifold-if, unrefused-if}
+use Rattle.refusals.proofs.Manifold.{manifold-if}
 use Rattle.refinement.specs.Refined.{refinedVertices, refined, refinedMarks, verticesAfter, cornersAfter, marksAfter}
 use Rattle.refinement.proofs.Corners.{length-refined}
 use Rattle.refinement.proofs.Manifold.{unrefused-refined, vertices-after-ge}

@@ -1,14 +1,14 @@
 -- Paper 01: "For n = 4 inside, v is the neighbour straight across": at a vertex with a full ring of four, and the point of an edge between two such vertices.
-use mathlib.Core.Path.{_≡_, refl, sym, ap, ap₂, _∙_, subst}
+use mathlib.Core.Path.{_≡_, refl, ap, ap₂, _∙_, subst}
 use mathlib.Core.List.{List, [], _∷_}
-use Prim.Native.Nat.{ℕ, _+_, _*_, _/_, _≤_, _<_}
+use Prim.Native.Nat.{ℕ, _<_}
 use native.Mathlib.Omega.{arith}
-use lib.IntN.{ℤ, pos, _+ℤ_, _*ℤ_}
+use lib.IntN.{ℤ, pos, _*ℤ_}
 use lib.ListN.{length}
 use borrow.Author.Tests.{le-ltb}
 use Rattle.integers.proofs.Polynomial.{var, lit, _⊞_, _⊟_, _⊠_, same}
 use Rattle.curve.specs.Weights.{kobbelt, interior}
-use Rattle.rings.specs.RingWeights.{virtualZ, virtualNumerator}
+use Rattle.rings.specs.RingWeights.{virtualNumerator}
 use Rattle.rings.proofs.Virtual.{virtual-across}
 use Rattle.rules.specs.Numerators.{innerEdgeZ}
 use Rattle.topology.specs.Shape.{quads}

@@ -1,5 +1,5 @@
 -- The points of a round in fractions are those in whole numbers, over the fixed denominators: at every half-edge and every face of a manifold net.
-use mathlib.Core.Path.{_≡_, refl, sym, ap, _∙_}
+use mathlib.Core.Path.{_≡_, refl}
 use mathlib.Core.Bool.{Bool, true, false, cond}
 use mathlib.Core.List.{List}
 use Prim.Native.Nat.{ℕ, suc, _+_, _-_, _*_, _%_, _≤_, _<_}
@@ -20,7 +20,6 @@ use Rattle.topology.specs.HalfEdge.{from, to, mate}
 use Rattle.topology.specs.Boundary.{boundaryFrom, along, back}
 use Rattle.topology.specs.Vertex.{valence, turns}
 use Rattle.topology.specs.Manifold.{Manifold}
-use Rattle.topology.proofs.Mates.{mate-is}
 use Rattle.scheme.specs.Rings.{oppositeCorner, fanEnd, extrapolatedAt, fanNeighbour, fanCorner, fanPlace, ringVirtual, fanVirtual, virtualAt}
 use Rattle.scheme.specs.Points.{EdgeRule, insideSegment, startOfSegment, endOfSegment, wholeSegment, innerRule, marked, edgeRule, edgeValue, edgePoint, across, beyond, direction, FaceRule, firstAlone, secondAlone, bothDirections, faceRule, faceValue, facePoint}
 use Rattle.schemelaws.specs.Numerators.{extrapolatedAtZ, fanNeighbourZ, fanCornerZ, ringNeighbourZ, ringCornerZ, ringVirtualZ, fanVirtualZ, virtualAtZ, edgeValueZ, edgeZ, directionZ, faceValueZ, faceZ}
