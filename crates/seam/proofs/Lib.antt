@@ -1,1 +1,3 @@
 pub mod Interleaved
+pub mod Vertices
+pub mod Readings

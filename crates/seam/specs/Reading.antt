@@ -19,17 +19,18 @@ unfoldable pub pointOf : Net → ℕ → Point
 pointOf m v = record { x = axis (m .vertices) 0 v; y = axis (m .vertices) 1 v; z = axis (m .vertices) 2 v }
 
 -- "each boundary vertex ends one boundary edge and starts one, the way the sides run"; "Either may be read with the sides or against them."
-unfoldable pub nextVertex : Net → Way → ℕ → ℕ
-nextVertex m withSides v = to quads (m .faces) (boundaryFrom quads (m .faces) v)
-nextVertex m againstSides v = from (m .faces) (boundaryInto quads (m .faces) v)
+-- the vertex after v along the boundary of the faces l
+unfoldable pub nextVertex : List ℕ → Way → ℕ → ℕ
+nextVertex l withSides v = to quads l (boundaryFrom quads l v)
+nextVertex l againstSides v = from l (boundaryInto quads l v)
 
 -- the vertex i boundary edges on from u
-unfoldable pub vertexAt : Net → Way → ℕ → ℕ → ℕ
-vertexAt m way u i = iterate (nextVertex m way) i u
+unfoldable pub vertexAt : List ℕ → Way → ℕ → ℕ → ℕ
+vertexAt l way u i = iterate (nextVertex l way) i u
 
 -- the points of n vertices in a row, from u on
 unfoldable pub points : Net → Way → ℕ → ℕ → List Point
-points m way u n = tabulate n (λ (i : ℕ). pointOf m (vertexAt m way u i))
+points m way u n = tabulate n (λ (i : ℕ). pointOf m (vertexAt (m .faces) way u i))
 
 -- "Open: from a marked vertex along boundary edges to the next mark on its loop, both ends included (with one mark, the same vertex again)."
 pub record OpenReading (m : Net) (way : Way) (u : ℕ) (L : List Point) : Type 0 where
@@ -37,18 +38,18 @@ pub record OpenReading (m : Net) (way : Way) (u : ℕ) (L : List Point) : Type 0
   pub starts : marked (m .marks) u ≡ true
   pub edges : ℕ
   pub some : 0 < edges
-  pub between : (i : ℕ) → 0 < i → i < edges → marked (m .marks) (vertexAt m way u i) ≡ false
-  pub ends : marked (m .marks) (vertexAt m way u edges) ≡ true
+  pub between : (i : ℕ) → 0 < i → i < edges → marked (m .marks) (vertexAt (m .faces) way u i) ≡ false
+  pub ends : marked (m .marks) (vertexAt (m .faces) way u edges) ≡ true
   pub list : L ≡ points m way u (suc edges)
 
 -- "Round: on a loop without marks, once round from any vertex, the first not repeated."
 pub record ClosedReading (m : Net) (way : Way) (u : ℕ) (L : List Point) : Type 0 where
   pub boundary : boundaryFrom quads (m .faces) u < length (m .faces)
-  pub unmarked : (i : ℕ) → marked (m .marks) (vertexAt m way u i) ≡ false
+  pub unmarked : (i : ℕ) → marked (m .marks) (vertexAt (m .faces) way u i) ≡ false
   pub edges : ℕ
   pub some : 0 < edges
-  pub once : (i : ℕ) → 0 < i → i < edges → vertexAt m way u i ≡ u → ⊥
-  pub returns : vertexAt m way u edges ≡ u
+  pub once : (i : ℕ) → 0 < i → i < edges → vertexAt (m .faces) way u i ≡ u → ⊥
+  pub returns : vertexAt (m .faces) way u edges ≡ u
   pub list : L ≡ points m way u edges
 
 -- reading the net from u, this way, gives the list L
