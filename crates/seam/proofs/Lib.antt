@@ -1,3 +1,6 @@
 pub mod Interleaved
 pub mod Vertices
 pub mod Readings
+pub mod Refined
+pub mod Step
+pub mod Seam

@@ -56,7 +56,7 @@ open-long m way u L r = let a = ap length (r .list) ∙ length-points m way u (s
 
 module _ (m : Net) (ok : Admissible m) (way : Way) (u : ℕ) where
   -- back at u the half-edge is that which leaves u
-  loop-closed : boundaryFrom quads (m .faces) u < length (m .faces) → (n : ℕ) → vertexAt (m .faces) way u n ≡ u
+  pub loop-closed : boundaryFrom quads (m .faces) u < length (m .faces) → (n : ℕ) → vertexAt (m .faces) way u n ≡ u
       → iterate (step quads (m .faces) way) n (boundaryFrom quads (m .faces) u) ≡ boundaryFrom quads (m .faces) u
   loop-closed b n e =
       let v : ℕ = length (m .marks) in
