@@ -4,3 +4,4 @@ pub mod Readings
 pub mod Refined
 pub mod Step
 pub mod Seam
+pub mod Examples
