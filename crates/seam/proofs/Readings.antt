@@ -39,11 +39,16 @@ reads-one m way Open u L M r t =
     same-number (r .edges) (t .edges)
     (λ h. clash (marked (m .marks) (vertexAt (m .faces) way u (r .edges))) (r .ends) (t .between (r .edges) (r .some) h))
     (λ h. clash (marked (m .marks) (vertexAt (m .faces) way u (t .edges))) (t .ends) (r .between (t .edges) (t .some) h)) in
-    r .list ∙ ap (λ (k : ℕ). points m way u (suc k)) n ∙ sym (t .list)
+    cc
 reads-one m way Closed u L M r t =
     let n : r .edges ≡ t .edges =
     same-number (r .edges) (t .edges) (λ h. t .once (r .edges) (r .some) h (r .returns)) (λ h. r .once (t .edges) (t .some) h (t .returns)) in
-    r .list ∙ ap (points m way u) n ∙ sym (t .list)
+    cc
+
+-- and not of both kinds
+pub kinds-apart : (m : Net) (way way′ : Way) (u : ℕ) (L M : List Point) → Reads m way Open u L → Reads m way′ Closed u M → ⊥
+unfolding vertexAt iterate
+kinds-apart m way way′ u L M r t = clash (marked (m .marks) u) (r .starts) (t .unmarked 0)
 
 -- ---- how long
 length-points : (m : Net) (way : Way) (u n : ℕ) → length (points m way u n) ≡ n
@@ -52,7 +57,7 @@ length-points m way u n = length-tabulate n (λ (i : ℕ). pointOf m (vertexAt (
 
 -- "Open lists have two points or more, round ones three or more."
 pub open-long : (m : Net) (way : Way) (u : ℕ) (L : List Point) → OpenReading m way u L → 2 ≤ length L
-open-long m way u L r = let a = ap length (r .list) ∙ length-points m way u (suc (r .edges)) in let b = r .some in omega arith
+open-long m way u L r = omega (arith, simp length-points at (ap length (r .list)), r .some)
 
 module _ (m : Net) (ok : Admissible m) (way : Way) (u : ℕ) where
   -- back at u the half-edge is that which leaves u
@@ -70,7 +75,7 @@ module _ (m : Net) (ok : Admissible m) (way : Way) (u : ℕ) where
       loop-three quads (length (m .marks)) (m .faces) ok way n (boundaryFrom quads (m .faces) u) (boundaryFrom-on quads (m .faces) u b) z (loop-closed b n e)
 
   pub closed-long : (L : List Point) → ClosedReading m way u L → 3 ≤ length L
-  closed-long L r = let a = ap length (r .list) ∙ length-points m way u (r .edges) in let b = three-edges (r .edges) (r .boundary) (r .some) (r .returns) in omega arith
+  closed-long L r = omega (arith, simp length-points at (ap length (r .list)), three-edges (r .edges) (r .boundary) (r .some) (r .returns))
 
   -- ---- there is one
   -- a test on vertices that holds at u holds again further on
