@@ -1,10 +1,11 @@
 -- Readings of paper 01's square, and the seam of two squares.
 use mathlib.Core.Path.{_≡_, refl}
-use mathlib.Core.Bool.{false}
+use mathlib.Core.Bool.{true, false}
 use mathlib.Core.List.{List, [], _∷_}
 use Prim.Native.Nat.{ℕ, zero, suc, _<_}
 use native.Mathlib.Omega.{arith}
 use lib.IntN.{ℤ, pos, negsuc}
+use lib.ListN.{length}
 use Rattle.lists.specs.Tabulate.{tabulate}
 use Rattle.rounding.specs.Rounding.{round}
 use Rattle.search.specs.Search.{firstFrom, first, count, any, iterate}
@@ -13,7 +14,7 @@ use Rattle.curve.specs.Weights.{kobbelt}
 use Rattle.curve.specs.Curve.{Open, Closed, Point, curve}
 use Rattle.topology.specs.Shape.{quads}
 use Rattle.topology.specs.HalfEdge.{from, to, opposed, mate, firstMet, edgeCount, edge}
-use Rattle.topology.specs.Boundary.{isBoundaryFrom, isBoundaryInto, boundaryFrom, boundaryInto, along, back, withSides, againstSides}
+use Rattle.topology.specs.Boundary.{isBoundaryFrom, isBoundaryInto, boundaryFrom, boundaryInto, along, back, Way, withSides, againstSides}
 use Rattle.topology.specs.Vertex.{leaves, valence, turn, start, stops, facesMet}
 use Rattle.topology.proofs.Shape.{quads-lawful}
 use Rattle.refusals.specs.Refusals.{badCorner, isolated, repeatedSide, nonManifold, badValence}
@@ -44,29 +45,25 @@ below marks = record {
 }
 
 -- ---- four marks: each side is a segment of one edge
-four-marks : Reads (square (1 ∷ 1 ∷ 1 ∷ 1 ∷ [])) withSides Open 0 (flat (pos 0) (pos 0) ∷ flat (pos 16) (pos 0) ∷ [])
-unfolding tabulate firstFrom first iterate quads from to opposed mate isBoundaryFrom boundaryFrom marked axis pointOf nextVertex vertexAt points
-four-marks = record {
-  boundary = omega arith;
-  starts = refl;
+one-edge : (m : Net) (way : Way) (u : ℕ) → boundaryFrom quads (m .faces) u < length (m .faces) → marked (m .marks) u ≡ true → marked (m .marks) (vertexAt (m .faces) way u 1) ≡ true
+    → Reads m way Open u (points m way u 2)
+one-edge m way u b s e = record {
+  boundary = b;
+  starts = s;
   edges = 1;
   some = omega arith;
   between = λ i a b. absurd (omega arith);
-  ends = refl;
+  ends = e;
   list = refl;
 }
 
+four-marks : Reads (square (1 ∷ 1 ∷ 1 ∷ 1 ∷ [])) withSides Open 0 (flat (pos 0) (pos 0) ∷ flat (pos 16) (pos 0) ∷ [])
+unfolding tabulate firstFrom first iterate quads from to opposed mate isBoundaryFrom boundaryFrom marked axis pointOf nextVertex vertexAt points
+four-marks = one-edge (square (1 ∷ 1 ∷ 1 ∷ 1 ∷ [])) withSides 0 (omega arith) refl refl
+
 four-marks-below : Reads (below (1 ∷ 1 ∷ 1 ∷ 1 ∷ [])) againstSides Open 0 (flat (pos 0) (pos 0) ∷ flat (pos 16) (pos 0) ∷ [])
 unfolding tabulate firstFrom first iterate quads from to opposed mate isBoundaryFrom isBoundaryInto boundaryFrom boundaryInto marked axis pointOf nextVertex vertexAt points
-four-marks-below = record {
-  boundary = omega arith;
-  starts = refl;
-  edges = 1;
-  some = omega arith;
-  between = λ i a b. absurd (omega arith);
-  ends = refl;
-  list = refl;
-}
+four-marks-below = one-edge (below (1 ∷ 1 ∷ 1 ∷ 1 ∷ [])) againstSides 0 (omega arith) refl refl
 
 -- ---- one mark: all the way round, the marked vertex first and last
 one-mark : Reads (square (1 ∷ 0 ∷ 0 ∷ 0 ∷ [])) withSides Open 0 (flat (pos 0) (pos 0) ∷ flat (pos 16) (pos 0) ∷ flat (pos 16) (pos 16) ∷ flat (pos 0) (pos 16) ∷ flat (pos 0) (pos 0) ∷ [])

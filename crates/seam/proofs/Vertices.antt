@@ -24,7 +24,7 @@ module _ (v : ℕ) (l : List ℕ) (ok : Manifold quads v l) where
   next-step withSides h o = ap (to quads l) (boundaryFrom-is quads v l ok (from l h) h o refl) ∙ sym (along-from quads v l ok h o)
   next-step againstSides h o = refl
 
-  vertex-from : (way : Way) (h i : ℕ) → OnBoundary quads l h → vertexAt l way (from l h) i ≡ from l (iterate (step quads l way) i h)
+  pub vertex-from : (way : Way) (h i : ℕ) → OnBoundary quads l h → vertexAt l way (from l h) i ≡ from l (iterate (step quads l way) i h)
   unfolding vertexAt iterate
   vertex-from way h zero o = refl
   vertex-from way h (suc i) o = ap (nextVertex l way) (vertex-from way h i o) ∙ next-step way (iterate (step quads l way) i h) (steps-on quads v l ok way i h o)
@@ -41,6 +41,14 @@ module _ (v : ℕ) (l : List ℕ) (ok : Manifold quads v l) (way : Way) (u : ℕ
 
   pub vertex-lt : (i : ℕ) → vertexAt l way u i < v
   vertex-lt i = let e = vertex-at i in let k = ok .oriented .below (iterate (step quads l way) i (boundaryFrom quads l u)) (halfEdge-on i .lt) in omega arith
+
+  -- it too is on the boundary
+  pub boundary-at : (i : ℕ) → boundaryFrom quads l (vertexAt l way u i) < length l
+  boundary-at i =
+      let h : ℕ = iterate (step quads l way) i (boundaryFrom quads l u) in
+      let e = boundaryFrom-is quads v l ok (vertexAt l way u i) h (halfEdge-on i) (sym (vertex-at i)) in
+      let k = halfEdge-on i .lt in
+      omega arith
 
   -- ---- after a round
   pub refined-boundary : boundaryFrom quads (refined quads v l) u < length (refined quads v l)
