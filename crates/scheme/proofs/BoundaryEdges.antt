@@ -11,7 +11,6 @@ use lib.IntN.{ℤ, pos}
 use lib.ListN.{length}
 use borrow.Author.Tests.{eq-eqb, eqb-true, lt-ltb, le-ltb}
 use Rattle.lists.proofs.Tabulate.{getD-tabulate}
-use Rattle.search.specs.Search.{first}
 use Rattle.search.proofs.First.{first-only}
 use Rattle.tables.specs.Net.{Net}
 use Rattle.curve.specs.Weights.{Weights, scale}

@@ -1,12 +1,11 @@
 -- A reading after a round is one step of the curve on the reading before it, whatever the round does away from the boundary.
-use mathlib.Core.Path.{_≡_, refl, sym, ap, ap₂, _∙_, subst}
+use mathlib.Core.Path.{_≡_, refl, sym, ap, ap₂, _∙_}
 use mathlib.Core.Bool.{Bool, true, false}
 use mathlib.Core.List.{List}
 use Prim.Native.Nat.{ℕ, zero, suc, _+_, _*_, _≤_, _<_}
 use native.Mathlib.Omega.{arith}
 use lib.ListN.{length, getD}
 use lib.Dec.{eqb}
-use Rattle.lists.specs.Tabulate.{tabulate}
 use Rattle.search.specs.Search.{iterate}
 use Rattle.search.proofs.Quarters.{parity}
 use Rattle.tables.specs.Net.{Net}
@@ -17,14 +16,13 @@ use Rattle.topology.specs.HalfEdge.{from, to, edge}
 use Rattle.topology.specs.Boundary.{OnBoundary, boundaryFrom, along, back, Way, withSides, againstSides, other, step, passed}
 use Rattle.topology.proofs.Boundary.{along-on, along-from, back-to, along-back}
 use Rattle.topology.proofs.Loops.{passed-on, step-undone}
-use Rattle.refinement.specs.Refined.{refined, refinedMarks}
 use Rattle.refinement.proofs.Marks.{mark-old, mark-new}
 use Rattle.scheme.specs.Points.{marked}
 use Rattle.seam.specs.Reading.{pointOf, nextVertex, vertexAt, points, OpenReading, ClosedReading, Reads}
 use Rattle.seam.specs.BoundaryStep.{boundaryRule, boundaryPoint, BoundaryStep}
 use Rattle.seam.specs.Seam.{Admissible}
 use Rattle.seam.proofs.Interleaved.{Interleaved, open-list, closed-list}
-use Rattle.seam.proofs.Vertices.{halfEdge-on, vertex-at, vertex-lt, refined-boundary, vertex-even, vertex-odd}
+use Rattle.seam.proofs.Vertices.{halfEdge-on, vertex-at, vertex-lt, boundary-refined, vertex-even, vertex-odd}
 use Rattle.seam.proofs.Readings.{loop-closed, three-edges}
 
 -- ---- the boundary rule, read either way
@@ -37,7 +35,7 @@ turned ℛ 𝒮 true true p q r s = 𝒮 .single q r
 
 -- the point of the edge that a step from g passes, by the vertices on that way
 point-passed : (ℛ : Rules Point) → Symmetric ℛ → (m : Net) → Admissible m → (way : Way) (g : ℕ) → OnBoundary quads (m .faces) g
-    → boundaryPoint ℛ m (passed quads (m .faces) way g)
+    → boundaryPoint ℛ m (pointOf m) (passed quads (m .faces) way g)
     ≡ boundaryRule ℛ (marked (m .marks) (from (m .faces) g)) (marked (m .marks) (from (m .faces) (step quads (m .faces) way g)))
     (pointOf m (from (m .faces) (step quads (m .faces) (other way) g))) (pointOf m (from (m .faces) g)) (pointOf m (from (m .faces) (step quads (m .faces) way g)))
     (pointOf m (from (m .faces) (step quads (m .faces) way (step quads (m .faces) way g))))
@@ -79,7 +77,7 @@ module _ (ℛ : Rules Point) (𝒮 : Symmetric ℛ) (a b : Net) (ok : Admissible
   mark-odd i = marks-new (vertexAt (b .faces) way u (suc (2 * i))) (omega (arith, at-odd i))
 
   boundary-after : boundaryFrom quads (b .faces) u < length (b .faces)
-  boundary-after = rw (d .faces) (refined-boundary (length (a .marks)) (a .faces) ok way u c)
+  boundary-after = rw (d .faces) (boundary-refined (length (a .marks)) (a .faces) ok way u c)
 
   -- ---- the points after the round are interleaved with those before
   interleaved : Interleaved ℛ (λ (i : ℕ). marked (a .marks) (vertexAt (a .faces) way u i))
@@ -94,7 +92,7 @@ module _ (ℛ : Rules Point) (𝒮 : Symmetric ℛ) (a b : Net) (ok : Admissible
       let on : (i : ℕ) → OnBoundary quads l (h i) = halfEdge-on v l ok way u c in
       record {
         follows = λ i. ap (λ (g : ℕ). pointOf a (from l g)) (step-undone quads v l ok way (h i) (on i)) ∙ ap (pointOf a) (sym (at i));
-        old = λ i. ap (pointOf b) (at-even i) ∙ d .old (vertexAt l way u i) (vertex-lt v l ok way u c i);
+        old = λ i. ap (pointOf b) (at-even i ∙ at i) ∙ d .old (h i) (on i) ∙ ap (λ (x : ℕ). ℛ .keep (pointOf a x)) (sym (at i));
         new = λ i. ap (pointOf b) (at-odd i) ∙ d .new (passed quads l way (h i)) (passed-on quads v l ok way (h i) (on i))
             ∙ point-passed ℛ 𝒮 a ok way (h i) (on i)
             ∙ rw (at i, at (suc i), at (suc (suc i)));

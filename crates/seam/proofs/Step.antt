@@ -1,5 +1,5 @@
 -- One round of the scheme, at the boundary: old points stay, and the boundary rules put the new ones. Inner edges and faces do not come into it.
-use mathlib.Core.Path.{_≡_, refl, sym, ap, _∙_, subst}
+use mathlib.Core.Path.{_≡_, refl, sym, _∙_, subst}
 use mathlib.Core.Bool.{Bool, true, false}
 use mathlib.Core.List.{List}
 use Prim.Native.Nat.{ℕ, _+_, _<_}
@@ -38,15 +38,23 @@ each-rule ℛ true false p q r s = refl
 each-rule ℛ false true p q r s = refl
 each-rule ℛ true true p q r s = refl
 
-module _ (w : Weights) (some : 0 < scale w) (m : Net) (ok : Admissible m) where
-  kept : (a i : ℕ) → a < 3 → i < length (m .marks) → axis (step w m .vertices) a i ≡ axis (m .vertices) a i
-  kept a i b c = axis-step w m a i b (omega arith) ∙ refined-old w (length (m .marks)) (m .faces) (m .marks) (axis (m .vertices) a) i c
+each-point : (ℛ : Rules ℤ) (m : Net) (h : ℕ) → boundaryPoint (each ℛ) m (pointOf m) h
+    ≡ record { x = boundaryPoint ℛ m (axis (m .vertices) 0) h; y = boundaryPoint ℛ m (axis (m .vertices) 1) h; z = boundaryPoint ℛ m (axis (m .vertices) 2) h }
+unfolding boundaryPoint pointOf
+each-point ℛ m h =
+    let l : List ℕ = m .faces in
+    each-rule ℛ (marked (m .marks) (from l h)) (marked (m .marks) (to quads l h)) (pointOf m (from l (back quads l h))) (pointOf m (from l h)) (pointOf m (to quads l h)) (pointOf m (to quads l (along quads l h)))
 
-  by-marks : (p : ℕ → ℤ) (h : ℕ) → OnBoundary quads (m .faces) h → toWhole (edgePoint w (m .faces) (m .marks) p h)
-      ≡ boundaryRule (rounded w) (marked (m .marks) (from (m .faces) h)) (marked (m .marks) (to quads (m .faces) h))
-      (p (from (m .faces) (back quads (m .faces) h))) (p (from (m .faces) h)) (p (to quads (m .faces) h)) (p (to quads (m .faces) (along quads (m .faces) h)))
-  unfolding boundaryRule
-  by-marks p h o = go (marked (m .marks) (from (m .faces) h)) (marked (m .marks) (to quads (m .faces) h)) refl refl
+module _ (w : Weights) (some : 0 < scale w) (m : Net) (ok : Admissible m) (h : ℕ) (o : OnBoundary quads (m .faces) h) where
+  kept : (a : ℕ) → a < 3 → axis (step w m .vertices) a (from (m .faces) h) ≡ axis (m .vertices) a (from (m .faces) h)
+  kept a b =
+      let i : ℕ = from (m .faces) h in
+      let c = ok .oriented .below h (o .lt) in
+      axis-step w m a i b (omega arith) ∙ refined-old w (length (m .marks)) (m .faces) (m .marks) (axis (m .vertices) a) i c
+
+  by-marks : (p : ℕ → ℤ) → toWhole (edgePoint w (m .faces) (m .marks) p h) ≡ boundaryPoint (rounded w) m p h
+  unfolding boundaryPoint boundaryRule
+  by-marks p = go (marked (m .marks) (from (m .faces) h)) (marked (m .marks) (to quads (m .faces) h)) refl refl
     where
       go : (a b : Bool) → marked (m .marks) (from (m .faces) h) ≡ a → marked (m .marks) (to quads (m .faces) h) ≡ b → toWhole (edgePoint w (m .faces) (m .marks) p h)
           ≡ boundaryRule (rounded w) a b (p (from (m .faces) (back quads (m .faces) h))) (p (from (m .faces) h)) (p (to quads (m .faces) h)) (p (to quads (m .faces) (along quads (m .faces) h)))
@@ -55,27 +63,22 @@ module _ (w : Weights) (some : 0 < scale w) (m : Net) (ok : Admissible m) where
       go false true s t = finish-rounded w some (m .faces) (m .marks) p h o s t
       go true true s t = whole-rounded w some (m .faces) (m .marks) p h o s t
 
-  put : (a h : ℕ) → a < 3 → OnBoundary quads (m .faces) h → axis (step w m .vertices) a (length (m .marks) + edge quads (m .faces) h)
-      ≡ boundaryRule (rounded w) (marked (m .marks) (from (m .faces) h)) (marked (m .marks) (to quads (m .faces) h))
-      (axis (m .vertices) a (from (m .faces) (back quads (m .faces) h))) (axis (m .vertices) a (from (m .faces) h)) (axis (m .vertices) a (to quads (m .faces) h))
-      (axis (m .vertices) a (to quads (m .faces) (along quads (m .faces) h)))
-  put a h b o =
+  put : (a : ℕ) → a < 3 → axis (step w m .vertices) a (length (m .marks) + edge quads (m .faces) h) ≡ boundaryPoint (rounded w) m (axis (m .vertices) a) h
+  put a b =
       let v : ℕ = length (m .marks) in
       let e = edge-lt quads v (m .faces) (ok .oriented) h (o .lt) in
       axis-step w m a (v + edge quads (m .faces) h) b (omega arith)
       ∙ refined-boundary v (m .faces) (ok .oriented) h o w (m .marks) (axis (m .vertices) a)
-      ∙ by-marks (axis (m .vertices) a) h o
+      ∙ by-marks (axis (m .vertices) a)
 
-  pub step-boundary : BoundaryStep (each (rounded w)) m (step w m)
-  unfolding step pointOf boundaryPoint
-  step-boundary = record {
-    faces = refl;
-    marks = refl;
-    old = λ i b. λ t. record { x = kept 0 i (omega arith) b t; y = kept 1 i (omega arith) b t; z = kept 2 i (omega arith) b t };
-    new = λ h o. (λ t. record { x = put 0 h (omega arith) o t; y = put 1 h (omega arith) o t; z = put 2 h (omega arith) o t })
-        ∙ sym (each-rule (rounded w) (marked (m .marks) (from (m .faces) h)) (marked (m .marks) (to quads (m .faces) h))
-        (pointOf m (from (m .faces) (back quads (m .faces) h))) (pointOf m (from (m .faces) h)) (pointOf m (to quads (m .faces) h)) (pointOf m (to quads (m .faces) (along quads (m .faces) h))));
-  }
+pub step-boundary : (w : Weights) → 0 < scale w → (m : Net) → Admissible m → BoundaryStep (each (rounded w)) m (step w m)
+unfolding step pointOf
+step-boundary w some m ok = record {
+  faces = refl;
+  marks = refl;
+  old = λ h o. λ t. record { x = kept w some m ok h o 0 (omega arith) t; y = kept w some m ok h o 1 (omega arith) t; z = kept w some m ok h o 2 (omega arith) t };
+  new = λ h o. (λ t. record { x = put w some m ok h o 0 (omega arith) t; y = put w some m ok h o 1 (omega arith) t; z = put w some m ok h o 2 (omega arith) t }) ∙ sym (each-point (rounded w) m h);
+}
 
 -- what the seam asks of a net passes from round to round
 pub admissible-step : (w : Weights) (m : Net) → Admissible m → Admissible (step w m)

@@ -51,9 +51,9 @@ module _ (v : ℕ) (l : List ℕ) (ok : Manifold quads v l) (way : Way) (u : ℕ
       omega arith
 
   -- ---- after a round
-  pub refined-boundary : boundaryFrom quads (refined quads v l) u < length (refined quads v l)
+  pub boundary-refined : boundaryFrom quads (refined quads v l) u < length (refined quads v l)
   unfolding vertexAt iterate
-  refined-boundary = let e = boundaryFrom-old quads v l ok u (vertex-lt 0) in let n = length-refined quads v l in omega arith
+  boundary-refined = let e = boundaryFrom-old quads v l ok u (vertex-lt 0) in let n = length-refined quads v l in omega arith
 
   refined-at : (i : ℕ) → vertexAt (refined quads v l) way u i ≡ from (refined quads v l) (iterate (step quads (refined quads v l) way) i (4 * boundaryFrom quads l u))
   refined-at i =

@@ -1,7 +1,8 @@
 -- What one round does to the boundary of a net: all that the seam asks of it. No inner edge and no face point is spoken of.
 use mathlib.Core.Path.{_≡_}
 use mathlib.Core.Bool.{Bool, true, false}
-use Prim.Native.Nat.{ℕ, _+_, _<_}
+use mathlib.Core.List.{List}
+use Prim.Native.Nat.{ℕ, _+_}
 use lib.ListN.{length}
 use Rattle.tables.specs.Net.{Net}
 use Rattle.curve.specs.Curve.{Rules, Point}
@@ -19,17 +20,16 @@ boundaryRule ℛ true false p q r s = ℛ .end q r s
 boundaryRule ℛ false true p q r s = ℛ .end r q p
 boundaryRule ℛ true true p q r s = ℛ .single q r
 
--- the point on the boundary edge of h
-unfoldable pub boundaryPoint : Rules Point → Net → ℕ → Point
-boundaryPoint ℛ m h =
-    let q : ℕ = from (m .faces) h in
-    let r : ℕ = to quads (m .faces) h in
-    boundaryRule ℛ (marked (m .marks) q) (marked (m .marks) r) (pointOf m (from (m .faces) (back quads (m .faces) h))) (pointOf m q) (pointOf m r)
-    (pointOf m (to quads (m .faces) (along quads (m .faces) h)))
+-- the point on the boundary edge of h, where vertex i has the point p i
+unfoldable pub boundaryPoint : {A : Type 0} → Rules A → Net → (ℕ → A) → ℕ → A
+boundaryPoint ℛ m p h =
+    let l : List ℕ = m .faces in
+    boundaryRule ℛ (marked (m .marks) (from l h)) (marked (m .marks) (to quads l h)) (p (from l (back quads l h))) (p (from l h)) (p (to quads l h)) (p (to quads l (along quads l h)))
 
--- after is a net that one round makes of before: faces and marks are refined, old points are kept, and each boundary edge has the point of the boundary rule
+-- one round makes the net after of the net before: faces and marks are refined; the start of each boundary half-edge keeps its point, and the vertex on its
+-- edge has the point of the boundary rule
 pub record BoundaryStep (ℛ : Rules Point) (before after : Net) : Type 0 where
   pub faces : after .faces ≡ refined quads (length (before .marks)) (before .faces)
   pub marks : after .marks ≡ refinedMarks quads (length (before .marks)) (before .faces) (before .marks)
-  pub old : (v : ℕ) → v < length (before .marks) → pointOf after v ≡ ℛ .keep (pointOf before v)
-  pub new : (h : ℕ) → OnBoundary quads (before .faces) h → pointOf after (length (before .marks) + edge quads (before .faces) h) ≡ boundaryPoint ℛ before h
+  pub old : (h : ℕ) → OnBoundary quads (before .faces) h → pointOf after (from (before .faces) h) ≡ ℛ .keep (pointOf before (from (before .faces) h))
+  pub new : (h : ℕ) → OnBoundary quads (before .faces) h → pointOf after (length (before .marks) + edge quads (before .faces) h) ≡ boundaryPoint ℛ before (pointOf before) h
