@@ -26,10 +26,23 @@ use Rattle.seam.specs.Reading.{pointOf, nextVertex, vertexAt, points, Re
 use Rattle.seam.specs.Seam.{Admissible, Seam}
 use Rattle.seam.proofs.Seam.{seam}
 
+-- the corners of the square of side 16
 abbrev flat : ℤ → ℤ → Point
 flat x y = record { x = x; y = y; z = pos 0 }
 
--- the square of side 16 with the marks given, and the one that lies below it
+abbrev c₀ : Point
+c₀ = flat (pos 0) (pos 0)
+
+abbrev c₁ : Point
+c₁ = flat (pos 16) (pos 0)
+
+abbrev c₂ : Point
+c₂ = flat (pos 16) (pos 16)
+
+abbrev c₃ : Point
+c₃ = flat (pos 0) (pos 16)
+
+-- the square with the marks given, and the one that lies below it
 abbrev square : List ℕ → Net
 square marks = record {
   vertices = pos 0 ∷ pos 0 ∷ pos 0 ∷ pos 16 ∷ pos 0 ∷ pos 0 ∷ pos 16 ∷ pos 16 ∷ pos 0 ∷ pos 0 ∷ pos 16 ∷ pos 0 ∷ [];
@@ -57,16 +70,16 @@ one-edge m way u b s e = record {
   list = refl;
 }
 
-four-marks : Reads (square (1 ∷ 1 ∷ 1 ∷ 1 ∷ [])) withSides Open 0 (flat (pos 0) (pos 0) ∷ flat (pos 16) (pos 0) ∷ [])
+four-marks : Reads (square (1 ∷ 1 ∷ 1 ∷ 1 ∷ [])) withSides Open 0 (c₀ ∷ c₁ ∷ [])
 unfolding tabulate firstFrom first iterate quads from to opposed mate isBoundaryFrom boundaryFrom marked axis pointOf nextVertex vertexAt points
 four-marks = one-edge (square (1 ∷ 1 ∷ 1 ∷ 1 ∷ [])) withSides 0 (omega arith) refl refl
 
-four-marks-below : Reads (below (1 ∷ 1 ∷ 1 ∷ 1 ∷ [])) againstSides Open 0 (flat (pos 0) (pos 0) ∷ flat (pos 16) (pos 0) ∷ [])
+four-marks-below : Reads (below (1 ∷ 1 ∷ 1 ∷ 1 ∷ [])) againstSides Open 0 (c₀ ∷ c₁ ∷ [])
 unfolding tabulate firstFrom first iterate quads from to opposed mate isBoundaryFrom isBoundaryInto boundaryFrom boundaryInto marked axis pointOf nextVertex vertexAt points
 four-marks-below = one-edge (below (1 ∷ 1 ∷ 1 ∷ 1 ∷ [])) againstSides 0 (omega arith) refl refl
 
 -- ---- one mark: all the way round, the marked vertex first and last
-one-mark : Reads (square (1 ∷ 0 ∷ 0 ∷ 0 ∷ [])) withSides Open 0 (flat (pos 0) (pos 0) ∷ flat (pos 16) (pos 0) ∷ flat (pos 16) (pos 16) ∷ flat (pos 0) (pos 16) ∷ flat (pos 0) (pos 0) ∷ [])
+one-mark : Reads (square (1 ∷ 0 ∷ 0 ∷ 0 ∷ [])) withSides Open 0 (c₀ ∷ c₁ ∷ c₂ ∷ c₃ ∷ c₀ ∷ [])
 unfolding tabulate firstFrom first iterate quads from to opposed mate isBoundaryFrom boundaryFrom marked axis pointOf nextVertex vertexAt points
 one-mark = record {
   boundary = omega arith;
@@ -86,7 +99,7 @@ one-mark = record {
     between (suc (suc (suc (suc i)))) a b = absurd (omega arith)
 
 -- ---- no mark: once round, here from vertex 2 against the sides
-no-marks : Reads (square (0 ∷ 0 ∷ 0 ∷ 0 ∷ [])) againstSides Closed 2 (flat (pos 16) (pos 16) ∷ flat (pos 16) (pos 0) ∷ flat (pos 0) (pos 0) ∷ flat (pos 0) (pos 16) ∷ [])
+no-marks : Reads (square (0 ∷ 0 ∷ 0 ∷ 0 ∷ [])) againstSides Closed 2 (c₂ ∷ c₁ ∷ c₀ ∷ c₃ ∷ [])
 unfolding tabulate firstFrom first iterate quads from to opposed mate isBoundaryFrom isBoundaryInto boundaryFrom boundaryInto marked axis pointOf nextVertex vertexAt points
 no-marks = record {
   boundary = omega arith;
@@ -112,15 +125,16 @@ no-marks = record {
     once (suc (suc (suc zero))) a b e = let z : _≡_ {A = ℕ} 3 2 = e in omega arith
     once (suc (suc (suc (suc i)))) a b e = absurd (omega arith)
 
--- after a round, worked out on the net: the curve of that list
-no-marks-after : points (step kobbelt (square (0 ∷ 0 ∷ 0 ∷ 0 ∷ []))) againstSides 2 8 ≡ curve kobbelt Closed 1 (flat (pos 16) (pos 16) ∷ flat (pos 16) (pos 0) ∷ flat (pos 0) (pos 0) ∷ flat (pos 0) (pos 16) ∷ [])
+-- after a round, worked out on the net: the curves of the last two lists
+after-one : points (step kobbelt (square (1 ∷ 0 ∷ 0 ∷ 0 ∷ []))) withSides 0 9 ∷ points (step kobbelt (square (0 ∷ 0 ∷ 0 ∷ 0 ∷ []))) againstSides 2 8 ∷ []
+    ≡ curve kobbelt Open 1 (c₀ ∷ c₁ ∷ c₂ ∷ c₃ ∷ c₀ ∷ []) ∷ curve kobbelt Closed 1 (c₂ ∷ c₁ ∷ c₀ ∷ c₃ ∷ []) ∷ []
 unfolding tabulate round firstFrom first count iterate quads from to opposed mate firstMet edgeCount edge isBoundaryFrom isBoundaryInto boundaryFrom boundaryInto along back corner refined refinedMarks marked edgeRule edgeValue edgePoint edgeAt refinedCoordinate axis step pointOf nextVertex vertexAt points curve
-no-marks-after = refl
+after-one = refl
 
 -- ---- two squares that share a side: one is read with the sides, the other against them
 admissible : Admissible (square (1 ∷ 1 ∷ 1 ∷ 1 ∷ []))
 unfolding firstFrom first count any iterate quads from to opposed mate isBoundaryFrom boundaryFrom leaves valence turn start stops facesMet badCorner isolated repeatedSide nonManifold badValence
 admissible = manifold-if quads 4 (0 ∷ 1 ∷ 2 ∷ 3 ∷ []) (quads-lawful 4 refl) (record { no7 = refl; no8 = refl; no9 = refl; no10 = refl; no11 = refl })
 
-shared : (k : ℕ) → Seam (square (1 ∷ 1 ∷ 1 ∷ 1 ∷ [])) (below (1 ∷ 1 ∷ 1 ∷ 1 ∷ [])) withSides againstSides Open 0 0 (flat (pos 0) (pos 0) ∷ flat (pos 16) (pos 0) ∷ []) k
-shared = seam (square (1 ∷ 1 ∷ 1 ∷ 1 ∷ [])) (below (1 ∷ 1 ∷ 1 ∷ 1 ∷ [])) admissible admissible withSides againstSides Open 0 0 (flat (pos 0) (pos 0) ∷ flat (pos 16) (pos 0) ∷ []) four-marks four-marks-below
+shared : (k : ℕ) → Seam (square (1 ∷ 1 ∷ 1 ∷ 1 ∷ [])) (below (1 ∷ 1 ∷ 1 ∷ 1 ∷ [])) withSides againstSides Open 0 0 (c₀ ∷ c₁ ∷ []) k
+shared = seam (square (1 ∷ 1 ∷ 1 ∷ 1 ∷ [])) (below (1 ∷ 1 ∷ 1 ∷ 1 ∷ [])) admissible admissible withSides againstSides Open 0 0 (c₀ ∷ c₁ ∷ []) four-marks four-marks-below

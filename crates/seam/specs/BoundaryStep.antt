@@ -26,8 +26,8 @@ boundaryPoint ℛ m p h =
     let l : List ℕ = m .faces in
     boundaryRule ℛ (marked (m .marks) (from l h)) (marked (m .marks) (to quads l h)) (p (from l (back quads l h))) (p (from l h)) (p (to quads l h)) (p (to quads l (along quads l h)))
 
--- one round makes the net after of the net before: faces and marks are refined; the start of each boundary half-edge keeps its point, and the vertex on its
--- edge has the point of the boundary rule
+-- from the net before to the net after: faces and marks are refined; the start of each boundary half-edge keeps its point, and the new vertex on its edge has
+-- the point of the boundary rule
 pub record BoundaryStep (ℛ : Rules Point) (before after : Net) : Type 0 where
   pub faces : after .faces ≡ refined quads (length (before .marks)) (before .faces)
   pub marks : after .marks ≡ refinedMarks quads (length (before .marks)) (before .faces) (before .marks)

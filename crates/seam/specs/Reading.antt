@@ -18,8 +18,8 @@ use Rattle.scheme.specs.Step.{axis}
 unfoldable pub pointOf : Net → ℕ → Point
 pointOf m v = record { x = axis (m .vertices) 0 v; y = axis (m .vertices) 1 v; z = axis (m .vertices) 2 v }
 
--- "each boundary vertex ends one boundary edge and starts one, the way the sides run"; "Either may be read with the sides or against them."
--- the vertex after v along the boundary of the faces l
+-- the vertex after v along the boundary of the faces l: "each boundary vertex ends one boundary edge and starts one, the way the sides run"; "Either may be
+-- read with the sides or against them."
 unfoldable pub nextVertex : List ℕ → Way → ℕ → ℕ
 nextVertex l withSides v = to quads l (boundaryFrom quads l v)
 nextVertex l againstSides v = from l (boundaryInto quads l v)
@@ -34,8 +34,10 @@ points m way u n = tabulate n (λ (i : ℕ). pointOf m (vertexAt (m .faces) way 
 
 -- "Open: from a marked vertex along boundary edges to the next mark on its loop, both ends included (with one mark, the same vertex again)."
 pub record OpenReading (m : Net) (way : Way) (u : ℕ) (L : List Point) : Type 0 where
+  -- u is on the boundary, and marked
   pub boundary : boundaryFrom quads (m .faces) u < length (m .faces)
   pub starts : marked (m .marks) u ≡ true
+  -- so many edges on, one or more, is the next mark
   pub edges : ℕ
   pub some : 0 < edges
   pub between : (i : ℕ) → 0 < i → i < edges → marked (m .marks) (vertexAt (m .faces) way u i) ≡ false
@@ -44,8 +46,10 @@ pub record OpenReading (m : Net) (way : Way) (u : ℕ) (L : List Point) : Type 0
 
 -- "Round: on a loop without marks, once round from any vertex, the first not repeated."
 pub record ClosedReading (m : Net) (way : Way) (u : ℕ) (L : List Point) : Type 0 where
+  -- u is on the boundary, and no vertex met from there is marked
   pub boundary : boundaryFrom quads (m .faces) u < length (m .faces)
   pub unmarked : (i : ℕ) → marked (m .marks) (vertexAt (m .faces) way u i) ≡ false
+  -- so many edges on, one or more, one is back at u for the first time
   pub edges : ℕ
   pub some : 0 < edges
   pub once : (i : ℕ) → 0 < i → i < edges → vertexAt (m .faces) way u i ≡ u → ⊥
