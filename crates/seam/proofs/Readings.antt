@@ -95,7 +95,7 @@ module _ (m : Net) (ok : Admissible m) (way : Way) (u : ℕ) where
   pub open-exists : boundaryFrom quads (m .faces) u < length (m .faces) → marked (m .marks) u ≡ true → (L : List Point) × OpenReading m way u L
   open-exists b t =
       let p = next-place b (marked (m .marks)) t in (
-        points m way u (suc (suc (p .0))),
+        _,
         record {
           boundary = b;
           starts = t;
@@ -114,7 +114,7 @@ module _ (m : Net) (ok : Admissible m) (way : Way) (u : ℕ) where
   pub closed-exists : boundaryFrom quads (m .faces) u < length (m .faces) → ((i : ℕ) → marked (m .marks) (vertexAt (m .faces) way u i) ≡ false) → (L : List Point) × ClosedReading m way u L
   closed-exists b t =
       let p = next-place b (λ (x : ℕ). eqb x u) (eq-eqb u u refl) in (
-        points m way u (suc (p .0)),
+        _,
         record {
           boundary = b;
           unmarked = t;
