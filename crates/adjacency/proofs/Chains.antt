@@ -6,20 +6,23 @@ use Prim.Native.Nat.{ℕ, _+_, _-_, _*_, _≤_, _<_}
 use native.Mathlib.Nat.{le-refl, sub-zero}
 use native.Mathlib.Decide.{ℕ-discrete}
 use native.Mathlib.Omega.{arith}
-use lib.ListN.{length, getD, set, take, drop, length-set}
+use lib.ListN.{length, getD, set, take, drop, length-set, length-take}
+use lib.Dec.{leb}
 use lib.Seq.{getD-set-same, getD-set-other, getD-take, getD-drop, take-set-le, drop-set-lt, take-take, drop-drop}
-use borrow.Author.Tests.{eq-eqb, ne-eqb, eqb-true}
-use Rattle.search.specs.Search.{firstFrom, first}
-use Rattle.search.proofs.Tests.{refuted, clash}
-use Rattle.search.proofs.First.{from-le, from-ge, from-holds, from-before, from-hit, from-pass, from-end, Passed, passed-start, passed-skip, passed-next, passed-hit, passed-end}
-use Rattle.topology.specs.Shape.{quads}
+use borrow.Author.Tests.{eq-eqb, eqb-true, leb-false}
+use Rattle.search.specs.Search.{first}
+use Rattle.search.proofs.Tests.{refuted, clash, or-left}
+use Rattle.search.proofs.First.{from-le, from-ge, from-holds, from-before, from-hit, from-pass, from-end, Passed, passed-start, passed-skip, passed-next, passed-hit, passed-end, first-before}
+use Rattle.topology.specs.Shape.{Shape, quads}
 use Rattle.topology.specs.HalfEdge.{from, mate}
 use Rattle.topology.specs.Vertex.{leaves}
+use Rattle.topology.specs.Manifold.{Oriented}
+use Rattle.refusals.specs.Refusals.{badCorner}
 use Rattle.adjacency.specs.Chains.{chainFrom, InRange, Tables, Chained, MateTable, Adjacency, SameOutside}
 
 -- ---- the first half-edge from i on that leaves v
 
-leaves-if : (l : List ℕ) (v g : ℕ) → getD l g 0 ≡ v → leaves l v g ≡ true
+pub leaves-if : (l : List ℕ) (v g : ℕ) → getD l g 0 ≡ v → leaves l v g ≡ true
 unfolding leaves from
 leaves-if l v g e = eq-eqb (getD l g 0) v e
 
@@ -153,8 +156,29 @@ chained-set l w h g x b c = chained-drop l w (set w g x) h (drop-set-lt (length 
 pub tables-length : (l w w′ : List ℕ) → length w′ ≡ length w → Tables l w → Tables l w′
 tables-length l w w′ e t = record { fours = t .fours; small = t .small; corners = t .corners; room = omega (arith, t .room) }
 
+pub tables-take : (l w w′ : List ℕ) → take (3 * length l) w′ ≡ take (3 * length l) w → Tables l w → Tables l w′
+tables-take l w w′ e t = record { fours = t .fours; small = t .small; corners = t .corners; room = omega (arith, t .room, simp length-take at (ap length e)) }
+
+pub adjacency-take : (l w w′ : List ℕ) → take (3 * length l) w′ ≡ take (3 * length l) w → Adjacency l w → Adjacency l w′
+adjacency-take l w w′ e a = record {
+  tables = tables-take l w w′ e (a .tables);
+  chains = chained-take l w w′ 0 e (a .chains);
+  mated = mates-take l w w′ e (a .mated);
+}
+
+-- ---- corners in range
+
 pub in-range-le : (u v : ℕ) (l : List ℕ) → u ≤ v → InRange u l → InRange v l
 in-range-le u v l h r = record { below = λ g a. omega (arith, r .below g a) }
+
+-- 7 holds nowhere
+pub in-range-if : (S : Shape) (v : ℕ) (l : List ℕ) → first (badCorner S v l) (length l) ≡ length l → InRange v l
+unfolding badCorner from
+in-range-if S v l e = record { below = λ g h. leb-false v (getD l g 0) (or-left (leb v (getD l g 0)) _ (first-before (badCorner S v l) (length l) g (omega arith))) }
+
+pub in-range-oriented : (S : Shape) (v : ℕ) (l : List ℕ) → Oriented S v l → InRange v l
+unfolding from
+in-range-oriented S v l ok = record { below = ok .below }
 
 -- ---- stores from a up to e
 

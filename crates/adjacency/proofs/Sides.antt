@@ -1,16 +1,16 @@
 -- Sides from one vertex to another: mates and repeated sides.
-use mathlib.Core.Path.{_≡_, refl, sym, ap, _∙_}
-use mathlib.Core.Bool.{Bool, true, false, _&&_}
+use mathlib.Core.Path.{_≡_, refl, sym, _∙_}
+use mathlib.Core.Bool.{Bool, true, false}
 use mathlib.Core.List.{List}
 use Prim.Native.Nat.{ℕ, _/_, _≤_, _<_}
 use native.Mathlib.Decide.{decLt}
 use native.Mathlib.Omega.{arith}
 use lib.ListN.{length, getD}
 use lib.Dec.{eqb, ltb}
-use borrow.Author.Tests.{eq-eqb, ne-eqb, eqb-true, ltb-true, lt-ltb, le-ltb}
-use Rattle.search.specs.Search.{first, any}
-use Rattle.search.proofs.Tests.{clash, refuted, and-on, and-left, and-right}
-use Rattle.search.proofs.First.{first-le, first-holds, first-reach, any-on, any-which}
+use borrow.Author.Tests.{eq-eqb, eqb-true, ltb-true, lt-ltb, le-ltb}
+use Rattle.search.specs.Search.{first}
+use Rattle.search.proofs.Tests.{refuted, and-on, and-left, and-right}
+use Rattle.search.proofs.First.{first-holds, first-reach, any-on, any-which}
 use Rattle.topology.specs.Shape.{quads}
 use Rattle.topology.specs.HalfEdge.{from, to, opposed, mate}
 use Rattle.topology.specs.Vertex.{leaves}

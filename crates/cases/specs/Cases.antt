@@ -1,10 +1,14 @@
 -- The cases that paper 01 marks P, in one table: what the definitions give, and what the paper states.
 use mathlib.Core.Path.{_≡_}
-use mathlib.Core.List.{List, [], _∷_}
-use Prim.Native.Nat.{ℕ, _<_}
+use mathlib.Core.List.{List, [], _∷_, _++_}
+use Prim.Native.Nat.{ℕ, zero, suc, _<_}
 use lib.IntN.{ℤ, pos, negsuc}
 use lib.ListN.{length, getD}
 use Rattle.curve.specs.Weights.{kobbelt}
+use Rattle.tables.specs.Net.{Net}
+use Rattle.verdict.specs.Call.{Room}
+use Rattle.verdict.specs.Verdict.{Verdict, accepted, refused, limitsVerdict, netVerdict}
+use Rattle.scheme.specs.Step.{refinedCoordinate, axis}
 use Rattle.curve.specs.Curve.{Open, Closed, rounded, step, Point, curve}
 
 pub record Case : Type 0 where
@@ -39,9 +43,98 @@ curveCases =
     }
     ∷ []
 
+-- ---- refusals: the number and the place, or nothing
+abbrev pub answer : Verdict → List ℤ
+answer accepted = []
+answer (refused r p) = pos r ∷ pos p ∷ []
+
+abbrev pub ample : Room
+ample = record { vertices = 4000000; faces = 4000000; marks = 4000000; work = 5000000 }
+
+-- v vertices at the origin without marks
+abbrev pub flat : ℕ → List ℤ
+flat zero = []
+flat (suc v) = pos 0 ∷ pos 0 ∷ pos 0 ∷ flat v
+
+abbrev pub unmarked : ℕ → List ℕ
+unmarked zero = []
+unmarked (suc v) = 0 ∷ unmarked v
+
+-- a square with first coordinate x
+abbrev pub squareFrom : ℤ → Net
+squareFrom x = record { vertices = x ∷ pos 0 ∷ pos 0 ∷ flat 3; faces = 0 ∷ 1 ∷ 2 ∷ 3 ∷ []; marks = unmarked 4 }
+
+abbrev pub refusalCases : List Case
+refusalCases =
+    -- "64 faces, 6 rounds pass 3; 65 do not."
+    record { computed = answer (limitsVerdict 6 300 256 100 ample); stated = [] }
+    ∷ record { computed = answer (limitsVerdict 6 300 260 100 ample); stated = pos 3 ∷ pos 0 ∷ [] }
+    -- "two squares touching at one vertex: 10. One face listed twice: 9, place 1."
+    ∷ record { computed = answer (netVerdict (record { vertices = flat 7; faces = 0 ∷ 1 ∷ 2 ∷ 3 ∷ 2 ∷ 4 ∷ 5 ∷ 6 ∷ []; marks = unmarked 7 })); stated = pos 10 ∷ pos 2 ∷ [] }
+    ∷ record { computed = answer (netVerdict (record { vertices = flat 4; faces = 0 ∷ 1 ∷ 2 ∷ 3 ∷ 0 ∷ 1 ∷ 2 ∷ 3 ∷ []; marks = unmarked 4 })); stated = pos 9 ∷ pos 1 ∷ [] }
+    -- "coordinate 1,048,576 passes; 1,048,577 gives 5."
+    ∷ record { computed = answer (netVerdict (squareFrom (pos 1048576))); stated = [] }
+    ∷ record { computed = answer (netVerdict (squareFrom (pos 1048577))); stated = pos 5 ∷ pos 0 ∷ [] }
+    ∷ []
+
+-- ---- nets after one round
+-- coordinates x, y, z of the refined vertex i
+abbrev pub refinedPoint : Net → ℕ → List ℤ
+refinedPoint m i =
+    refinedCoordinate kobbelt (length (m .marks)) (m .faces) (m .marks) (axis (m .vertices) 0) i
+    ∷ refinedCoordinate kobbelt (length (m .marks)) (m .faces) (m .marks) (axis (m .vertices) 1) i
+    ∷ refinedCoordinate kobbelt (length (m .marks)) (m .faces) (m .marks) (axis (m .vertices) 2) i
+    ∷ []
+
+abbrev pub square : Net
+square = record {
+  vertices = pos 0 ∷ pos 0 ∷ pos 0 ∷ pos 16 ∷ pos 0 ∷ pos 0 ∷ pos 16 ∷ pos 16 ∷ pos 0 ∷ pos 0 ∷ pos 16 ∷ pos 0 ∷ [];
+  faces = 0 ∷ 1 ∷ 2 ∷ 3 ∷ [];
+  marks = unmarked 4;
+}
+
+abbrev pub cube : Net
+cube =
+    let a = negsuc 539 in
+    let b = pos 540 in
+    record {
+      vertices = a ∷ a ∷ a ∷ b ∷ a ∷ a ∷ b ∷ b ∷ a ∷ a ∷ b ∷ a ∷ a ∷ a ∷ b ∷ b ∷ a ∷ b ∷ b ∷ b ∷ b ∷ a ∷ b ∷ b ∷ [];
+      faces = 0 ∷ 3 ∷ 2 ∷ 1 ∷ 4 ∷ 5 ∷ 6 ∷ 7 ∷ 0 ∷ 1 ∷ 5 ∷ 4 ∷ 1 ∷ 2 ∷ 6 ∷ 5 ∷ 2 ∷ 3 ∷ 7 ∷ 6 ∷ 3 ∷ 0 ∷ 4 ∷ 7 ∷ [];
+      marks = unmarked 8;
+    }
+
+abbrev pub raised : Net
+raised =
+    let o = pos 0 in
+    let s = pos 16 in
+    let t = pos 32 in
+    record {
+      vertices = o ∷ o ∷ o ∷ s ∷ o ∷ o ∷ t ∷ o ∷ o ∷ o ∷ s ∷ o ∷ s ∷ s ∷ s ∷ t ∷ s ∷ o ∷ o ∷ t ∷ o ∷ s ∷ t ∷ o ∷ t ∷ t ∷ o ∷ [];
+      faces = 0 ∷ 1 ∷ 4 ∷ 3 ∷ 1 ∷ 2 ∷ 5 ∷ 4 ∷ 3 ∷ 4 ∷ 7 ∷ 6 ∷ 4 ∷ 5 ∷ 8 ∷ 7 ∷ [];
+      marks = 1 ∷ 0 ∷ 1 ∷ 0 ∷ 0 ∷ 0 ∷ 1 ∷ 0 ∷ 1 ∷ [];
+    }
+
+-- z of the refined vertex i of `raised`
+abbrev pub raisedZ : ℕ → ℤ
+raisedZ i = refinedCoordinate kobbelt 9 (raised .faces) (raised .marks) (axis (raised .vertices) 2) i
+
+abbrev pub netCases : List Case
+netCases =
+    -- "this square without marks: edge points (8,-2), (18,8), (8,18), (-2,8), face point (8,8)."
+    record {
+      computed = refinedPoint square 4 ++ refinedPoint square 5 ++ refinedPoint square 6 ++ refinedPoint square 7 ++ refinedPoint square 8;
+      stated = coordinates (at (pos 8) (negsuc 1) (pos 0) ∷ at (pos 18) (pos 8) (pos 0) ∷ at (pos 8) (pos 18) (pos 0) ∷ at (negsuc 1) (pos 8) (pos 0) ∷ at (pos 8) (pos 8) (pos 0) ∷ []);
+    }
+    -- "cube with corners at ±540: edge point (0,-590,-590); the face at z = -540 gets (0,0,-738) from -737.5."
+    ∷ record { computed = refinedPoint cube 11 ++ refinedPoint cube 20; stated = coordinates (at (pos 0) (negsuc 589) (negsuc 589) ∷ at (pos 0) (pos 0) (negsuc 737) ∷ []) }
+    -- "two by two squares of side 16, four outer corners marked, centre raised to z = 16, rest 0: inner edge points have z = 10, face points z = 6 (100/16)."
+    ∷ record { computed = raisedZ 10 ∷ raisedZ 11 ∷ raisedZ 15 ∷ raisedZ 16 ∷ []; stated = pos 10 ∷ pos 10 ∷ pos 10 ∷ pos 10 ∷ [] }
+    ∷ record { computed = raisedZ 21 ∷ raisedZ 22 ∷ raisedZ 23 ∷ raisedZ 24 ∷ []; stated = pos 6 ∷ pos 6 ∷ pos 6 ∷ pos 6 ∷ [] }
+    ∷ []
+
 -- ---- the table
 unfoldable pub cases : List Case
-cases = curveCases
+cases = curveCases ++ refusalCases ++ netCases
 
 -- at every row the definitions give what the paper states
 pub record AllHold (table : List Case) : Type 0 where

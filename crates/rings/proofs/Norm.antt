@@ -83,7 +83,10 @@ norm-small w n p q small = total-scaled 9 (w .near) (sizes w n p q) (sizes kobbe
         let e₄ = ap (λ (t : ℕ). t * q d) (abs-mul (pos 1) b) ∙ mul-assoc 1 (natAbs b) (q d) in
         let f : (9 * w .far) * y ≤ w .near * y = mul-le-mul-right y small in
         let g = mul-assoc 9 (w .far) y in
-        let i : 9 * (w .near * x + w .far * y) ≤ w .near * (9 * x + 1 * y) = let m = mul-add (w .near) (9 * x) (1 * y) in let o = mul-left-comm (w .near) 9 x in let z = ap (λ (t : ℕ). w .near * t) (one-mul y) in omega arith in
+        let m = mul-add (w .near) (9 * x) (1 * y) in
+        let o = mul-left-comm (w .near) 9 x in
+        let z = ap (λ (t : ℕ). w .near * t) (one-mul y) in
+        let i : 9 * (w .near * x + w .far * y) ≤ w .near * (9 * x + 1 * y) = omega arith in
         subst (λ (t : ℕ). 9 * t ≤ w .near * sizes kobbelt n p q d) (sym (ap₂ _+_ e₁ e₂)) (subst (λ (t : ℕ). 9 * (w .near * x + w .far * y) ≤ w .near * t) (sym (ap₂ _+_ e₃ e₄)) i)
 
 -- a ring whose points count once
@@ -107,11 +110,11 @@ inside-norm n h k =
     let e : n - 3 + 3 ≡ n = omega arith in
     subst (λ (m : ℕ). norm kobbelt m once once ≤ 40 * m) e (leb→le (norm kobbelt (n - 3 + 3) once once) (40 * (n - 3 + 3)) (below-at 6 inside tt (n - 3) (omega arith)))
 
--- the edge is no neighbour of P*, so t is below n - 1 (and above 0)
+-- the edge is an inner one, so P* is 2 to n - 2 places on from it; the test takes every place below n - 1
 boundary : ℕ → Bool
 boundary n = everyBelow (n - 1) (λ t. leb (norm kobbelt n (threeAt t) (threeAround t)) (51 * n))
 
-pub boundary-norm : (n t : ℕ) → n ≤ 8 → t < n - 1 → norm kobbelt n (threeAt t) (threeAround t) ≤ 51 * n
+boundary-norm : (n t : ℕ) → n ≤ 8 → t < n - 1 → norm kobbelt n (threeAt t) (threeAround t) ≤ 51 * n
 unfolding boundary
 boundary-norm n t h k =
     leb→le (norm kobbelt n (threeAt t) (threeAround t)) (51 * n)

@@ -19,7 +19,8 @@ use Rattle.rings.proofs.Periodic.{wrap-periodic}
 use Rattle.rings.proofs.Virtual.{virtual-weighted}
 use Rattle.rings.proofs.Norm.{total, total-monotone, sizes, once, weighted-abs, inside-norm}
 
--- ---- the table: its row n - 3 has the weights of valence n, which are at most 36
+-- ---- the table, made by the formula: its row n - 3 has the weights of valence n, which are at most 36. That of the code is compared with it entry by entry, by
+-- computation
 abbrev pub rowEntry : ℕ → ℤ
 rowEntry i = entry kobbelt (i / 16 + 3) (i % 16)
 

@@ -1,10 +1,10 @@
-// Rings of a vertex: the virtual point and its weights. Definitions in specs/, laws in proofs/; and the virtual point times 9n as a function.
+// The ring of a vertex and its virtual points: definitions in specs/, laws in proofs/; and the virtual point as a function.
 ghost use mathlib.Core.Path.{_≡_};
 ghost use Prim.Native.Nat.{_+_, _*_, _%_, _<_, _≤_, _^_};
 ghost use lib.IntN.{pos, natAbs, _+ℤ_, _*ℤ_};
 ghost use lib.ListN.{getD};
 ghost use Rattle.curve.specs.Weights.{kobbelt};
-ghost use Rattle.rings.specs.RingWeights.{virtualZ, weightL, weightK, entry, ringOf, BoundedFirst};
+ghost use Rattle.rings.specs.RingWeights.{virtualZ, virtualNumerator, weightL, weightK, entry, ringOf, BoundedFirst};
 
 // Numerators over 9n, for n from 3 to 8: a row has eight for the neighbours, from the edge on, then eight for the opposite corners.
 const WEIGHTS: [i32; 96] = [
@@ -113,7 +113,7 @@ const WEIGHTS: [i32; 96] = [
 ];
 
 // The weight at valence n of ring point o: below 8 a neighbour, from 8 on an opposite corner.
-pub fn weight(n: usize, o: usize) -> i32
+fn weight(n: usize, o: usize) -> i32
     requires { ⌜ (3 ≤ n) × (n ≤ 8) × (o < 16) ⌝ }
     ensures { λ r. ⌜ (r ≡ entry kobbelt n o) × (natAbs r ≤ 36) ⌝ }
 {
@@ -122,7 +122,7 @@ pub fn weight(n: usize, o: usize) -> i32
 }
 
 // What the neighbour x and the opposite corner y, d places on from the edge, add to the virtual point times 9n.
-pub fn ring_term(n: usize, d: usize, x: i64, y: i64) -> i64
+fn ring_term(n: usize, d: usize, x: i64, y: i64) -> i64
     requires { ⌜ (3 ≤ n) × (n ≤ 8) × (d < n) × (natAbs x ≤ 2 ^ 40) × (natAbs y ≤ 2 ^ 40) ⌝ }
     ensures { λ r. ⌜ r ≡ weightL kobbelt n d *ℤ x +ℤ weightK kobbelt n d *ℤ y ⌝ }
 {
@@ -132,7 +132,7 @@ pub fn ring_term(n: usize, d: usize, x: i64, y: i64) -> i64
 }
 
 // The same, the two points read from the ring, d places on from edge j.
-pub fn term_from(l: &[i64; 8], k: &[i64; 8], n: usize, j: usize, d: usize) -> i64
+fn term_from(l: &[i64; 8], k: &[i64; 8], n: usize, j: usize, d: usize) -> i64
     requires { ⌜ (3 ≤ n) × (n ≤ 8) × (j < n) × (d < n) × BoundedFirst n (2 ^ 40) (now l) × BoundedFirst n (2 ^ 40) (now k) ⌝ }
     ensures { λ r. ⌜ r ≡ weightL kobbelt n d *ℤ ringOf n (now (l .entry)) (j + d) +ℤ weightK kobbelt n d *ℤ ringOf n (now (k .entry)) (j + d) ⌝ }
 {
@@ -154,4 +154,14 @@ pub fn virtual_from(l: &[i64; 8], k: &[i64; 8], n: usize, j: usize) -> i64
         d += 1;
     }
     acc
+}
+
+// The virtual point over 453,600, on edge j of a ring of n given over 60.
+pub fn virtual_numerator(l: &[i64; 8], k: &[i64; 8], n: usize, j: usize) -> i64
+    requires { ⌜ (3 ≤ n) × (n ≤ 8) × (j < n) × BoundedFirst n (2 ^ 40) (now l) × BoundedFirst n (2 ^ 40) (now k) ⌝ }
+    ensures { λ r. ⌜ (r ≡ virtualNumerator n (ringOf n (now (l .entry))) (ringOf n (now (k .entry))) j) × (natAbs r < 2 ^ 59) ⌝ }
+{
+    let v = virtual_from(l, k, n, j);
+    let q = 840 / n;
+    q as i64 * v
 }

@@ -1,5 +1,5 @@
--- Both directions of a face agree exactly, where every corner has a full ring and what lies across beyond a side is a point of the corners' rings: at any
--- valences from 3 on and at any weights. Assumes nothing.
+-- Both directions of a face agree exactly, at any valences of its corners from 3 on and at any weights, where every corner has a full ring and the virtual
+-- points on the edges beyond are the neighbours straight across, as they are at valence 4. Assumes nothing.
 --
 -- Corner i has the ring l i, k i of valence n i, counted from side i: l i 0 is corner i + 1, l i 1 is corner i - 1, k i 0 the opposite corner. Beyond side i lies
 -- the edge from l i (n i - 1), beside corner i, to l (i + 1) 2, beside corner i + 1; and straight across there are k i (n i - 2) and k (i + 1) 2.
@@ -13,10 +13,9 @@ use Rattle.integers.proofs.Polynomial.{Poly, var, lit, _⊞_, _⊟_, _⊠_, sam
 use Rattle.curve.specs.Weights.{Weights, scale, interior}
 use Rattle.fractions.specs.Fraction.{Fraction, whole, Equals, Same}
 use Rattle.fractions.proofs.Laws.{equals-whole, equals-cong, equals-scaled, same-of-equals}
-use Rattle.rings.specs.Ring.{Periodic, virtual}
+use Rattle.rings.specs.Ring.{Periodic}
 use Rattle.rings.specs.RingWeights.{virtualZ}
 use Rattle.rings.proofs.Virtual.{virtual-next}
-use Rattle.rings.proofs.Ties.{equals-virtual}
 use Rattle.rules.specs.Rules.{innerEdge, directionTwo}
 use Rattle.rules.proofs.Ties.{equals-interior}
 
@@ -100,10 +99,15 @@ module _ (w : Weights) (c p m a b s t : ℕ → ℤ) where
         same-of-equals (mul-pos h k) (equals-cong directions-equal refl (equals-interior w h e₀ e₁ e₂ e₃)) (equals-interior w h f₀ f₁ f₂ f₃)
 
 -- ---- in fractions, from the rings of the corners
-pub record FullRing (n : ℕ) (l k : ℕ → ℤ) : Type 0 where
-  pub some : 3 ≤ n
+-- v and v′ are the virtual points of the corner towards the next corner and the last; x and y those of the two neighbours beside it on the edges beyond
+pub record Corner (w : Weights) (n : ℕ) (l k : ℕ → ℤ) (v v′ x y : Fraction) : Type 0 where
+  pub valence : 3 ≤ n
   pub neighbours : Periodic n l
-  pub corners : Periodic n k
+  pub opposites : Periodic n k
+  pub next : Equals v (virtualZ w n l k 0) (w .near * n)
+  pub last : Equals v′ (virtualZ w n l k 1) (w .near * n)
+  pub acrossNext : Equals x (k (n - 2)) 1
+  pub acrossLast : Equals y (k 2) 1
 
 -- the product of the other three
 abbrev cofactor : (ℕ → ℕ) → ℕ → ℕ
@@ -112,34 +116,38 @@ cofactor n (suc zero) = n 0 * n 2 * n 3
 cofactor n (suc (suc zero)) = n 0 * n 1 * n 3
 cofactor n (suc (suc (suc i))) = n 0 * n 1 * n 2
 
-module _ (w : Weights) (c : ℕ → ℤ) (n : ℕ → ℕ) (l k : ℕ → ℕ → ℤ) where
-  abbrev pub virtualAt : ℕ → ℕ → Fraction
-  virtualAt i j = virtual w (n i) (λ (d : ℕ). whole (l i d)) (λ (d : ℕ). whole (k i d)) j
-
+module _ (w : Weights) (c : ℕ → ℤ) (n : ℕ → ℕ) (l k : ℕ → ℕ → ℤ) (v v′ x y : ℕ → Fraction) where
   abbrev pub sideAt : ℕ → ℕ → Fraction
-  sideAt i e = innerEdge w (whole (c i)) (whole (c e)) (virtualAt i 0) (virtualAt e 1)
+  sideAt i e = innerEdge w (whole (c i)) (whole (c e)) (v i) (v′ e)
 
   abbrev pub beyondAt : ℕ → ℕ → Fraction
-  beyondAt i e = innerEdge w (whole (l i (n i - 1))) (whole (l e 2)) (whole (k i (n i - 2))) (whole (k e 2))
+  beyondAt i e = innerEdge w (whole (l i (n i - 1))) (whole (l e 2)) (x i) (y e)
 
-  module _ (near : 0 < w .near) (apart : 0 < scale w) (rings : (i : ℕ) → i < 4 → FullRing (n i) (l i) (k i)) where
+  module _ (near : 0 < w .near) (apart : 0 < scale w) (corners : (i : ℕ) → i < 4 → Corner w (n i) (l i) (k i) (v i) (v′ i) (x i) (y i)) where
+    -- one denominator for all
     D : ℕ
     D = w .near * (n 0 * n 1 * n 2 * n 3)
 
+    product : Poly
+    product = var 0 ⊠ (var 1 ⊠ var 2 ⊠ var 3 ⊠ var 4)
+
+    numbers : List ℤ
+    numbers = pos (w .near) ∷ pos (n 0) ∷ pos (n 1) ∷ pos (n 2) ∷ pos (n 3) ∷ []
+
     common : (i : ℕ) → i < 4 → cofactor n i * (w .near * n i) ≡ D
-    unfolding D
-    common zero h = ap natAbs (same ((var 2 ⊠ var 3 ⊠ var 4) ⊠ (var 0 ⊠ var 1)) (var 0 ⊠ (var 1 ⊠ var 2 ⊠ var 3 ⊠ var 4)) (pos (w .near) ∷ pos (n 0) ∷ pos (n 1) ∷ pos (n 2) ∷ pos (n 3) ∷ []) refl)
-    common (suc zero) h = ap natAbs (same ((var 1 ⊠ var 3 ⊠ var 4) ⊠ (var 0 ⊠ var 2)) (var 0 ⊠ (var 1 ⊠ var 2 ⊠ var 3 ⊠ var 4)) (pos (w .near) ∷ pos (n 0) ∷ pos (n 1) ∷ pos (n 2) ∷ pos (n 3) ∷ []) refl)
-    common (suc (suc zero)) h = ap natAbs (same ((var 1 ⊠ var 2 ⊠ var 4) ⊠ (var 0 ⊠ var 3)) (var 0 ⊠ (var 1 ⊠ var 2 ⊠ var 3 ⊠ var 4)) (pos (w .near) ∷ pos (n 0) ∷ pos (n 1) ∷ pos (n 2) ∷ pos (n 3) ∷ []) refl)
-    common (suc (suc (suc zero))) h = ap natAbs (same ((var 1 ⊠ var 2 ⊠ var 3) ⊠ (var 0 ⊠ var 4)) (var 0 ⊠ (var 1 ⊠ var 2 ⊠ var 3 ⊠ var 4)) (pos (w .near) ∷ pos (n 0) ∷ pos (n 1) ∷ pos (n 2) ∷ pos (n 3) ∷ []) refl)
+    unfolding D product numbers
+    common zero h = ap natAbs (same ((var 2 ⊠ var 3 ⊠ var 4) ⊠ (var 0 ⊠ var 1)) product numbers refl)
+    common (suc zero) h = ap natAbs (same ((var 1 ⊠ var 3 ⊠ var 4) ⊠ (var 0 ⊠ var 2)) product numbers refl)
+    common (suc (suc zero)) h = ap natAbs (same ((var 1 ⊠ var 2 ⊠ var 4) ⊠ (var 0 ⊠ var 3)) product numbers refl)
+    common (suc (suc (suc zero))) h = ap natAbs (same ((var 1 ⊠ var 2 ⊠ var 3) ⊠ (var 0 ⊠ var 4)) product numbers refl)
     common (suc (suc (suc (suc i)))) h = absurd (omega arith)
 
-    valence : (i : ℕ) → i < 4 → 0 < n i
-    valence i h = let r = rings i h .some in omega arith
+    valence-some : (i : ℕ) → i < 4 → 0 < n i
+    valence-some i h = let r = corners i h .valence in omega arith
 
     some : 0 < D
     unfolding D
-    some = mul-pos near (mul-pos (mul-pos (mul-pos (valence 0 (omega arith)) (valence 1 (omega arith))) (valence 2 (omega arith))) (valence 3 (omega arith)))
+    some = mul-pos near (mul-pos (mul-pos (mul-pos (valence-some 0 (omega arith)) (valence-some 1 (omega arith))) (valence-some 2 (omega arith))) (valence-some 3 (omega arith)))
 
     -- the corners' numbers over D
     abbrev virtualOver : ℕ → ℕ → ℤ
@@ -147,29 +155,30 @@ module _ (w : Weights) (c : ℕ → ℤ) (n : ℕ → ℕ) (l k : ℕ → ℕ �
 
     compatible : (i : ℕ) → i < 4 → Compatible w (virtualOver 0 i) (virtualOver 1 i) (pos D *ℤ l i (n i - 1)) (pos D *ℤ l i 2) (pos D *ℤ k i (n i - 2)) (pos D *ℤ k i 2)
     compatible i h =
-        let r = rings i h in
+        let r = corners i h in
         subst (λ (u : ℕ). Compatible w (virtualOver 0 i) (virtualOver 1 i) (pos u *ℤ l i (n i - 1)) (pos u *ℤ l i 2) (pos u *ℤ k i (n i - 2)) (pos u *ℤ k i 2)) (common i h)
-        (virtual-compatible w (n i) (l i) (k i) (cofactor n i) (r .some) (r .neighbours) (r .corners))
+        (virtual-compatible w (n i) (l i) (k i) (cofactor n i) (r .valence) (r .neighbours) (r .opposites))
 
-    equals-at : (i j : ℕ) → i < 4 → Equals (virtualAt i j) (virtualOver j i) D
-    equals-at i j h =
-        let o : w .near * n i * 1 ≡ w .near * n i = omega arith in
-        equals-cong refl (ap (λ (t : ℕ). cofactor n i * t) o ∙ common i h)
-        (equals-scaled (cofactor n i) (equals-virtual w near (n i) (λ (d : ℕ). whole (l i d)) (λ (d : ℕ). whole (k i d)) (l i) (k i) 1 (valence i h) (λ d. equals-whole (l i d)) (λ d. equals-whole (k i d)) j))
+    over : {f : Fraction} {z : ℤ} (i : ℕ) → i < 4 → Equals f z (w .near * n i) → Equals f (pos (cofactor n i) *ℤ z) D
+    over i h e = equals-cong refl (common i h) (equals-scaled (cofactor n i) e)
 
-    equals-point : (x : ℤ) → Equals (whole x) (pos D *ℤ x) D
-    equals-point x = let o : D * 1 ≡ D = omega arith in equals-cong refl o (equals-scaled D (equals-whole x))
+    point : {f : Fraction} {z : ℤ} → Equals f z 1 → Equals f (pos D *ℤ z) D
+    point e = let o : D * 1 ≡ D = omega arith in equals-cong refl o (equals-scaled D e)
 
     equals-side : (i e : ℕ) → i < 4 → e < 4 → Equals (sideAt i e) (interior w (virtualOver 0 i) (pos D *ℤ c i) (pos D *ℤ c e) (virtualOver 1 e)) (scale w * D)
-    equals-side i e h g = equals-interior w apart (equals-at i 0 h) (equals-point (c i)) (equals-point (c e)) (equals-at e 1 g)
+    equals-side i e h g = equals-interior w apart (over i h (corners i h .next)) (point (equals-whole (c i))) (point (equals-whole (c e))) (over e g (corners e g .last))
 
-    equals-beyond : (i e : ℕ) → Equals (beyondAt i e) (interior w (pos D *ℤ k i (n i - 2)) (pos D *ℤ l i (n i - 1)) (pos D *ℤ l e 2) (pos D *ℤ k e 2)) (scale w * D)
-    equals-beyond i e = equals-interior w apart (equals-point (k i (n i - 2))) (equals-point (l i (n i - 1))) (equals-point (l e 2)) (equals-point (k e 2))
+    equals-beyond : (i e : ℕ) → i < 4 → e < 4 → Equals (beyondAt i e) (interior w (pos D *ℤ k i (n i - 2)) (pos D *ℤ l i (n i - 1)) (pos D *ℤ l e 2) (pos D *ℤ k e 2)) (scale w * D)
+    equals-beyond i e h g = equals-interior w apart (point (corners i h .acrossNext)) (point (equals-whole (l i (n i - 1)))) (point (equals-whole (l e 2))) (point (corners e g .acrossLast))
 
     -- Paper 01: "both directions agree exactly"
     pub both-directions : Same (directionTwo w (beyondAt 0 1) (sideAt 0 1) (sideAt 2 3) (beyondAt 2 3)) (directionTwo w (beyondAt 1 2) (sideAt 1 2) (sideAt 3 0) (beyondAt 3 0))
     both-directions =
+        let i₀ : 0 < 4 = omega arith in
+        let i₁ : 1 < 4 = omega arith in
+        let i₂ : 2 < 4 = omega arith in
+        let i₃ : 3 < 4 = omega arith in
         directions-agree w (λ i. pos D *ℤ c i) (virtualOver 0) (virtualOver 1) (λ i. pos D *ℤ l i (n i - 1)) (λ i. pos D *ℤ l i 2) (λ i. pos D *ℤ k i (n i - 2)) (λ i. pos D *ℤ k i 2) compatible
         (scale w * D) apart (mul-pos apart some)
-        (equals-beyond 0 1) (equals-side 0 1 (omega arith) (omega arith)) (equals-side 2 3 (omega arith) (omega arith)) (equals-beyond 2 3)
-        (equals-beyond 1 2) (equals-side 1 2 (omega arith) (omega arith)) (equals-side 3 0 (omega arith) (omega arith)) (equals-beyond 3 0)
+        (equals-beyond 0 1 i₀ i₁) (equals-side 0 1 i₀ i₁) (equals-side 2 3 i₂ i₃) (equals-beyond 2 3 i₂ i₃)
+        (equals-beyond 1 2 i₁ i₂) (equals-side 1 2 i₁ i₂) (equals-side 3 0 i₃ i₀) (equals-beyond 3 0 i₃ i₀)

@@ -8,12 +8,13 @@ use Rattle.rounding.specs.Rounding.{round}
 use Rattle.curve.specs.Weights.{Weights, kobbelt}
 use Rattle.fractions.specs.Fraction.{Fraction, whole, _×ᶠ_, sumᶠ, toWhole}
 use Rattle.rings.specs.Ring.{wrap, virtual}
-use Rattle.rules.specs.Rules.{extrapolated, extrapolatedCorner, innerEdge, directionTwo, directionOne, meanOfBoth}
+use Rattle.rules.specs.Rules.{interiorPoint, endPoint, midpoint, extrapolated, extrapolatedCorner, innerEdge, directionTwo, directionOne, meanOfBoth}
 
 abbrev ring : List ℤ → ℕ → ℕ → Fraction
 ring l n = wrap n (λ (i : ℕ). whole (getD l i (pos 0)))
 
--- ---- "cube with corners at ±540": the coordinates at -540 of an edge, both of whose ends have one ring, and those at 540
+-- ---- "cube with corners at ±540": one coordinate, at an edge of the face where it is -540, along the face, and at the opposite edge. The two ends of an edge
+-- are mirror images, with one virtual point.
 abbrev low : ℤ
 low = negsuc 539
 
@@ -28,12 +29,12 @@ cubeOpposite = let v : Fraction = virtual kobbelt 3 (ring (high ∷ low ∷ high
 
 -- "edge point (0,-590,-590)"
 cube-edge : toWhole (cubeEdge kobbelt) ≡ negsuc 589
-unfolding virtual sumᶠ round
+unfolding interiorPoint virtual sumᶠ round
 cube-edge = refl
 
 -- "Taking 1/5 for 1/9: the cube's edge point becomes -594"
 cube-edge-fifth : toWhole (cubeEdge (record { near = 5; far = 1 })) ≡ negsuc 593
-unfolding virtual sumᶠ round
+unfolding interiorPoint virtual sumᶠ round
 cube-edge-fifth = refl
 
 abbrev cubeDirection : Fraction
@@ -41,33 +42,33 @@ cubeDirection = directionTwo kobbelt cubeOpposite (cubeEdge kobbelt) (cubeEdge k
 
 -- "the face at z = -540 gets (0,0,-738) from -737.5"
 cube-face : toWhole (meanOfBoth cubeDirection cubeDirection) ≡ negsuc 737
-unfolding virtual sumᶠ round
+unfolding interiorPoint midpoint virtual sumᶠ round
 cube-face = refl
 
 cube-face-exact : toWhole (2 ×ᶠ meanOfBoth cubeDirection cubeDirection) ≡ negsuc 1474
-unfolding virtual sumᶠ round
+unfolding interiorPoint midpoint virtual sumᶠ round
 cube-face-exact = refl
 
 -- ---- "two by two squares of side 16, four outer corners marked, centre raised to z = 16, rest 0": z at the edge from the middle M of a side to the centre.
 -- M is in two faces; b and c are outer corners, in one face each, whose opposite corner is the centre.
-abbrev starM : Fraction
-starM = extrapolated (whole (pos 0)) 1 (λ i. whole (pos 16))
+abbrev extrapolatedM : Fraction
+extrapolatedM = extrapolated (whole (pos 0)) 1 (λ i. whole (pos 16))
 
-abbrev starCorner : Fraction
-starCorner = extrapolatedCorner (whole (pos 0)) (whole (pos 16))
+abbrev extrapolatedOuter : Fraction
+extrapolatedOuter = extrapolatedCorner (whole (pos 0)) (whole (pos 16))
 
 abbrev gridL : ℕ → Fraction
-gridL = wrap 4 (λ (i : ℕ). getD (whole (pos 0) ∷ whole (pos 16) ∷ whole (pos 0) ∷ starM ∷ []) i (whole (pos 0)))
+gridL = wrap 4 (λ (i : ℕ). getD (whole (pos 0) ∷ whole (pos 16) ∷ whole (pos 0) ∷ extrapolatedM ∷ []) i (whole (pos 0)))
 
 abbrev gridK : ℕ → Fraction
-gridK = wrap 4 (λ (i : ℕ). getD (whole (pos 0) ∷ whole (pos 0) ∷ starCorner ∷ starCorner ∷ []) i (whole (pos 0)))
+gridK = wrap 4 (λ (i : ℕ). getD (whole (pos 0) ∷ whole (pos 0) ∷ extrapolatedOuter ∷ extrapolatedOuter ∷ []) i (whole (pos 0)))
 
 abbrev gridEdge : Fraction
 gridEdge = innerEdge kobbelt (whole (pos 0)) (whole (pos 16)) (virtual kobbelt 4 gridL gridK 1) (virtual kobbelt 4 (λ i. whole (pos 0)) (λ i. whole (pos 0)) 0)
 
 -- "inner edge points have z = 10"
 grid-edge : toWhole gridEdge ≡ pos 10
-unfolding virtual sumᶠ round
+unfolding interiorPoint extrapolated extrapolatedCorner virtual sumᶠ round
 grid-edge = refl
 
 -- every boundary edge point has z = 0
@@ -76,9 +77,9 @@ gridDirection = directionOne kobbelt (whole (pos 0)) gridEdge (whole (pos 0))
 
 -- "face points z = 6 (100/16)"
 grid-face : toWhole (meanOfBoth gridDirection gridDirection) ≡ pos 6
-unfolding virtual sumᶠ round
+unfolding interiorPoint endPoint midpoint extrapolated extrapolatedCorner virtual sumᶠ round
 grid-face = refl
 
 grid-face-exact : toWhole (16 ×ᶠ meanOfBoth gridDirection gridDirection) ≡ pos 100
-unfolding virtual sumᶠ round
+unfolding interiorPoint endPoint midpoint extrapolated extrapolatedCorner virtual sumᶠ round
 grid-face-exact = refl

@@ -23,12 +23,15 @@ use Rattle.rules.proofs.Examples
 module _ (w : Weights) (some : 0 < scale w) where
   pub equals-interior : {p q r s : Fraction} {a b c d : ℤ} {D : ℕ} → Equals p a D → Equals q b D → Equals r c D → Equals s d D
       → Equals (interiorPoint w p q r s) (interior w a b c d) (scale w * D)
+  unfolding interiorPoint
   equals-interior i j k l = equals-divided (scale w) some (equals-sub (equals-times (w .near) (equals-add j k)) (equals-times (w .far) (equals-add i l)))
 
   pub equals-end : {p q r : Fraction} {a b c : ℤ} {D : ℕ} → Equals p a D → Equals q b D → Equals r c D → Equals (endPoint w p q r) (endEdge w a b c) (scale w * D)
+  unfolding endPoint
   equals-end i j k = equals-divided (scale w) some (equals-sub (equals-add (equals-times (w .near - 2 * w .far) i) (equals-times (w .near + w .far) j)) (equals-times (w .far) k))
 
   pub equals-single : {p q : Fraction} {a b : ℤ} {D : ℕ} → Equals p a D → Equals q b D → Equals (midpoint p q) (singleEdge w a b) (scale w * D)
+  unfolding midpoint
   equals-single {D = D} i j =
       equals-cong refl (sym (mul-assoc (w .near - w .far) 2 D) ∙ ap (λ (t : ℕ). t * D) (mul-comm (w .near - w .far) 2)) (equals-scaled (w .near - w .far) (equals-divided 2 (omega arith) (equals-add i j)))
 
@@ -47,6 +50,7 @@ module _ (w : Weights) (some : 0 < scale w) where
 
 -- the mean of both directions
 pub equals-mean : {x y : Fraction} {a b : ℤ} {D : ℕ} → Equals x a D → Equals y b D → Equals (midpoint x y) (a +ℤ b) (2 * D)
+unfolding midpoint
 equals-mean i j = equals-divided 2 (omega arith) (equals-add i j)
 
 -- ---- over the fixed denominators, at paper 01's weights: boundary edges over 7,257,600
@@ -80,6 +84,7 @@ twice : (P : ℤ) → pos 2 *ℤ (pos 60 *ℤ P) ≡ pos 120 *ℤ P
 twice P = same (lit (pos 2) ⊠ (lit (pos 60) ⊠ var 0)) (lit (pos 120) ⊠ var 0) (P ∷ []) refl
 
 pub equals-extrapolated : (P : ℤ) (r : ℕ) (ends : ℕ → ℤ) → 1 ≤ r → r ≤ 5 → Equals (extrapolated (whole P) r (λ (i : ℕ). whole (ends i))) (extrapolatedZ P r ends) 60
+unfolding extrapolated
 equals-extrapolated P r ends h k =
     let c : ℕ = 60 / r in
     let d : pos 60 ≡ pos c *ℤ pos r = ap pos (sym (over-60 r h k)) in
@@ -88,4 +93,5 @@ equals-extrapolated P r ends h k =
     (equals-scaled 60 (equals-sum r (λ (i : ℕ). whole (ends i)) ends 1 (λ i z. equals-whole (ends i)))))
 
 pub equals-extrapolated-corner : (P Q : ℤ) → Equals (extrapolatedCorner (whole P) (whole Q)) (extrapolatedCornerZ P Q) 60
+unfolding extrapolatedCorner
 equals-extrapolated-corner P Q = equals-sub (equals-cong (twice P) refl (equals-times 2 (equals-scaled 60 (equals-whole P)))) (equals-scaled 60 (equals-whole Q))

@@ -6,24 +6,24 @@ use Rattle.fractions.specs.Fraction.{Fraction, _+ᶠ_, _-ᶠ_, _×ᶠ_, _/ᶠ_,
 
 -- ---- boundary edges
 -- "for consecutive points p, q, r, s the point on qr is (9(q + r) - p - s)/16"
-abbrev pub interiorPoint : Weights → (p q r s : Fraction) → Fraction
+unfoldable pub interiorPoint : Weights → (p q r s : Fraction) → Fraction
 interiorPoint w p q r s = (w .near ×ᶠ (q +ᶠ r) -ᶠ w .far ×ᶠ (p +ᶠ s)) /ᶠ scale w
 
 -- "On an end edge p0 p1 followed by p2: (7 p0 + 10 p1 - p2)/16"
-abbrev pub endPoint : Weights → (p q r : Fraction) → Fraction
+unfoldable pub endPoint : Weights → (p q r : Fraction) → Fraction
 endPoint w p q r = ((w .near - 2 * w .far) ×ᶠ p +ᶠ (w .near + w .far) ×ᶠ q -ᶠ w .far ×ᶠ r) /ᶠ scale w
 
 -- "A stretch of one edge: the midpoint"
-abbrev pub midpoint : (p q : Fraction) → Fraction
+unfoldable pub midpoint : (p q : Fraction) → Fraction
 midpoint p q = (p +ᶠ q) /ᶠ 2
 
 -- ---- extrapolated points
 -- "For a boundary vertex P in m faces, P* = 2P minus the mean of the far ends of its m - 1 inner edges": r is m - 1
-abbrev pub extrapolated : (P : Fraction) (r : ℕ) (ends : ℕ → Fraction) → Fraction
+unfoldable pub extrapolated : (P : Fraction) (r : ℕ) (ends : ℕ → Fraction) → Fraction
 extrapolated P r ends = 2 ×ᶠ P -ᶠ sumᶠ r ends /ᶠ r
 
 -- "for m = 1, P* = 2P minus the opposite corner of its face"
-abbrev pub extrapolatedCorner : (P opposite : Fraction) → Fraction
+unfoldable pub extrapolatedCorner : (P opposite : Fraction) → Fraction
 extrapolatedCorner P opposite = 2 ×ᶠ P -ᶠ opposite
 
 -- ---- inner edges

@@ -8,6 +8,7 @@ use Rattle.lists.specs.Tabulate.{tabulate}
 use Rattle.rounding.specs.Rounding.{round}
 use Rattle.fractions.specs.Fraction.{sumᶠ}
 use Rattle.rings.specs.Ring.{virtual}
+use Rattle.rules.specs.Rules.{interiorPoint, endPoint, midpoint, extrapolated, extrapolatedCorner}
 use Rattle.search.specs.Search.{firstFrom, first, count, iterate}
 use Rattle.curve.specs.Weights.{kobbelt}
 use Rattle.tables.specs.Net.{Net}
@@ -80,5 +81,5 @@ stated =
     ∷ []
 
 cases : computed ≡ stated
-unfolding tabulate round sumᶠ virtual firstFrom first count iterate quads from to opposed mate firstMet edgeCount edge isBoundaryFrom isBoundaryInto boundaryFrom boundaryInto along back leaves valence turn corner refined refinedMarks oppositeCorner fanEnd extrapolatedAt fanNeighbour fanCorner fanPlace ringVirtual fanVirtual virtualAt marked edgeRule edgeValue edgePoint across beyond direction inner fourInner faceRule faceValue facePoint edgeAt refinedCoordinate axis step
+unfolding tabulate round sumᶠ virtual firstFrom first count iterate quads from to opposed mate firstMet edgeCount edge isBoundaryFrom isBoundaryInto boundaryFrom boundaryInto along back leaves valence turn corner refined refinedMarks interiorPoint endPoint midpoint extrapolated extrapolatedCorner oppositeCorner fanEnd extrapolatedAt fanNeighbour fanCorner fanPlace ringVirtual fanVirtual virtualAt marked edgeRule edgeValue edgePoint across beyond direction inner fourInner faceRule faceValue facePoint edgeAt refinedCoordinate axis step
 cases = refl

@@ -1,5 +1,5 @@
 -- One round of the scheme, at the boundary: old points stay, and the boundary rules put the new ones. Inner edges and faces do not come into it.
-use mathlib.Core.Path.{_≡_, refl, sym, _∙_, subst}
+use mathlib.Core.Path.{_≡_, refl, sym, ap, _∙_}
 use mathlib.Core.Bool.{Bool, true, false}
 use mathlib.Core.List.{List}
 use Prim.Native.Nat.{ℕ, _+_, _<_}
@@ -13,14 +13,13 @@ use Rattle.fractions.specs.Fraction.{toWhole}
 use Rattle.topology.specs.Shape.{quads}
 use Rattle.topology.specs.HalfEdge.{from, to, edge}
 use Rattle.topology.specs.Boundary.{OnBoundary, along, back}
-use Rattle.topology.specs.Manifold.{Manifold}
 use Rattle.topology.proofs.Mates.{edge-lt}
-use Rattle.refinement.specs.Refined.{refined}
 use Rattle.refinement.proofs.Manifold.{manifold-refined}
-use Rattle.refinement.proofs.Marks.{length-marks}
 use Rattle.scheme.specs.Points.{marked, edgePoint}
-use Rattle.scheme.specs.Step.{axis, step}
-use Rattle.scheme.proofs.BoundaryEdges.{axis-step, refined-old, refined-boundary, inside-rounded, start-rounded, finish-rounded, whole-rounded}
+use Rattle.scheme.specs.Step.{edgeAt, axis, step}
+use Rattle.scheme.proofs.BoundaryEdges.{inside-rounded, start-rounded, finish-rounded, whole-rounded}
+use Rattle.schemelaws.proofs.Coordinates.{edgeAt-edge, refined-old, refined-edge-at}
+use Rattle.schemelaws.proofs.Steps.{step-faces, step-marks, step-count, step-axis}
 use Rattle.seam.specs.Reading.{pointOf}
 use Rattle.seam.specs.BoundaryStep.{boundaryRule, boundaryPoint, BoundaryStep}
 use Rattle.seam.specs.Seam.{Admissible}
@@ -50,7 +49,7 @@ module _ (w : Weights) (some : 0 < scale w) (m : Net) (ok : Admissible m) (h : �
   kept a b =
       let i : ℕ = from (m .faces) h in
       let c = ok .oriented .below h (o .lt) in
-      axis-step w m a i b (omega arith) ∙ refined-old w (length (m .marks)) (m .faces) (m .marks) (axis (m .vertices) a) i c
+      step-axis w m a i b (omega arith) ∙ refined-old w (length (m .marks)) (m .faces) (m .marks) (axis (m .vertices) a) i c
 
   by-marks : (p : ℕ → ℤ) → toWhole (edgePoint w (m .faces) (m .marks) p h) ≡ boundaryPoint (rounded w) m p h
   unfolding boundaryPoint boundaryRule
@@ -63,26 +62,30 @@ module _ (w : Weights) (some : 0 < scale w) (m : Net) (ok : Admissible m) (h : �
       go false true s t = finish-rounded w some (m .faces) (m .marks) p h o s t
       go true true s t = whole-rounded w some (m .faces) (m .marks) p h o s t
 
+  -- a boundary edge is first met at its only half-edge
+  first-at : edgeAt (m .faces) (edge quads (m .faces) h) ≡ h
+  first-at = let e = edgeAt-edge (length (m .marks)) (m .faces) (ok .oriented) h (o .lt) in let k = o .lt in let n = o .none in omega arith
+
   put : (a : ℕ) → a < 3 → axis (step w m .vertices) a (length (m .marks) + edge quads (m .faces) h) ≡ boundaryPoint (rounded w) m (axis (m .vertices) a) h
   put a b =
       let v : ℕ = length (m .marks) in
-      let e = edge-lt quads v (m .faces) (ok .oriented) h (o .lt) in
-      axis-step w m a (v + edge quads (m .faces) h) b (omega arith)
-      ∙ refined-boundary v (m .faces) (ok .oriented) h o w (m .marks) (axis (m .vertices) a)
-      ∙ by-marks (axis (m .vertices) a)
+      let e : ℕ = edge quads (m .faces) h in
+      let p : ℕ → ℤ = axis (m .vertices) a in
+      let k = edge-lt quads v (m .faces) (ok .oriented) h (o .lt) in
+      step-axis w m a (v + e) b (omega arith)
+      ∙ refined-edge-at w v (m .faces) (m .marks) p e k
+      ∙ ap (λ (g : ℕ). toWhole (edgePoint w (m .faces) (m .marks) p g)) first-at
+      ∙ by-marks p
 
 pub step-boundary : (w : Weights) → 0 < scale w → (m : Net) → Admissible m → BoundaryStep (each (rounded w)) m (step w m)
-unfolding step pointOf
+unfolding pointOf
 step-boundary w some m ok = record {
-  faces = refl;
-  marks = refl;
+  faces = step-faces w m;
+  marks = step-marks w m;
   old = λ h o. λ t. record { x = kept w some m ok h o 0 (omega arith) t; y = kept w some m ok h o 1 (omega arith) t; z = kept w some m ok h o 2 (omega arith) t };
   new = λ h o. (λ t. record { x = put w some m ok h o 0 (omega arith) t; y = put w some m ok h o 1 (omega arith) t; z = put w some m ok h o 2 (omega arith) t }) ∙ sym (each-point (rounded w) m h);
 }
 
 -- what the seam asks of a net passes from round to round
 pub admissible-step : (w : Weights) (m : Net) → Admissible m → Admissible (step w m)
-unfolding step
-admissible-step w m ok =
-    let v : ℕ = length (m .marks) in
-    subst (λ (n : ℕ). Manifold quads n (refined quads v (m .faces))) (sym (length-marks quads v (m .faces) (m .marks))) (manifold-refined quads v (m .faces) ok)
+admissible-step w m ok = rw (step-count w m, step-faces w m) (manifold-refined quads (length (m .marks)) (m .faces) ok)

@@ -22,6 +22,15 @@ module _ (p : ℕ → Bool) where
   unfolding count
   count-step n = omega arith
 
+  -- none from i up to n passes
+  pub count-skip : (i n : ℕ) → i ≤ n → ((j : ℕ) → i ≤ j → j < n → p j ≡ false) → count p n ≡ count p i
+  count-skip i zero h f = let e : i ≡ zero = omega arith in rw e
+  count-skip i (suc n) h f = go (ℕ-discrete i (suc n)) (λ (k : i ≤ n). count-same n (f n k (omega arith)) ∙ count-skip i n k (λ j a b. f j a (omega arith)))
+    where
+      go : Dec (i ≡ suc n) → (i ≤ n → count p (suc n) ≡ count p i) → count p (suc n) ≡ count p i
+      go (yes e) g = rw e
+      go (no e) g = g (omega arith)
+
   pub count-mono : (m n : ℕ) → m ≤ n → count p m ≤ count p n
   count-mono m zero h = let e : m ≡ zero = omega arith in rw e (le-refl _)
   count-mono m (suc n) h = go (ℕ-discrete m (suc n)) (λ (k : m ≤ n). count-mono m n k)

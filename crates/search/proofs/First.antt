@@ -118,6 +118,13 @@ module _ (p : ℕ → Bool) where
   pub passed-hit : (n i : ℕ) → Passed i → i < n → p i ≡ true → i ≡ first p n
   passed-hit n i w h t = sym (first-is n i h t (w .none))
 
+  pub passed-le : (n i : ℕ) → Passed i → i ≤ n → i ≤ first p n
+  passed-le n i w h = go (decLt (first p n) i)
+    where
+      go : Dec (first p n < i) → i ≤ first p n
+      go (yes a) = clash (p (first p n)) (first-holds n (omega arith)) (w .none (first p n) a)
+      go (no a) = omega arith
+
   pub passed-all : (n i : ℕ) → Passed i → n ≤ i → first p n ≡ n
   passed-all n i w h = first-none n (λ j a t. clash (p j) t (w .none j (omega arith)))
 

@@ -23,15 +23,15 @@ use Rattle.topology.proofs.Rings.{ring-valence, ring-mates, ring-turns,
 -- ---- the two tests
 
 module _ (S : Shape) (l : List ℕ) (p g : ℕ) where
-  from-on : mate S l g ≡ length l → from l g ≡ p → isBoundaryFrom S l p g ≡ true
+  pub from-on : mate S l g ≡ length l → from l g ≡ p → isBoundaryFrom S l p g ≡ true
   unfolding isBoundaryFrom
   from-on a b = and-on _ _ (eq-eqb _ _ a) (eq-eqb _ _ b)
 
-  from-none : isBoundaryFrom S l p g ≡ true → mate S l g ≡ length l
+  pub from-none : isBoundaryFrom S l p g ≡ true → mate S l g ≡ length l
   unfolding isBoundaryFrom
   from-none t = eqb-true (mate S l g) (length l) (and-left (eqb (mate S l g) (length l)) (eqb (from l g) p) t)
 
-  from-at : isBoundaryFrom S l p g ≡ true → from l g ≡ p
+  pub from-at : isBoundaryFrom S l p g ≡ true → from l g ≡ p
   unfolding isBoundaryFrom
   from-at t = eqb-true (from l g) p (and-right (eqb (mate S l g) (length l)) (eqb (from l g) p) t)
 

@@ -8,7 +8,7 @@ use native.Mathlib.Omega.{arith}
 use lib.Dec.{eqb, ltb}
 use lib.IntN.{ℤ, pos, natAbs}
 use lib.ListN.{length, getD}
-use borrow.Author.Tests.{ltb-false, eqb-true, not-false, le-ltb, eq-eqb}
+use borrow.Author.Tests.{ltb-false, eqb-true, not-false, lt-ltb, le-ltb, eq-eqb}
 use Rattle.search.specs.Search.{first}
 use Rattle.search.proofs.First.{first-le, first-before}
 use Rattle.topology.specs.Shape.{quads}
@@ -18,7 +18,7 @@ use Rattle.refusals.proofs.Manifold.{manifold-if}
 use Rattle.refusals.specs.Refusals.{badMark, badCorner, isolated, repeatedSide, nonManifold, badValence, markedRing}
 use Rattle.tables.specs.Net.{Net}
 use Rattle.verdict.specs.Call.{Room, Call, finalFaces}
-use Rattle.verdict.specs.Verdict.{Verdict, accepted, refused, orElse, refusedIf, refusedAt, roomVerdict, limitsVerdict, callVerdict, badCoordinate, adjacencyVerdict, netVerdict, verdict}
+use Rattle.verdict.specs.Verdict.{Verdict, accepted, refused, orElse, refusedIf, refusedAt, roomVerdict, limitsVerdict, callVerdict, badCoordinate, vertexVerdict, adjacencyVerdict, facesVerdict, netVerdict, verdict}
 use Rattle.verdict.proofs.Examples
 
 -- ---- the chain
@@ -145,7 +145,7 @@ pub record NoRefusal (m : Net) : Type 0 where
   pub no12 : first (markedRing quads (m .faces) (m .marks)) (length (m .marks)) ≡ length (m .marks)
 
 pub none-if : (m : Net) → netVerdict m ≡ accepted → NoRefusal m
-unfolding netVerdict adjacencyVerdict
+unfolding netVerdict facesVerdict adjacencyVerdict vertexVerdict
 none-if m e₀ =
     let a₅ = or-both _ _ e₀ in
     let a₆ = or-both _ _ (a₅ .1) in
@@ -197,3 +197,17 @@ accepted-coordinate c e i h =
     let n = accepted-net c e in
     let k = n .no5 in
     ltb-false 1048576 _ (first-before (badCoordinate (c .net .vertices)) (length (c .net .vertices)) i (omega arith))
+
+-- ---- how a check answers: the first test that hits, or the rest of the chain
+pub at-hit : (r : ℕ) (t : ℕ → Bool) (n : ℕ) (place : ℕ → ℕ) (v : Verdict) (i : ℕ) → i ≡ first t n → i < n → refused r (place i) ≡ orElse (refusedAt r t n place) v
+at-hit r t n place v i e h = let f : ltb (first t n) n ≡ true = lt-ltb (first t n) n (rw e at h) in rw (f, e)
+
+pub at-pass : (r : ℕ) (t : ℕ → Bool) (n : ℕ) (place : ℕ → ℕ) (u v : Verdict) (i : ℕ) → i ≡ first t n → n ≤ i → u ≡ v → u ≡ orElse (refusedAt r t n place) v
+at-pass r t n place u v i e h k = let f : ltb (first t n) n ≡ false = le-ltb (first t n) n (rw e at h) in rw f k
+
+-- the same at the end of the chain
+pub last-hit : (r : ℕ) (t : ℕ → Bool) (n : ℕ) (place : ℕ → ℕ) (i : ℕ) → i ≡ first t n → i < n → refused r (place i) ≡ refusedAt r t n place
+last-hit r t n place i e h = let f : ltb (first t n) n ≡ true = lt-ltb (first t n) n (rw e at h) in rw (f, e)
+
+pub last-pass : (r : ℕ) (t : ℕ → Bool) (n : ℕ) (place : ℕ → ℕ) (i : ℕ) → i ≡ first t n → n ≤ i → accepted ≡ refusedAt r t n place
+last-pass r t n place i e h = let f : ltb (first t n) n ≡ false = le-ltb (first t n) n (rw e at h) in rw f

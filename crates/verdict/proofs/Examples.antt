@@ -1,10 +1,17 @@
 -- Verdicts, computed: the cases of paper 01 on refusals. Assumes nothing.
 use mathlib.Core.Path.{_≡_, refl}
 use mathlib.Core.List.{List, [], _∷_}
-use Prim.Native.Nat.{ℕ}
+use Prim.Native.Nat.{ℕ, zero, suc}
 use lib.IntN.{ℤ, pos, negsuc}
+use Rattle.search.specs.Search.{firstFrom, first, any, count, iterate}
+use Rattle.topology.specs.Shape.{quads}
+use Rattle.topology.specs.HalfEdge.{from, to, opposed, mate}
+use Rattle.topology.specs.Boundary.{isBoundaryFrom, boundaryFrom}
+use Rattle.topology.specs.Vertex.{leaves, valence, turn, start, stops, facesMet}
+use Rattle.refusals.specs.Refusals.{badMark, badCorner, isolated, repeatedSide, nonManifold, badValence, markedRing}
+use Rattle.tables.specs.Net.{Net}
 use Rattle.verdict.specs.Call.{Room}
-use Rattle.verdict.specs.Verdict.{accepted, refused, roomVerdict, limitsVerdict}
+use Rattle.verdict.specs.Verdict.{Verdict, accepted, refused, roomVerdict, limitsVerdict, badCoordinate, vertexVerdict, adjacencyVerdict, facesVerdict, netVerdict}
 
 abbrev ample : Room
 ample = record { vertices = 4000000; faces = 4000000; marks = 4000000; work = 5000000 }
@@ -27,3 +34,54 @@ rounds-first = refl
 empty : limitsVerdict 6 0 0 0 (record { vertices = 0; faces = 0; marks = 0; work = 0 }) ≡ accepted
 unfolding limitsVerdict roomVerdict
 empty = refl
+
+-- ---- nets: coordinates are 0 but for the first
+abbrev flat : ℕ → List ℤ
+flat zero = []
+flat (suc v) = pos 0 ∷ pos 0 ∷ pos 0 ∷ flat v
+
+abbrev unmarked : ℕ → List ℕ
+unmarked zero = []
+unmarked (suc v) = 0 ∷ unmarked v
+
+abbrev netOf : ℤ → ℕ → List ℕ → Net
+netOf x v faces = record { vertices = x ∷ pos 0 ∷ pos 0 ∷ flat v; faces = faces; marks = 0 ∷ unmarked v }
+
+abbrev square : List ℕ
+square = 0 ∷ 1 ∷ 2 ∷ 3 ∷ []
+
+-- seven faces in a fan at vertex 0, and two squares that touch at vertex 16
+abbrev fanAndTouching : List ℕ
+fanAndTouching =
+    0 ∷ 1 ∷ 2 ∷ 3 ∷ 0 ∷ 3 ∷ 4 ∷ 5 ∷ 0 ∷ 5 ∷ 6 ∷ 7 ∷ 0 ∷ 7 ∷ 8 ∷ 9 ∷ 0 ∷ 9 ∷ 10 ∷ 11 ∷ 0 ∷ 11 ∷ 12 ∷ 13 ∷ 0 ∷ 13 ∷ 14 ∷ 15
+    ∷ 16 ∷ 17 ∷ 18 ∷ 19 ∷ 16 ∷ 20 ∷ 21 ∷ 22 ∷ []
+
+abbrev computed : List Verdict
+computed =
+    -- "coordinate 1,048,576 passes; 1,048,577 gives 5"
+    netVerdict (netOf (pos 1048576) 3 square)
+    ∷ netVerdict (netOf (negsuc 1048575) 3 square)
+    ∷ netVerdict (netOf (pos 1048577) 3 square)
+    -- a vertex in no face; more vertices than corners
+    ∷ netVerdict (netOf (pos 0) 4 square)
+    ∷ netVerdict (netOf (pos 0) 8 square)
+    ∷ netVerdict (netOf (pos 0) 0 [])
+    -- "One face listed twice: 9, place 1", and before it 5
+    ∷ netVerdict (netOf (pos 0) 3 (0 ∷ 1 ∷ 2 ∷ 3 ∷ 0 ∷ 1 ∷ 2 ∷ 3 ∷ []))
+    ∷ netVerdict (netOf (negsuc 1048576) 3 (0 ∷ 1 ∷ 2 ∷ 3 ∷ 0 ∷ 1 ∷ 2 ∷ 3 ∷ []))
+    -- "two squares touching at one vertex: 10"
+    ∷ netVerdict (netOf (pos 0) 6 (0 ∷ 1 ∷ 2 ∷ 3 ∷ 2 ∷ 4 ∷ 5 ∷ 6 ∷ []))
+    -- 10 for all vertices comes before 11 for any
+    ∷ netVerdict (netOf (pos 0) 22 fanAndTouching)
+    -- a ring of two is a ring, of too few faces
+    ∷ netVerdict (netOf (pos 0) 4 (0 ∷ 1 ∷ 2 ∷ 3 ∷ 0 ∷ 3 ∷ 4 ∷ 1 ∷ []))
+    -- mark 1 on a vertex with a full ring: the centre of two by two squares
+    ∷ netVerdict (record { vertices = flat 9; faces = 0 ∷ 1 ∷ 4 ∷ 3 ∷ 1 ∷ 2 ∷ 5 ∷ 4 ∷ 3 ∷ 4 ∷ 7 ∷ 6 ∷ 4 ∷ 5 ∷ 8 ∷ 7 ∷ []; marks = 0 ∷ 0 ∷ 0 ∷ 0 ∷ 1 ∷ 0 ∷ 0 ∷ 0 ∷ 0 ∷ [] })
+    ∷ []
+
+abbrev stated : List Verdict
+stated = accepted ∷ accepted ∷ refused 5 0 ∷ refused 8 4 ∷ refused 8 4 ∷ refused 8 0 ∷ refused 9 1 ∷ refused 5 0 ∷ refused 10 2 ∷ refused 10 16 ∷ refused 11 0 ∷ refused 12 4 ∷ []
+
+nets : computed ≡ stated
+unfolding netVerdict facesVerdict adjacencyVerdict vertexVerdict badCoordinate badMark badCorner isolated repeatedSide nonManifold badValence markedRing firstFrom first any count iterate quads from to opposed mate isBoundaryFrom boundaryFrom leaves valence turn start stops facesMet
+nets = refl

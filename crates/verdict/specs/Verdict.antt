@@ -66,21 +66,25 @@ callVerdict c = limitsVerdict (c .rounds) (length (c .net .vertices)) (length (c
 unfoldable pub badCoordinate : List ℤ → ℕ → Bool
 badCoordinate vs i = ltb 1048576 (natAbs (getD vs i (pos 0)))
 
--- 9 to 12, of v vertices
-unfoldable pub adjacencyVerdict : ℕ → List ℕ → List ℕ → Verdict
-adjacencyVerdict v l marks =
-    orElse (refusedAt 9 (repeatedSide quads l) (length l) (quads .face))
-    (orElse (refusedAt 10 (nonManifold quads l) v (λ p. p))
+-- 10 to 12, then 9 to 12, then 8 to 12, of v vertices
+unfoldable pub vertexVerdict : ℕ → List ℕ → List ℕ → Verdict
+vertexVerdict v l marks =
+    orElse (refusedAt 10 (nonManifold quads l) v (λ p. p))
     (orElse (refusedAt 11 (badValence quads l) v (λ p. p))
-    (refusedAt 12 (markedRing quads l marks) v (λ p. p))))
+    (refusedAt 12 (markedRing quads l marks) v (λ p. p)))
+
+unfoldable pub adjacencyVerdict : ℕ → List ℕ → List ℕ → Verdict
+adjacencyVerdict v l marks = orElse (refusedAt 9 (repeatedSide quads l) (length l) (quads .face)) (vertexVerdict v l marks)
+
+unfoldable pub facesVerdict : ℕ → List ℕ → List ℕ → Verdict
+facesVerdict v l marks = orElse (refusedAt 8 (isolated l) v (λ p. p)) (adjacencyVerdict v l marks)
 
 unfoldable pub netVerdict : Net → Verdict
 netVerdict m =
     orElse (refusedAt 5 (badCoordinate (m .vertices)) (length (m .vertices)) (λ i. i / 3))
     (orElse (refusedAt 6 (badMark (m .marks)) (length (m .marks)) (λ p. p))
     (orElse (refusedAt 7 (badCorner quads (length (m .marks)) (m .faces)) (length (m .faces)) (quads .face))
-    (orElse (refusedAt 8 (isolated (m .faces)) (length (m .marks)) (λ p. p))
-    (adjacencyVerdict (length (m .marks)) (m .faces) (m .marks)))))
+    (facesVerdict (length (m .marks)) (m .faces) (m .marks))))
 
 unfoldable pub verdict : Call → Verdict
 verdict c = orElse (callVerdict c) (netVerdict (c .net))

@@ -1,9 +1,8 @@
 -- `build_chains` meets its contract: the half-edges from h on are chained. Assumes nothing.
-use Prim.Native.Nat.{ℕ, _+_, _-_, _*_, _≤_}
-use mathlib.Core.Path.{_≡_, refl, sym, _∙_, subst}
+use Prim.Native.Nat.{_+_, _-_, _*_, _≤_}
+use mathlib.Core.Path.{_≡_, refl, _∙_, subst}
 use native.Mathlib.Omega.{arith}
-use lib.ListN.{length, getD, length-set}
-use borrow.Author.Needs.{needs}
+use lib.ListN.{length, length-set}
 use Rattle.adjacency.specs.Chains.{Chained, SameOutside}
 use Rattle.adjacency.proofs.Chains.{chained-link, tables-length, same-outside, outside-set, outside-then}
 use Rattle.adjacency.proofs.build_chains.Statement.{statement}

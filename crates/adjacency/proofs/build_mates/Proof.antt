@@ -4,7 +4,6 @@ use mathlib.Core.Path.{_≡_, refl, _∙_}
 use native.Mathlib.Omega.{arith}
 use lib.ListN.{length, drop, length-set}
 use lib.Seq.{drop-set-lt}
-use borrow.Author.Needs.{needs}
 use Rattle.topology.specs.Shape.{quads}
 use Rattle.topology.proofs.Mates.{mate-le}
 use Rattle.adjacency.proofs.Chains.{chained-drop, tables-length, MatedBelow, mated-start, mated-next, mated-all}

@@ -3,9 +3,7 @@ use Prim.Native.Nat.{ℕ, _+_, _-_, _*_}
 use mathlib.Core.Path.{sym, ap, _∙_}
 use native.Mathlib.Omega.{arith}
 use lib.ListN.{length, getD}
-use borrow.Author.Needs.{needs}
 use Rattle.topology.specs.Shape.{quads}
-use Rattle.topology.proofs.Shape.{quads-lawful}
 use Rattle.adjacency.specs.Chains.{side}
 use Rattle.adjacency.proofs.Chains.{Walk, walk-start, walk-turn, walk-rises, walk-hit, walk-end}
 use Rattle.adjacency.proofs.Sides.{side-leaves, side-on, side-off}

@@ -3,7 +3,6 @@ use Prim.Native.Nat.{_-_, _≤_}
 use mathlib.Core.Path.{sym, _∙_}
 use native.Mathlib.Omega.{arith}
 use lib.ListN.{length}
-use borrow.Author.Needs.{needs}
 use Rattle.search.proofs.First.{Passed, passed-start, passed-next, passed-hit, passed-end}
 use Rattle.topology.specs.Shape.{quads}
 use Rattle.refusals.specs.Refusals.{repeatedSide}

@@ -1,9 +1,8 @@
 -- `mate_of` meets its contract: a mate is the first side the other way. Assumes nothing.
 use Prim.Native.Nat.{ℕ}
-use mathlib.Core.Path.{sym, ap, _∙_}
+use mathlib.Core.Path.{ap, _∙_}
 use native.Mathlib.Omega.{arith}
 use lib.ListN.{length, getD}
-use borrow.Author.Needs.{needs}
 use Rattle.search.specs.Search.{first}
 use Rattle.topology.specs.Shape.{quads}
 use Rattle.adjacency.specs.Chains.{side}

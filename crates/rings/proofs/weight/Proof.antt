@@ -1,4 +1,5 @@
 -- `rings::weight` meets its contract: its table computes to that of the formula. Assumes nothing.
+use mathlib.Core.Path.{_∙_, subst⁻¹}
 use Prim.Native.Nat.{_+_, _-_, _*_, _≤_}
 use native.Mathlib.Omega.{arith}
 use lib.IntN.{ℤ, pos, natAbs}
@@ -37,7 +38,7 @@ returns c =
     let x : ℤ = getD table ((n - 3) * 16 + o) (pos 0) in
     let b : natAbs x ≤ 36 = rw (t .0) (t .1) in
     let f : SFits w32 x = fits-abs w32 x (omega arith) in
-    (simp toZ-ofZ (t .0), simp toZ-ofZ b)
+    (toZ-ofZ f ∙ t .0, subst⁻¹ (λ (z : ℤ). natAbs z ≤ 36) (toZ-ofZ f) b)
 
 pub weight-spec : {M : Type 1} → statement M
 weight-spec = tie.close (tie.spec sub-i mul-i add-i mul-result array-copy-out-result returns)

@@ -1,0 +1,51 @@
+-- The sizes of coordinates and of the three rules of the curve on them; numerators over 16 become numerators over 7,257,600.
+use mathlib.Core.Path.{_≡_, refl, sym, ap, _∙_}
+use mathlib.Core.List.{List}
+use Prim.Native.Nat.{ℕ, _+_, _*_, _≤_}
+use native.Mathlib.Omega.{arith}
+use lib.IntN.{ℤ, pos, natAbs, _*ℤ_}
+use mir.Syntax.{w64}
+use mir.Val.{SFits}
+use Rattle.integers.specs.Bounded.{Bounded}
+use Rattle.integers.proofs.AbsoluteValue.{abs-mul}
+use Rattle.integers.proofs.Range.{fits-abs}
+use Rattle.curve.specs.Weights.{kobbelt, interior, endEdge, singleEdge}
+use Rattle.curve.specs.Range.{InRange}
+use Rattle.curve.proofs.Distance.{interior-size, end-size, single-size}
+use Rattle.rules.proofs.Norm.{tame}
+use Rattle.scheme.specs.Step.{axis}
+
+pub axis-bound : (p : List ℤ) (a v : ℕ) → Bounded 67108864 p → natAbs (axis p a v) ≤ 67108864
+unfolding axis
+axis-bound p a v b = b .at (3 * v + a)
+
+-- what is read is in the curve's range
+pub read-range : (p : List ℤ) (a v : ℕ) → Bounded 67108864 p → (r : ℤ) → r ≡ axis p a v → InRange r
+read-range p a v b r e = let h = axis-bound p a v b in let d = ap natAbs e in omega arith
+
+pub scaled-fits : (n : ℤ) → natAbs n ≤ 20 * 67108864 → SFits w64 (pos 453600 *ℤ n)
+scaled-fits n h = let a = abs-mul (pos 453600) n in fits-abs w64 _ (omega arith)
+
+pub scaled-bound : (n : ℤ) → natAbs n ≤ 20 * 67108864 → natAbs (pos 453600 *ℤ n) ≤ 13305600 * 67108864
+scaled-bound n h = let a = abs-mul (pos 453600) n in omega arith
+
+module _ (t : List ℤ) (b : Bounded 67108864 t) (a : ℕ) where
+  pub interior-bound : (p q r s : ℕ) → natAbs (interior kobbelt (axis t a p) (axis t a q) (axis t a r) (axis t a s)) ≤ 20 * 67108864
+  interior-bound p q r s =
+      interior-size kobbelt tame (axis t a p) (axis t a q) (axis t a r) (axis t a s) 67108864 (axis-bound t a p b) (axis-bound t a q b) (axis-bound t a r b) (axis-bound t a s b)
+
+  pub end-bound : (p q r : ℕ) → natAbs (endEdge kobbelt (axis t a p) (axis t a q) (axis t a r)) ≤ 20 * 67108864
+  end-bound p q r = end-size kobbelt tame (axis t a p) (axis t a q) (axis t a r) 67108864 (axis-bound t a p b) (axis-bound t a q b) (axis-bound t a r b)
+
+  pub single-bound : (p q : ℕ) → natAbs (singleEdge kobbelt (axis t a p) (axis t a q)) ≤ 20 * 67108864
+  single-bound p q = single-size kobbelt tame (axis t a p) (axis t a q) 67108864 (axis-bound t a p b) (axis-bound t a q b)
+
+-- a rule on what was read
+pub interior-read : (n x y z u x′ y′ z′ u′ : ℤ) → n ≡ interior kobbelt x y z u → x ≡ x′ → y ≡ y′ → z ≡ z′ → u ≡ u′ → n ≡ interior kobbelt x′ y′ z′ u′
+interior-read n x y z u x′ y′ z′ u′ e a b c d = cc
+
+pub end-read : (n x y z x′ y′ z′ : ℤ) → n ≡ endEdge kobbelt x y z → x ≡ x′ → y ≡ y′ → z ≡ z′ → n ≡ endEdge kobbelt x′ y′ z′
+end-read n x y z x′ y′ z′ e a b c = cc
+
+pub single-read : (n x y x′ y′ : ℤ) → n ≡ singleEdge kobbelt x y → x ≡ x′ → y ≡ y′ → n ≡ singleEdge kobbelt x′ y′
+single-read n x y x′ y′ e a b = cc

@@ -1,0 +1,122 @@
+-- What callers need of a round: that its tables meet what the functions require, and what the tables hold afterwards.
+use mathlib.Core.Path.{_≡_, refl, sym, ap, _∙_}
+use mathlib.Core.Bool.{cond}
+use mathlib.Core.List.{List, _++_}
+use Prim.Native.Nat.{ℕ, _+_, _-_, _*_, _%_, _≤_, _<_}
+use native.Mathlib.Decide.{decLt}
+use native.Mathlib.Omega.{arith}
+use lib.ListN.{length, getD, take, drop, length-append, length-drop, List·getD-append}
+use lib.Dec.{ltb}
+use borrow.Author.Tests.{le-ltb}
+use lib.Seq.{length-take-le, take-at, drop-at, getD-take, ext-getD}
+use Rattle.lists.proofs.Tabulate.{tabulate-cong}
+use Rattle.topology.specs.Shape.{Shape, Lawful, quads}
+use Rattle.topology.specs.Manifold.{Oriented}
+use Rattle.topology.proofs.Mates.{mate-le}
+use Rattle.refinement.specs.Refined.{refinedVertices, refined, refinedMarks}
+use Rattle.refinement.specs.Mates.{mates, refinedMates}
+use Rattle.refinement.proofs.Corners.{length-refined}
+use Rattle.refinement.proofs.Tables.{length-mates, getD-mates, mates-refined}
+use Rattle.adjacency.specs.Chains.{MateTable}
+use Rattle.tables.specs.Tables.{filled}
+use Rattle.growth.specs.Growth.{edges, Numbered, MatesIn, extended}
+use Rattle.growth.proofs.Edges.{length-both, both-mate, both-edge}
+
+-- ---- a table filled from the front
+module _ {A : Type 0} (s d : List A) where
+  pub length-filled : length s ≤ length d → length (filled s d) ≡ length d
+  unfolding filled
+  length-filled h = let a = length-append s (drop (length s) d) in let b = length-drop (length s) d in omega arith
+
+  pub filled-front : (n : ℕ) → length s ≡ n → take n (filled s d) ≡ s
+  unfolding filled
+  filled-front n e = take-at s (drop (length s) d) n e
+
+  pub filled-rest : (n : ℕ) → length s ≡ n → drop n (filled s d) ≡ drop n d
+  unfolding filled
+  filled-rest n e = drop-at s (drop (length s) d) n e ∙ ap (λ (k : ℕ). drop k d) e
+
+  pub filled-at : (z : A) (k : ℕ) → k < length s → getD (filled s d) k z ≡ getD s k z
+  unfolding filled
+  filled-at z k h = List·getD-append s (drop (length s) d) z k h
+
+-- ---- before the round
+
+-- corners below v are below any larger number
+pub oriented-wider : (v u : ℕ) (l : List ℕ) → v ≤ u → Oriented quads v l → Oriented quads u l
+oriented-wider v u l h ok = record {
+  shape = ok .shape;
+  below = λ g a. let b = ok .below g a in omega arith;
+  apart = ok .apart;
+  once = ok .once;
+}
+
+pub by-fours : (n : ℕ) → Lawful quads n → n % 4 ≡ 0
+unfolding quads
+by-fours n ok = go (decLt (n - n % 4) n)
+  where
+    go : Dec (n - n % 4 < n) → n % 4 ≡ 0
+    go (yes b) = let a = ok .prev-lt (n - n % 4) b in omega arith
+    go (no b) = omega arith
+
+-- ---- edge numbers
+
+module _ (l w : List ℕ) where
+  pub numbered-mates : MateTable l (filled (mates quads l ++ edges quads l) w)
+  numbered-mates = record { mates = λ g b. let e = length-both l in filled-at (mates quads l ++ edges quads l) w 0 g (omega arith) ∙ both-mate l g b }
+
+  pub numbered-edges : Numbered l (filled (mates quads l ++ edges quads l) w) (length l)
+  numbered-edges = record { numbers = λ g b. let e = length-both l in filled-at (mates quads l ++ edges quads l) w 0 (length l + g) (omega arith) ∙ both-edge l g b }
+
+  pub numbered-rest : drop (2 * length l) (filled (mates quads l ++ edges quads l) w) ≡ drop (2 * length l) w
+  numbered-rest = filled-rest (mates quads l ++ edges quads l) w (2 * length l) (length-both l)
+
+-- only the numbers from n up to 2n count
+pub numbered-cong : (l w w′ : List ℕ) → ((i : ℕ) → length l ≤ i → i < 2 * length l → getD w′ i 0 ≡ getD w i 0) → Numbered l w (length l) → Numbered l w′ (length l)
+numbered-cong l w w′ f x = record { numbers = λ g b. f (length l + g) (omega arith) (omega arith) ∙ x .numbers g b }
+
+-- ---- faces
+
+pub faces-front : (v : ℕ) (l c : List ℕ) → take (4 * length l) (filled (refined quads v l) c) ≡ refined quads v l
+faces-front v l c = filled-front (refined quads v l) c (4 * length l) (length-refined quads v l)
+
+-- ---- mates
+
+pub mates-in : (l w : List ℕ) → length l % 4 ≡ 0 → length l ≤ 262144 → 4 * length l ≤ length w → MateTable l w → MatesIn (length l) w
+mates-in l w f s r t = record {
+  fours = f;
+  small = s;
+  room = r;
+  below = λ g b. let e = t .mates g b in let m = mate-le quads l g in omega arith;
+}
+
+mates-front : (l w : List ℕ) → length l ≤ length w → MateTable l w → take (length l) w ≡ mates quads l
+mates-front l w r t =
+    let a = length-take-le (length l) w r in
+    let b = length-mates quads l in
+    ext-getD 0 (take (length l) w) (mates quads l) (a ∙ sym b) (λ k h. getD-take (length l) w k 0 (omega arith) ∙ t .mates k (omega arith) ∙ sym (getD-mates quads l k (omega arith)))
+
+-- mates refined in place are the mates of the refined net
+pub refined-mates : (v : ℕ) (l w : List ℕ) → Oriented quads v l → length l ≤ length w → MateTable l w → refinedMates quads (take (length l) w) ≡ mates quads (refined quads v l)
+refined-mates v l w ok r t = ap (refinedMates quads) (mates-front l w r t) ∙ sym (mates-refined quads v l ok)
+
+pub mated-refined : (v : ℕ) (l w : List ℕ) → Oriented quads v l → length l ≤ length w → MateTable l w → MateTable (refined quads v l) (filled (refinedMates quads (take (length l) w)) w)
+mated-refined v l w ok r t =
+    let e = refined-mates v l w ok r t in
+    let n = length-mates quads (refined quads v l) in
+    rw e (record { mates = λ g b. filled-at (mates quads (refined quads v l)) w 0 g (omega arith) ∙ getD-mates quads (refined quads v l) g b })
+
+-- ---- marks
+
+pub marks-refined : (S : Shape) (v : ℕ) (l marks : List ℕ) → extended v (refinedVertices S v l) marks ≡ refinedMarks S v l marks
+unfolding extended refinedMarks
+marks-refined S v l marks = refl
+
+-- only the first v marks count
+pub marks-cong : (S : Shape) (v : ℕ) (l m m′ : List ℕ) → ((p : ℕ) → p < v → getD m p 0 ≡ getD m′ p 0) → refinedMarks S v l m ≡ refinedMarks S v l m′
+unfolding refinedMarks
+marks-cong S v l m m′ f = tabulate-cong (refinedVertices S v l) (λ (p : ℕ). cond (ltb p v) (getD m p 0) 0) (λ (p : ℕ). cond (ltb p v) (getD m′ p 0) 0) (λ p b. at p (decLt p v))
+  where
+    at : (p : ℕ) → Dec (p < v) → cond (ltb p v) (getD m p 0) 0 ≡ cond (ltb p v) (getD m′ p 0) 0
+    at p (yes h) = rw (f p h)
+    at p (no h) = rw (le-ltb p v (omega arith))

@@ -1,0 +1,87 @@
+-- One round's topology in lent tables. A net of n half-edges has its corners at the front of one table; another table w has the mate of h at h and
+-- the number of its edge at n + h. The refined corners and mates take the place of the old ones.
+use mathlib.Core.Path.{_≡_}
+use mathlib.Core.Bool.{cond}
+use mathlib.Core.List.{List}
+use Prim.Native.Nat.{ℕ, zero, suc, _+_, _*_, _%_, _≤_, _<_}
+use lib.ListN.{length, getD, set, take}
+use lib.Dec.{ltb}
+use Rattle.lists.specs.Tabulate.{tabulate}
+use Rattle.topology.specs.Shape.{Shape, quads}
+use Rattle.topology.specs.HalfEdge.{edgeCount, edge}
+use Rattle.topology.specs.Manifold.{Oriented}
+use Rattle.adjacency.specs.Chains.{MateTable}
+
+-- the edge numbers as a table
+unfoldable pub edges : Shape → List ℕ → List ℕ
+edges S l = tabulate (length l) (edge S l)
+
+-- an oriented net with corners l, its mates at the front of w, and room behind them for its edge numbers
+pub record Mated (l w : List ℕ) : Type 0 where
+  pub oriented : Oriented quads (length l) l
+  pub small : length l ≤ 262144
+  pub room : 2 * length l ≤ length w
+  pub mated : MateTable l w
+
+-- the edges of the half-edges below h are numbered
+pub record Numbered (l w : List ℕ) (h : ℕ) : Type 0 where
+  pub numbers : (g : ℕ) → g < h → getD w (length l + g) 0 ≡ edge quads l g
+
+-- corner j of the refined face h, from the corners c and the edge numbers e
+unfoldable pub cornerBy : Shape → ℕ → ℕ → (ℕ → ℕ) → (ℕ → ℕ) → ℕ → ℕ → ℕ
+cornerBy S v count c e h zero = c h
+cornerBy S v count c e h (suc zero) = v + e h
+cornerBy S v count c e h (suc (suc zero)) = v + count + S .face h
+cornerBy S v count c e h (suc (suc (suc j))) = v + e (S .prev h)
+
+-- the mate of side 0 of a refined face at a half-edge with the mate m, of n half-edges
+unfoldable pub firstMate : ℕ → ℕ → ℕ
+firstMate n m = cond (ltb m n) (4 * quads .next m + 3) (4 * n)
+
+-- w with four numbers from the place i on
+unfoldable pub putFour : List ℕ → ℕ → ℕ → ℕ → ℕ → ℕ → List ℕ
+putFour w i a b c d = set (set (set (set w i a) (i + 1) b) (i + 2) c) (i + 3) d
+
+-- w′ is w but for the numbers from a up to e, which are those of f
+pub record Written (a e : ℕ) (f : ℕ → ℕ) (w w′ : List ℕ) : Type 0 where
+  pub before : (k : ℕ) → k < a → getD w′ k 0 ≡ getD w k 0
+  pub inside : (k : ℕ) → a ≤ k → k < e → getD w′ k 0 ≡ f k
+  pub behind : (k : ℕ) → e ≤ k → getD w′ k 0 ≡ getD w k 0
+
+-- a face f of a net of n half-edges and v vertices, with corners and edge numbers in tables that have room for the refined ones
+pub record FaceIn (n v count f : ℕ) (faces w : List ℕ) : Type 0 where
+  pub small : n ≤ 262144
+  pub lt : 4 * f + 4 ≤ n
+  pub vertices : v ≤ n
+  pub edges : count ≤ n
+  pub room : 4 * n ≤ length faces
+  pub numbers : 2 * n ≤ length w
+  pub below : (g : ℕ) → g < n → getD w (n + g) 0 ≤ n
+
+-- a net of n half-edges, v vertices and `count` edges, its corners at the front of `faces`, the edges numbered in w, and room for the refined corners
+pub record Net (n v count : ℕ) (faces w : List ℕ) : Type 0 where
+  pub fours : n % 4 ≡ 0
+  pub small : n ≤ 262144
+  pub vertices : v ≤ n
+  pub room : 4 * n ≤ length faces
+  pub behind : 2 * n ≤ length w
+  pub numbered : Numbered (take n faces) w n
+  pub counted : count ≡ edgeCount quads (take n faces)
+
+-- the mates of face f of n half-edges, in a table that has room for the refined ones
+pub record SidesIn (n f : ℕ) (w : List ℕ) : Type 0 where
+  pub small : n ≤ 262144
+  pub lt : 4 * f + 4 ≤ n
+  pub room : 4 * n ≤ length w
+  pub below : (g : ℕ) → 4 * f ≤ g → g < 4 * f + 4 → getD w g 0 ≤ n
+
+-- a mate for each of n half-edges, by fours, and room for four times as many
+pub record MatesIn (n : ℕ) (w : List ℕ) : Type 0 where
+  pub fours : n % 4 ≡ 0
+  pub small : n ≤ 262144
+  pub room : 4 * n ≤ length w
+  pub below : (g : ℕ) → g < n → getD w g 0 ≤ n
+
+-- the first v marks, and 0 up to `count`
+unfoldable pub extended : ℕ → ℕ → List ℕ → List ℕ
+extended v count marks = tabulate count (λ (p : ℕ). cond (ltb p v) (getD marks p 0) 0)

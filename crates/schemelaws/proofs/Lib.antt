@@ -1,0 +1,10 @@
+pub mod Vertices
+pub mod Ties
+pub mod Coordinates
+pub mod Norm
+pub mod Constant
+pub mod Steps
+pub mod Growth
+pub mod Straight
+pub mod Beyond
+pub mod Directions

@@ -1,0 +1,3 @@
+pub mod Numerators
+pub mod Nets
+pub mod Agreement

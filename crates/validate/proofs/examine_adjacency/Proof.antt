@@ -1,0 +1,58 @@
+-- `validate::examine_adjacency` meets its contract: refusal 9, then the vertices. Assumes nothing.
+use mathlib.Core.Path.{_≡_, refl, sym, ap, _∙_}
+use Prim.Native.Nat.{ℕ, _*_, _/_, _≤_, _<_}
+use native.Mathlib.Omega.{arith}
+use lib.ListN.{length, drop}
+use Rattle.verdict.specs.Verdict.{Verdict, accepted, refused, orElse, refusedAt, vertexVerdict, adjacencyVerdict, facesVerdict, netVerdict}
+use Rattle.refusals.specs.Refusals.{badMark, badCorner, isolated, repeatedSide}
+use Rattle.topology.specs.Shape.{quads}
+use Rattle.lists.proofs.Parts.{drop-later}
+use Rattle.verdict.proofs.Accepted.{at-hit, at-pass}
+use Rattle.adjacency.proofs.Chains.{tables-length}
+use Rattle.validate.proofs.Laws.{never}
+use borrow.Author.Needs.{needs}
+use Rattle.validate.proofs.examine_adjacency.Statement.{statement}
+use Rattle.validate.proofs.examine_adjacency.Tie as tie
+
+build-chains-requires : tie.Need-build-chains-requires
+build-chains-requires c κs = search needs
+
+first-repeated-requires : tie.Need-first-repeated-requires
+first-repeated-requires c κs = search needs
+
+face-of-requires : tie.Need-face-of-requires
+face-of-requires c κs = search needs
+
+same-length : tie.Need-same-length
+same-length c = search needs
+
+returns : tie.Need-returns
+unfolding adjacencyVerdict
+returns c = let s = c .before .before .before .before .before .before .before .before .before .before .before in let l = s .args .faces .now in record { verdict = ap (refused 9) (c .face-of .ensures) ∙ at-hit 9 (repeatedSide quads l) (length l) (quads .face) _ _ (c .before .before .first-repeated .ensures) (c .before .if1 .taken); mated = λ e. never 9 _ e; rest = drop-later (3 * length l) (4 * length l) _ _ (omega arith) (c .before .before .before .before .before .before .build-chains .ensures .1 .rest) }
+
+build-mates-requires : tie.Need-build-mates-requires
+build-mates-requires c κs = let s = c .before .before .before .before .before .before .before .before .before .before .before in (tables-length _ _ _ (c .before .before .before .before .before .before .build-chains .kept .1 .0) (s .pre .0), c .before .before .before .before .before .before .build-chains .ensures .0)
+
+examine-vertices-requires : tie.Need-examine-vertices-requires
+examine-vertices-requires c κs = search needs
+
+same-length-2 : tie.Need-same-length-2
+same-length-2 c = search needs
+
+returns-2 : tie.Need-returns-2
+unfolding adjacencyVerdict
+returns-2 c = let s = c .before .before .before .before .before .before .before .before .before .before .before .before .before .before .before .before in let l = s .args .faces .now in record { verdict = at-pass 9 (repeatedSide quads l) (length l) (quads .face) _ _ _ (c .before .before .before .before .before .before .before .first-repeated .ensures) (c .before .before .before .before .before .before .if1 .left) (c .examine-vertices .ensures); mated = λ e. c .before .before .before .before .build-mates .ensures .0 .mated; rest = drop-later (length l) (4 * length l) _ _ (omega arith) (c .before .before .before .before .build-mates .ensures .1) ∙ drop-later (3 * length l) (4 * length l) _ _ (omega arith) (c .before .before .before .before .before .before .before .before .before .before .before .build-chains .ensures .1 .rest) }
+
+pub examine-adjacency-spec : {M : Type 1} → statement M
+examine-adjacency-spec =
+    tie.close
+    (tie.spec
+    build-chains-requires
+    first-repeated-requires
+    face-of-requires
+    same-length
+    returns
+    build-mates-requires
+    examine-vertices-requires
+    same-length-2
+    returns-2)

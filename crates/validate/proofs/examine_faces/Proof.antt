@@ -1,0 +1,52 @@
+-- `validate::examine_faces` meets its contract: refusal 8, then the sides. Assumes nothing.
+use mathlib.Core.Path.{_≡_, refl, sym, ap, _∙_}
+use Prim.Native.Nat.{ℕ, _*_, _/_, _≤_, _<_}
+use native.Mathlib.Omega.{arith}
+use lib.ListN.{length, drop}
+use Rattle.verdict.specs.Verdict.{Verdict, accepted, refused, orElse, refusedAt, vertexVerdict, adjacencyVerdict, facesVerdict, netVerdict}
+use Rattle.refusals.specs.Refusals.{badMark, badCorner, isolated, repeatedSide}
+use Rattle.topology.specs.Shape.{quads}
+use Rattle.verdict.proofs.Accepted.{at-hit, at-pass}
+use Rattle.validate.proofs.Laws.{never, all, joined, tables, empty-faces, lonely-vertex}
+use borrow.Author.Needs.{needs}
+use Rattle.validate.proofs.examine_faces.Statement.{statement}
+use Rattle.validate.proofs.examine_faces.Tie as tie
+
+returns : tie.Need-returns
+returns c = let s = c .before .before .before .before .before in empty-faces (s .args .faces .now) (s .args .marks .now) (s .args .work .now) (c .before .if1 .taken) (c .if2 .taken)
+
+returns-2 : tie.Need-returns-2
+returns-2 c = let s = c .before .before .before .before .before in lonely-vertex (s .args .faces .now) (s .args .marks .now) (s .args .work .now) (c .before .if1 .taken) (c .if2 .left)
+
+first-isolated-requires : tie.Need-first-isolated-requires
+first-isolated-requires c κs = let s = c .before .before .before .before .before in let r = s .pre .0 .room in let n = c .before .if1 .left in (omega arith, r)
+
+same-length : tie.Need-same-length
+same-length c = search needs
+
+returns-3 : tie.Need-returns-3
+unfolding facesVerdict
+returns-3 c = let s = c .before .before .before .before .before .before .before .before .before in let l = s .args .faces .now in let v = length (s .args .marks .now) in record { verdict = at-hit 8 (isolated l) v (λ p. p) _ _ (c .before .before .before .first-isolated .ensures .0) (c .if3 .taken); mated = λ e. never 8 _ e; rest = c .before .before .before .first-isolated .ensures .1 }
+
+examine-adjacency-requires : tie.Need-examine-adjacency-requires
+examine-adjacency-requires c κs = let s = c .before .before .before .before .before .before .before .before .before .before in let l = s .args .faces .now in let v = length (s .args .marks .now) in let j = joined l v (all (isolated l) v _ (c .before .before .before .before .first-isolated .ensures .0) (c .before .if3 .left)) in (tables l _ _ v (s .pre .0) j (s .pre .1) (c .before .before .before .before .first-isolated .kept .1 .1 .0), j)
+
+same-length-2 : tie.Need-same-length-2
+same-length-2 c = search needs
+
+returns-4 : tie.Need-returns-4
+unfolding facesVerdict
+returns-4 c = let s = c .before .before .before .before .before .before .before .before .before .before .before .before .before in let l = s .args .faces .now in let v = length (s .args .marks .now) in let x = c .before .before .examine-adjacency .ensures in record { verdict = at-pass 8 (isolated l) v (λ p. p) _ _ _ (c .before .before .before .before .before .before .before .first-isolated .ensures .0) (c .before .before .before .before .if3 .left) (x .verdict); mated = x .mated; rest = x .rest ∙ c .before .before .before .before .before .before .before .first-isolated .ensures .1 }
+
+pub examine-faces-spec : {M : Type 1} → statement M
+examine-faces-spec =
+    tie.close
+    (tie.spec
+    returns
+    returns-2
+    first-isolated-requires
+    same-length
+    returns-3
+    examine-adjacency-requires
+    same-length-2
+    returns-4)

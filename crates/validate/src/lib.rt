@@ -1,0 +1,127 @@
+// The check that finds the first refusal of a call, or none.
+ghost use Prim.Native.Nat.{ℕ};
+ghost use mathlib.Core.Path.{_≡_};
+ghost use lib.ListN.{length};
+ghost use Rattle.tables.specs.Net.{Net};
+ghost use Rattle.verdict.specs.Call.{Call};
+ghost use Rattle.verdict.specs.Verdict.{vertexVerdict, adjacencyVerdict, facesVerdict, netVerdict};
+ghost use Rattle.adjacency.specs.Chains.{Tables, Adjacency, InRange};
+ghost use Rattle.validate.specs.Answer.{verdictOf, found, checked};
+ghost use Rattle.validate.specs.Examine.{Lent, Joined, Examined};
+
+pub enum Answer {
+    Accepted,
+    Refused(u32, usize),
+}
+
+// Refusals 10 to 12 of a net with its adjacency built.
+fn examine_vertices(faces: &[u32], marks: &[u8], work: &[u32]) -> Answer
+    requires { ⌜ Adjacency (now faces) (now work) ⌝ }
+    requires { ⌜ Joined (now faces) (length (now marks)) ⌝ }
+    ensures { λ r. ⌜ verdictOf r ≡ vertexVerdict (length (now (marks .entry))) (now (faces .entry)) (now (marks .entry)) ⌝ }
+{
+    let p = vertices::first_non_manifold(faces, marks.len(), work);
+    if p < marks.len() {
+        return Answer::Refused(10, p);
+    }
+    let q = vertices::first_bad_valence(faces, marks.len(), work);
+    if q < marks.len() {
+        return Answer::Refused(11, q);
+    }
+    let s = vertices::first_marked_ring(faces, marks, work);
+    if s < marks.len() {
+        return Answer::Refused(12, s);
+    }
+    Answer::Accepted
+}
+
+// Refusals 9 to 12 of a net whose vertices all are in faces. On acceptance the work table starts with the mates.
+fn examine_adjacency(faces: &[u32], marks: &[u8], work: &mut [u32]) -> Answer
+    requires { ⌜ Tables (now faces) (now work) ⌝ }
+    requires { ⌜ Joined (now faces) (length (now marks)) ⌝ }
+    ensures { λ r. ⌜ Examined (adjacencyVerdict (length (now (marks .entry))) (now (faces .entry)) (now (marks .entry))) (now (faces .entry)) (now (work .entry)) r (now (work .exit)) ⌝ }
+{
+    adjacency::build_chains(faces, &mut *work);
+    let h = adjacency::first_repeated(faces, &*work);
+    if h < faces.len() {
+        return Answer::Refused(9, adjacency::face_of(h));
+    }
+    adjacency::build_mates(faces, &mut *work);
+    examine_vertices(faces, marks, &*work)
+}
+
+// Refusals 8 to 12 of a net whose corners all are vertices.
+fn examine_faces(faces: &[u32], marks: &[u8], work: &mut [u32]) -> Answer
+    requires { ⌜ Lent (now faces) (now work) ⌝ }
+    requires { ⌜ InRange (length (now marks)) (now faces) ⌝ }
+    ensures { λ r. ⌜ Examined (facesVerdict (length (now (marks .entry))) (now (faces .entry)) (now (marks .entry))) (now (faces .entry)) (now (work .entry)) r (now (work .exit)) ⌝ }
+{
+    if faces.len() == 0 {
+        if marks.len() == 0 {
+            return Answer::Accepted;
+        }
+        return Answer::Refused(8, 0);
+    }
+    let p = scan::first_isolated(faces, marks.len(), &mut *work);
+    if p < marks.len() {
+        return Answer::Refused(8, p);
+    }
+    examine_adjacency(faces, marks, &mut *work)
+}
+
+// Refusals 5 to 12. Only the first 4n numbers of the work table are used, n being the number of corners; on acceptance it starts with the mates.
+pub fn examine_net(vertices: &[i32], faces: &[u32], marks: &[u8], work: &mut [u32]) -> Answer
+    requires { ⌜ Lent (now faces) (now work) ⌝ }
+    ensures { λ r. ⌜ Examined (netVerdict (record { vertices = now (vertices .entry); faces = now (faces .entry); marks = now (marks .entry) })) (now (faces .entry)) (now (work .entry)) r (now (work .exit)) ⌝ }
+{
+    let x = scan::first_bad_coordinate(vertices);
+    if x < vertices.len() {
+        return Answer::Refused(5, x / 3);
+    }
+    let m = scan::first_bad_mark(marks);
+    if m < marks.len() {
+        return Answer::Refused(6, m);
+    }
+    let h = scan::first_bad_corner(faces, marks.len());
+    if h < faces.len() {
+        return Answer::Refused(7, adjacency::face_of(h));
+    }
+    examine_faces(faces, marks, &mut *work)
+}
+
+// The verdict on a call, given the lengths of its output tables. Beside clearing the work table the time is linear in the tables for nets of bounded
+// valence; with d faces at a vertex, finding the mates there takes d * d steps at most.
+pub fn check(
+    rounds: u32,
+    vertices: &[i32],
+    faces: &[u32],
+    marks: &[u8],
+    out_vertices: usize,
+    out_faces: usize,
+    out_marks: usize,
+    work: &mut [u32],
+) -> Answer
+    ensures { λ r. ⌜ found (verdictOf r) (now (work .exit)) ≡ checked (record {
+      rounds = rounds;
+      net = record { vertices = now (vertices .entry); faces = now (faces .entry); marks = now (marks .entry) };
+      room = record { vertices = «out_vertices»; faces = «out_faces»; marks = «out_marks»; work = length (now (work .entry)) };
+    }) (now (work .entry)) ⌝ }
+{
+    let fault = limits::limits(
+        rounds,
+        vertices.len(),
+        faces.len(),
+        marks.len(),
+        out_vertices,
+        out_faces,
+        out_marks,
+        work.len(),
+    );
+    if fault != 0 {
+        return Answer::Refused(fault, 0);
+    }
+    let answer = examine_net(vertices, faces, marks, &mut *work);
+    let last = faces.len() / 4 * limits::pow4(rounds);
+    tables::clear(&mut *work, 16 * last);
+    answer
+}

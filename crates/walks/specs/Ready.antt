@@ -1,0 +1,32 @@
+-- What walks assume of the lent tables during a round, and what they find.
+use mathlib.Core.Path.{_≡_}
+use mathlib.Core.List.{List}
+use Prim.Native.Nat.{ℕ, _%_, _≤_, _<_}
+use lib.ListN.{length}
+use Rattle.topology.specs.Shape.{quads}
+use Rattle.topology.specs.HalfEdge.{from, to}
+use Rattle.topology.specs.Boundary.{boundaryFrom}
+use Rattle.topology.specs.Vertex.{valence, turns}
+use Rattle.topology.specs.Manifold.{Manifold}
+use Rattle.adjacency.specs.Chains.{MateTable}
+use Rattle.scheme.specs.Rings.{fanPlace}
+
+-- corners l of a manifold net with four-sided faces, and a table w with their mates in front
+pub record Ready (l w : List ℕ) : Type 0 where
+  pub vertices : ℕ
+  pub net : Manifold quads vertices l
+  pub fours : length l % 4 ≡ 0
+  pub small : length l ≤ 262144
+  pub room : length l ≤ length w
+  pub mated : MateTable l w
+
+-- the boundary half-edge that leaves the vertex of h, or none; and where there is one, the place of h in the fan that starts with it
+pub record FanStart (l : List ℕ) (h s i : ℕ) : Type 0 where
+  pub side : s ≡ boundaryFrom quads l (from l h)
+  pub place : boundaryFrom quads l (from l h) < length l → i ≡ fanPlace l (from l h) h
+
+-- r is none; or the vertex of h has a full ring of four, and r is the vertex straight across it from the end of h
+pub record Across (l : List ℕ) (h r : ℕ) : Type 0 where
+  pub inner : r < length l → boundaryFrom quads l (from l h) ≡ length l
+  pub four : r < length l → valence l (from l h) ≡ 4
+  pub across : r < length l → r ≡ to quads l (turns quads l 2 h)

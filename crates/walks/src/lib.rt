@@ -1,0 +1,108 @@
+// Walks round the vertices of a net and along its boundary, on lent tables of corners and mates. The number of half-edges stands for 'none'.
+ghost use mathlib.Core.Path.{_≡_};
+ghost use Prim.Native.Nat.{ℕ, _^_, _<_};
+ghost use lib.ListN.{length};
+ghost use Rattle.topology.specs.Shape.{quads};
+ghost use Rattle.topology.specs.Boundary.{along, back};
+ghost use Rattle.topology.specs.Vertex.{turn};
+ghost use Rattle.scheme.specs.Points.{across};
+ghost use Rattle.walks.specs.Ready.{Ready, FanStart, Across};
+
+// The side opposite h in its face.
+pub fn across_side(h: usize) -> usize
+    requires { ⌜ h < 2 ^ 24 ⌝ }
+    ensures { λ r. ⌜ r ≡ across h ⌝ }
+{
+    4 * (h / 4) + (h + 2) % 4
+}
+
+// The half-edge that leaves the vertex of h in the face beyond the side before h, or none.
+pub fn turn_side(faces: &[u32], work: &[u32], h: usize) -> usize
+    requires { ⌜ Ready (now faces) (now work) ⌝ }
+    requires { ⌜ h < length (now faces) ⌝ }
+    ensures { λ r. ⌜ r ≡ turn quads (now (faces .entry)) h ⌝ }
+{
+    let e = adjacency::prev_side(h);
+    work[e] as usize
+}
+
+// A boundary half-edge, or none, and a place in its fan.
+pub struct Start {
+    pub side: usize,
+    pub place: usize,
+}
+
+// The boundary half-edge that leaves the vertex of h, found by turning back from h, and the place of h in its fan. A fan has at most six faces.
+pub fn fan_start(faces: &[u32], work: &[u32], h: usize) -> Start
+    requires { ⌜ Ready (now faces) (now work) ⌝ }
+    requires { ⌜ h < length (now faces) ⌝ }
+    ensures { λ r. ⌜ FanStart (now (faces .entry)) h (r .side) (r .place) ⌝ }
+{
+    let n = faces.len();
+    let mut g = h;
+    let mut i: usize = 0;
+    while i < 6 {
+        let m = work[g] as usize;
+        if m == n {
+            return Start { side: g, place: i };
+        }
+        g = adjacency::next_side(m);
+        i += 1;
+    }
+    Start { side: n, place: 0 }
+}
+
+// The boundary half-edge after h the way the sides run, or none.
+pub fn along_side(faces: &[u32], work: &[u32], h: usize) -> usize
+    requires { ⌜ Ready (now faces) (now work) ⌝ }
+    requires { ⌜ h < length (now faces) ⌝ }
+    ensures { λ r. ⌜ r ≡ along quads (now (faces .entry)) h ⌝ }
+{
+    let s = fan_start(faces, work, adjacency::next_side(h));
+    s.side
+}
+
+// The boundary half-edge that enters the vertex of h, or none, found by turning from h.
+pub fn back_side(faces: &[u32], work: &[u32], h: usize) -> usize
+    requires { ⌜ Ready (now faces) (now work) ⌝ }
+    requires { ⌜ h < length (now faces) ⌝ }
+    ensures { λ r. ⌜ r ≡ back quads (now (faces .entry)) h ⌝ }
+{
+    let n = faces.len();
+    let mut g = h;
+    let mut i: usize = 0;
+    while i < 6 {
+        let m = turn_side(faces, work, g);
+        if m == n {
+            return adjacency::prev_side(g);
+        }
+        g = m;
+        i += 1;
+    }
+    n
+}
+
+// The vertex straight across the vertex of h, where that has a full ring of four faces.
+pub fn regular_across(faces: &[u32], work: &[u32], h: usize) -> usize
+    requires { ⌜ Ready (now faces) (now work) ⌝ }
+    requires { ⌜ h < length (now faces) ⌝ }
+    ensures { λ r. ⌜ Across (now (faces .entry)) h r ⌝ }
+{
+    let n = faces.len();
+    let a = turn_side(faces, work, h);
+    if a == n {
+        return n;
+    }
+    let b = turn_side(faces, work, a);
+    if b == n {
+        return n;
+    }
+    let c = turn_side(faces, work, b);
+    if c == n {
+        return n;
+    }
+    if turn_side(faces, work, c) != h {
+        return n;
+    }
+    faces[adjacency::next_side(b)] as usize
+}
