@@ -20,6 +20,7 @@ use Rattle.topology.proofs.Shape.{quads-lawful}
 use Rattle.refusals.specs.Refusals.{badCorner, isolated, repeatedSide, nonManifold, badValence}
 use Rattle.refusals.proofs.Manifold.{manifold-if}
 use Rattle.refinement.specs.Refined.{corner, refined, refinedMarks}
+use Rattle.rules.specs.Rules.{interiorPoint, endPoint, midpoint}
 use Rattle.scheme.specs.Points.{marked, edgeRule, edgeValue, edgePoint}
 use Rattle.scheme.specs.Step.{edgeAt, refinedCoordinate, axis, step}
 use Rattle.seam.specs.Reading.{pointOf, nextVertex, vertexAt, points, Reads}
@@ -128,7 +129,7 @@ no-marks = record {
 -- after a round, worked out on the net: the curves of the last two lists
 after-one : points (step kobbelt (square (1 ∷ 0 ∷ 0 ∷ 0 ∷ []))) withSides 0 9 ∷ points (step kobbelt (square (0 ∷ 0 ∷ 0 ∷ 0 ∷ []))) againstSides 2 8 ∷ []
     ≡ curve kobbelt Open 1 (c₀ ∷ c₁ ∷ c₂ ∷ c₃ ∷ c₀ ∷ []) ∷ curve kobbelt Closed 1 (c₂ ∷ c₁ ∷ c₀ ∷ c₃ ∷ []) ∷ []
-unfolding tabulate round firstFrom first count iterate quads from to opposed mate firstMet edgeCount edge isBoundaryFrom isBoundaryInto boundaryFrom boundaryInto along back corner refined refinedMarks marked edgeRule edgeValue edgePoint edgeAt refinedCoordinate axis step pointOf nextVertex vertexAt points curve
+unfolding tabulate round interiorPoint endPoint midpoint firstFrom first count iterate quads from to opposed mate firstMet edgeCount edge isBoundaryFrom isBoundaryInto boundaryFrom boundaryInto along back corner refined refinedMarks marked edgeRule edgeValue edgePoint edgeAt refinedCoordinate axis step pointOf nextVertex vertexAt points curve
 after-one = refl
 
 -- ---- two squares that share a side: one is read with the sides, the other against them
