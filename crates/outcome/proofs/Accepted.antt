@@ -8,6 +8,7 @@ use lib.Seq.{take-at}
 use Rattle.curve.specs.Weights.{kobbelt}
 use Rattle.tables.specs.Net.{Net}
 use Rattle.tables.specs.Tables.{filled}
+use Rattle.tables.proofs.Laws.{take-filled}
 use Rattle.topology.specs.Shape.{quads}
 use Rattle.topology.specs.Manifold.{Manifold}
 use Rattle.verdict.specs.Call.{Call}
@@ -45,14 +46,7 @@ accepted-refinable c e =
     }
 
 -- ---- the net at the front of the outputs
-front : {A : Type 0} (s d : List A) (n : ℕ) → n ≡ length s → take n (filled s d) ≡ s
-unfolding filled
-front s d n e = take-at s (drop (length s) d) n (sym e)
-
 module _ (a : Request) (k : ℕ) (e : verdict (callOf k (a .net) (a .lent)) ≡ accepted) where
-  refined-net : Net
-  refined-net = steps kobbelt k (a .net)
-
   after : Refinable (steps kobbelt k (a .net))
   after = refinable-steps kobbelt (a .net) (accepted-refinable (callOf k (a .net) (a .lent)) e) k
 
@@ -72,7 +66,7 @@ module _ (a : Request) (k : ℕ) (e : verdict (callOf k (a .net) (a .lent)) ≡ 
       let t = after .threes in
       let f = after .fours in
       ap (λ (v : Verdict). netBy (outcomeBy v n o (workAfter (callOf k (a .net) o) (o .work)) .result) (outcomeBy v n o (workAfter (callOf k (a .net) o) (o .work)))) e
-      ∙ same-net (front (n .vertices) (o .vertices) (3 * length (n .marks)) (omega arith)) (front (n .faces) (o .faces) (4 * (length (n .faces) / 4)) (omega arith)) (front (n .marks) (o .marks) (length (n .marks)) refl)
+      ∙ same-net (take-filled (n .vertices) (o .vertices) (3 * length (n .marks)) (omega arith)) (take-filled (n .faces) (o .faces) (4 * (length (n .faces) / 4)) (omega arith)) (take-filled (n .marks) (o .marks) (length (n .marks)) refl)
     where
       same-net : {v v′ : List _} {f f′ m m′ : List ℕ} → v ≡ v′ → f ≡ f′ → m ≡ m′ → _≡_ {A = Net} (record { vertices = v; faces = f; marks = m }) (record { vertices = v′; faces = f′; marks = m′ })
       same-net p q r = λ i. record { vertices = p i; faces = q i; marks = r i }
