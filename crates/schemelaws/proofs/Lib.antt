@@ -3,6 +3,7 @@ pub mod Ties
 pub mod Coordinates
 pub mod Norm
 pub mod Constant
+pub mod Sizes
 pub mod Steps
 pub mod Growth
 pub mod Straight
