@@ -1,3 +1,4 @@
+pub mod Examples
 pub mod Vertices
 pub mod Ties
 pub mod Coordinates
