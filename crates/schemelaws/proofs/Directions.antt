@@ -78,7 +78,7 @@ module _ (v : ℕ) (l : List ℕ) (ok : Manifold quads v l) (f : ℕ) (reg : Reg
     beside-start = record { lt = ok .oriented .shape .next-lt (mate quads l h) inner; start = mate-is quads l h inner .end }
 
     module _ (e : to quads l (quads .next (mate quads l h)) ≡ from l (quads .prev h)) where
-      -- two faces share at most one side
+      -- it is not the corner before h, since two faces share at most one side
       not-before : ⊥
       not-before =
           let t : ℕ = mate quads l h in

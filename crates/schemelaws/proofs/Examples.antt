@@ -3,10 +3,9 @@
 use mathlib.Core.Path.{_≡_, subst}
 use mathlib.Core.Bool.{Bool, true, false, not, _&&_}
 use mathlib.Core.List.{List, [], _∷_}
-use Prim.Native.Nat.{ℕ, _<_, _*_, _/_}
+use Prim.Native.Nat.{ℕ, _<_}
 use native.Mathlib.Omega.{arith}
 use lib.Dec.{T, eqb, ltb, eqb→eq, ltb→lt}
-use lib.ListN.{length, getD}
 use borrow.Author.Tests.{eq-eqb}
 use Rattle.lists.proofs.Table.{both-parts, everyBelow, below-at}
 use Rattle.search.specs.Search.{firstFrom, first, count}
@@ -16,7 +15,7 @@ use Rattle.topology.specs.HalfEdge.{from, to, opposed, mate}
 use Rattle.topology.specs.Boundary.{isBoundaryFrom, boundaryFrom}
 use Rattle.topology.specs.Vertex.{leaves, valence}
 use Rattle.scheme.specs.Rings.{oppositeCorner}
-use Rattle.schemelaws.specs.Agreement.{Inside, SideOf, Leaves, Regular}
+use Rattle.schemelaws.specs.Agreement.{Inside, Regular}
 
 abbrev torus : List ℕ
 torus =

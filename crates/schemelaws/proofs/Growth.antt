@@ -1,8 +1,7 @@
 -- How far coordinates spread and grow, rounded: one round and six. Paper 01: "every coordinate stays within 268,435,456".
-use mathlib.Core.Path.{_≡_, refl, ap, subst}
+use mathlib.Core.Path.{refl, ap}
 use mathlib.Core.List.{List, [], _∷_}
-use Prim.Native.Nat.{ℕ, zero, suc, _+_, _-_, _*_, _/_, _%_, _≤_, _<_}
-use native.Mathlib.Decide.{decLt}
+use Prim.Native.Nat.{ℕ, zero, suc, _+_, _*_, _/_, _%_, _≤_, _<_}
 use native.Mathlib.Nat.{mul-add, mul-left-comm, le-of-mul-le-mul-left}
 use native.Mathlib.Omega.{arith}
 use lib.IntN.{ℤ, pos, natAbs, _-ℤ_, _*ℤ_}
@@ -15,32 +14,15 @@ use Rattle.curve.specs.Weights.{kobbelt}
 use Rattle.rules.proofs.Growth.{grown, rounded-grown, grown-kept, limit, limit-input, limit-output}
 use Rattle.tables.specs.Net.{Net}
 use Rattle.topology.specs.Shape.{quads}
-use Rattle.topology.specs.HalfEdge.{edgeCount, edge}
 use Rattle.topology.specs.Manifold.{Manifold}
-use Rattle.topology.proofs.Mates.{edge-onto}
 use Rattle.refinement.specs.Refined.{refinedVertices}
 use Rattle.scheme.specs.Step.{refinedCoordinate, axis, step, steps}
 use Rattle.schemelaws.specs.Numerators.{edgeZ, faceZ}
 use Rattle.schemelaws.specs.Nets.{Within, Refinable}
-use Rattle.schemelaws.proofs.Coordinates.{refined-old, refined-edge, refined-face}
+use Rattle.schemelaws.proofs.Coordinates.{refined-cases, refined-old, refined-edge, refined-face}
 use Rattle.schemelaws.proofs.Norm.{edge-near, face-near}
 use Rattle.schemelaws.proofs.Sizes.{edge-size, face-size}
 use Rattle.schemelaws.proofs.Steps.{refinable-manifold, refinable-steps, step-length, step-coordinate}
-
--- ---- every vertex of a refined net is an old one, the point of an edge or the point of a face
-pub refined-cases : (v : ℕ) (l : List ℕ) → Manifold quads v l → (P : ℕ → Type 0) → ((i : ℕ) → i < v → P i) → ((h : ℕ) → h < length l → P (v + edge quads l h))
-    → ((f : ℕ) → f < quads .faces (length l) → P (v + edgeCount quads l + f)) → (i : ℕ) → i < refinedVertices quads v l → P i
-refined-cases v l ok P old side face i b = go (decLt i v) (decLt i (v + edgeCount quads l))
-  where
-    go : Dec (i < v) → Dec (i < v + edgeCount quads l) → P i
-    go (yes c) d = old i c
-    go (no c) (yes d) =
-        let r = edge-onto quads v l (ok .oriented) (i - v) (omega arith) in
-        let e : v + edge quads l (r .0) ≡ i = omega arith in
-        subst P e (side (r .0) (r .1))
-    go (no c) (no d) =
-        let e : v + edgeCount quads l + (i - (v + edgeCount quads l)) ≡ i = omega arith in
-        subst P e (face (i - (v + edgeCount quads l)) (omega arith))
 
 -- ---- differences, rounded: at most 55/24 d + 1
 close : (z z′ : ℤ) (D d : ℕ) → 0 < D → 24 * natAbs (z -ℤ z′) ≤ D * (55 * d) → 24 * natAbs (round z D -ℤ round z′ D) ≤ 55 * d + 24
