@@ -80,6 +80,7 @@ ell = record {
 abbrev refinedAt : Net → ℕ → ℕ → ℤ
 refinedAt m a i = refinedCoordinate kobbelt (length (m .marks)) (m .faces) (m .marks) (axis (m .vertices) a) i
 
+-- ---- paper 01's cases
 abbrev computed : List (List ℤ)
 computed =
     drop 12 (step kobbelt (square (pos 0) (0 ∷ 0 ∷ 0 ∷ 0 ∷ [])) .vertices)
@@ -87,15 +88,9 @@ computed =
     ∷ (refinedAt cube 0 11 ∷ refinedAt cube 1 11 ∷ refinedAt cube 2 11 ∷ refinedAt cube 0 20 ∷ refinedAt cube 1 20 ∷ refinedAt cube 2 20 ∷ [])
     ∷ (refinedAt raised 2 10 ∷ refinedAt raised 2 11 ∷ refinedAt raised 2 15 ∷ refinedAt raised 2 16 ∷ [])
     ∷ (refinedAt raised 2 21 ∷ refinedAt raised 2 22 ∷ refinedAt raised 2 23 ∷ refinedAt raised 2 24 ∷ [])
-    ∷ (refinedAt (square (pos 0) (1 ∷ 0 ∷ 0 ∷ 0 ∷ [])) 1 4 ∷ refinedAt (square (pos 0) (1 ∷ 0 ∷ 0 ∷ 0 ∷ [])) 0 7 ∷ [])
-    ∷ (refinedAt (square (pos 1) (0 ∷ 0 ∷ 0 ∷ 0 ∷ [])) 2 8 ∷ [])
-    ∷ (refinedAt prism 2 9 ∷ refinedAt prism 2 15 ∷ refinedAt prism 2 17 ∷ [])
-    ∷ (refinedAt ell 2 9 ∷ refinedAt ell 2 10 ∷ [])
     ∷ []
 
--- the square without marks and with all four; the cube's edge point (0,-590,-590) and face point (0,0,-738); inner edge points z = 10, face points z = 6.
--- Then: the end edges at a lone mark; a face point of 1/4, whose edge points are 9/16 and -1/16; the prism's inner edge point, and two face points in which one
--- direction counts alone; the two inner edge points at a boundary vertex of three faces.
+-- the square without marks and with all four; the cube's edge point (0,-590,-590) and face point (0,0,-738); inner edge points z = 10, face points z = 6
 abbrev stated : List (List ℤ)
 stated =
     plane (pos 8) (negsuc 1) (plane (pos 18) (pos 8) (plane (pos 8) (pos 18) (plane (negsuc 1) (pos 8) (plane (pos 8) (pos 8) []))))
@@ -103,12 +98,25 @@ stated =
     ∷ (pos 0 ∷ negsuc 589 ∷ negsuc 589 ∷ pos 0 ∷ pos 0 ∷ negsuc 737 ∷ [])
     ∷ (pos 10 ∷ pos 10 ∷ pos 10 ∷ pos 10 ∷ [])
     ∷ (pos 6 ∷ pos 6 ∷ pos 6 ∷ pos 6 ∷ [])
-    ∷ (negsuc 0 ∷ negsuc 0 ∷ [])
-    ∷ (pos 0 ∷ [])
-    ∷ (pos 32 ∷ pos 18 ∷ pos 18 ∷ [])
-    ∷ (pos 7 ∷ negsuc 27 ∷ [])
     ∷ []
 
-cases : computed ≡ stated
+-- ---- what tells the rules from other readings
+-- the end edges at a lone mark
+abbrev atMark : List ℤ
+atMark = refinedAt (square (pos 0) (1 ∷ 0 ∷ 0 ∷ 0 ∷ [])) 1 4 ∷ refinedAt (square (pos 0) (1 ∷ 0 ∷ 0 ∷ 0 ∷ [])) 0 7 ∷ []
+
+-- a face point of 1/4, whose edge points are 9/16 and -1/16
+abbrev quarter : List ℤ
+quarter = refinedAt (square (pos 1) (0 ∷ 0 ∷ 0 ∷ 0 ∷ [])) 2 8 ∷ []
+
+-- an inner edge point whose ends have no inner neighbour; two face points in which one direction counts alone
+abbrev onPrism : List ℤ
+onPrism = refinedAt prism 2 9 ∷ refinedAt prism 2 15 ∷ refinedAt prism 2 17 ∷ []
+
+-- the two inner edge points at a boundary vertex of three faces
+abbrev onEll : List ℤ
+onEll = refinedAt ell 2 9 ∷ refinedAt ell 2 10 ∷ []
+
+cases : (atMark ≡ negsuc 0 ∷ negsuc 0 ∷ []) × (quarter ≡ pos 0 ∷ []) × (onPrism ≡ pos 32 ∷ pos 18 ∷ pos 18 ∷ []) × (onEll ≡ pos 7 ∷ negsuc 27 ∷ []) × (computed ≡ stated)
 unfolding tabulate round sumᶠ virtual firstFrom first count iterate quads from to opposed mate firstMet edgeCount edge isBoundaryFrom isBoundaryInto boundaryFrom boundaryInto along back leaves valence turn corner refined refinedMarks oppositeCorner fanEnd extrapolatedAt fanNeighbour fanCorner fanPlace ringVirtual fanVirtual virtualAt marked edgeRule edgeValue edgePoint across beyond direction inner fourInner faceRule faceValue facePoint edgeAt refinedCoordinate axis step
-cases = refl
+cases = (refl, refl, refl, refl, refl)
