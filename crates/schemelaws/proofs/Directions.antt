@@ -36,7 +36,8 @@ use Rattle.schemelaws.specs.Agreement.{Inside, SideOf, Leaves, Regular}
 use Rattle.schemelaws.proofs.Vertices.{ring-of, ring-ge, ring-le, neighbours-periodic, corners-periodic}
 use Rattle.schemelaws.proofs.Ties.{across-lt, side₀-lt, side₁-lt, equals-edge, equals-direction}
 use Rattle.schemelaws.proofs.Coordinates.{edge-inner}
-use Rattle.schemelaws.proofs.Straight.{virtual-inside, edge-straight}
+use Rattle.schemelaws.proofs.Virtual.{virtual-inside}
+use Rattle.schemelaws.proofs.Straight.{edge-straight}
 use Rattle.schemelaws.proofs.Beyond.{next-across, across-next, opposite-across, turn-next, last-neighbour, start-straight, two-turns, third-neighbour, end-straight}
 
 module _ (v : ℕ) (l : List ℕ) (ok : Manifold quads v l) (f : ℕ) (reg : Regular l f) where
