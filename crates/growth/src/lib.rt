@@ -62,6 +62,7 @@ fn refine_face(faces: &mut [u32], work: &[u32], n: usize, v: usize, edges: usize
     ensures { λ _. ⌜ Written (16 * f) (16 * f + 16) (λ (k : ℕ). cornerBy quads v edges (λ (h : ℕ). getD (now (faces .entry)) h 0) (λ (h : ℕ). getD (now (work .entry)) (n + h) 0) (k / 4) (k % 4)) (now (faces .entry)) (now (faces .exit)) ⌝ }
 {
     let h = 4 * f;
+    let at = 16 * f;
     let first = v as u32;
     let point = (v + edges + f) as u32;
     let e = n + h;
@@ -73,21 +74,10 @@ fn refine_face(faces: &mut [u32], work: &[u32], n: usize, v: usize, edges: usize
     let b = faces[h + 1];
     let c = faces[h + 2];
     let d = faces[h + 3];
-    put_four(&mut *faces, 16 * f + 12, d, s, point, r);
-    put_four(&mut *faces, 16 * f + 8, c, r, point, q);
-    put_four(&mut *faces, 16 * f + 4, b, q, point, p);
-    put_four(&mut *faces, 16 * f, a, p, point, s);
-}
-
-// The mate of side 0 of a refined face at a half-edge with the mate m, of n half-edges.
-fn first_mate(n: u32, m: u32) -> u32
-    requires { ⌜ (m ≤ n) × (n ≤ 262144) ⌝ }
-    ensures { λ r. ⌜ r ≡ firstMate n m ⌝ }
-{
-    if m < n {
-        return 16 * (m / 4) + 4 * ((m + 1) % 4) + 3;
-    }
-    4 * n
+    put_four(&mut *faces, at + 12, d, s, point, r);
+    put_four(&mut *faces, at + 8, c, r, point, q);
+    put_four(&mut *faces, at + 4, b, q, point, p);
+    put_four(&mut *faces, at, a, p, point, s);
 }
 
 // Refines the faces in place, from the last to the first.
@@ -102,12 +92,24 @@ pub fn refine_faces(faces: &mut [u32], work: &[u32], n: usize, v: usize, edges: 
     }
 }
 
+// The mate of side 0 of a refined face at a half-edge with the mate m, of n half-edges.
+fn first_mate(n: u32, m: u32) -> u32
+    requires { ⌜ (m ≤ n) × (n ≤ 262144) ⌝ }
+    ensures { λ r. ⌜ r ≡ firstMate n m ⌝ }
+{
+    if m < n {
+        return 16 * (m / 4) + 4 * ((m + 1) % 4) + 3;
+    }
+    4 * n
+}
+
 // Writes the mates of the four refined faces of face f, from the mates of its sides.
 fn refine_sides(work: &mut [u32], n: usize, f: usize)
     requires { ⌜ SidesIn n f (now work) ⌝ }
     ensures { λ _. ⌜ Written (16 * f) (16 * f + 16) (λ (k : ℕ). refinedMate quads n (λ (h : ℕ). getD (now (work .entry)) h 0) (k / 4) (k % 4)) (now (work .entry)) (now (work .exit)) ⌝ }
 {
     let h = 4 * f;
+    let at = 16 * f;
     let a = work[h];
     let b = work[h + 1];
     let c = work[h + 2];
@@ -117,23 +119,11 @@ fn refine_sides(work: &mut [u32], n: usize, f: usize)
     let q = first_mate(none, b);
     let r = first_mate(none, c);
     let s = first_mate(none, d);
-    let g = 16 * f as u32;
-    put_four(&mut *work, 16 * f + 12, s, g + 2, g + 9, 4 * c);
-    put_four(&mut *work, 16 * f + 8, r, g + 14, g + 5, 4 * b);
-    put_four(&mut *work, 16 * f + 4, q, g + 10, g + 1, 4 * a);
-    put_four(&mut *work, 16 * f, p, g + 6, g + 13, 4 * d);
-}
-
-// Extends the marks of v vertices by 0, to `count` marks.
-pub fn extend_marks(marks: &mut [u8], v: usize, count: usize)
-    requires { ⌜ (v ≤ count) × (count ≤ length (now marks)) ⌝ }
-    ensures { λ _. ⌜ now (marks .exit) ≡ filled (extended v count (now (marks .entry))) (now (marks .entry)) ⌝ }
-{
-    let mut p = v;
-    while p < count {
-        marks[p] = 0;
-        p += 1;
-    }
+    let g = at as u32;
+    put_four(&mut *work, at + 12, s, g + 2, g + 9, 4 * c);
+    put_four(&mut *work, at + 8, r, g + 14, g + 5, 4 * b);
+    put_four(&mut *work, at + 4, q, g + 10, g + 1, 4 * a);
+    put_four(&mut *work, at, p, g + 6, g + 13, 4 * d);
 }
 
 // Refines the mates in place, from the last face to the first.
@@ -145,5 +135,17 @@ pub fn refine_mates(work: &mut [u32], n: usize)
     while f > 0 {
         f -= 1;
         refine_sides(&mut *work, n, f);
+    }
+}
+
+// Extends the marks of v vertices by 0, to `count` marks.
+pub fn extend_marks(marks: &mut [u8], v: usize, count: usize)
+    requires { ⌜ (v ≤ count) × (count ≤ length (now marks)) ⌝ }
+    ensures { λ _. ⌜ now (marks .exit) ≡ filled (extended v count (now (marks .entry))) (now (marks .entry)) ⌝ }
+{
+    let mut p = v;
+    while p < count {
+        marks[p] = 0;
+        p += 1;
     }
 }
