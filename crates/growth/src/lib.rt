@@ -1,4 +1,4 @@
-// One round's topology on lent tables, in place: edge numbers, refined faces, refined mates and refined marks.
+// One round's topology on lent tables, in place: edge numbers, refined faces and refined marks.
 ghost use mathlib.Core.Path.{_≡_};
 ghost use Prim.Native.Nat.{ℕ, _+_, _*_, _/_, _%_, _≤_, _<_};
 ghost use mathlib.Core.List.{_++_};
@@ -7,9 +7,9 @@ ghost use Rattle.search.specs.Search.{count};
 ghost use Rattle.topology.specs.Shape.{quads};
 ghost use Rattle.topology.specs.HalfEdge.{firstMet, edgeCount, edge};
 ghost use Rattle.refinement.specs.Refined.{refined};
-ghost use Rattle.refinement.specs.Mates.{mates, refinedMate, refinedMates};
+ghost use Rattle.refinement.specs.Mates.{mates};
 ghost use Rattle.tables.specs.Tables.{filled};
-ghost use Rattle.growth.specs.Growth.{edges, Mated, Numbered, cornerBy, firstMate, putFour, Written, FaceIn, Net, SidesIn, MatesIn, extended};
+ghost use Rattle.growth.specs.Growth.{edges, Mated, Numbered, cornerBy, putFour, Written, FaceIn, Net, extended};
 
 // Numbers the edge of half-edge h, where `edges` are met before; the answer is how many are met then.
 fn number_side(faces: &[u32], work: &mut [u32], h: usize, edges: usize) -> usize
@@ -46,7 +46,7 @@ pub fn number_edges(faces: &[u32], work: &mut [u32]) -> usize
 }
 
 // Writes four numbers from the place `at` on.
-fn put_four(table: &mut [u32], at: usize, a: u32, b: u32, c: u32, d: u32)
+pub fn put_four(table: &mut [u32], at: usize, a: u32, b: u32, c: u32, d: u32)
     requires { ⌜ at + 4 ≤ length (now table) ⌝ }
     ensures { λ _. ⌜ now (table .exit) ≡ putFour (now (table .entry)) at a b c d ⌝ }
 {
@@ -89,52 +89,6 @@ pub fn refine_faces(faces: &mut [u32], work: &[u32], n: usize, v: usize, edges: 
     while f > 0 {
         f -= 1;
         refine_face(&mut *faces, work, n, v, edges, f);
-    }
-}
-
-// The mate of side 0 of a refined face at a half-edge with the mate m, of n half-edges.
-fn first_mate(n: u32, m: u32) -> u32
-    requires { ⌜ (m ≤ n) × (n ≤ 262144) ⌝ }
-    ensures { λ r. ⌜ r ≡ firstMate n m ⌝ }
-{
-    if m < n {
-        return 16 * (m / 4) + 4 * ((m + 1) % 4) + 3;
-    }
-    4 * n
-}
-
-// Writes the mates of the four refined faces of face f, from the mates of its sides.
-fn refine_sides(work: &mut [u32], n: usize, f: usize)
-    requires { ⌜ SidesIn n f (now work) ⌝ }
-    ensures { λ _. ⌜ Written (16 * f) (16 * f + 16) (λ (k : ℕ). refinedMate quads n (λ (h : ℕ). getD (now (work .entry)) h 0) (k / 4) (k % 4)) (now (work .entry)) (now (work .exit)) ⌝ }
-{
-    let h = 4 * f;
-    let at = 16 * f;
-    let a = work[h];
-    let b = work[h + 1];
-    let c = work[h + 2];
-    let d = work[h + 3];
-    let none = n as u32;
-    let p = first_mate(none, a);
-    let q = first_mate(none, b);
-    let r = first_mate(none, c);
-    let s = first_mate(none, d);
-    let g = at as u32;
-    put_four(&mut *work, at + 12, s, g + 2, g + 9, 4 * c);
-    put_four(&mut *work, at + 8, r, g + 14, g + 5, 4 * b);
-    put_four(&mut *work, at + 4, q, g + 10, g + 1, 4 * a);
-    put_four(&mut *work, at, p, g + 6, g + 13, 4 * d);
-}
-
-// Refines the mates in place, from the last face to the first.
-pub fn refine_mates(work: &mut [u32], n: usize)
-    requires { ⌜ MatesIn n (now work) ⌝ }
-    ensures { λ _. ⌜ now (work .exit) ≡ filled (refinedMates quads (take n (now (work .entry)))) (now (work .entry)) ⌝ }
-{
-    let mut f = n / 4;
-    while f > 0 {
-        f -= 1;
-        refine_sides(&mut *work, n, f);
     }
 }
 

@@ -1,9 +1,9 @@
 -- `refine_sides` meets its contract. Assumes nothing.
 use Prim.Native.Nat.{_+_, _*_}
 use native.Mathlib.Omega.{arith}
-use Rattle.growth.proofs.Mates.{mates-written}
-use Rattle.growth.proofs.refine_sides.Statement.{statement}
-use Rattle.growth.proofs.refine_sides.Tie as tie
+use Rattle.mates.proofs.InPlace.{mates-written}
+use Rattle.mates.proofs.refine_sides.Statement.{statement}
+use Rattle.mates.proofs.refine_sides.Tie as tie
 
 mul-h : tie.Need-mul-h
 mul-h c = omega arith
