@@ -12,6 +12,7 @@ use lib.Seq.{take-at, drop-at}
 use Rattle.lists.proofs.Tabulate.{tabulate-cong}
 use Rattle.topology.specs.Shape.{Shape, Lawful, quads}
 use Rattle.topology.specs.Manifold.{Oriented}
+use Rattle.topology.proofs.Mates.{edges-le}
 use Rattle.refinement.specs.Refined.{refinedVertices, refined, refinedMarks}
 use Rattle.refinement.specs.Mates.{mates}
 use Rattle.refinement.proofs.Corners.{length-refined}
@@ -79,6 +80,11 @@ pub faces-front : (v : ℕ) (l c : List ℕ) → take (4 * length l) (filled (re
 faces-front v l c = filled-front (refined quads v l) c (4 * length l) (length-refined quads v l)
 
 -- ---- marks
+
+-- there are at most four times as many refined vertices as half-edges
+pub vertices-refined : (v : ℕ) (l : List ℕ) → v ≤ length l → refinedVertices quads v l ≤ 4 * length l
+unfolding quads
+vertices-refined v l h = let e = edges-le quads l in omega arith
 
 pub marks-refined : (S : Shape) (v : ℕ) (l marks : List ℕ) → extended v (refinedVertices S v l) marks ≡ refinedMarks S v l marks
 unfolding extended refinedMarks

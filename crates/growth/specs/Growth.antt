@@ -36,7 +36,7 @@ cornerBy S v count c e h (suc (suc (suc j))) = v + e (S .prev h)
 
 -- w with four numbers from the place i on
 unfoldable pub putFour : List ℕ → ℕ → ℕ → ℕ → ℕ → ℕ → List ℕ
-putFour w i a b c d = set (set (set (set w i a) (i + 1) b) (i + 2) c) (i + 3) d
+putFour w i a b c d = set (set (set (set w (i + 3) d) (i + 2) c) (i + 1) b) i a
 
 -- w′ is w but for the numbers from a up to e, which are those of f
 pub record Written (a e : ℕ) (f : ℕ → ℕ) (w w′ : List ℕ) : Type 0 where

@@ -45,18 +45,18 @@ pub fn number_edges(faces: &[u32], work: &mut [u32]) -> usize
     edges
 }
 
-// Writes four numbers from the place `at` on.
+// Writes four numbers from the place `at` on, the last first.
 pub fn put_four(table: &mut [u32], at: usize, a: u32, b: u32, c: u32, d: u32)
     requires { ⌜ at + 4 ≤ length (now table) ⌝ }
     ensures { λ _. ⌜ now (table .exit) ≡ putFour (now (table .entry)) at a b c d ⌝ }
 {
-    table[at] = a;
-    table[at + 1] = b;
-    table[at + 2] = c;
     table[at + 3] = d;
+    table[at + 2] = c;
+    table[at + 1] = b;
+    table[at] = a;
 }
 
-// Writes the four refined faces of face f over those that came in its place.
+// Writes the refined faces of face f, the last first, from the corners a to d of the face and the points p to s of its sides.
 fn refine_face(faces: &mut [u32], work: &[u32], n: usize, v: usize, edges: usize, f: usize)
     requires { ⌜ FaceIn n v edges f (now faces) (now work) ⌝ }
     ensures { λ _. ⌜ Written (16 * f) (16 * f + 16) (λ (k : ℕ). cornerBy quads v edges (λ (h : ℕ). getD (now (faces .entry)) h 0) (λ (h : ℕ). getD (now (work .entry)) (n + h) 0) (k / 4) (k % 4)) (now (faces .entry)) (now (faces .exit)) ⌝ }

@@ -19,7 +19,7 @@ fn first_mate(n: u32, m: u32) -> u32
     4 * n
 }
 
-// Writes the mates of the four refined faces of face f, from the mates of its sides.
+// Writes the mates of the refined faces of face f, the last first, from the mates a to d of its sides.
 fn refine_sides(work: &mut [u32], n: usize, f: usize)
     requires { ⌜ SidesIn n f (now work) ⌝ }
     ensures { λ _. ⌜ Written (16 * f) (16 * f + 16) (λ (k : ℕ). refinedMate quads n (λ (h : ℕ). getD (now (work .entry)) h 0) (k / 4) (k % 4)) (now (work .entry)) (now (work .exit)) ⌝ }
