@@ -20,6 +20,7 @@ use Rattle.adjacency.specs.Chains.{MateTable}
 use Rattle.tables.specs.Tables.{filled}
 use Rattle.growth.specs.Growth.{edges, Numbered, extended}
 use Rattle.growth.proofs.Edges.{length-both, both-mate, both-edge}
+use Rattle.growth.proofs.Marks.{length-extended}
 
 -- ---- a table filled from the front
 module _ {A : Type 0} (s d : List A) where
@@ -79,6 +80,9 @@ numbered-cong l w w′ f x = record { numbers = λ g b. f (length l + g) (omega 
 pub faces-front : (v : ℕ) (l c : List ℕ) → take (4 * length l) (filled (refined quads v l) c) ≡ refined quads v l
 faces-front v l c = filled-front (refined quads v l) c (4 * length l) (length-refined quads v l)
 
+pub faces-rest : (v : ℕ) (l c : List ℕ) → drop (4 * length l) (filled (refined quads v l) c) ≡ drop (4 * length l) c
+faces-rest v l c = filled-rest (refined quads v l) c (4 * length l) (length-refined quads v l)
+
 -- ---- marks
 
 -- there are at most four times as many refined vertices as half-edges
@@ -89,6 +93,12 @@ vertices-refined v l h = let e = edges-le quads l in omega arith
 pub marks-refined : (S : Shape) (v : ℕ) (l marks : List ℕ) → extended v (refinedVertices S v l) marks ≡ refinedMarks S v l marks
 unfolding extended refinedMarks
 marks-refined S v l marks = refl
+
+pub marks-front : (v count : ℕ) (marks : List ℕ) → take count (filled (extended v count marks) marks) ≡ extended v count marks
+marks-front v count marks = filled-front (extended v count marks) marks count (length-extended v count marks)
+
+pub marks-rest : (v count : ℕ) (marks : List ℕ) → drop count (filled (extended v count marks) marks) ≡ drop count marks
+marks-rest v count marks = filled-rest (extended v count marks) marks count (length-extended v count marks)
 
 -- only the first v marks count
 pub marks-cong : (S : Shape) (v : ℕ) (l m m′ : List ℕ) → ((p : ℕ) → p < v → getD m p 0 ≡ getD m′ p 0) → refinedMarks S v l m ≡ refinedMarks S v l m′

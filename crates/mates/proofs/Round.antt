@@ -1,19 +1,20 @@
 -- What callers need of the mates in a round.
 use mathlib.Core.Path.{_≡_, sym, ap, _∙_}
 use mathlib.Core.List.{List}
-use Prim.Native.Nat.{ℕ, _*_, _%_, _≤_}
+use Prim.Native.Nat.{ℕ, _*_, _/_, _%_, _≤_}
 use native.Mathlib.Omega.{arith}
-use lib.ListN.{length, take}
+use lib.ListN.{length, getD, take, drop}
 use lib.Seq.{length-take-le, getD-take, ext-getD}
+use Rattle.lists.proofs.Tabulate.{length-tabulate}
 use Rattle.topology.specs.Shape.{quads}
 use Rattle.topology.specs.Manifold.{Oriented}
 use Rattle.topology.proofs.Mates.{mate-le}
 use Rattle.refinement.specs.Refined.{refined}
-use Rattle.refinement.specs.Mates.{mates, refinedMates}
+use Rattle.refinement.specs.Mates.{mates, refinedMate, refinedMates}
 use Rattle.refinement.proofs.Tables.{length-mates, getD-mates, mates-refined}
 use Rattle.adjacency.specs.Chains.{MateTable}
 use Rattle.tables.specs.Tables.{filled}
-use Rattle.growth.proofs.Round.{filled-at}
+use Rattle.growth.proofs.Round.{filled-at, filled-rest}
 use Rattle.mates.specs.Tables.{MatesIn}
 
 pub mates-in : (l w : List ℕ) → length l % 4 ≡ 0 → length l ≤ 262144 → 4 * length l ≤ length w → MateTable l w → MatesIn (length l) w
@@ -39,3 +40,10 @@ mated-refined v l w ok r t =
     let e = refined-mates v l w ok r t in
     let n = length-mates quads (refined quads v l) in
     rw e (record { mates = λ g b. filled-at (mates quads (refined quads v l)) w 0 g (omega arith) ∙ getD-mates quads (refined quads v l) g b })
+
+pub mates-rest : (n : ℕ) (w : List ℕ) → n ≤ length w → drop (4 * n) (filled (refinedMates quads (take n w)) w) ≡ drop (4 * n) w
+unfolding refinedMates
+mates-rest n w h =
+    let a = length-tabulate (4 * length (take n w)) (λ (g : ℕ). refinedMate quads (length (take n w)) (λ (h : ℕ). getD (take n w) h 0) (g / 4) (g % 4)) in
+    let b = length-take-le n w h in
+    filled-rest (refinedMates quads (take n w)) w (4 * n) (omega arith)
