@@ -1,49 +1,51 @@
 -- `refine_sides` meets its contract. Assumes nothing.
 use Prim.Native.Nat.{_+_, _*_}
 use native.Mathlib.Omega.{arith}
-use borrow.Author.Needs.{needs}
-use Rattle.growth.proofs.Mates.{mates-written}
-use Rattle.growth.proofs.refine_sides.Statement.{statement}
-use Rattle.growth.proofs.refine_sides.Tie as tie
+use Rattle.mates.proofs.InPlace.{mates-written}
+use Rattle.mates.proofs.refine_sides.Statement.{statement}
+use Rattle.mates.proofs.refine_sides.Tie as tie
 
 mul-h : tie.Need-mul-h
-mul-h c = search needs
+mul-h c = omega arith
+
+mul-at : tie.Need-mul-at
+mul-at c = omega arith
 
 mul-a : tie.Need-mul-a
-mul-a c = search needs
+mul-a c = omega arith
 
 slice-read-a : tie.Need-slice-read-a
-slice-read-a c = search needs
+slice-read-a c = omega arith
 
 add-b : tie.Need-add-b
-add-b c = search needs
+add-b c = omega arith
 
 mul-b : tie.Need-mul-b
-mul-b c = search needs
+mul-b c = omega arith
 
 slice-read-b : tie.Need-slice-read-b
-slice-read-b c = search needs
+slice-read-b c = omega arith
 
 add-c : tie.Need-add-c
-add-c c = search needs
+add-c c = omega arith
 
 mul-c : tie.Need-mul-c
-mul-c c = search needs
+mul-c c = omega arith
 
 slice-read-c : tie.Need-slice-read-c
-slice-read-c c = search needs
+slice-read-c c = omega arith
 
 add-d : tie.Need-add-d
-add-d c = search needs
+add-d c = omega arith
 
 mul-d : tie.Need-mul-d
-mul-d c = search needs
+mul-d c = omega arith
 
 slice-read-d : tie.Need-slice-read-d
-slice-read-d c = search needs
+slice-read-d c = omega arith
 
 cast-none : tie.Need-cast-none
-cast-none c = search needs
+cast-none c = omega arith
 
 first-mate-requires : tie.Need-first-mate-requires
 first-mate-requires c κs = let s = c .before .before .before .before .before in let p = s .pre in let e = p .below (4 * s .args .f) (omega arith) (omega arith) in omega arith
@@ -58,82 +60,67 @@ first-mate-requires-4 : tie.Need-first-mate-requires-4
 first-mate-requires-4 c κs = let s = c .before .before .before .before .before .before .before .before in let p = s .pre in let e = p .below (4 * s .args .f + 3) (omega arith) (omega arith) in omega arith
 
 cast-g : tie.Need-cast-g
-cast-g c = search needs
-
-mul-g : tie.Need-mul-g
-mul-g c = search needs
-
-mul-put-four : tie.Need-mul-put-four
-mul-put-four c = search needs
+cast-g c = omega arith
 
 add-put-four : tie.Need-add-put-four
-add-put-four c = search needs
+add-put-four c = omega arith
 
 add-put-four-2 : tie.Need-add-put-four-2
-add-put-four-2 c = search needs
+add-put-four-2 c = omega arith
 
 add-put-four-3 : tie.Need-add-put-four-3
-add-put-four-3 c = search needs
+add-put-four-3 c = omega arith
 
-mul-put-four-2 : tie.Need-mul-put-four-2
-mul-put-four-2 c = let s = c .before .before .before .before .before .before .before .before .before .before in let p = s .pre in let e = p .below (4 * s .args .f + 2) (omega arith) (omega arith) in omega arith
+mul-put-four : tie.Need-mul-put-four
+mul-put-four c = let s = c .before .before .before .before .before .before .before .before .before .before in let p = s .pre in let e = p .below (4 * s .args .f + 2) (omega arith) (omega arith) in omega arith
 
 put-four-requires : tie.Need-put-four-requires
-put-four-requires c κs = search needs
-
-mul-put-four-3 : tie.Need-mul-put-four-3
-mul-put-four-3 c = search needs
+put-four-requires c κs = omega arith
 
 add-put-four-4 : tie.Need-add-put-four-4
-add-put-four-4 c = search needs
+add-put-four-4 c = omega arith
 
 add-put-four-5 : tie.Need-add-put-four-5
-add-put-four-5 c = search needs
+add-put-four-5 c = omega arith
 
 add-put-four-6 : tie.Need-add-put-four-6
-add-put-four-6 c = search needs
+add-put-four-6 c = omega arith
 
-mul-put-four-4 : tie.Need-mul-put-four-4
-mul-put-four-4 c = let s = c .before .before .before .before .before .before .before .before .before .before .before .before .before .before in let p = s .pre in let e = p .below (4 * s .args .f + 1) (omega arith) (omega arith) in omega arith
+mul-put-four-2 : tie.Need-mul-put-four-2
+mul-put-four-2 c = let s = c .before .before .before .before .before .before .before .before .before .before .before .before .before .before in let p = s .pre in let e = p .below (4 * s .args .f + 1) (omega arith) (omega arith) in omega arith
 
 put-four-requires-2 : tie.Need-put-four-requires-2
-put-four-requires-2 c κs = search needs
-
-mul-put-four-5 : tie.Need-mul-put-four-5
-mul-put-four-5 c = search needs
+put-four-requires-2 c κs = omega arith
 
 add-put-four-7 : tie.Need-add-put-four-7
-add-put-four-7 c = search needs
+add-put-four-7 c = omega arith
 
 add-put-four-8 : tie.Need-add-put-four-8
-add-put-four-8 c = search needs
+add-put-four-8 c = omega arith
 
 add-put-four-9 : tie.Need-add-put-four-9
-add-put-four-9 c = search needs
+add-put-four-9 c = omega arith
 
-mul-put-four-6 : tie.Need-mul-put-four-6
-mul-put-four-6 c = let s = c .before .before .before .before .before .before .before .before .before .before .before .before .before .before .before .before .before .before in let p = s .pre in let e = p .below (4 * s .args .f) (omega arith) (omega arith) in omega arith
+mul-put-four-3 : tie.Need-mul-put-four-3
+mul-put-four-3 c = let s = c .before .before .before .before .before .before .before .before .before .before .before .before .before .before .before .before .before .before in let p = s .pre in let e = p .below (4 * s .args .f) (omega arith) (omega arith) in omega arith
 
 put-four-requires-3 : tie.Need-put-four-requires-3
-put-four-requires-3 c κs = search needs
-
-mul-put-four-7 : tie.Need-mul-put-four-7
-mul-put-four-7 c = search needs
+put-four-requires-3 c κs = omega arith
 
 add-put-four-10 : tie.Need-add-put-four-10
-add-put-four-10 c = search needs
+add-put-four-10 c = omega arith
 
 add-put-four-11 : tie.Need-add-put-four-11
-add-put-four-11 c = search needs
+add-put-four-11 c = omega arith
 
-mul-put-four-8 : tie.Need-mul-put-four-8
-mul-put-four-8 c = let s = c .before .before .before .before .before .before .before .before .before .before .before .before .before .before .before .before .before .before .before .before .before .before in let p = s .pre in let e = p .below (4 * s .args .f + 3) (omega arith) (omega arith) in omega arith
+mul-put-four-4 : tie.Need-mul-put-four-4
+mul-put-four-4 c = let s = c .before .before .before .before .before .before .before .before .before .before .before .before .before .before .before .before .before .before .before .before .before .before in let p = s .pre in let e = p .below (4 * s .args .f + 3) (omega arith) (omega arith) in omega arith
 
 put-four-requires-4 : tie.Need-put-four-requires-4
-put-four-requires-4 c κs = search needs
+put-four-requires-4 c κs = omega arith
 
 same-length : tie.Need-same-length
-same-length c = search needs
+same-length c = omega arith
 
 returns : tie.Need-returns
 returns c =
@@ -150,6 +137,7 @@ refine-sides-spec =
     tie.close
     (tie.spec
     mul-h
+    mul-at
     mul-a
     slice-read-a
     add-b
@@ -167,29 +155,24 @@ refine-sides-spec =
     first-mate-requires-3
     first-mate-requires-4
     cast-g
-    mul-g
-    mul-put-four
     add-put-four
     add-put-four-2
     add-put-four-3
-    mul-put-four-2
+    mul-put-four
     put-four-requires
-    mul-put-four-3
     add-put-four-4
     add-put-four-5
     add-put-four-6
-    mul-put-four-4
+    mul-put-four-2
     put-four-requires-2
-    mul-put-four-5
     add-put-four-7
     add-put-four-8
     add-put-four-9
-    mul-put-four-6
+    mul-put-four-3
     put-four-requires-3
-    mul-put-four-7
     add-put-four-10
     add-put-four-11
-    mul-put-four-8
+    mul-put-four-4
     put-four-requires-4
     same-length
     returns)

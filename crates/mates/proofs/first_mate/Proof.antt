@@ -3,9 +3,9 @@ use native.Mathlib.Omega.{arith}
 use borrow.Author.Needs.{needs}
 use borrow.Author.Tests.{lt-ltb, le-ltb}
 use Rattle.topology.specs.Shape.{quads}
-use Rattle.growth.specs.Growth.{firstMate}
-use Rattle.growth.proofs.first_mate.Statement.{statement}
-use Rattle.growth.proofs.first_mate.Tie as tie
+use Rattle.mates.specs.Tables.{firstMate}
+use Rattle.mates.proofs.first_mate.Statement.{statement}
+use Rattle.mates.proofs.first_mate.Tie as tie
 
 mul-result : tie.Need-mul-result
 mul-result c = search needs

@@ -4,10 +4,10 @@ use native.Mathlib.Omega.{arith}
 use lib.ListN.{getD, take}
 use Rattle.topology.specs.Shape.{quads}
 use Rattle.refinement.specs.Mates.{refinedMate}
 use Rattle.growth.proofs.Written.{Refining, refining-none, refining-next}
-use Rattle.growth.proofs.Mates.{sides-in, mates-as, mates-all}
-use Rattle.growth.proofs.refine_mates.Statement.{statement}
-use Rattle.growth.proofs.refine_mates.Tie as tie
+use Rattle.mates.proofs.InPlace.{sides-in, mates-as, mates-all}
+use Rattle.mates.proofs.refine_mates.Statement.{statement}
+use Rattle.mates.proofs.refine_mates.Tie as tie
 
 abbrev Inv-loop : tie.InvT-loop
 Inv-loop work₀ n f₀ work f = Refining n (λ (k : ℕ). refinedMate quads n (λ (h : ℕ). getD (take n work₀) h 0) (k / 4) (k % 4)) work₀ work f

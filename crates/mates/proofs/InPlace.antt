@@ -10,8 +10,9 @@ use Rattle.topology.specs.Shape.{Shape, quads}
 use Rattle.topology.proofs.Shape.{four-sides}
 use Rattle.refinement.specs.Mates.{refinedMate, refinedMates}
 use Rattle.tables.specs.Tables.{filled}
-use Rattle.growth.specs.Growth.{firstMate, putFour, Written, SidesIn, MatesIn}
+use Rattle.growth.specs.Growth.{putFour, Written}
 use Rattle.growth.proofs.Written.{written-as, written-face, Refining, refining-all}
+use Rattle.mates.specs.Tables.{firstMate, SidesIn, MatesIn}
 
 -- one face
 module _ (n f : ℕ) (w : List ℕ) where
