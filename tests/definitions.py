@@ -128,7 +128,7 @@ def verdict_facts(label, case):
         return
     cost = 0.3 + 0.0004 * len(case["net"][1]) ** 2
     yield "Verdict", "call", f"verdict (record {{ rounds = {call['rounds']}; net = {label}; room = {room} }})", stated, cost
-    if call["whole"] and call["verdict"] != call["net_verdict"]:
+    if call.get("net_verdict", call["verdict"]) != call["verdict"]:
         yield "Verdict", "net", f"netVerdict {label}", verdict_text(call["net_verdict"]), cost
 
 
@@ -287,7 +287,7 @@ def write_chunk(folder, name, cases, uses, crates):
         for case in cases:
             facts = [fact.text for fact in case.facts if fact.group == group]
             if facts:
-                parts += (case.nets if f"tables.Net" in GROUPS[group] else []) + facts
+                parts += (case.nets if "tables.Net" in GROUPS[group] else []) + facts
         (target / "proofs" / f"{group}.antt").write_text("\n".join(parts), encoding="utf-8")
     (target / "proofs" / "Lib.antt").write_text("".join(f"pub mod {group}\n" for group in groups), encoding="utf-8")
     with open(folder / "crates.txt", "a", encoding="utf-8") as file:
@@ -452,11 +452,14 @@ def print_coverage(cases, options):
     two = sum(len(case["steps"]) == 2 for case in nets)
     readings = sum(len(chosen_readings(case["readings"], number)) for number, case in enumerate(cases) if "steps" in case)
     print(f"{len(nets)} accepted nets with 1 round: {whole} with all coordinates, {len(nets) - whole} with one axis of every point; {two} of them with 2 rounds")
-    print(f"{len(cases) - len(nets)} refused calls; {readings} readings with their curves after 1 and 2 steps")
+    calls = collections.Counter(case["kind"].split("-")[0] for case in cases if "steps" not in case)
+    print("calls for their verdict alone: " + ", ".join(f"{kind} {count}" for kind, count in calls.items()))
+    print(f"{readings} readings with their curves after 1 and 2 steps")
     kinds = collections.Counter(case["kind"] for case in nets)
     print("kinds: " + ", ".join(f"{kind} {count}" for kind, count in kinds.items()))
     traits = collections.Counter(trait for case in cases for trait in case["traits"])
-    print("nets with: " + ", ".join(f"{trait} {traits[trait]}" for trait in sorted(traits, key=lambda t: [int(w) if w.isdigit() else 0 for w in t.split()] and t)))
+    by_number = sorted(traits, key=lambda trait: re.sub(r"\d+", lambda digits: digits.group().zfill(2), trait))
+    print("nets with: " + ", ".join(f"{trait}: {traits[trait]}" for trait in by_number))
     print(f"the crate `seam`: {'its lists of points and marks too' if options.seam else 'not there; readings as vertices along the boundary only'}")
 
 

@@ -1,7 +1,7 @@
 //! Small calls with all that the reference says of them, as lines of JSON.
 //!
 //! The check of the definitions reads these lines. Tables are flat lists of
-//! numbers, as the caller lends them.
+//! numbers; a net is its vertex, face and mark table.
 
 use std::collections::BTreeSet;
 use std::fmt::Display;
@@ -9,7 +9,7 @@ use std::fmt::Display;
 use reference::call::Outcome;
 use reference::curve::{Form, exact_curve, rounded_curve};
 use reference::net::Net;
-use reference::refusal::check_net;
+use reference::refusal::{Capacity, Refusal, check_call, check_net};
 use reference::seam::{Boundary, Reading, Way};
 use reference::step::{Directions, Rule, Step, trace};
 use reference::topology::Topology;
@@ -18,6 +18,7 @@ use crate::accepted::{Shape, Size, accepted};
 use crate::build::to_u32;
 use crate::case::{Case, Expected};
 use crate::change::{Placing, boundary_loops, mark, place, renumber};
+use crate::damaged::{damaged_tables, random_tables};
 use crate::refused::refused_call;
 use crate::rng::Rng;
 use crate::shapes;
@@ -30,10 +31,13 @@ const TWO_ROUNDS: usize = 2;
 const MOST_CORNERS: usize = 200;
 /// Most rounds for which the definitions can work out the number of faces.
 const MOST_ROUNDS: u32 = 100;
+/// Calls for each refusal alone.
+const ALONE: usize = 4;
 /// Steps of the curves that are told.
 const CURVE_STEPS: u32 = 2;
 
-/// All facts: `count` accepted nets, then every refusal alone and in pairs.
+/// All facts: `count` accepted nets; every refusal alone and in pairs; calls
+/// that are damaged, random or near the limits, a quarter of `count` each.
 pub fn lines(seed: u64, count: usize) -> Vec<String> {
     let rng = &mut Rng::new(seed);
     let mut lines: Vec<String> = accepted_nets(count, rng)
@@ -41,10 +45,16 @@ pub fn lines(seed: u64, count: usize) -> Vec<String> {
         .map(|(kind, net)| accepted_line(kind, net, rng))
         .collect();
     for first in 1..=12 {
-        lines.push(refused_line(&[first], rng));
+        lines.extend((0..ALONE).map(|_| refused_line(&[first], rng)));
         for second in first + 1..=12 {
             lines.push(refused_line(&[first, second], rng));
         }
+    }
+    for _ in 0..count / 4 {
+        let damaged = served(|rng| damaged_tables(Size::Small, rng), rng);
+        lines.push(call_line("damaged", &damaged, &[]));
+        lines.push(call_line("random", &random_tables(rng), &[]));
+        lines.push(call_line("limits", &near_limits(rng), &[]));
     }
     lines
 }
@@ -100,7 +110,7 @@ fn accepted_line(kind: &str, net: &Net, rng: &mut Rng) -> String {
     nets.extend(steps.iter().map(|step| &step.net));
     object(&[
         ("kind", quoted(kind)),
-        ("call", call_text(&case)),
+        ("call", call_text(&case, true)),
         ("net", net_text(net)),
         ("steps", list(nets[1..].iter().map(|net| net_text(net)))),
         (
@@ -113,18 +123,56 @@ fn accepted_line(kind: &str, net: &Net, rng: &mut Rng) -> String {
 
 /// A call with these reasons against it.
 fn refused_line(reasons: &[u32], rng: &mut Rng) -> String {
-    let case = loop {
-        let case = refused_call(reasons, rng);
+    let case = served(|rng| refused_call(reasons, rng), rng);
+    let names: Vec<String> = reasons.iter().map(|r| format!("{r:02}")).collect();
+    let kind = format!("refused-{}", names.join("-"));
+    call_line(&kind, &case, reasons)
+}
+
+/// The first call with few enough rounds.
+fn served(make: impl Fn(&mut Rng) -> Case, rng: &mut Rng) -> Case {
+    loop {
+        let case = make(rng);
         if case.rounds <= MOST_ROUNDS {
-            break case;
+            return case;
+        }
+    }
+}
+
+/// A call of which only the lengths matter, near the limits 1 to 4.
+fn near_limits(rng: &mut Rng) -> Case {
+    let vertices = rng.pick(&[0, 4, 8_191, 8_192, 8_193]);
+    let faces = rng.pick(&[0, 1, 64, 65, 1_024, 1_025, 4_096, 4_097]);
+    let rounds = rng.pick(&[0, 1, 2, 3, 4, 5, 6, 7]);
+    let mut room = Capacity::for_refined_faces(faces << (2 * rounds));
+    let short = |length: &mut usize, rng: &mut Rng| {
+        if rng.one_in(10) {
+            *length = length.saturating_sub(1);
         }
     };
-    let names: Vec<String> = reasons.iter().map(|r| format!("{r:02}")).collect();
-    let mut fields = vec![
-        ("kind", quoted(format!("refused-{}", names.join("-")))),
-        ("call", call_text(&case)),
-    ];
-    if case.faces.len() <= MOST_CORNERS {
+    for length in [
+        &mut room.vertices,
+        &mut room.faces,
+        &mut room.marks,
+        &mut room.workspace,
+    ] {
+        short(length, rng);
+    }
+    Case {
+        rounds,
+        vertices: vec![0; 3 * vertices],
+        faces: vec![0; 4 * faces],
+        marks: vec![0; vertices],
+        capacity: room,
+        expected: Expected::Unknown,
+    }
+}
+
+/// A call with its tables, or with their lengths alone if they are long.
+fn call_line(kind: &str, case: &Case, reasons: &[u32]) -> String {
+    let is_short = kind != "limits" && case.faces.len() <= MOST_CORNERS;
+    let mut fields = vec![("kind", quoted(kind)), ("call", call_text(case, is_short))];
+    if is_short {
         let tables = [
             numbers(&case.vertices),
             numbers(&case.faces),
@@ -138,22 +186,20 @@ fn refused_line(reasons: &[u32], rng: &mut Rng) -> String {
 }
 
 /// Rounds, lengths of the three tables, room, and the reference's verdicts on
-/// the whole call and on its net: nothing, or a number and a place.
-fn call_text(case: &Case) -> String {
+/// the call, of its lengths alone unless `with_net`, and on its net if the
+/// table lengths fit: nothing, or a number and a place.
+fn call_text(case: &Case, with_net: bool) -> String {
     let lengths = [case.vertices.len(), case.faces.len(), case.marks.len()];
     let room = case.capacity;
+    let limits = check_call(case.rounds, &case.vertices, &case.faces, &case.marks, &room);
+    let net = Net::from_tables(&case.vertices, &case.faces, &case.marks);
+    let is_whole = lengths == [3 * net.points.len(), 4 * net.faces.len(), net.points.len()];
     let verdict = match case.outcome() {
+        _ if !with_net => told(limits),
         Outcome::Refined { .. } => vec![],
         Outcome::Refused { reason, place } => vec![reason, place],
     };
-    let is_whole = verdict.first() != Some(&2);
-    let net = Net::from_tables(&case.vertices, &case.faces, &case.marks);
-    let net_verdict = match is_whole.then(|| check_net(&net)) {
-        Some(Err(refusal)) => vec![refusal.reason, refusal.place],
-        Some(Ok(())) => vec![],
-        None => verdict.clone(),
-    };
-    object(&[
+    let mut fields = vec![
         ("rounds", case.rounds.to_string()),
         ("lengths", numbers(&lengths)),
         (
@@ -161,9 +207,15 @@ fn call_text(case: &Case) -> String {
             numbers(&[room.vertices, room.faces, room.marks, room.workspace]),
         ),
         ("verdict", numbers(&verdict)),
-        ("whole", is_whole.to_string()),
-        ("net_verdict", numbers(&net_verdict)),
-    ])
+    ];
+    if with_net && is_whole {
+        fields.push(("net_verdict", numbers(&told(check_net(&net)))));
+    }
+    object(&fields)
+}
+
+fn told(verdict: Result<(), Refusal>) -> Vec<u32> {
+    verdict.map_or_else(|refusal| vec![refusal.reason, refusal.place], |()| vec![])
 }
 
 fn net_text(net: &Net) -> String {
