@@ -81,7 +81,7 @@ at a b c = record { x = a; y = b; z = c }
 """
 
 Fact = collections.namedtuple("Fact", "group name text stated cost")
-Case = collections.namedtuple("Case", "label kind nets facts cost")
+Case = collections.namedtuple("Case", "label kind nets facts")
 
 
 # ---- antt text
@@ -214,7 +214,7 @@ def written_case(number, case, unfolding, options):
     if "net" in case:
         nets = [net_text(label, case["net"])]
         nets += [net_text(f"{label}-after{k}", net) for k, net in enumerate(case.get("steps", []), 1)]
-    return Case(label, case["kind"], nets, facts, sum(fact.cost for fact in facts))
+    return Case(label, case["kind"], nets, facts)
 
 
 # ---- the scratch repository
@@ -297,11 +297,12 @@ def write_chunk(folder, name, cases, uses, crates):
 def chunks_of(cases):
     chunk, cost = [], 0.0
     for case in cases:
-        if chunk and (cost + case.cost > CHUNK_SECONDS or len(chunk) == CHUNK_CASES):
+        own = sum(fact.cost for fact in case.facts)
+        if chunk and (cost + own > CHUNK_SECONDS or len(chunk) == CHUNK_CASES):
             yield chunk
             chunk, cost = [], 0.0
         chunk.append(case)
-        cost += case.cost
+        cost += own
     if chunk:
         yield chunk
 
@@ -332,10 +333,13 @@ def check_chunk(folder, name, cases):
     after = resource.getrusage(resource.RUSAGE_CHILDREN)
     seconds = after.ru_utime + after.ru_stime - before.ru_utime - before.ru_stime
     facts = sum(len(case.facts) for case in cases)
-    verdict = "agree" if result.returncode == 0 else "DO NOT AGREE"
+    verdict = {0: "agree", 1: "DO NOT AGREE"}.get(result.returncode, "could not be checked")
     print(f"{name}: {cases[0].label} to {cases[-1].label}, {facts} facts {verdict} ({seconds:.0f} s of processor time, {time.time() - start:.0f} s)", flush=True)
     if result.returncode == 0:
         return 0
+    if result.returncode != 1:
+        print((result.stdout + result.stderr)[-3000:])
+        return None
     found = list(disagreements(result.stdout + result.stderr, cases))
     for fact, kind, value, difference in found:
         print(f"  {fact} ({kind}): the reference gives {value[:400]}\n    {difference}")
@@ -345,10 +349,11 @@ def check_chunk(folder, name, cases):
     return len(found)
 
 
-# ---- wrong definitions, which the check must find out: file, and texts with what replaces them
+# ---- wrong definitions: the group of facts that must find each out, its file, and texts with what replaces them
 MUTATIONS = {
-    "1/5 for 1/9 in the virtual point": ("rings/specs/Ring.antt", [("+ᶠ k (j + 1)) /ᶠ w .near", "+ᶠ k (j + 1)) /ᶠ 5")]),
+    "1/5 for 1/9 in the virtual point": ("Round", "rings/specs/Ring.antt", [("+ᶠ k (j + 1)) /ᶠ w .near", "+ᶠ k (j + 1)) /ᶠ 5")]),
     "b* and c* exchanged": (
+        "Round",
         "scheme/specs/Rings.antt",
         [
             ("    cond (eqb i (valence l v)) (extrapolatedAt", "    cond (eqb i (valence l v + 1)) (extrapolatedAt"),
@@ -356,33 +361,36 @@ MUTATIONS = {
         ],
     ),
     "halves towards zero": (
+        "Round",
         "rounding/specs/Rounding.antt",
         [("{ℕ, suc, _+_, _*_, _/_}", "{ℕ, suc, _+_, _-_, _*_, _/_}"), ("(2 * a + d) / (2 * d)", "(2 * a + d - 1) / (2 * d)")],
     ),
     "edge points rounded before the face point": (
+        "Round",
         "scheme/specs/Points.antt",
         [
             ("Fraction.{Fraction, whole}", "Fraction.{Fraction, whole, toWhole}"),
             ("faceValue w l (edgePoint w l marks p) f", "faceValue w l (λ (h : ℕ). whole (toWhole (edgePoint w l marks p h))) f"),
         ],
     ),
-    "the last edge of a segment taken as cyclic": ("scheme/specs/Points.antt", [("endOfSegment insideSegment)", "insideSegment insideSegment)")]),
-    "always the mean of both directions": ("scheme/specs/Points.antt", [("secondAlone bothDirections)", "bothDirections bothDirections)")]),
-    "side i+1 for side i-1 in refined faces": ("refinement/specs/Refined.antt", [("edge S l (S .prev h)", "edge S l (S .next h)")]),
-    "a fan of 7 accepted": ("refusals/specs/Refusals.antt", [("(ltb 6 (valence l p))", "(ltb 7 (valence l p))")]),
-    "refusal 11 before 10": (
+    "the last edge of a segment taken as cyclic": ("Round", "scheme/specs/Points.antt", [("endOfSegment insideSegment)", "insideSegment insideSegment)")]),
+    "never the second direction alone": ("Round", "scheme/specs/Points.antt", [("secondAlone bothDirections)", "bothDirections bothDirections)")]),
+    "side i+1 for side i-1 in refined faces": ("Round", "refinement/specs/Refined.antt", [("edge S l (S .prev h)", "edge S l (S .next h)")]),
+    "a fan of 7 accepted": ("Verdict", "refusals/specs/Refusals.antt", [("(ltb 6 (valence l p))", "(ltb 7 (valence l p))")]),
+    "refusal 12 before 11": (
+        "Verdict",
         "verdict/specs/Verdict.antt",
         [
-            ("(refusedAt 10 (nonManifold quads l) v", "(refusedAt 11 (badValence quads l) v"),
-            ("    (orElse (refusedAt 11 (badValence quads l) v", "    (orElse (refusedAt 10 (nonManifold quads l) v"),
+            ("    (orElse (refusedAt 11 (badValence quads l) v", "    (orElse (refusedAt 12 (markedRing quads l marks) v"),
+            ("    (refusedAt 12 (markedRing quads l marks) v (λ p. p)))", "    (refusedAt 11 (badValence quads l) v (λ p. p)))"),
         ],
     ),
-    "end weights of the curve": ("curve/specs/Weights.antt", [("pos (w .near + w .far) *ℤ q", "pos (w .near) *ℤ q")]),
+    "another end weight of the curve": ("Curve", "curve/specs/Weights.antt", [("pos (w .near + w .far) *ℤ q", "pos (w .near) *ℤ q")]),
+    "a loop followed backwards": ("Reading", "topology/specs/Boundary.antt", [("step S l withSides h = along S l h", "step S l withSides h = back S l h")]),
 }
 
 
-def mutate(folder, edit):
-    file, replacements = edit
+def mutate(folder, file, replacements):
     path = folder / "crates" / file
     text = path.read_text(encoding="utf-8")
     for old, new in replacements:
@@ -392,13 +400,14 @@ def mutate(folder, edit):
     path.write_text(text, encoding="utf-8")
 
 
-def run_mutations(tree, cases, options):
-    """Each wrong definition must be found out by some chunk; returns how many are not."""
+def run_mutations(cases, options):
+    """Each wrong definition must be found out by some chunk, the smallest nets first; returns how many are not."""
     missed = 0
-    for name, edit in MUTATIONS.items():
+    cases = sorted(cases, key=lambda case: len(case["net"][1]) if "net" in case else 0)
+    for name, mutation in MUTATIONS.items():
         print(f"== {name}", flush=True)
         with tempfile.TemporaryDirectory() as folder:
-            if check_all(tree, pathlib.Path(folder), cases, options, edit) == 0:
+            if check_all(pathlib.Path(folder), cases, options, mutation) == 0:
                 print("NOT FOUND OUT")
                 missed += 1
     print(f"definitions: {len(MUTATIONS) - missed} of {len(MUTATIONS)} wrong definitions found out")
@@ -419,17 +428,27 @@ def cases_from_generator(options):
     return cases
 
 
-def check_all(tree, folder, cases, options, edit=None):
-    """The number of disagreements. With a wrong definition put in, the first chunk that disagrees ends it."""
-    crates = make_scratch(tree, folder)
-    if edit:
-        mutate(folder, edit)
+def write_scratch(folder, cases, options, group):
+    """Writes the scratch repository; returns its crates of definitions, and its chunks with their cases."""
+    crates = make_scratch(options.tree, folder)
     uses, unfolding = headers(folder / "crates")
     options.seam = "Seam" in uses
     written = [written_case(number, case, unfolding, options) for number, case in enumerate(cases)]
-    chunks = {f"facts{number:02}": chunk for number, chunk in enumerate(chunks_of(written), 1)}
+    if group:
+        written = [case._replace(facts=[fact for fact in case.facts if fact.group == group]) for case in written]
+    chunks = {f"facts{number:02}": chunk for number, chunk in enumerate(chunks_of(case for case in written if case.facts), 1)}
     for name, chunk in chunks.items():
         write_chunk(folder, name, chunk, uses, crates)
+    options.facts = sum(len(case.facts) for case in written)
+    return crates, chunks
+
+
+def check_all(folder, cases, options, mutation=None):
+    """The number of disagreements. With a wrong definition put in, only its group is checked, up to the first chunk that disagrees."""
+    group, *edit = mutation or (None,)
+    crates, chunks = write_scratch(folder, cases, options, group)
+    if edit:
+        mutate(folder, *edit)
     ready = kit_check(folder, crates)
     if ready.returncode != 0:
         sys.exit("definitions: the kit refuses the definitions alone\n" + (ready.stdout + ready.stderr)[-3000:])
@@ -441,7 +460,6 @@ def check_all(tree, folder, cases, options, edit=None):
         wrong += found
         if edit and wrong:
             break
-    options.facts = sum(len(case.facts) for case in written)
     return wrong
 
 
@@ -450,11 +468,12 @@ def print_coverage(cases, options):
     nets = [case for case in cases if "steps" in case]
     whole = sum(len(case["net"][1]) // 4 <= options.whole for case in nets)
     two = sum(len(case["steps"]) == 2 for case in nets)
-    readings = sum(len(chosen_readings(case["readings"], number)) for number, case in enumerate(cases) if "steps" in case)
+    readings = [reading for number, case in enumerate(cases) if "steps" in case for reading in chosen_readings(case["readings"], number)]
+    ways = collections.Counter(f"{'open' if r['open'] else 'closed'} {'with' if r['with'] else 'against'} the sides" for r in readings)
     print(f"{len(nets)} accepted nets with 1 round: {whole} with all coordinates, {len(nets) - whole} with one axis of every point; {two} of them with 2 rounds")
     calls = collections.Counter(case["kind"].split("-")[0] for case in cases if "steps" not in case)
     print("calls for their verdict alone: " + ", ".join(f"{kind} {count}" for kind, count in calls.items()))
-    print(f"{readings} readings with their curves after 1 and 2 steps")
+    print(f"{len(readings)} readings with their curves after 1 and 2 steps: " + ", ".join(f"{way} {count}" for way, count in sorted(ways.items())))
     kinds = collections.Counter(case["kind"] for case in nets)
     print("kinds: " + ", ".join(f"{kind} {count}" for kind, count in kinds.items()))
     traits = collections.Counter(trait for case in cases for trait in case["traits"])
@@ -479,10 +498,10 @@ def main():
     options = arguments()
     cases = cases_from_generator(options)
     if options.mutate:
-        sys.exit(1 if run_mutations(options.tree, cases, options) else 0)
+        sys.exit(1 if run_mutations(cases, options) else 0)
     start = time.time()
     with tempfile.TemporaryDirectory() as folder:
-        wrong = check_all(options.tree, pathlib.Path(folder), cases, options)
+        wrong = check_all(pathlib.Path(folder), cases, options)
     print_coverage(cases, options)
     used = resource.getrusage(resource.RUSAGE_CHILDREN)
     print(f"{used.ru_utime + used.ru_stime:.0f} s of processor time, {time.time() - start:.0f} s")
