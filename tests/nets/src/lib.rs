@@ -4,6 +4,7 @@
 //! - [`refused`]: calls and texts with one or more reasons for a refusal.
 //! - [`damaged`]: texts that lost their form, and damaged tables.
 //! - [`pairs`]: pairs of nets that share a boundary segment.
+//! - [`facts`]: small calls with all that the reference says of them.
 //! - [`kind`]: all kinds by name, small nets, and a mixed series of calls.
 
 #![forbid(unsafe_code)]
@@ -33,6 +34,7 @@ pub mod build;
 pub mod case;
 pub mod change;
 pub mod damaged;
+pub mod facts;
 pub mod kind;
 pub mod pairs;
 pub mod refused;

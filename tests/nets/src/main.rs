@@ -4,6 +4,8 @@
 //! - `nets make KIND SEED` prints one text.
 //! - `nets batch --seed S --count N --dir D` writes N texts of all kinds in
 //!   rotation into the folder D, and a file `list` with their paths.
+//! - `nets facts --seed S --count N` prints N accepted nets and all refusals
+//!   with what the reference says of them, a line of JSON each.
 
 #![forbid(unsafe_code)]
 
@@ -13,10 +15,11 @@ use std::io::{self, Write};
 use std::path::Path;
 use std::process::ExitCode;
 
+use nets::facts;
 use nets::kind::Kind;
 
 const USAGE: &str = "usage: nets list | nets make KIND SEED | \
-    nets batch --seed S --count N --dir D";
+    nets batch --seed S --count N --dir D | nets facts --seed S --count N";
 
 fn main() -> ExitCode {
     let arguments: Vec<String> = std::env::args().skip(1).collect();
@@ -45,6 +48,12 @@ fn run(arguments: &[&str]) -> Result<(), Box<dyn Error>> {
         }
         ["batch", "--seed", seed, "--count", count, "--dir", folder] => {
             batch(seed.parse()?, count.parse()?, Path::new(folder))
+        }
+        ["facts", "--seed", seed, "--count", count] => {
+            let lines = facts::lines(seed.parse()?, count.parse()?);
+            io::stdout().write_all(lines.join("\n").as_bytes())?;
+            println!();
+            Ok(())
         }
         _ => Err(USAGE.into()),
     }

@@ -1,0 +1,513 @@
+#!/usr/bin/env python3
+"""Checks the definitions against the reference implementation.
+
+Nets and calls come from the seeded generator (`nets facts`). What the reference says of them is written as equalities that hold by computation, into a
+scratch repository outside this one; the definitions stand there without their proofs. The kit checks it, a chunk of nets at a time. The exit status is 1 if
+a definition gives something else than the reference, 2 if the kit could not tell.
+
+    tests/definitions.py                    all kinds: 200 accepted nets, every refusal alone and in pairs
+    tests/definitions.py --mutate           wrong definitions in the scratch copy must be found out
+"""
+import argparse
+import collections
+import json
+import os
+import pathlib
+import re
+import resource
+import shutil
+import subprocess
+import sys
+import tempfile
+import time
+
+HERE = pathlib.Path(__file__).resolve().parent
+# Up to so many faces a round is stated as one equality of nets, all axes; above, as faces, marks and one axis.
+WHOLE_FACES = 5
+# The estimated seconds of processor time, and the nets, of a chunk.
+CHUNK_SECONDS = 30.0
+CHUNK_CASES = 20
+
+# ---- the definitions that facts unfold: the modules of each group, and what else it names of them
+TOPOLOGY = {"search.Search": "", "topology.Shape": "", "topology.HalfEdge": "", "topology.Boundary": ""}
+NAMED = {"tables.Net": "Net", "curve.Weights": "kobbelt"}
+GROUPS = {
+    "Verdict": {
+        **TOPOLOGY,
+        "topology.Vertex": "",
+        "refusals.Refusals": "",
+        "tables.Net": "Net",
+        "verdict.Call": "Call, Room",
+        "verdict.Verdict": "Verdict, accepted, refused",
+    },
+    "Round": {
+        **NAMED,
+        **TOPOLOGY,
+        "topology.Vertex": "",
+        "lists.Tabulate": "",
+        "rounding.Rounding": "",
+        "fractions.Fraction": "",
+        "rings.Ring": "",
+        "rules.Rules": "",
+        "refinement.Refined": "",
+        "scheme.Rings": "",
+        "scheme.Points": "",
+        "scheme.Step": "",
+    },
+    "Curve": {"rounding.Rounding": "", "curve.Weights": "kobbelt", "curve.Curve": "Kind, Open, Closed, Point"},
+    "Reading": {**TOPOLOGY, "topology.Boundary": "withSides, againstSides", "lists.Tabulate": ""},
+    # Joins as soon as the crate `seam` is there.
+    "Seam": {
+        **TOPOLOGY,
+        "topology.Boundary": "withSides, againstSides",
+        "lists.Tabulate": "",
+        "tables.Net": "Net",
+        "curve.Curve": "Point",
+        "scheme.Points": "",
+        "scheme.Step": "",
+        "seam.Reading": "",
+    },
+}
+# Names that two modules of a group have; the group does not need the first module's.
+LEFT_OUT = {("Round", "topology.Boundary", "step"), ("Seam", "topology.Boundary", "step"), ("Seam", "curve.Curve", "step"), ("Seam", "curve.Curve", "steps")}
+LIBRARY = """use mathlib.Core.Path.{_≡_, refl, ap, _∙_}
+use mathlib.Core.Bool.{Bool, true, false}
+use mathlib.Core.List.{List, [], _∷_}
+use Prim.Native.Nat.{ℕ}
+use lib.IntN.{ℤ, pos, negsuc}
+"""
+POINTS = """abbrev at : ℤ → ℤ → ℤ → Point
+at a b c = record { x = a; y = b; z = c }
+"""
+
+Fact = collections.namedtuple("Fact", "group name text stated cost")
+Case = collections.namedtuple("Case", "label kind nets facts")
+
+
+# ---- antt text
+def integer(value):
+    return f"pos {value}" if value >= 0 else f"negsuc {-value - 1}"
+
+
+def sequence(items):
+    return " ∷ ".join([*items, "[]"])
+
+
+def integers(values):
+    return sequence(map(integer, values))
+
+
+def naturals(values):
+    return sequence(map(str, values))
+
+
+def points(values):
+    rows = zip(values[0::3], values[1::3], values[2::3])
+    return sequence("at " + " ".join(f"({integer(c)})" for c in row) for row in rows)
+
+
+def net_text(name, net):
+    vertices, faces, marks = net
+    fields = f"vertices = {integers(vertices)}; faces = {naturals(faces)}; marks = {naturals(marks)}"
+    return f"abbrev {name} : Net\n{name} = record {{ {fields} }}\n"
+
+
+def verdict_text(verdict):
+    return f"refused {verdict[0]} {verdict[1]}" if verdict else "accepted"
+
+
+# ---- facts of one case
+def verdict_facts(label, case):
+    call = case["call"]
+    fields = ("vertices", "faces", "marks", "work")
+    room = "record { " + "; ".join(f"{f} = {n}" for f, n in zip(fields, call["room"])) + " }"
+    stated = verdict_text(call["verdict"])
+    if "net" not in case:
+        lengths = " ".join(map(str, call["lengths"]))
+        yield "Verdict", "limits", f"limitsVerdict {call['rounds']} {lengths} ({room})", stated, 0.05
+        return
+    cost = 0.3 + 0.0004 * len(case["net"][1]) ** 2
+    yield "Verdict", "call", f"verdict (record {{ rounds = {call['rounds']}; net = {label}; room = {room} }})", stated, cost
+    if call.get("net_verdict", call["verdict"]) != call["verdict"]:
+        yield "Verdict", "net", f"netVerdict {label}", verdict_text(call["net_verdict"]), cost
+
+
+def round_facts(label, case, seed, whole_faces):
+    """The first round: as one equality of nets, or as faces, marks and one axis."""
+    (_, faces, marks), (vertices_1, faces_1, marks_1) = case["net"], case["steps"][0]
+    size, count = len(faces) // 4, len(marks)
+    if size <= whole_faces:
+        yield "Round", "round", f"step kobbelt {label}", f"{label}-after1", 0.2 + 0.1 * size**2
+        return
+    axis = (seed + int(label[1:])) % 3
+    coordinate = f"refinedCoordinate kobbelt {count} ({label} .faces) ({label} .marks) (axis ({label} .vertices) {axis}) i"
+    yield "Round", "faces", f"refined quads {count} ({label} .faces)", naturals(faces_1), 0.1
+    yield "Round", "marks", f"refinedMarks quads {count} ({label} .faces) ({label} .marks)", naturals(marks_1), 0.1
+    yield "Round", f"axis{axis}", f"tabulate {len(marks_1)} (λ (i : ℕ). {coordinate})", integers(vertices_1[axis::3]), 0.2 + 0.045 * size**2
+
+
+def second_round_facts(label, case):
+    """The second round of the net after the first, which `two-rounds` puts together."""
+    size = len(case["steps"][0][1]) // 4
+    yield "Round", "second", f"step kobbelt {label}-after1", f"{label}-after2", 0.2 + 0.1 * size**2
+    yield "Round", "two-rounds", f"steps kobbelt 2 {label}", f"{label}-after2", 0.0
+
+
+def chosen_readings(readings, number):
+    """The longest reading, and another one by turns."""
+    if not readings:
+        return []
+    longest = max(readings, key=lambda reading: len(reading["points"]))
+    other = readings[number % len(readings)]
+    return [longest] if other is longest else [longest, other]
+
+
+def curve_facts(place, reading):
+    kind = "Open" if reading["open"] else "Closed"
+    given = points(reading["points"])
+    for name, definition in (("rounded", "curve"), ("exact", "exactCurve")):
+        for steps, stated in enumerate(reading[name], 1):
+            yield "Curve", f"{name}{place}-{steps}", f"{definition} kobbelt {kind} {steps} ({given})", points(stated), 0.1
+
+
+def reading_facts(label, place, reading, case, with_seam):
+    """The vertices along the boundary before the first round and after each; with the crate `seam`, its list of points too."""
+    way, start = "withSides" if reading["with"] else "againstSides", reading["start"]
+    nets = [case["net"], *case["steps"]]
+    for rounds, (net, vertices) in enumerate(zip(nets, reading["vertices"])):
+        name, count = f"{label}-after{rounds}" if rounds else label, len(vertices)
+        cost = 0.05 + 0.00001 * len(net[1]) ** 2
+        faces = naturals(net[1])
+        along = f"(λ (i : ℕ). from ({faces}) (iterate (step quads ({faces}) {way}) i (boundaryFrom quads ({faces}) {start})))"
+        yield "Reading", f"vertices{place}-{rounds}", f"tabulate {count} {along}", naturals(vertices), cost
+        if with_seam:
+            read = [value for vertex in vertices for value in net[0][3 * vertex:3 * vertex + 3]]
+            marks = ["true" if net[2][vertex] == 1 else "false" for vertex in vertices]
+            marked = f"(λ (i : ℕ). marked ({name} .marks) (vertexAt ({name} .faces) {way} {start} i))"
+            yield "Seam", f"points{place}-{rounds}", f"points {name} {way} {start} {count}", points(read), cost
+            yield "Seam", f"marks{place}-{rounds}", f"tabulate {count} {marked}", sequence(marks), cost
+
+
+def all_facts(label, number, case, options):
+    yield from verdict_facts(label, case)
+    if "steps" not in case:
+        return
+    yield from round_facts(label, case, options.seed, options.whole)
+    if len(case["steps"]) > 1:
+        yield from second_round_facts(label, case)
+    for place, reading in enumerate(chosen_readings(case["readings"], number)):
+        yield from curve_facts(place, reading)
+        yield from reading_facts(label, place, reading, case, options.seam)
+
+
+def written_case(number, case, unfolding, options):
+    label = f"n{number:03}"
+    facts = []
+    for group, name, computed, stated, cost in all_facts(label, number, case, options):
+        name = f"{label}-{name}"
+        if name.endswith("two-rounds"):
+            text = f"{name} : {computed} ≡ {stated}\nunfolding steps\n{name} = ap (step kobbelt) {label}-round ∙ {label}-second\n"
+        else:
+            text = f"{name} : {computed} ≡ {stated}\nunfolding {unfolding[group]}\n{name} = refl\n"
+        facts.append(Fact(group, name, text, stated, cost))
+    nets = []
+    if "net" in case:
+        nets = [net_text(label, case["net"])]
+        nets += [net_text(f"{label}-after{k}", net) for k, net in enumerate(case.get("steps", []), 1)]
+    return Case(label, case["kind"], nets, facts)
+
+
+# ---- the scratch repository
+def unfoldable_names(path):
+    """The definitions of a module that an `unfolding` line can name."""
+    names, in_block = [], False
+    for line in path.read_text(encoding="utf-8").splitlines():
+        if line.startswith("unfoldable mutual"):
+            in_block = True
+        elif line and not line.startswith(" "):
+            in_block = False
+        found = re.match(r"\s*unfoldable pub (\S+)", line) or (in_block and re.match(r"\s+pub (\S+)", line))
+        if found:
+            names.append(found.group(1))
+    return names
+
+
+def headers(crates):
+    """For each group its `use` lines, and the names that its facts unfold."""
+    uses, unfolding = {}, {}
+    for group, modules in GROUPS.items():
+        if any(not (crates / module.split(".")[0]).exists() for module in modules):
+            continue
+        lines, unfolded = [LIBRARY], []
+        for module, others in modules.items():
+            crate, file = module.split(".")
+            names = [name for name in unfoldable_names(crates / crate / "specs" / f"{file}.antt") if (group, module, name) not in LEFT_OUT]
+            unfolded += names
+            listed = ", ".join(names + ([others] if others else []))
+            if listed:
+                lines.append(f"use Rattle.{crate}.specs.{file}.{{{listed}}}\n")
+        uses[group] = "".join(lines) + (POINTS if "Point" in modules.get("curve.Curve", "") else "")
+        unfolding[group] = " ".join(unfolded)
+    return uses, unfolding
+
+
+def dependencies(tree):
+    """The lines of crates.txt, as crate and crates under it."""
+    lines = (tree / "crates.txt").read_text(encoding="utf-8").splitlines()
+    pairs = (line.split(":") for line in lines if line.strip() and not line.startswith("#"))
+    return {name.strip(): under.split() for name, under in pairs}
+
+
+def make_scratch(tree, folder):
+    """Copies the definitions of the crates that facts name, and of the crates under them; returns the names of all."""
+    under = dependencies(tree)
+    wanted = {module.split(".")[0] for modules in GROUPS.values() for module in modules} & set(under)
+    for name in list(wanted):
+        wanted |= set(under[name])
+    lines = []
+    for name in (name for name in under if name in wanted):
+        source, target = tree / "crates" / name / "specs", folder / "crates" / name
+        (target / "src").mkdir(parents=True)
+        (target / "src" / "lib.rt").write_text("// Definitions alone.\n", encoding="utf-8")
+        if source.exists():
+            shutil.copytree(source, target / "specs")
+        lines.append(f"{name}: {' '.join(under[name])}\n")
+    (folder / "crates.txt").write_text("".join(lines), encoding="utf-8")
+    return [name for name in under if name in wanted]
+
+
+def write_chunk(folder, name, cases, uses, crates):
+    target = folder / "crates" / name
+    (target / "src").mkdir(parents=True)
+    (target / "proofs").mkdir()
+    (target / "src" / "lib.rt").write_text("// Computed facts.\n", encoding="utf-8")
+    groups = [group for group in uses if any(fact.group == group for case in cases for fact in case.facts)]
+    for group in groups:
+        parts = [uses[group]]
+        for case in cases:
+            facts = [fact.text for fact in case.facts if fact.group == group]
+            if facts:
+                parts += (case.nets if "tables.Net" in GROUPS[group] else []) + facts
+        (target / "proofs" / f"{group}.antt").write_text("\n".join(parts), encoding="utf-8")
+    (target / "proofs" / "Lib.antt").write_text("".join(f"pub mod {group}\n" for group in groups), encoding="utf-8")
+    with open(folder / "crates.txt", "a", encoding="utf-8") as file:
+        file.write(f"{name}: {' '.join(crates)}\n")
+
+
+def chunks_of(cases):
+    chunk, cost = [], 0.0
+    for case in cases:
+        own = sum(fact.cost for fact in case.facts)
+        if chunk and (cost + own > CHUNK_SECONDS or len(chunk) == CHUNK_CASES):
+            yield chunk
+            chunk, cost = [], 0.0
+        chunk.append(case)
+        cost += own
+    if chunk:
+        yield chunk
+
+
+# ---- the kit
+def kit_check(folder, name):
+    environment = {**os.environ, "RT_JOBS": "1", "RT_CUT": "4000"}
+    return subprocess.run(["rt", "check", *name], cwd=folder, env=environment, capture_output=True, text=True)
+
+
+def disagreements(output, cases):
+    """For each fact that the kit refuses: its name, what was stated, and what the kit says of the difference."""
+    stated = {fact.name: (case.kind, fact.stated) for case in cases for fact in case.facts}
+    blocks = re.split(r"^(?=\S*\.antt:\d+)", output, flags=re.M)
+    for block in blocks:
+        found = re.match(r"\S*\.antt:\d+:\d+: error: `(\S+)`", block)
+        if not found:
+            continue
+        kind, value = stated.get(found.group(1), ("", ""))
+        difference = re.search(r"^ *(computed as far.*)$", block, re.M)
+        yield found.group(1), kind, value, difference.group(1) if difference else block.strip()[:1500]
+
+
+def check_chunk(folder, name, cases):
+    """The number of disagreements, which are printed; None if the kit could not tell."""
+    before, start = resource.getrusage(resource.RUSAGE_CHILDREN), time.time()
+    result = kit_check(folder, [name])
+    after = resource.getrusage(resource.RUSAGE_CHILDREN)
+    seconds = after.ru_utime + after.ru_stime - before.ru_utime - before.ru_stime
+    facts = sum(len(case.facts) for case in cases)
+    verdict = {0: "agree", 1: "DO NOT AGREE"}.get(result.returncode, "could not be checked")
+    print(f"{name}: {cases[0].label} to {cases[-1].label}, {facts} facts {verdict} ({seconds:.0f} s of processor time, {time.time() - start:.0f} s)", flush=True)
+    if result.returncode == 0:
+        return 0
+    if result.returncode != 1:
+        print((result.stdout + result.stderr)[-3000:])
+        return None
+    found = list(disagreements(result.stdout + result.stderr, cases))
+    for fact, kind, value, difference in found:
+        print(f"  {fact} ({kind}): the reference gives {value[:400]}\n    {difference}")
+    if not found:
+        print("\n".join((result.stdout + result.stderr).splitlines()[-20:]))
+        return None
+    return len(found)
+
+
+# ---- wrong definitions: the group of facts that must find each out, its file, and texts with what replaces them
+MUTATIONS = {
+    "1/5 for 1/9 in the virtual point": ("Round", "rings/specs/Ring.antt", [("+ᶠ k (j + 1)) /ᶠ w .near", "+ᶠ k (j + 1)) /ᶠ 5")]),
+    "b* and c* exchanged": (
+        "Round",
+        "scheme/specs/Rings.antt",
+        [
+            ("    cond (eqb i (valence l v)) (extrapolatedAt", "    cond (eqb i (valence l v + 1)) (extrapolatedAt"),
+            ("    (cond (eqb i (valence l v + 1)) (extrapolatedAt", "    (cond (eqb i (valence l v)) (extrapolatedAt"),
+        ],
+    ),
+    "halves towards zero": (
+        "Round",
+        "rounding/specs/Rounding.antt",
+        [("{ℕ, suc, _+_, _*_, _/_}", "{ℕ, suc, _+_, _-_, _*_, _/_}"), ("(2 * a + d) / (2 * d)", "(2 * a + d - 1) / (2 * d)")],
+    ),
+    "edge points rounded before the face point": (
+        "Round",
+        "scheme/specs/Points.antt",
+        [
+            ("Fraction.{Fraction, whole}", "Fraction.{Fraction, whole, toWhole}"),
+            ("faceValue w l (edgePoint w l marks p) f", "faceValue w l (λ (h : ℕ). whole (toWhole (edgePoint w l marks p h))) f"),
+        ],
+    ),
+    "the last edge of a segment taken as cyclic": ("Round", "scheme/specs/Points.antt", [("endOfSegment insideSegment)", "insideSegment insideSegment)")]),
+    "never the second direction alone": ("Round", "scheme/specs/Points.antt", [("secondAlone bothDirections)", "bothDirections bothDirections)")]),
+    "side i+1 for side i-1 in refined faces": ("Round", "refinement/specs/Refined.antt", [("edge S l (S .prev h)", "edge S l (S .next h)")]),
+    "a fan of 7 accepted": ("Verdict", "refusals/specs/Refusals.antt", [("(ltb 6 (valence l p))", "(ltb 7 (valence l p))")]),
+    "refusal 12 before 11": (
+        "Verdict",
+        "verdict/specs/Verdict.antt",
+        [
+            ("    (orElse (refusedAt 11 (badValence quads l) v", "    (orElse (refusedAt 12 (markedRing quads l marks) v"),
+            ("    (refusedAt 12 (markedRing quads l marks) v (λ p. p)))", "    (refusedAt 11 (badValence quads l) v (λ p. p)))"),
+        ],
+    ),
+    "another end weight of the curve": ("Curve", "curve/specs/Weights.antt", [("pos (w .near + w .far) *ℤ q", "pos (w .near) *ℤ q")]),
+    "a loop followed backwards": ("Reading", "topology/specs/Boundary.antt", [("step S l withSides h = along S l h", "step S l withSides h = back S l h")]),
+}
+
+
+def mutate(folder, file, replacements):
+    path = folder / "crates" / file
+    text = path.read_text(encoding="utf-8")
+    for old, new in replacements:
+        if text.count(old) != 1:
+            sys.exit(f"definitions: {file} does not have '{old}' once; the self-test needs a new text")
+        text = text.replace(old, new)
+    path.write_text(text, encoding="utf-8")
+
+
+def run_mutations(cases, options):
+    """Each wrong definition must be found out by some chunk, the smallest nets first; returns how many are not."""
+    missed = 0
+    cases = sorted(cases, key=lambda case: len(case["net"][1]) if "net" in case else 0)
+    for name, mutation in MUTATIONS.items():
+        print(f"== {name}", flush=True)
+        with tempfile.TemporaryDirectory() as folder:
+            if check_all(pathlib.Path(folder), cases, options, mutation) == 0:
+                print("NOT FOUND OUT")
+                missed += 1
+    print(f"definitions: {len(MUTATIONS) - missed} of {len(MUTATIONS)} wrong definitions found out")
+    return missed
+
+
+# ---- the whole
+def cases_from_generator(options):
+    command = ["cargo", "run", "--offline", "--quiet", "--manifest-path", HERE / "Cargo.toml", "--bin", "nets", "--"]
+    command += ["facts", "--seed", str(options.seed), "--count", str(options.count)]
+    lines = subprocess.run(command, check=True, capture_output=True, text=True).stdout.splitlines()
+    cases = [json.loads(line) for line in lines]
+    if options.only:
+        cases = [case for case in cases if case["kind"].startswith(options.only)]
+    for case in cases:
+        if "steps" in case:
+            case["steps"] = case["steps"][:options.rounds]
+    return cases
+
+
+def write_scratch(folder, cases, options, group):
+    """Writes the scratch repository; returns its crates of definitions, and its chunks with their cases."""
+    crates = make_scratch(options.tree, folder)
+    uses, unfolding = headers(folder / "crates")
+    options.seam = "Seam" in uses
+    written = [written_case(number, case, unfolding, options) for number, case in enumerate(cases)]
+    if group:
+        written = [case._replace(facts=[fact for fact in case.facts if fact.group == group]) for case in written]
+    chunks = {f"facts{number:02}": chunk for number, chunk in enumerate(chunks_of(case for case in written if case.facts), 1)}
+    for name, chunk in chunks.items():
+        write_chunk(folder, name, chunk, uses, crates)
+    options.facts = sum(len(case.facts) for case in written)
+    return crates, chunks
+
+
+def check_all(folder, cases, options, mutation=None):
+    """The number of disagreements. With a wrong definition put in, only its group is checked, up to the first chunk that disagrees."""
+    group, *edit = mutation or (None,)
+    crates, chunks = write_scratch(folder, cases, options, group)
+    if edit:
+        mutate(folder, *edit)
+    ready = kit_check(folder, crates)
+    if ready.returncode != 0:
+        sys.exit("definitions: the kit refuses the definitions alone\n" + (ready.stdout + ready.stderr)[-3000:])
+    wrong = 0
+    for name, chunk in chunks.items():
+        found = check_chunk(folder, name, chunk)
+        if found is None:
+            sys.exit(2)
+        wrong += found
+        if edit and wrong:
+            break
+    return wrong
+
+
+def print_coverage(cases, options):
+    """What the nets cover, worked out by the reference."""
+    nets = [case for case in cases if "steps" in case]
+    whole = sum(len(case["net"][1]) // 4 <= options.whole for case in nets)
+    two = sum(len(case["steps"]) == 2 for case in nets)
+    readings = [reading for number, case in enumerate(cases) if "steps" in case for reading in chosen_readings(case["readings"], number)]
+    ways = collections.Counter(f"{'open' if r['open'] else 'closed'} {'with' if r['with'] else 'against'} the sides" for r in readings)
+    print(f"{len(nets)} accepted nets with 1 round: {whole} with all coordinates, {len(nets) - whole} with one axis of every point; {two} of them with 2 rounds")
+    calls = collections.Counter(case["kind"].split("-")[0] for case in cases if "steps" not in case)
+    print("calls for their verdict alone: " + ", ".join(f"{kind} {count}" for kind, count in calls.items()))
+    print(f"{len(readings)} readings with their curves after 1 and 2 steps: " + ", ".join(f"{way} {count}" for way, count in sorted(ways.items())))
+    kinds = collections.Counter(case["kind"] for case in nets)
+    print("kinds: " + ", ".join(f"{kind} {count}" for kind, count in kinds.items()))
+    traits = collections.Counter(trait for case in cases for trait in case["traits"])
+    by_number = sorted(traits, key=lambda trait: re.sub(r"\d+", lambda digits: digits.group().zfill(2), trait))
+    print("nets with: " + ", ".join(f"{trait}: {traits[trait]}" for trait in by_number))
+    print(f"the crate `seam`: {'its lists of points and marks too' if options.seam else 'not there; readings as vertices along the boundary only'}")
+
+
+def arguments():
+    parser = argparse.ArgumentParser(description=__doc__, formatter_class=argparse.RawDescriptionHelpFormatter)
+    parser.add_argument("--seed", type=int, default=1)
+    parser.add_argument("--count", type=int, default=200, help="accepted nets")
+    parser.add_argument("--rounds", type=int, choices=(1, 2), default=2, help="2 rounds are told of the smallest nets only")
+    parser.add_argument("--whole", type=int, default=WHOLE_FACES, metavar="FACES", help="all three axes up to so many faces, one axis above")
+    parser.add_argument("--only", metavar="KIND", help="only the kinds whose names begin so")
+    parser.add_argument("--tree", type=pathlib.Path, default=HERE.parent, help="the tree whose definitions are checked")
+    parser.add_argument("--mutate", action="store_true", help="self-test: wrong definitions must be found out")
+    return parser.parse_args()
+
+
+def main():
+    options = arguments()
+    cases = cases_from_generator(options)
+    if options.mutate:
+        sys.exit(1 if run_mutations(cases, options) else 0)
+    start = time.time()
+    with tempfile.TemporaryDirectory() as folder:
+        wrong = check_all(pathlib.Path(folder), cases, options)
+    print_coverage(cases, options)
+    used = resource.getrusage(resource.RUSAGE_CHILDREN)
+    print(f"{used.ru_utime + used.ru_stime:.0f} s of processor time, {time.time() - start:.0f} s")
+    print(f"definitions: {len(cases)} nets, " + (f"{wrong} facts do not agree" if wrong else f"{options.facts} facts agree"))
+    sys.exit(1 if wrong else 0)
+
+
+if __name__ == "__main__":
+    main()

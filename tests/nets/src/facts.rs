@@ -1,0 +1,339 @@
+//! Small calls with all that the reference says of them, as lines of JSON.
+//!
+//! The check of the definitions reads these lines. Tables are flat lists of
+//! numbers; a net is its vertex, face and mark table.
+
+use std::collections::BTreeSet;
+use std::fmt::Display;
+
+use reference::call::Outcome;
+use reference::curve::{Form, exact_curve, rounded_curve};
+use reference::net::Net;
+use reference::refusal::{Capacity, Refusal, check_call, check_net};
+use reference::seam::{Boundary, Reading, Way};
+use reference::step::{Directions, Rule, Step, trace};
+use reference::topology::Topology;
+
+use crate::accepted::{Shape, Size, accepted};
+use crate::build::to_u32;
+use crate::case::{Case, Expected};
+use crate::change::{Placing, boundary_loops, mark, place, renumber};
+use crate::damaged::{damaged_tables, random_tables};
+use crate::refused::refused_call;
+use crate::rng::Rng;
+use crate::shapes;
+
+/// Faces of the nets that are preferred, since the definitions are slow.
+const FEW_FACES: usize = 6;
+/// Most faces of a net whose second round is told.
+const TWO_ROUNDS: usize = 2;
+/// Most corners of a net whose tables are told; of others only the lengths.
+const MOST_CORNERS: usize = 200;
+/// Most rounds for which the definitions can work out the number of faces.
+const MOST_ROUNDS: u32 = 100;
+/// Calls for each refusal alone.
+const ALONE: usize = 4;
+/// Steps of the curves that are told.
+const CURVE_STEPS: u32 = 2;
+
+/// All facts: `count` accepted nets; every refusal alone and in pairs; calls
+/// that are damaged, random or near the limits, a quarter of `count` each.
+pub fn lines(seed: u64, count: usize) -> Vec<String> {
+    let rng = &mut Rng::new(seed);
+    let mut lines: Vec<String> = accepted_nets(count, rng)
+        .iter()
+        .map(|(kind, net)| accepted_line(kind, net, rng))
+        .collect();
+    for first in 1..=12 {
+        lines.extend((0..ALONE).map(|_| refused_line(&[first], rng)));
+        for second in first + 1..=12 {
+            lines.push(refused_line(&[first, second], rng));
+        }
+    }
+    for _ in 0..count / 4 {
+        let damaged = served(|rng| damaged_tables(Size::Small, rng), rng);
+        lines.push(call_line("damaged", &damaged, &[]));
+        lines.push(call_line("random", &random_tables(rng), &[]));
+        lines.push(call_line("limits", &near_limits(rng), &[]));
+    }
+    lines
+}
+
+/// Different accepted nets with their names: every ring and every fan, then
+/// all shapes in rotation, of which every fourth has any small size.
+fn accepted_nets(count: usize, rng: &mut Rng) -> Vec<(&'static str, Net)> {
+    let mut chosen = stars(rng);
+    chosen.truncate(count);
+    for (at, shape) in Shape::ALL.into_iter().cycle().enumerate() {
+        if chosen.len() == count {
+            break;
+        }
+        let tries = if at % 4 == 3 { 1 } else { 20 };
+        let net = drawn(shape, tries, rng);
+        if chosen.iter().all(|(_, other)| *other != net) {
+            chosen.push((shape.name(), net));
+        }
+    }
+    chosen
+}
+
+/// The faces round one vertex: full rings of 3 to 8, open fans of 1 to 6.
+fn stars(rng: &mut Rng) -> Vec<(&'static str, Net)> {
+    let rings = (3..=8).map(|n| ("ring", shapes::sectors(n, 1, true)));
+    let fans = (1..=6).map(|n| ("fan", shapes::sectors(n, 1, false)));
+    let mut stars: Vec<(&'static str, Net)> = rings.chain(fans).collect();
+    for (_, net) in &mut stars {
+        place(net, Placing::Scattered, rng);
+        mark(net, rng);
+        *net = renumber(net, rng).0;
+    }
+    stars
+}
+
+/// The first of several nets with few faces, or the last.
+fn drawn(shape: Shape, tries: usize, rng: &mut Rng) -> Net {
+    let mut net = accepted(shape, Size::Small, rng);
+    for _ in 1..tries {
+        if net.faces.len() <= FEW_FACES {
+            break;
+        }
+        net = accepted(shape, Size::Small, rng);
+    }
+    net
+}
+
+fn accepted_line(kind: &str, net: &Net, rng: &mut Rng) -> String {
+    let rounds = if net.faces.len() <= TWO_ROUNDS { 2 } else { 1 };
+    let case = Case::new(net, to_u32(rng.below(3)), Expected::Accepted);
+    let steps = trace(net, rounds);
+    let mut nets: Vec<&Net> = vec![net];
+    nets.extend(steps.iter().map(|step| &step.net));
+    object(&[
+        ("kind", quoted(kind)),
+        ("call", call_text(&case, true)),
+        ("net", net_text(net)),
+        ("steps", list(nets[1..].iter().map(|net| net_text(net)))),
+        (
+            "readings",
+            list(readings(net).map(|r| reading_text(&nets, r))),
+        ),
+        ("traits", list(traits(net, &steps).iter().map(quoted))),
+    ])
+}
+
+/// A call with these reasons against it.
+fn refused_line(reasons: &[u32], rng: &mut Rng) -> String {
+    let case = served(|rng| refused_call(reasons, rng), rng);
+    let names: Vec<String> = reasons.iter().map(|r| format!("{r:02}")).collect();
+    let kind = format!("refused-{}", names.join("-"));
+    call_line(&kind, &case, reasons)
+}
+
+/// The first call with few enough rounds.
+fn served(make: impl Fn(&mut Rng) -> Case, rng: &mut Rng) -> Case {
+    loop {
+        let case = make(rng);
+        if case.rounds <= MOST_ROUNDS {
+            return case;
+        }
+    }
+}
+
+/// A call of which only the lengths matter, near the limits 1 to 4.
+fn near_limits(rng: &mut Rng) -> Case {
+    let vertices = rng.pick(&[0, 4, 8_191, 8_192, 8_193]);
+    let faces = rng.pick(&[0, 1, 64, 65, 1_024, 1_025, 4_096, 4_097]);
+    let rounds = rng.pick(&[0, 1, 2, 3, 4, 5, 6, 7]);
+    let mut room = Capacity::for_refined_faces(faces << (2 * rounds));
+    let short = |length: &mut usize, rng: &mut Rng| {
+        if rng.one_in(10) {
+            *length = length.saturating_sub(1);
+        }
+    };
+    for length in [
+        &mut room.vertices,
+        &mut room.faces,
+        &mut room.marks,
+        &mut room.workspace,
+    ] {
+        short(length, rng);
+    }
+    Case {
+        rounds,
+        vertices: vec![0; 3 * vertices],
+        faces: vec![0; 4 * faces],
+        marks: vec![0; vertices],
+        capacity: room,
+        expected: Expected::Unknown,
+    }
+}
+
+/// A call with its tables, or with their lengths alone if they are long.
+fn call_line(kind: &str, case: &Case, reasons: &[u32]) -> String {
+    let is_short = kind != "limits" && case.faces.len() <= MOST_CORNERS;
+    let mut fields = vec![("kind", quoted(kind)), ("call", call_text(case, is_short))];
+    if is_short {
+        let tables = [
+            numbers(&case.vertices),
+            numbers(&case.faces),
+            numbers(&case.marks),
+        ];
+        fields.push(("net", list(tables)));
+    }
+    let traits = reasons.iter().map(|reason| format!("reason {reason}"));
+    fields.push(("traits", list(traits.map(quoted))));
+    object(&fields)
+}
+
+/// Rounds, lengths of the three tables, room, and the reference's verdicts on
+/// the call, of its lengths alone unless `with_net`, and on its net if the
+/// table lengths fit: nothing, or a number and a place.
+fn call_text(case: &Case, with_net: bool) -> String {
+    let lengths = [case.vertices.len(), case.faces.len(), case.marks.len()];
+    let room = case.capacity;
+    let limits = check_call(case.rounds, &case.vertices, &case.faces, &case.marks, &room);
+    let net = Net::from_tables(&case.vertices, &case.faces, &case.marks);
+    let is_whole = lengths == [3 * net.points.len(), 4 * net.faces.len(), net.points.len()];
+    let verdict = match case.outcome() {
+        _ if !with_net => told(limits),
+        Outcome::Refined { .. } => vec![],
+        Outcome::Refused { reason, place } => vec![reason, place],
+    };
+    let mut fields = vec![
+        ("rounds", case.rounds.to_string()),
+        ("lengths", numbers(&lengths)),
+        (
+            "room",
+            numbers(&[room.vertices, room.faces, room.marks, room.workspace]),
+        ),
+        ("verdict", numbers(&verdict)),
+    ];
+    if with_net && is_whole {
+        fields.push(("net_verdict", numbers(&told(check_net(&net)))));
+    }
+    object(&fields)
+}
+
+fn told(verdict: Result<(), Refusal>) -> Vec<u32> {
+    verdict.map_or_else(|refusal| vec![refusal.reason, refusal.place], |()| vec![])
+}
+
+fn net_text(net: &Net) -> String {
+    list([
+        numbers(&net.vertex_table()),
+        numbers(&net.face_table()),
+        numbers(&net.marks),
+    ])
+}
+
+/// Every segment from each end and every unmarked loop from its lowest
+/// vertex, both ways.
+fn readings(net: &Net) -> impl Iterator<Item = Reading> {
+    let boundary = Boundary::new(net);
+    let all = boundary.readings().into_iter();
+    let is_kept = |reading: &Reading| {
+        let vertices = boundary.vertices(*reading).expect("a listed reading");
+        reading.form == Form::Open || vertices.iter().all(|&v| reading.start <= v)
+    };
+    all.filter(is_kept).collect::<Vec<_>>().into_iter()
+}
+
+/// A reading: its vertices in each of the nets, its points, and the rounded
+/// and the exact curve after 1, 2, .. steps.
+fn reading_text(nets: &[&Net], reading: Reading) -> String {
+    let read = |net: &&Net| {
+        Boundary::new(net)
+            .vertices(reading)
+            .expect("a reading stays")
+    };
+    let points = Boundary::new(nets[0])
+        .read(reading)
+        .expect("a listed reading");
+    let rounded = (1..=CURVE_STEPS).map(|k| rounded_curve(reading.form, &points, k));
+    let exact = (1..=CURVE_STEPS).map(|k| exact_curve(reading.form, &points, k));
+    object(&[
+        ("start", reading.start.to_string()),
+        ("with", (reading.way == Way::With).to_string()),
+        ("open", (reading.form == Form::Open).to_string()),
+        ("vertices", list(nets.iter().map(|net| numbers(&read(net))))),
+        ("points", numbers(points.as_flattened())),
+        (
+            "rounded",
+            list(rounded.map(|curve| numbers(curve.as_flattened()))),
+        ),
+        (
+            "exact",
+            list(exact.map(|curve| numbers(curve.as_flattened()))),
+        ),
+    ])
+}
+
+/// What the net and the rules used on it cover.
+fn traits(net: &Net, steps: &[Step]) -> BTreeSet<String> {
+    let mut traits = loop_traits(net);
+    let topology = Topology::new(&net.faces).expect("an accepted net");
+    for vertex in 0..to_u32(net.points.len()) {
+        let star = topology.star(vertex).expect("an accepted net");
+        let form = if star.is_ring() { "ring" } else { "fan" };
+        traits.insert(format!("{form} {}", star.face_count()));
+    }
+    for point in steps.iter().take(1).flat_map(|step| &step.made) {
+        traits.extend(rule_traits(point.rule));
+    }
+    traits
+}
+
+/// The boundary loops by their number of marks.
+fn loop_traits(net: &Net) -> BTreeSet<String> {
+    let loops = boundary_loops(net);
+    let marks = |rim: &Vec<u32>| rim.iter().filter(|&&v| net.is_marked(v)).count();
+    loops
+        .iter()
+        .map(|rim| match marks(rim) {
+            0 => "loop without marks".to_owned(),
+            1 => "loop with one mark".to_owned(),
+            _ => "loop with two marks or more".to_owned(),
+        })
+        .collect()
+}
+
+fn rule_traits(rule: Rule) -> Vec<String> {
+    match rule {
+        Rule::BoundaryInside => vec!["edge inside a segment".to_owned()],
+        Rule::EndEdge => vec!["end edge".to_owned()],
+        Rule::OneEdge => vec!["segment of one edge".to_owned()],
+        Rule::InnerEdge => vec!["inner edge".to_owned()],
+        Rule::Face { neighbours, used } => {
+            let used = match used {
+                Directions::First => "first direction alone",
+                Directions::Second => "second direction alone",
+                Directions::Both => "mean of both directions",
+            };
+            let direction = |n: &u8| format!("direction with {n} neighbours");
+            let mut traits: Vec<String> = neighbours.iter().map(direction).collect();
+            traits.push(used.to_owned());
+            traits
+        }
+    }
+}
+
+fn object(fields: &[(&str, String)]) -> String {
+    let fields: Vec<String> = fields
+        .iter()
+        .map(|(name, value)| format!("\"{name}\":{value}"))
+        .collect();
+    format!("{{{}}}", fields.join(","))
+}
+
+fn list(items: impl IntoIterator<Item = String>) -> String {
+    format!("[{}]", items.into_iter().collect::<Vec<_>>().join(","))
+}
+
+fn numbers<T: Display>(values: &[T]) -> String {
+    list(values.iter().map(T::to_string))
+}
+
+/// A text without quotes or escapes in it.
+fn quoted(text: impl Display) -> String {
+    format!("\"{text}\"")
+}

@@ -1,0 +1,35 @@
+//! The facts for the check of the definitions cover what they should.
+
+use nets::facts::lines;
+
+#[test]
+fn equal_seeds_give_equal_facts() {
+    assert_eq!(lines(3, 20), lines(3, 20));
+    assert_ne!(lines(3, 20), lines(4, 20));
+}
+
+#[test]
+fn every_ring_fan_loop_rule_and_refusal_is_met() {
+    let lines = lines(1, 200);
+    let rings = (3..=8).map(|n| format!("\"ring {n}\""));
+    let fans = (1..=6).map(|n| format!("\"fan {n}\""));
+    let neighbours = (0..=2).map(|n| format!("\"direction with {n} neighbours\""));
+    let refusals = (1..=12).map(|n| format!("\"verdict\":[{n},"));
+    let named = [
+        "loop without marks",
+        "loop with one mark",
+        "loop with two marks or more",
+        "edge inside a segment",
+        "end edge",
+        "segment of one edge",
+        "inner edge",
+        "first direction alone",
+        "second direction alone",
+        "mean of both directions",
+    ];
+    let named = named.map(|name| format!("\"{name}\"")).into_iter();
+    let wanted = rings.chain(fans).chain(neighbours).chain(refusals);
+    for text in wanted.chain(named) {
+        assert!(lines.iter().any(|line| line.contains(&text)), "no {text}");
+    }
+}
