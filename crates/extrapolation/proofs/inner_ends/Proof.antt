@@ -78,8 +78,8 @@ more c =
     let q = c .before .before .before .before in
     let s = q .before .before .before in
     let e : c .coordinate-wide .result ≡ term s (q .loop .i) =
-        c .coordinate-wide .ensures
-        ∙ ap (λ (v : ℕ). axis (s .args .points .now) (s .args .a) v) (c .before .corner-before .ensures ∙ ap (λ (g : ℕ). from (s .args .faces .now) (quads .prev g)) (q .loop .inv .0 .at)) in
+    c .coordinate-wide .ensures
+    ∙ ap (λ (v : ℕ). axis (s .args .points .now) (s .args .a) v) (c .before .corner-before .ensures ∙ ap (λ (g : ℕ). from (s .args .faces .now) (quads .prev g)) (q .loop .inv .0 .at)) in
     let g = ap₂ _+ℤ_ (so-far q) e ∙ sum-more (q .loop .i) (term s) in
     let b = few q in
     (g, rw g (fits s (q .loop .i + 1) (omega arith)))
@@ -99,9 +99,10 @@ loop-again c =
     let s = q .before .before .before in
     let r = s .pre .0 in
     let f : SFits w64 (c .coordinate-wide .result) = search needs in
-    let g = more c .1 in
-    (fan-walk-step (r .vertices) (s .args .faces .now) (r .net) (s .args .s) (s .pre .1 .1) (q .loop .g) (q .loop .i) (q .loop .inv .0) _ (c .before .before .before .turn-side .ensures) (c .before .before .if1 .left),
-     simp toZ-ofZ (ap (ofZ w64) (more c .0)))
+    let g = more c .1 in (
+      fan-walk-step (r .vertices) (s .args .faces .now) (r .net) (s .args .s) (s .pre .1 .1) (q .loop .g) (q .loop .i) (q .loop .inv .0) _ (c .before .before .before .turn-side .ensures) (c .before .before .if1 .left),
+      simp toZ-ofZ (ap (ofZ w64) (more c .0)),
+    )
 
 pub inner-ends-spec : {M : Type 1} → statement M
 inner-ends-spec =
