@@ -141,3 +141,13 @@ module _ (v : ℕ) (l : List ℕ) (ok : Manifold quads v l) (t : List ℤ) (boun
 
       inside : (i : ℕ) → i < m → natAbs (getD (set (set K m q) (m + 1) r) i (pos 0)) ≤ 60 * 67108864
       inside i b = let y = corners-bound l t bounded a s m L K f i b in let z = ap natAbs (stored-before K m q r room-k i b) in omega arith
+
+-- with the numbers that the code finds
+pub closed-at : (v : ℕ) (l : List ℕ) (ok : Manifold quads v l) (t : List ℤ) (bounded : Bounded 67108864 t) (a s : ℕ) (o : OnBoundary quads l s) (L K : List ℤ)
+    (m e d c : ℕ) (x p q r : ℤ) → m ≡ valence l (from l s) → Filled l t a s m L K → e ≡ back quads l s → d ≡ along quads l s → c ≡ from l e → x ≡ pos 60 *ℤ axis t a c
+    → Over60 (extrapolatedAt l (axis t a) (from l s)) p → Over60 (extrapolatedAt l (axis t a) (from l e)) q → Over60 (extrapolatedAt l (axis t a) (from l d)) r
+    → FanRing l t a s (set (set L m x) (m + 1) p) (set (set K m q) (m + 1) r)
+closed-at v l ok t bounded a s o L K m e d c x p q r em f ee ed ec ex ep eq er =
+    let g : Filled l t a s (valence l (from l s)) L K = subst (λ (n : ℕ). Filled l t a s n L K) em f in
+    rw em (closed v l ok t bounded a s o L K g x p q r (ex ∙ ap (λ (u : ℕ). pos 60 *ℤ axis t a u) (ec ∙ ap (from l) ee)) ep
+    (subst (λ (u : ℕ). Over60 (extrapolatedAt l (axis t a) (from l u)) q) ee eq) (subst (λ (u : ℕ). Over60 (extrapolatedAt l (axis t a) (from l u)) r) ed er))

@@ -1,85 +1,121 @@
+-- `close_fan` meets its contract. Assumes nothing.
+use mathlib.Core.Path.{_≡_, refl, sym, ap, _∙_}
+use Prim.Native.Nat.{ℕ, _+_, _*_, _≤_, _<_}
+use native.Mathlib.Omega.{arith}
 use borrow.Author.Needs.{needs}
+use lib.ListN.{length, length-set}
+use mir.Syntax.{w64}
+use mir.Val.{SFits}
+use mir.Facts.{toZ-ofZ}
+use Rattle.topology.specs.Shape.{quads}
+use Rattle.topology.specs.HalfEdge.{from}
+use Rattle.topology.specs.Vertex.{valence}
+use Rattle.topology.proofs.Boundary.{along-on, back-on}
+use Rattle.extrapolation.proofs.FanWalk.{faces-range}
+use Rattle.fanpoints.proofs.Closed.{closed-at}
 use Rattle.fanpoints.proofs.close_fan.Statement.{statement}
 use Rattle.fanpoints.proofs.close_fan.Tie as tie
-use Rattle.fanpoints.proofs.close_fan.Reads as reads
-use Rattle.fanpoints.proofs.close_fan.Lts as lts
-use Rattle.corners.proofs.start_of.Reads as start-of-reads
-use Rattle.extrapolation.proofs.extrapolated_point.Reads as extrapolated-point-reads
-use Rattle.ringpoints.proofs.sixty.Reads as sixty-reads
-use Rattle.walks.proofs.along_side.Reads as along-side-reads
-use Rattle.walks.proofs.back_side.Reads as back-side-reads
 
--- src/lib.rt:34:9
+few : (s : tie.Start) → s .args .m ≤ 6
+few s = let k = faces-range (s .pre .0 .vertices) (s .args .faces .now) (s .pre .0 .net) (s .args .s) (s .pre .1 .0 .2) in let e = s .pre .1 .1 .0 in omega arith
+
 back-side-requires : tie.Need-back-side-requires
-back-side-requires c κs = search needs
+back-side-requires c κs = let s = c .before .before in (s .pre .0, s .pre .1 .0 .2 .lt)
 
--- src/lib.rt:35:9
 along-side-requires : tie.Need-along-side-requires
-along-side-requires c κs = search needs
+along-side-requires c κs = let s = c .before .before .before in (s .pre .0, s .pre .1 .0 .2 .lt)
 
--- src/lib.rt:36:9
 start-of-requires : tie.Need-start-of-requires
-start-of-requires c κs = ?
+start-of-requires c κs =
+    let s = c .before .before .before .before in
+    let e = c .before .back-side .ensures in
+    let b = back-on quads (s .pre .0 .vertices) (s .args .faces .now) (s .pre .0 .net) (s .args .s) (s .pre .1 .0 .2) in
+    rw e (b .lt)
 
--- src/lib.rt:37:12
 sixty-requires : tie.Need-sixty-requires
-sixty-requires c κs = ?
+sixty-requires c κs =
+    let s = c .before .before .before .before .before in
+    let e = c .before .before .back-side .ensures in
+    let d = c .start-of .ensures in
+    let b = back-on quads (s .pre .0 .vertices) (s .args .faces .now) (s .pre .0 .net) (s .args .s) (s .pre .1 .0 .2) in
+    (s .pre .1 .0 .1, rw (d, e) (s .pre .1 .0 .0 .room _ (b .lt)), s .pre .1 .0 .0 .bounded)
 
--- src/lib.rt:37:5
 mul-l : tie.Need-mul-l
-mul-l c = ?
+mul-l c = let b = few (c .before .before .before .before .before .before) in omega arith
 
--- src/lib.rt:37:5
 element-set-from-l : tie.Need-element-set-from-l
-element-set-from-l c = ?
+element-set-from-l c =
+    let s = c .before .before .before .before .before .before in
+    let b = few s in
+    let e = s .pre .1 .1 .1 .eight-l in
+    search needs
 
--- src/lib.rt:38:16
 extrapolated-point-requires : tie.Need-extrapolated-point-requires
-extrapolated-point-requires c κs = search needs
+extrapolated-point-requires c κs = let s = c .before .before .before .before .before .before in (s .pre .0, (s .pre .1 .0 .0, s .pre .1 .0 .2, s .pre .1 .0 .1))
 
--- src/lib.rt:38:7
 add-k : tie.Need-add-k
-add-k c = ?
+add-k c = let b = few (c .before .before .before .before .before .before .before) in omega arith
 
--- src/lib.rt:38:5
 mul-k : tie.Need-mul-k
-mul-k c = ?
+mul-k c = let b = few (c .before .before .before .before .before .before .before) in omega arith
 
--- src/lib.rt:38:5
 element-set-from-k : tie.Need-element-set-from-k
-element-set-from-k c = ?
+element-set-from-k c =
+    let s = c .before .before .before .before .before .before .before in
+    let b = few s in
+    let e = s .pre .1 .1 .1 .eight-l in
+    search needs
 
--- src/lib.rt:39:12
 extrapolated-point-requires-2 : tie.Need-extrapolated-point-requires-2
-extrapolated-point-requires-2 c κs = ?
+extrapolated-point-requires-2 c κs =
+    let s = c .before .before .before .before .before .before .before in
+    let e = c .before .before .before .before .back-side .ensures in
+    let b = back-on quads (s .pre .0 .vertices) (s .args .faces .now) (s .pre .0 .net) (s .args .s) (s .pre .1 .0 .2) in
+    (s .pre .0, (s .pre .1 .0 .0, rw e b, s .pre .1 .0 .1))
 
--- src/lib.rt:39:5
 mul-k-2 : tie.Need-mul-k-2
-mul-k-2 c = ?
+mul-k-2 c = let b = few (c .before .before .before .before .before .before .before .before) in omega arith
 
--- src/lib.rt:39:5
 element-set-from-k-2 : tie.Need-element-set-from-k-2
-element-set-from-k-2 c = ?
+element-set-from-k-2 c =
+    let s = c .before .before .before .before .before .before .before .before in
+    let b = few s in
+    let e = s .pre .1 .1 .1 .eight-k in
+    search needs
 
--- src/lib.rt:40:16
 extrapolated-point-requires-3 : tie.Need-extrapolated-point-requires-3
-extrapolated-point-requires-3 c κs = ?
+extrapolated-point-requires-3 c κs =
+    let s = c .before .before .before .before .before .before .before .before in
+    let e = c .before .before .before .before .along-side .ensures in
+    let b = along-on quads (s .pre .0 .vertices) (s .args .faces .now) (s .pre .0 .net) (s .args .s) (s .pre .1 .0 .2) in
+    (s .pre .0, (s .pre .1 .0 .0, rw e b, s .pre .1 .0 .1))
 
--- src/lib.rt:40:7
 add-t13 : tie.Need-add-t13
-add-t13 c = ?
+add-t13 c = let b = few (c .before .before .before .before .before .before .before .before .before) in omega arith
 
--- src/lib.rt:40:5
 mul-t16 : tie.Need-mul-t16
-mul-t16 c = ?
+mul-t16 c = let b = few (c .before .before .before .before .before .before .before .before .before) in omega arith
 
--- src/lib.rt:40:5
 element-set-from-k-3 : tie.Need-element-set-from-k-3
-element-set-from-k-3 c = ?
+element-set-from-k-3 c =
+    let s = c .before .before .before .before .before .before .before .before .before in
+    let b = few s in
+    let e = s .pre .1 .1 .1 .eight-k in
+    search needs
 
--- src/lib.rt:19:1
 returns : tie.Need-returns
-returns c = ?
+returns c =
+    let s = c .before .before .before .before .before .before .before .before .before in
+    let r = s .pre .0 in
+    let f₁ : SFits w64 (c .before .before .before .sixty .result) = search needs in
+    let f₂ : SFits w64 (c .before .before .extrapolated-point .result) = search needs in
+    let f₃ : SFits w64 (c .before .extrapolated-point2 .result) = search needs in
+    let f₄ : SFits w64 (c .extrapolated-point3 .result) = search needs in
+    simp toZ-ofZ
+    (closed-at (r .vertices) (s .args .faces .now) (r .net) (s .args .points .now) (s .pre .1 .0 .0 .bounded) (s .args .a) (s .args .s) (s .pre .1 .0 .2) (s .args .l .now) (s .args .k .now)
+    (s .args .m) (c .before .before .before .before .before .before .back-side .result) (c .before .before .before .before .before .along-side .result) (c .before .before .before .before .start-of .result) (c .before .before .before .sixty .result) (c .before .before .extrapolated-point .result) (c .before .extrapolated-point2 .result) (c .extrapolated-point3 .result)
+    (s .pre .1 .1 .0) (s .pre .1 .1 .1) (c .before .before .before .before .before .before .back-side .ensures) (c .before .before .before .before .before .along-side .ensures) (c .before .before .before .before .start-of .ensures) (c .before .before .before .sixty .ensures)
+    (c .before .before .extrapolated-point .ensures) (c .before .extrapolated-point2 .ensures) (c .extrapolated-point3 .ensures))
 
 pub close-fan-spec : {M : Type 1} → statement M
 close-fan-spec =
