@@ -1,6 +1,6 @@
 -- The point on a boundary edge, rule by rule, from numerators over 16.
-use mathlib.Core.Path.{_≡_, refl, sym, ap, _∙_, subst}
-use mathlib.Core.Bool.{true, false}
+use mathlib.Core.Path.{_≡_, sym, subst}
+use mathlib.Core.Bool.{Bool, true, false, cond}
 use mathlib.Core.List.{List}
 use Prim.Native.Nat.{ℕ, _<_}
 use native.Mathlib.Omega.{arith}
@@ -39,34 +39,26 @@ module _ (l marks : List ℕ) (t : List ℤ) (room : Points l t) (h : ℕ) (o : 
   by-rule r e a z k = subst (λ (s : EdgeRule). ExactEdge (edgeValue kobbelt l (axis t a) h s) z) (sym e) k
 
   module _ (p q : ℕ) (ep : p ≡ from l h) (eq : q ≡ to quads l h) where
+    rule : (b c : Bool) → marked marks p ≡ b → marked marks q ≡ c → edgeRule l marks h ≡ cond b (cond c wholeSegment startOfSegment) (cond c endOfSegment insideSegment)
+    unfolding edgeRule
+    rule b c mp mq = let n = o .none in let k = le-ltb (mate quads l h) (length l) (omega arith) in let m₁ = rw ep at mp in let m₂ = rw eq at mq in simp (k, m₁, m₂)
+
     pub whole-edge : marked marks p ≡ true → marked marks q ≡ true → (x y z : ℤ) → OnAxes (λ (a : ℕ). pos 453600 *ℤ singleEdge kobbelt (axis t a p) (axis t a q)) x y z
         → ExactPoint (λ (a : ℕ). edgePoint kobbelt l marks (axis t a) h) x y z
-    unfolding edgeRule edgeValue
-    whole-edge mp mq x y z e = on-axes _ _ x y z e (λ a. by-rule wholeSegment rule a _ (rw (ep, eq) (exact-single t (room .bounded) a (from l h) (to quads l h))))
-      where
-        rule : edgeRule l marks h ≡ wholeSegment
-        rule = let n = o .none in let c = le-ltb (mate quads l h) (length l) (omega arith) in let m₁ = rw ep at mp in let m₂ = rw eq at mq in simp (c, m₁, m₂)
+    unfolding edgeValue
+    whole-edge mp mq x y z e = on-axes _ _ x y z e (λ a. by-rule wholeSegment (rule true true mp mq) a _ (rw (ep, eq) (exact-single t (room .bounded) a (from l h) (to quads l h))))
 
     pub start-edge : (r : ℕ) → r ≡ to quads l (along quads l h) → marked marks p ≡ true → marked marks q ≡ false → (x y z : ℤ)
         → OnAxes (λ (a : ℕ). pos 453600 *ℤ endEdge kobbelt (axis t a p) (axis t a q) (axis t a r)) x y z → ExactPoint (λ (a : ℕ). edgePoint kobbelt l marks (axis t a) h) x y z
-    unfolding edgeRule edgeValue
-    start-edge r er mp mq x y z e = on-axes _ _ x y z e (λ a. by-rule startOfSegment rule a _ (rw (ep, eq, er) (exact-end t (room .bounded) a (from l h) (to quads l h) (to quads l (along quads l h)))))
-      where
-        rule : edgeRule l marks h ≡ startOfSegment
-        rule = let n = o .none in let c = le-ltb (mate quads l h) (length l) (omega arith) in let m₁ = rw ep at mp in let m₂ = rw eq at mq in simp (c, m₁, m₂)
+    unfolding edgeValue
+    start-edge r er mp mq x y z e = on-axes _ _ x y z e (λ a. by-rule startOfSegment (rule true false mp mq) a _ (rw (ep, eq, er) (exact-end t (room .bounded) a (from l h) (to quads l h) (to quads l (along quads l h)))))
 
     pub end-edge : (r : ℕ) → r ≡ from l (back quads l h) → marked marks p ≡ false → marked marks q ≡ true → (x y z : ℤ)
         → OnAxes (λ (a : ℕ). pos 453600 *ℤ endEdge kobbelt (axis t a q) (axis t a p) (axis t a r)) x y z → ExactPoint (λ (a : ℕ). edgePoint kobbelt l marks (axis t a) h) x y z
-    unfolding edgeRule edgeValue
-    end-edge r er mp mq x y z e = on-axes _ _ x y z e (λ a. by-rule endOfSegment rule a _ (rw (ep, eq, er) (exact-end t (room .bounded) a (to quads l h) (from l h) (from l (back quads l h)))))
-      where
-        rule : edgeRule l marks h ≡ endOfSegment
-        rule = let n = o .none in let c = le-ltb (mate quads l h) (length l) (omega arith) in let m₁ = rw ep at mp in let m₂ = rw eq at mq in simp (c, m₁, m₂)
+    unfolding edgeValue
+    end-edge r er mp mq x y z e = on-axes _ _ x y z e (λ a. by-rule endOfSegment (rule false true mp mq) a _ (rw (ep, eq, er) (exact-end t (room .bounded) a (to quads l h) (from l h) (from l (back quads l h)))))
 
     pub inside-edge : (r s : ℕ) → r ≡ from l (back quads l h) → s ≡ to quads l (along quads l h) → marked marks p ≡ false → marked marks q ≡ false → (x y z : ℤ)
         → OnAxes (λ (a : ℕ). pos 453600 *ℤ interior kobbelt (axis t a r) (axis t a p) (axis t a q) (axis t a s)) x y z → ExactPoint (λ (a : ℕ). edgePoint kobbelt l marks (axis t a) h) x y z
-    unfolding edgeRule edgeValue
-    inside-edge r s er es mp mq x y z e = on-axes _ _ x y z e (λ a. by-rule insideSegment rule a _ (rw (ep, eq, er, es) (exact-interior t (room .bounded) a (from l (back quads l h)) (from l h) (to quads l h) (to quads l (along quads l h)))))
-      where
-        rule : edgeRule l marks h ≡ insideSegment
-        rule = let n = o .none in let c = le-ltb (mate quads l h) (length l) (omega arith) in let m₁ = rw ep at mp in let m₂ = rw eq at mq in simp (c, m₁, m₂)
+    unfolding edgeValue
+    inside-edge r s er es mp mq x y z e = on-axes _ _ x y z e (λ a. by-rule insideSegment (rule false false mp mq) a _ (rw (ep, eq, er, es) (exact-interior t (room .bounded) a (from l (back quads l h)) (from l h) (to quads l h) (to quads l (along quads l h)))))

@@ -1,33 +1,32 @@
 -- The point on an inner edge: from two virtual points, and directly between two vertices with full rings of four.
-use mathlib.Core.Path.{_≡_, refl, sym, ap, _∙_, subst}
+use mathlib.Core.Path.{_≡_, ap, _∙_, subst}
 use mathlib.Core.List.{List}
 use Prim.Native.Nat.{ℕ, _*_, _≤_, _<_}
 use native.Mathlib.Omega.{arith}
-use lib.IntN.{ℤ, pos, natAbs, _+ℤ_, _-ℤ_, _*ℤ_}
+use lib.IntN.{ℤ, pos, natAbs, _+ℤ_, _*ℤ_}
 use lib.ListN.{length}
 use borrow.Author.Tests.{lt-ltb, le-ltb}
 use Rattle.search.proofs.Iterate.{iterate-add}
 use Rattle.integers.specs.Bounded.{Bounded}
 use Rattle.integers.proofs.AbsoluteValue.{abs-add, abs-sub, abs-mul}
 use Rattle.curve.specs.Weights.{kobbelt, interior}
-use Rattle.fractions.specs.Fraction.{Fraction, whole, Equals}
+use Rattle.fractions.specs.Fraction.{whole, Equals}
 use Rattle.fractions.proofs.Laws.{equals-whole, equals-scaled}
-use Rattle.rings.specs.Ring.{Periodic, virtual}
+use Rattle.rings.specs.Ring.{Periodic}
 use Rattle.rings.proofs.Ties.{straight-across}
-use Rattle.rules.specs.Rules.{innerEdge}
 use Rattle.rules.specs.Numerators.{innerEdgeZ}
 use Rattle.rules.proofs.Ties.{equals-interior, equals-inner}
 use Rattle.topology.specs.Shape.{quads}
 use Rattle.topology.specs.HalfEdge.{from, to, mate}
 use Rattle.topology.specs.Boundary.{boundaryFrom}
-use Rattle.topology.specs.Vertex.{valence, turn, turns}
+use Rattle.topology.specs.Vertex.{turn, turns}
 use Rattle.topology.specs.Manifold.{Manifold}
 use Rattle.scheme.specs.Rings.{oppositeCorner, ringVirtual, virtualAt}
-use Rattle.scheme.specs.Points.{EdgeRule, innerRule, edgeRule, edgeValue, edgePoint}
+use Rattle.scheme.specs.Points.{innerRule, edgeRule, edgeValue, edgePoint}
 use Rattle.scheme.specs.Step.{axis}
 use Rattle.walks.specs.Ready.{Across}
 use Rattle.walks.proofs.Around.{ring-here}
-use Rattle.curvepoints.specs.Exact.{InTable, Points, OnAxes, ExactEdge, ExactPoint}
+use Rattle.curvepoints.specs.Exact.{OnAxes, ExactEdge, ExactPoint}
 use Rattle.curvepoints.proofs.Sizes.{axis-bound, scaled-bound, interior-bound, on-axes}
 use Rattle.ringpoints.specs.Gathered.{Over453600}
 

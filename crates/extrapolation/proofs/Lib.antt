@@ -1,2 +1,2 @@
-pub mod FanWalk
+pub mod Turned
 pub mod Values

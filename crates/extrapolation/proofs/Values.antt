@@ -1,10 +1,9 @@
 -- The extrapolated point of a boundary vertex, from the sum over its inner edges; sizes.
-use mathlib.Core.Path.{_≡_, refl, sym, ap, _∙_, subst}
+use mathlib.Core.Path.{_≡_, refl, ap, _∙_, subst}
 use mathlib.Core.List.{List, [], _∷_}
-use Prim.Native.Nat.{ℕ, suc, _+_, _-_, _*_, _/_, _≤_, _<_}
+use Prim.Native.Nat.{ℕ, suc, _-_, _*_, _/_, _≤_, _<_}
 use native.Mathlib.Omega.{arith}
 use lib.IntN.{ℤ, pos, natAbs, _-ℤ_, _*ℤ_}
-use lib.ListN.{length}
 use borrow.Author.Tests.{eq-eqb, ne-eqb}
 use Rattle.integers.specs.Sum.{sum}
 use Rattle.integers.specs.Bounded.{Bounded}
@@ -23,7 +22,7 @@ use Rattle.scheme.specs.Rings.{oppositeCorner, fanEnd, extrapolatedAt}
 use Rattle.scheme.specs.Step.{axis}
 use Rattle.curvepoints.proofs.Sizes.{axis-bound}
 use Rattle.extrapolation.specs.Ends.{Over60}
-use Rattle.extrapolation.proofs.FanWalk.{faces-range}
+use Rattle.extrapolation.proofs.Turned.{faces-range}
 
 -- a difference from zero
 pub minus-zero : (z : ℤ) → z -ℤ pos 0 ≡ z

@@ -22,7 +22,7 @@ use Rattle.integers.specs.Bounded.{Bounded}
 use Rattle.scheme.specs.Rings.{oppositeCorner, fanEnd, extrapolatedAt, fanNeighbour, fanCorner}
 use Rattle.scheme.specs.Step.{axis}
 use Rattle.extrapolation.specs.Ends.{Over60}
-use Rattle.extrapolation.proofs.FanWalk.{faces-range}
+use Rattle.extrapolation.proofs.Turned.{faces-range}
 use Rattle.ringpoints.specs.Gathered.{Filled}
 use Rattle.ringpoints.proofs.Values.{sixty-value, sixty-bound, neighbours-bound, corners-bound}
 use Rattle.fanpoints.specs.FanRing.{FanRing}
@@ -73,12 +73,6 @@ module _ (v : ℕ) (l : List ℕ) (ok : Manifold quads v l) (t : List ℤ) (boun
     (ep : Over60 (extrapolatedAt l (axis t a) (from l s)) p) (eq : Over60 (extrapolatedAt l (axis t a) (from l (back quads l s))) q) (er : Over60 (extrapolatedAt l (axis t a) (from l (along quads l s))) r) where
   abbrev m : ℕ
   m = valence l (from l s)
-
-  L₂ : List ℤ
-  L₂ = set (set L m x) (m + 1) p
-
-  K₂ : List ℤ
-  K₂ = set (set K m q) (m + 1) r
 
   room-l : m + 1 < length L
   room-l = let k = faces-range v l ok s o in let e = f .eight-l in omega arith

@@ -1,7 +1,7 @@
 -- The virtual point on an inner edge at a boundary vertex, from its closed ring; and that at any vertex.
 use mathlib.Core.Path.{_≡_, refl, sym, ap, _∙_, subst}
 use mathlib.Core.List.{List}
-use Prim.Native.Nat.{ℕ, zero, suc, _+_, _-_, _*_, _%_, _^_, _≤_, _<_}
+use Prim.Native.Nat.{ℕ, _+_, _*_, _%_, _^_, _≤_, _<_}
 use native.Mathlib.Nat.{mod-lt}
 use native.Mathlib.Decide.{ℕ-discrete}
 use native.Mathlib.Omega.{arith}
@@ -9,17 +9,15 @@ use lib.IntN.{ℤ, pos, natAbs}
 use lib.ListN.{length, getD}
 use lib.Dec.{eqb}
 use borrow.Author.Tests.{eq-eqb, eqb-true, lt-ltb, le-ltb}
-use Rattle.search.specs.Search.{first, iterate}
+use Rattle.search.specs.Search.{iterate}
 use Rattle.search.proofs.First.{first-holds, first-reach}
 use Rattle.curve.specs.Weights.{kobbelt}
-use Rattle.fractions.specs.Fraction.{Equals}
-use Rattle.fractions.proofs.Laws.{equals-cong}
 use Rattle.rings.specs.Ring.{wrap, virtual}
 use Rattle.rings.specs.RingWeights.{ringOf, virtualNumerator, BoundedFirst}
 use Rattle.rings.proofs.Ties.{equals-numerator}
 use Rattle.topology.specs.Shape.{quads}
 use Rattle.topology.specs.HalfEdge.{from, mate}
-use Rattle.topology.specs.Boundary.{OnBoundary, boundaryFrom}
+use Rattle.topology.specs.Boundary.{boundaryFrom}
 use Rattle.topology.specs.Vertex.{valence, turns}
 use Rattle.topology.specs.Manifold.{Manifold}
 use Rattle.topology.proofs.Boundary.{boundaryFrom-on, boundaryFrom-at}

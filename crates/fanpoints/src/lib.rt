@@ -1,6 +1,6 @@
 // Virtual points at boundary vertices, and at any vertex, over 453,600, on lent tables.
 ghost use mathlib.Core.Path.{_≡_};
-ghost use Prim.Native.Nat.{ℕ, _+_, _<_};
+ghost use Prim.Native.Nat.{_+_, _<_};
 ghost use lib.ListN.{length};
 ghost use Rattle.curve.specs.Weights.{kobbelt};
 ghost use Rattle.rings.specs.Ring.{wrap, virtual};

@@ -1,8 +1,8 @@
 -- Turning round a vertex while its ring is gathered.
 use mathlib.Core.Path.{_≡_, refl, sym, ap, _∙_, subst}
-use mathlib.Core.Logic.{_⊎_, inl, inr, ⊎-elim}
+use mathlib.Core.Logic.{inl, inr, ⊎-elim}
 use mathlib.Core.List.{List}
-use Prim.Native.Nat.{ℕ, zero, suc, _+_, _-_, _≤_, _<_}
+use Prim.Native.Nat.{ℕ, suc, _+_, _≤_, _<_}
 use native.Mathlib.Decide.{decLt}
 use native.Mathlib.Omega.{arith}
 use lib.IntN.{ℤ, pos, _*ℤ_}
@@ -19,7 +19,7 @@ use Rattle.topology.proofs.Walks.{fan-from, fan-from-le}
 use Rattle.scheme.specs.Rings.{oppositeCorner}
 use Rattle.scheme.specs.Step.{axis}
 use Rattle.walks.proofs.Around.{ring-here, ring-here-range}
-use Rattle.extrapolation.proofs.FanWalk.{FanWalk}
+use Rattle.extrapolation.proofs.Turned.{Turned}
 use Rattle.ringpoints.specs.Gathered.{Circuit, Filled}
 
 pub ring-circuit : (v : ℕ) (l : List ℕ) → Manifold quads v l → (h : ℕ) → h < length l → boundaryFrom quads l (from l h) ≡ length l → Circuit l h
@@ -34,11 +34,11 @@ fan-circuit v l ok s o =
     record { some = f .some; few = omega arith; inside = f .walk .inside; ends = inr (f .ends); goes-on = fan-not-back quads v l (ok .oriented) (from l s) s (valence l (from l s)) f }
 
 module _ (l : List ℕ) (h : ℕ) (c : Circuit l h) where
-  pub circuit-start : FanWalk l h h 0
+  pub circuit-start : Turned l h h 0
   unfolding iterate
   circuit-start = record { lt = c .some; at = refl }
 
-  module _ (g i : ℕ) (w : FanWalk l h g i) where
+  module _ (g i : ℕ) (w : Turned l h g i) where
     pub circuit-inside : g < length l
     circuit-inside = let e = w .at in rw e (c .inside i (w .lt))
 
@@ -66,14 +66,14 @@ module _ (l : List ℕ) (h : ℕ) (c : Circuit l h) where
           go (no b) = let y = w .lt in omega arith
 
       -- else it goes on
-      pub circuit-more : (m ≡ length l → ⊥) → (m ≡ h → ⊥) → FanWalk l h m (i + 1)
+      pub circuit-more : (m ≡ length l → ⊥) → (m ≡ h → ⊥) → Turned l h m (i + 1)
       circuit-more f k = go (decLt (suc i) (valence l (from l h)))
         where
           x : suc i ≡ i + 1
           x = omega arith
 
-          go : Dec (suc i < valence l (from l h)) → FanWalk l h m (i + 1)
-          go (yes b) = subst (λ (j : ℕ). FanWalk l h m j) x (record { lt = b; at = at })
+          go : Dec (suc i < valence l (from l h)) → Turned l h m (i + 1)
+          go (yes b) = subst (λ (j : ℕ). Turned l h m j) x (record { lt = b; at = at })
           go (no b) =
               let a = w .lt in
               let y : suc i ≡ valence l (from l h) = omega arith in

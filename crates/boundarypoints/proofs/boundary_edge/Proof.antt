@@ -1,9 +1,6 @@
 -- `boundary_edge` meets its contract: each arm follows its rule. Assumes nothing.
-use mathlib.Core.Path.{_≡_, sym, _∙_}
-use mathlib.Core.Bool.{true, false}
-use Prim.Native.Nat.{_<_}
+use mathlib.Core.Path.{sym, _∙_}
 use borrow.Author.Needs.{needs}
-use lib.ListN.{length}
 use Rattle.topology.specs.Shape.{quads}
 use Rattle.topology.specs.HalfEdge.{to}
 use Rattle.boundarypoints.proofs.Edges.{start-room, end-room, after-room, before-room, whole-edge, start-edge, end-edge, inside-edge}

@@ -1,15 +1,9 @@
 -- `edge_point` meets its contract. Assumes nothing.
-use mathlib.Core.Path.{_≡_, refl, sym, ap, _∙_}
-use Prim.Native.Nat.{ℕ, _+_, _*_, _≤_, _<_}
+use mathlib.Core.Path.{_≡_, sym, _∙_}
 use native.Mathlib.Omega.{arith}
-use borrow.Author.Needs.{needs}
-use lib.IntN.{natAbs}
-use lib.ListN.{length, getD}
-use mir.Syntax.{w64}
-use mir.Val.{SFits}
-use mir.Facts.{toZ-ofZ}
+use lib.ListN.{getD}
 use Rattle.topology.specs.Shape.{quads}
-use Rattle.topology.specs.HalfEdge.{from, to, mate}
+use Rattle.topology.specs.HalfEdge.{mate}
 use Rattle.topology.proofs.Mates.{mate-le}
 use Rattle.edgepoints.proofs.Inner.{by-inner}
 use Rattle.edgepoints.proofs.edge_point.Statement.{statement}

@@ -1,15 +1,7 @@
 -- `inner_edge` meets its contract. Assumes nothing.
-use mathlib.Core.Path.{_≡_, refl, sym, ap, _∙_}
-use Prim.Native.Nat.{ℕ, _+_, _*_, _≤_, _<_}
+use Prim.Native.Nat.{_<_}
 use native.Mathlib.Omega.{arith}
-use borrow.Author.Needs.{needs}
-use lib.IntN.{natAbs}
-use lib.ListN.{length, getD}
-use mir.Syntax.{w64}
-use mir.Val.{SFits}
-use mir.Facts.{toZ-ofZ}
-use Rattle.topology.specs.Shape.{quads}
-use Rattle.topology.specs.HalfEdge.{from, to, mate}
+use lib.ListN.{length}
 use Rattle.boundarypoints.proofs.Edges.{start-room, end-room}
 use Rattle.edgepoints.proofs.Inner.{across-inside, regular-made}
 use Rattle.edgepoints.proofs.inner_edge.Statement.{statement}

@@ -1,10 +1,10 @@
 -- `extrapolated_point` meets its contract. Assumes nothing.
-use mathlib.Core.Path.{_≡_, sym, ap, _∙_}
-use Prim.Native.Nat.{ℕ, suc, _-_, _*_, _/_, _≤_}
+use mathlib.Core.Path.{_≡_, ap, _∙_}
+use Prim.Native.Nat.{ℕ, _-_}
 use native.Mathlib.Nat.{div-le-self}
 use native.Mathlib.Omega.{arith}
 use borrow.Author.Needs.{needs}
-use lib.IntN.{ℤ, natAbs}
+use lib.IntN.{natAbs}
 use mir.Syntax.{w64}
 use mir.Val.{SFits}
 use mir.Facts.{toZ-ofZ}
@@ -14,7 +14,7 @@ use Rattle.topology.specs.Vertex.{valence}
 use Rattle.scheme.specs.Rings.{oppositeCorner}
 use Rattle.scheme.specs.Step.{axis}
 use Rattle.curvepoints.proofs.Sizes.{axis-bound}
-use Rattle.extrapolation.proofs.FanWalk.{faces-range}
+use Rattle.extrapolation.proofs.Turned.{faces-range}
 use Rattle.extrapolation.proofs.Values.{ends-bound, corner-made, mean-made}
 use Rattle.extrapolation.proofs.extrapolated_point.Statement.{statement}
 use Rattle.extrapolation.proofs.extrapolated_point.Tie as tie

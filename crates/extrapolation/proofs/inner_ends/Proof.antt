@@ -1,10 +1,9 @@
 -- `inner_ends` meets its contract: after i turns the sum of the first i far ends is made, which is small. Assumes nothing.
-use mathlib.Core.Path.{_≡_, refl, sym, ap, ap₂, _∙_}
-use mathlib.Core.List.{List}
-use Prim.Native.Nat.{ℕ, suc, _+_, _-_, _*_, _≤_, _<_}
+use mathlib.Core.Path.{_≡_, sym, ap, ap₂, _∙_}
+use Prim.Native.Nat.{ℕ, _+_, _-_, _≤_, _<_}
 use native.Mathlib.Omega.{arith}
 use borrow.Author.Needs.{needs}
-use lib.IntN.{ℤ, natAbs, _+ℤ_}
+use lib.IntN.{ℤ, _+ℤ_}
 use lib.ListN.{length}
 use mir.Syntax.{w64}
 use mir.Val.{SFits, toZ, ofZ}
@@ -16,13 +15,13 @@ use Rattle.topology.specs.Shape.{quads}
 use Rattle.topology.specs.HalfEdge.{from}
 use Rattle.scheme.specs.Rings.{fanEnd}
 use Rattle.scheme.specs.Step.{axis}
-use Rattle.extrapolation.proofs.FanWalk.{FanWalk, fan-walk-start, fan-walk-inside, fan-walk-few, fan-walk-step, fan-walk-end}
+use Rattle.extrapolation.proofs.Turned.{Turned, fan-walk-start, fan-walk-inside, fan-walk-few, fan-walk-step, fan-walk-end}
 use Rattle.extrapolation.proofs.Values.{farEnd, ends-bound}
 use Rattle.extrapolation.proofs.inner_ends.Statement.{statement}
 use Rattle.extrapolation.proofs.inner_ends.Tie as tie
 
 abbrev Inv-loop : tie.InvT-loop
-Inv-loop points faces work s a n g₀ i₀ total₀ g i total = FanWalk faces s g i × (total ≡ ofZ w64 (sum i (farEnd faces points a s)))
+Inv-loop points faces work s a n g₀ i₀ total₀ g i total = Turned faces s g i × (total ≡ ofZ w64 (sum i (farEnd faces points a s)))
 
 abbrev μ-loop : tie.MeasureT-loop
 μ-loop points faces work s a n g₀ i₀ total₀ g i total = 6 - i

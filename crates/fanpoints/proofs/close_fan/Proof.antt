@@ -1,17 +1,13 @@
 -- `close_fan` meets its contract. Assumes nothing.
-use mathlib.Core.Path.{_≡_, refl, sym, ap, _∙_}
-use Prim.Native.Nat.{ℕ, _+_, _*_, _≤_, _<_}
+use Prim.Native.Nat.{_≤_}
 use native.Mathlib.Omega.{arith}
 use borrow.Author.Needs.{needs}
-use lib.ListN.{length, length-set}
 use mir.Syntax.{w64}
 use mir.Val.{SFits}
 use mir.Facts.{toZ-ofZ}
 use Rattle.topology.specs.Shape.{quads}
-use Rattle.topology.specs.HalfEdge.{from}
-use Rattle.topology.specs.Vertex.{valence}
 use Rattle.topology.proofs.Boundary.{along-on, back-on}
-use Rattle.extrapolation.proofs.FanWalk.{faces-range}
+use Rattle.extrapolation.proofs.Turned.{faces-range}
 use Rattle.fanpoints.proofs.Closed.{closed-at}
 use Rattle.fanpoints.proofs.close_fan.Statement.{statement}
 use Rattle.fanpoints.proofs.close_fan.Tie as tie

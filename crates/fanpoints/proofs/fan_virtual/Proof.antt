@@ -1,16 +1,14 @@
 -- `fan_virtual` meets its contract. Assumes nothing.
-use mathlib.Core.Path.{_≡_, refl, sym, ap, _∙_}
-use Prim.Native.Nat.{ℕ, _+_, _*_, _≤_, _<_}
+use mathlib.Core.Path.{refl, ap}
+use Prim.Native.Nat.{ℕ, _+_, _≤_}
 use native.Mathlib.Omega.{arith}
 use borrow.Author.Needs.{needs}
-use lib.ListN.{length, length-set}
 use mir.Syntax.{w64}
 use mir.Val.{SFits}
 use mir.Facts.{toZ-ofZ}
-use Rattle.topology.specs.Shape.{quads}
 use Rattle.topology.specs.HalfEdge.{from}
 use Rattle.topology.specs.Vertex.{valence}
-use Rattle.extrapolation.proofs.FanWalk.{faces-range}
+use Rattle.extrapolation.proofs.Turned.{faces-range}
 use Rattle.ringpoints.proofs.Circuit.{fan-circuit}
 use Rattle.fanpoints.proofs.Values.{neighbours-first, corners-first, fan-made}
 use Rattle.fanpoints.proofs.fan_virtual.Statement.{statement}

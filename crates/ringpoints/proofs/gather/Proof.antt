@@ -1,7 +1,6 @@
 -- `gather` meets its contract: after i turns the first i places of both lists are filled. Assumes nothing.
-use mathlib.Core.Path.{_≡_, sym, ap, _∙_}
-use mathlib.Core.List.{List}
-use Prim.Native.Nat.{ℕ, _+_, _-_, _*_, _≤_, _<_}
+use mathlib.Core.Path.{ap, _∙_}
+use Prim.Native.Nat.{ℕ, _+_, _-_, _≤_, _<_}
 use native.Mathlib.Omega.{arith}
 use borrow.Author.Needs.{needs}
 use lib.IntN.{ℤ, pos, _*ℤ_}
@@ -13,14 +12,14 @@ use Rattle.topology.specs.Shape.{quads}
 use Rattle.topology.specs.HalfEdge.{to}
 use Rattle.scheme.specs.Rings.{oppositeCorner}
 use Rattle.scheme.specs.Step.{axis}
-use Rattle.extrapolation.proofs.FanWalk.{FanWalk}
+use Rattle.extrapolation.proofs.Turned.{Turned}
 use Rattle.ringpoints.specs.Gathered.{Filled}
 use Rattle.ringpoints.proofs.Circuit.{circuit-start, circuit-inside, circuit-few, circuit-none, circuit-back, circuit-more, filled-none, filled-more}
 use Rattle.ringpoints.proofs.gather.Statement.{statement}
 use Rattle.ringpoints.proofs.gather.Tie as tie
 
 abbrev Inv-loop : tie.InvT-loop
-Inv-loop points faces work h a l₀ k₀ n g₀ i₀ l k g i = FanWalk faces h g i × Filled faces points a h i l k
+Inv-loop points faces work h a l₀ k₀ n g₀ i₀ l k g i = Turned faces h g i × Filled faces points a h i l k
 
 abbrev μ-loop : tie.MeasureT-loop
 μ-loop points faces work h a l₀ k₀ n g₀ i₀ l k g i = 8 - i
