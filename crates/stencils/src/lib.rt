@@ -46,7 +46,7 @@ fn far_place(faces: &[u32], work: &[u32], m: usize) -> usize
     requires { ⌜ m < length (now faces) ⌝ }
     ensures { λ r. ⌜ r ≡ place (now (faces .entry)) (across m) ⌝ }
 {
-    edge_place(faces, work, walks::across_side(m))
+    edge_place(faces, work, corners::across_side(m))
 }
 
 // The direction of the side h.
@@ -56,7 +56,7 @@ pub fn direction_stencil(faces: &[u32], work: &[u32], h: usize) -> Stencil
     ensures { λ r. ⌜ r ≡ stencilOf (now (faces .entry)) h ⌝ }
 {
     let n = faces.len();
-    let g = walks::across_side(h);
+    let g = corners::across_side(h);
     let m = mate_side(faces, work, h);
     let k = mate_side(faces, work, g);
     let q = edge_place(faces, work, h);
@@ -85,7 +85,7 @@ fn inner_twice(faces: &[u32], work: &[u32], h: usize) -> bool
     let n = faces.len();
     let m = mate_side(faces, work, h);
     if m < n {
-        return mate_side(faces, work, walks::across_side(m)) < n;
+        return mate_side(faces, work, corners::across_side(m)) < n;
     }
     false
 }
@@ -97,7 +97,7 @@ fn four_inner(faces: &[u32], work: &[u32], h: usize) -> bool
     ensures { λ r. ⌜ r ≡ fourInner (now (faces .entry)) h ⌝ }
 {
     if inner_twice(faces, work, h) {
-        return inner_twice(faces, work, walks::across_side(h));
+        return inner_twice(faces, work, corners::across_side(h));
     }
     false
 }

@@ -1,20 +1,18 @@
 -- Turning back from a half-edge as far as there are mates.
 use mathlib.Core.Path.{_≡_, refl, sym, ap, _∙_, subst}
-use mathlib.Core.Bool.{true}
 use mathlib.Core.List.{List}
-use Prim.Native.Nat.{ℕ, zero, suc, _+_, _-_, _≤_, _<_}
+use Prim.Native.Nat.{ℕ, zero, suc, _+_, _≤_, _<_}
 use native.Mathlib.Decide.{decLt}
 use native.Mathlib.Omega.{arith}
-use native.Mathlib.Nat.{add-zero}
 use lib.ListN.{length}
 use lib.Dec.{eqb}
 use borrow.Author.Tests.{eq-eqb, eqb-true}
-use Rattle.search.specs.Search.{first, iterate}
+use Rattle.search.specs.Search.{iterate}
 use Rattle.search.proofs.First.{first-only}
 use Rattle.topology.specs.Shape.{quads}
-use Rattle.topology.specs.HalfEdge.{from, to, mate}
-use Rattle.topology.specs.Boundary.{OnBoundary, boundaryFrom}
-use Rattle.topology.specs.Vertex.{valence, turn, turns, unturn, Fan}
+use Rattle.topology.specs.HalfEdge.{from, mate}
+use Rattle.topology.specs.Boundary.{boundaryFrom}
+use Rattle.topology.specs.Vertex.{valence, turn, turns, unturn}
 use Rattle.topology.specs.Manifold.{Manifold}
 use Rattle.topology.proofs.Turn.{unturn-turn, unturn-lt, unturn-from, turned-mate}
 use Rattle.topology.proofs.Boundary.{boundaryFrom-le, boundaryFrom-is, boundaryFrom-on}

@@ -1,15 +1,15 @@
 -- Turning from a half-edge as far as there are faces.
 use mathlib.Core.Path.{_≡_, refl, sym, ap, _∙_, subst}
 use mathlib.Core.List.{List}
-use Prim.Native.Nat.{ℕ, zero, suc, _+_, _-_, _≤_, _<_}
+use Prim.Native.Nat.{ℕ, suc, _+_, _≤_, _<_}
 use native.Mathlib.Decide.{decLt}
 use native.Mathlib.Omega.{arith}
 use lib.ListN.{length}
 use Rattle.search.specs.Search.{iterate}
 use Rattle.topology.specs.Shape.{quads}
-use Rattle.topology.specs.HalfEdge.{from, to, mate}
-use Rattle.topology.specs.Boundary.{OnBoundary, boundaryFrom, boundaryInto, back}
-use Rattle.topology.specs.Vertex.{valence, turn, turns, Fan}
+use Rattle.topology.specs.HalfEdge.{from}
+use Rattle.topology.specs.Boundary.{boundaryFrom, back}
+use Rattle.topology.specs.Vertex.{valence, turn, turns}
 use Rattle.topology.specs.Manifold.{Manifold}
 use Rattle.topology.proofs.Mates.{to-prev}
 use Rattle.topology.proofs.Turn.{turn-from}

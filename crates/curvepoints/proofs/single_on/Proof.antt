@@ -1,5 +1,5 @@
 -- `single_on` meets its contract: no step leaves its range. Assumes nothing.
-use mathlib.Core.Path.{_≡_, ap, _∙_}
+use mathlib.Core.Path.{_≡_, ap}
 use borrow.Author.Needs.{needs}
 use lib.IntN.{ℤ, pos, _*ℤ_}
 use mir.Syntax.{w32, w64}

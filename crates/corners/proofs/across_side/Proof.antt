@@ -3,8 +3,8 @@ use native.Mathlib.Omega.{arith}
 use borrow.Author.Needs.{needs}
 use Rattle.topology.specs.Shape.{quads}
 use Rattle.scheme.specs.Points.{across}
-use Rattle.walks.proofs.across_side.Statement.{statement}
-use Rattle.walks.proofs.across_side.Tie as tie
+use Rattle.corners.proofs.across_side.Statement.{statement}
+use Rattle.corners.proofs.across_side.Tie as tie
 
 mul-result : tie.Need-mul-result
 mul-result c = search needs
