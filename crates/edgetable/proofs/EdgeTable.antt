@@ -45,7 +45,7 @@ use Rattle.stencils.proofs.Stencils.{place-end}
 use Rattle.facepoints.specs.Stored.{storedAt, Readable}
 use Rattle.facetable.specs.FaceTable.{Loaded, putPoint, Written}
 use Rattle.facetable.proofs.FaceTable.{written-next}
-use Rattle.edgetable.specs.EdgeTable.{Small, Round, oldAxis, refinedAxis, Edges}
+use Rattle.edgetable.specs.EdgeTable.{Round, oldAxis, refinedAxis, Edges}
 
 pub rounded-fits : (z : ℤ) → natAbs z ≤ 13305600 * 67108864 → SFits w32 (round z 7257600)
 rounded-fits z h = let r = round-size z 7257600 (omega arith) in fits-abs w32 (round z 7257600) (omega arith)
@@ -140,23 +140,12 @@ module _ (l marks : List ℕ) (p₀ : List ℤ) (w₀ : List ℕ) (ok : Round l 
     marks-now = record { room = λ h b. ok .net .oriented .below h b }
 
     -- ---- one more edge
-    module _ (h : ℕ) (b : h < length l) (m : h < mate quads l h) (c : e ≡ count (firstMet quads l) h) (x y z : ℤ)
-        (exact : ExactPoint (λ (a : ℕ). edgePoint kobbelt l marks (axis (take (3 * length marks) p) a) h) x y z) where
+    module _ (h : ℕ) (b : h < length l) (m : h < mate quads l h) (c : e ≡ count (firstMet quads l) h) where
       number : edge quads l h ≡ e
       number = edge-new quads l h m ∙ sym c
 
       below : e < edgeCount quads l
       below = let f = number in let g = edge-lt quads (length marks) l (ok .net .oriented) h b in omega arith
-
-      value : (a : ℕ) (u : ℤ) → ExactEdge (edgePoint kobbelt l marks (axis (take (3 * length marks) p) a) h) u → u ≡ edgeZ l marks (oldAxis marks p₀ a) h
-      unfolding oldAxis
-      value a u k =
-          numerator-one (edgePoint kobbelt l marks (axis (take (3 * length marks) p₀) a) h) u (edgeZ l marks (axis (take (3 * length marks) p₀) a) h) 7257600
-          (subst (λ (q : List ℤ). Equals (edgePoint kobbelt l marks (axis q a) h) u 7257600) (done .old) (k .value))
-          (equals-edge (length marks) l marks (ok .net) (axis (take (3 * length marks) p₀) a) h b)
-
-      pub small-now : Small x y z
-      small-now = record { on₀ = exact .on₀ .small; on₁ = exact .on₁ .small; on₂ = exact .on₂ .small }
 
       pub points-room : 3 * (length marks + e) + 3 ≤ length p
       points-room = let k = below in let n = done .points .kept in let r = ok .room in omega arith
@@ -164,19 +153,28 @@ module _ (l marks : List ℕ) (p₀ : List ℤ) (w₀ : List ℕ) (ok : Round l 
       pub exact-room : 2 * length l + 6 * e + 6 ≤ length w
       exact-room = let k = below in let n = done .kept in let r = ok .indexed .room in let i = edges-le quads l in omega arith
 
+    module _ (h : ℕ) (b : h < length l) (m : h < mate quads l h) (c : e ≡ count (firstMet quads l) h) (x y z : ℤ)
+        (exact : ExactPoint (λ (a : ℕ). edgePoint kobbelt l marks (axis (take (3 * length marks) p) a) h) x y z) where
+      value : (a : ℕ) (u : ℤ) → ExactEdge (edgePoint kobbelt l marks (axis (take (3 * length marks) p) a) h) u → u ≡ edgeZ l marks (oldAxis marks p₀ a) h
+      unfolding oldAxis
+      value a u k =
+          numerator-one (edgePoint kobbelt l marks (axis (take (3 * length marks) p₀) a) h) u (edgeZ l marks (axis (take (3 * length marks) p₀) a) h) 7257600
+          (subst (λ (q : List ℤ). Equals (edgePoint kobbelt l marks (axis q a) h) u 7257600) (done .old) (k .value))
+          (equals-edge (length marks) l marks (ok .net) (axis (take (3 * length marks) p₀) a) h b)
+
       refined-is : (a : ℕ) (u : ℤ) → u ≡ edgeZ l marks (oldAxis marks p₀ a) h → round u 7257600 ≡ refinedAxis l marks p₀ a (length marks + e)
       unfolding refinedAxis
       refined-is a u k =
           ap (λ (t : ℤ). round t 7257600) k
           ∙ sym (refined-edge (length marks) l marks (ok .net) (oldAxis marks p₀ a) h b)
-          ∙ ap (λ (t : ℕ). refinedCoordinate kobbelt (length marks) l marks (oldAxis marks p₀ a) (length marks + t)) number
+          ∙ ap (λ (t : ℕ). refinedCoordinate kobbelt (length marks) l marks (oldAxis marks p₀ a) (length marks + t)) (number h b m c)
 
       -- both half-edges of the edge have its point
       edge-point-same : (a g : ℕ) → g < length l → edge quads l g ≡ e → edgeZ l marks (oldAxis marks p₀ a) h ≡ edgeZ l marks (oldAxis marks p₀ a) g
       edge-point-same a g k f =
           ⊎-elim (λ s. ap (edgeZ l marks (oldAxis marks p₀ a)) (sym s))
           (λ s. sym (edge-either (length marks) l marks (ok .net .oriented) (oldAxis marks p₀ a) h b (s .1)) ∙ ap (edgeZ l marks (oldAxis marks p₀ a)) (sym (s .0)))
-          (edge-same quads (length marks) l (ok .net .oriented) h g b k (number ∙ sym f))
+          (edge-same quads (length marks) l (ok .net .oriented) h g b k (number h b m c ∙ sym f))
 
       module _ (p′ : List ℤ) (w′ : List ℕ) (ep : p′ ≡ putPoint p (length marks + e) (round x 7257600) (round y 7257600) (round z 7257600))
           (ew : w′ ≡ putThree w (2 * length l + 6 * e) x y z) where
@@ -186,13 +184,13 @@ module _ (l marks : List ℕ) (p₀ : List ℤ) (w₀ : List ℕ) (ok : Round l 
         new-at : (a : ℕ) → a < 3 → Holds (putThree w (2 * length l + 6 * e) x y z) (2 * length l + 6 * e + 2 * a) (edgeZ l marks (oldAxis marks p₀ a) h)
         new-at zero k =
             let s = exact .on₀ .small in
-            holds-as (putThree w i x y z) i (i + 2 * 0) x (edgeZ l marks (oldAxis marks p₀ 0) h) (omega arith) (value 0 x (exact .on₀)) (put-three-first w i x y z exact-room (omega arith))
+            holds-as (putThree w i x y z) i (i + 2 * 0) x (edgeZ l marks (oldAxis marks p₀ 0) h) (omega arith) (value 0 x (exact .on₀)) (put-three-first w i x y z (exact-room h b m c) (omega arith))
         new-at (suc zero) k =
             let s = exact .on₁ .small in
-            holds-as (putThree w i x y z) (i + 2) (i + 2 * 1) y (edgeZ l marks (oldAxis marks p₀ 1) h) (omega arith) (value 1 y (exact .on₁)) (put-three-second w i x y z exact-room (omega arith))
+            holds-as (putThree w i x y z) (i + 2) (i + 2 * 1) y (edgeZ l marks (oldAxis marks p₀ 1) h) (omega arith) (value 1 y (exact .on₁)) (put-three-second w i x y z (exact-room h b m c) (omega arith))
         new-at (suc (suc zero)) k =
             let s = exact .on₂ .small in
-            holds-as (putThree w i x y z) (i + 4) (i + 2 * 2) z (edgeZ l marks (oldAxis marks p₀ 2) h) (omega arith) (value 2 z (exact .on₂)) (put-three-third w i x y z exact-room (omega arith))
+            holds-as (putThree w i x y z) (i + 4) (i + 2 * 2) z (edgeZ l marks (oldAxis marks p₀ 2) h) (omega arith) (value 2 z (exact .on₂)) (put-three-third w i x y z (exact-room h b m c) (omega arith))
         new-at (suc (suc (suc a))) k = let n : ⊥ = omega arith in absurd n
 
         stored-next : (a g : ℕ) → a < 3 → g < length l → edge quads l g < e + 1 → Holds w′ (place l g + 2 * a) (edgeZ l marks (oldAxis marks p₀ a) g)
@@ -207,7 +205,7 @@ module _ (l marks : List ℕ) (p₀ : List ℤ) (w₀ : List ℕ) (ok : Round l 
 
         pub edges-next : Edges l marks p₀ w₀ p′ w′ (e + 1)
         edges-next =
-            let k = below in
+            let k = below h b m c in
             let j = edges-le quads l in
             let r = ok .room in
             let n : length marks + e + 1 ≡ length marks + (e + 1) = omega arith in
