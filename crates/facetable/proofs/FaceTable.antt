@@ -14,7 +14,7 @@ use Rattle.stencils.specs.declared.FaceStencil.{FaceStencil}
 use Rattle.stencils.specs.Stencils.{place, faceStencilOf, faceStencilZ, OnFaceStencil}
 use Rattle.stencils.proofs.Stencils.{on-face-stencil}
 use Rattle.facepoints.specs.Stored.{storedAt, Readable}
-use Rattle.facetable.specs.FaceTable.{Loaded, faceCoordinate, faceCoordinates, putPoint}
+use Rattle.facetable.specs.FaceTable.{Loaded, faceCoordinate, faceCoordinates, putPoint, Written}
 
 pub length-point : (t : List ℤ) (i : ℕ) (x y z : ℤ) → length (putPoint t i x y z) ≡ length t
 unfolding putPoint
@@ -44,15 +44,10 @@ module _ (G : ℕ → ℕ → ℤ) where
       ∙ write-three F o (3 * i) (omega arith)
       ∙ ap (λ (k : ℕ). tabulate k F ++ drop k o) n
 
-  -- t is o with the first i points over its front
-  pub record Written (o t : List ℤ) (i : ℕ) : Type 0 where
-    pub kept : length t ≡ length o
-    pub points : t ≡ tabulate (3 * i) (λ (k : ℕ). G (k % 3) (k / 3)) ++ drop (3 * i) o
-
-  pub written-none : (o : List ℤ) → Written o o 0
+  pub written-none : (o : List ℤ) → Written G o o 0
   written-none o = record { kept = refl; points = write-none (λ (k : ℕ). G (k % 3) (k / 3)) o }
 
-  pub written-next : (o t t′ : List ℤ) (i : ℕ) → 3 * i + 3 ≤ length o → Written o t i → t′ ≡ putPoint t i (G 0 i) (G 1 i) (G 2 i) → Written o t′ (i + 1)
+  pub written-next : (o t t′ : List ℤ) (i : ℕ) → 3 * i + 3 ≤ length o → Written G o t i → t′ ≡ putPoint t i (G 0 i) (G 1 i) (G 2 i) → Written G o t′ (i + 1)
   written-next o t t′ i h x e = record {
     kept = ap length e ∙ length-point t i (G 0 i) (G 1 i) (G 2 i) ∙ x .kept;
     points = e ∙ point-turn o i (x .points) h;

@@ -1,8 +1,9 @@
 -- The face points of a round as a table, from the exact edge points in the work table w of a net with corners l.
-use mathlib.Core.List.{List}
+use mathlib.Core.Path.{_≡_}
+use mathlib.Core.List.{List, _++_}
 use Prim.Native.Nat.{ℕ, _+_, _*_, _/_, _%_, _<_}
 use lib.IntN.{ℤ}
-use lib.ListN.{length, set}
+use lib.ListN.{length, set, drop}
 use Rattle.lists.specs.Tabulate.{tabulate}
 use Rattle.rounding.specs.Rounding.{round}
 use Rattle.topology.specs.Shape.{quads}
@@ -25,3 +26,8 @@ faceCoordinates l w = tabulate (3 * quads .faces (length l)) (λ (k : ℕ). face
 -- t with the coordinates of vertex i
 unfoldable pub putPoint : List ℤ → ℕ → ℤ → ℤ → ℤ → List ℤ
 putPoint t i x y z = set (set (set t (3 * i) x) (3 * i + 1) y) (3 * i + 2) z
+
+-- t is o with the first i points over its front: coordinate a of point j is G a j
+pub record Written (G : ℕ → ℕ → ℤ) (o t : List ℤ) (i : ℕ) : Type 0 where
+  pub kept : length t ≡ length o
+  pub points : t ≡ tabulate (3 * i) (λ (k : ℕ). G (k % 3) (k / 3)) ++ drop (3 * i) o

@@ -7,7 +7,7 @@ ghost use Rattle.tables.specs.Tables.{filled};
 ghost use Rattle.facetable.specs.FaceTable.{Loaded, faceCoordinate, faceCoordinates, putPoint};
 
 // Writes the coordinates of vertex i.
-fn put_point(table: &mut [i32], i: usize, x: i32, y: i32, z: i32)
+pub fn put_point(table: &mut [i32], i: usize, x: i32, y: i32, z: i32)
     requires { ⌜ 3 * i + 3 ≤ length (now table) ⌝ }
     ensures { λ _. ⌜ now (table .exit) ≡ putPoint (now (table .entry)) i x y z ⌝ }
 {

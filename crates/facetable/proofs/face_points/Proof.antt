@@ -5,8 +5,8 @@ use native.Mathlib.Omega.{arith}
 use borrow.Author.Needs.{needs}
 use lib.ListN.{length}
 use Rattle.topology.specs.Shape.{quads}
-use Rattle.facetable.specs.FaceTable.{faceCoordinate}
-use Rattle.facetable.proofs.FaceTable.{Written, written-none, written-next, faces-all}
+use Rattle.facetable.specs.FaceTable.{faceCoordinate, Written}
+use Rattle.facetable.proofs.FaceTable.{written-none, written-next, faces-all}
 use Rattle.facetable.proofs.face_points.Statement.{statement}
 use Rattle.facetable.proofs.face_points.Tie as tie
 

@@ -1,0 +1,169 @@
+-- Laws of the passes over edges and faces.
+use mathlib.Core.Path.{_≡_, refl, sym, ap, ap₂, _∙_, subst}
+use mathlib.Core.List.{List, _++_, append-assoc}
+use Prim.Native.Nat.{ℕ, _+_, _-_, _*_, _/_, _%_, _≤_, _<_}
+use native.Mathlib.Decide.{decLt}
+use native.Mathlib.Numerals.{add-one}
+use native.Mathlib.Omega.{arith}
+use borrow.Rule.Slice.PartMut.{putMid}
+use lib.IntN.{ℤ, pos}
+use lib.ListN.{length, getD, take, drop, length-append, length-take, length-drop, List·getD-append}
+use lib.Seq.{take-at, drop-at, drop-drop, getD-append-add, ext-getD}
+use Rattle.lists.specs.Tabulate.{tabulate}
+use Rattle.lists.proofs.Tabulate.{length-tabulate, getD-tabulate}
+use Rattle.lists.proofs.Parts.{part-written}
+use Rattle.rounding.specs.Rounding.{round}
+use Rattle.fractions.specs.Fraction.{Fraction}
+use Rattle.curve.specs.Weights.{kobbelt}
+use Rattle.search.specs.Search.{count}
+use Rattle.search.proofs.Count.{count-le}
+use Rattle.tables.specs.Tables.{filled}
+use Rattle.topology.specs.Shape.{quads}
+use Rattle.topology.specs.HalfEdge.{mate, firstMet, edgeCount}
+use Rattle.topology.proofs.Mates.{count-new, count-old}
+use Rattle.refinement.specs.Refined.{refinedVertices}
+use Rattle.scheme.specs.Step.{axis, step, refinedCoordinate}
+use Rattle.schemelaws.specs.Numerators.{edgeZ, faceZ}
+use Rattle.schemelaws.proofs.Coordinates.{refined-face}
+use Rattle.curvepoints.specs.Exact.{ExactPoint}
+use Rattle.stencils.specs.Stencils.{faceStencilOf, faceStencilZ}
+use Rattle.stencils.proofs.Stencils.{face-stencil-value}
+use Rattle.facepoints.specs.Stored.{storedAt}
+use Rattle.facetable.specs.FaceTable.{faceCoordinate, faceCoordinates, Written}
+use Rattle.edgetable.specs.EdgeTable.{Small, Round, oldAxis, refinedAxis, Edges}
+use Rattle.edgetable.proofs.EdgeTable.{ready-now, points-now, marks-now, points-room, exact-room, edges-next, stored-is}
+use Rattle.roundpoints.specs.Passes.{Turn, Turned, met, passed, lent, Scratch}
+
+-- ---- one half-edge
+pub small-of : (f : ℕ → Fraction) (x y z : ℤ) → ExactPoint f x y z → Small x y z
+small-of f x y z k = record { on₀ = k .on₀ .small; on₁ = k .on₁ .small; on₂ = k .on₂ .small }
+
+module _ (l marks : List ℕ) (p : List ℤ) (w : List ℕ) (h e : ℕ) (ok : Turn l marks p w h e) where
+  pub first-met : h < getD w h 0 → h < mate quads l h
+  first-met b = let m = ok .ready .mated .mates h (ok .lt) in omega arith
+
+  pub met-before : getD w h 0 ≤ h → mate quads l h ≤ h
+  met-before b = let m = ok .ready .mated .mates h (ok .lt) in omega arith
+
+-- ---- a turn of the pass over the edges
+module _ (l marks : List ℕ) (p₀ : List ℤ) (w₀ : List ℕ) (ok : Round l marks p₀ w₀) (p : List ℤ) (w : List ℕ) (e h : ℕ) (done : Edges l marks p₀ w₀ p w e)
+    (b : h < length l) (c : e ≡ count (firstMet quads l) h) where
+  pub turn-in : Turn l marks p w h e
+  turn-in =
+      let n = count-le (firstMet quads l) h in
+      let r = ok .room in
+      let k = done .points .kept in
+      record {
+        ready = ready-now l marks p₀ w₀ ok p w e done;
+        points = points-now l marks p₀ w₀ ok p w e done;
+        marked = marks-now l marks p₀ w₀ ok p w e done;
+        lt = b;
+        vertices = ok .vertices;
+        below = omega arith;
+        old = omega arith;
+        room = λ m. points-room l marks p₀ w₀ ok p w e done h b m c;
+        exact = λ m. exact-room l marks p₀ w₀ ok p w e done h b m c;
+      }
+
+  pub turned-edges : (r : ℕ) (p′ : List ℤ) (w′ : List ℕ) → Turned l marks h e r p w p′ w′ → Edges l marks p₀ w₀ p′ w′ r
+  turned-edges r p′ w′ (met x y z m er exact ep ew) =
+      subst (Edges l marks p₀ w₀ p′ w′) (sym er) (edges-next l marks p₀ w₀ ok p w e done h b m c x y z exact p′ w′ ep ew)
+  turned-edges r p′ w′ (passed m er ep ew) =
+      subst (Edges l marks p₀ w₀ p′ w′) (sym er) (subst (λ (q : List ℤ). Edges l marks p₀ w₀ q w′ e) (sym ep) (subst (λ (u : List ℕ). Edges l marks p₀ w₀ p u e) (sym ew) done))
+
+  pub turned-count : (r : ℕ) (p′ : List ℤ) (w′ : List ℕ) → Turned l marks h e r p w p′ w′ → r ≡ count (firstMet quads l) (h + 1)
+  turned-count r p′ w′ (met x y z m er exact ep ew) = rw (add-one h) (er ∙ ap (λ (k : ℕ). k + 1) c ∙ sym (count-new quads l h m))
+  turned-count r p′ w′ (passed m er ep ew) = rw (add-one h) (er ∙ c ∙ sym (count-old quads l h m))
+
+-- ---- two tables as one
+tabulate-join : (a m : ℕ) (G F : ℕ → ℤ) → ((k : ℕ) → k < m → F k ≡ G (a + k)) → tabulate a G ++ tabulate m F ≡ tabulate (a + m) G
+tabulate-join a m G F f =
+    let la = length-tabulate a G in
+    let lm = length-tabulate m F in
+    let l : length (tabulate a G ++ tabulate m F) ≡ length (tabulate (a + m) G) = length-append (tabulate a G) (tabulate m F) ∙ ap₂ (λ (x y : ℕ). x + y) la lm ∙ sym (length-tabulate (a + m) G) in
+    let t = length-tabulate (a + m) G in
+    ext-getD (pos 0) (tabulate a G ++ tabulate m F) (tabulate (a + m) G) l (λ k b. go k (omega arith) (decLt k a))
+  where
+    go : (k : ℕ) → k < a + m → Dec (k < a) → getD (tabulate a G ++ tabulate m F) k (pos 0) ≡ getD (tabulate (a + m) G) k (pos 0)
+    go k b (yes j) =
+        let la = length-tabulate a G in
+        List·getD-append (tabulate a G) (tabulate m F) (pos 0) k (omega arith)
+        ∙ getD-tabulate a G k (pos 0) j
+        ∙ sym (getD-tabulate (a + m) G k (pos 0) b)
+    go k b (no j) =
+        let la = length-tabulate a G in
+        let e : length (tabulate a G) + (k - a) ≡ k = omega arith in
+        let i : a + (k - a) ≡ k = omega arith in
+        ap (λ (x : ℕ). getD (tabulate a G ++ tabulate m F) x (pos 0)) (sym e)
+        ∙ getD-append-add (tabulate a G) (tabulate m F) (k - a) (pos 0)
+        ∙ getD-tabulate m F (k - a) (pos 0) (omega arith)
+        ∙ f (k - a) (omega arith)
+        ∙ ap G i
+        ∙ sym (getD-tabulate (a + m) G k (pos 0) b)
+
+-- ---- after both passes
+module _ (l marks : List ℕ) (p₀ : List ℤ) (w₀ : List ℕ) (ok : Round l marks p₀ w₀) (p : List ℤ) (w : List ℕ) (done : Edges l marks p₀ w₀ p w (edgeCount quads l)) where
+  pub scratch-now : Scratch l w₀ w
+  scratch-now = record { kept = done .kept; front = done .front; behind = done .behind }
+
+  face-refined : (a f : ℕ) → a < 3 → f < quads .faces (length l) → faceCoordinate l w a f ≡ refinedAxis l marks p₀ a (length marks + edgeCount quads l + f)
+  unfolding faceCoordinate refinedAxis
+  face-refined a f k j =
+      ap (λ (z : ℤ). round z 232243200) (face-stencil-value (length marks) l (ok .net) (storedAt w a) (edgeZ l marks (oldAxis marks p₀ a)) (λ g b. stored-is l marks p₀ w₀ ok p w done a g k b) f j)
+      ∙ sym (refined-face (length marks) l marks (ok .net) (oldAxis marks p₀ a) f j)
+
+  abbrev first : ℕ
+  first = 3 * (length marks + edgeCount quads l)
+
+  abbrev G : ℕ → ℤ
+  G k = refinedAxis l marks p₀ (k % 3) (k / 3)
+
+  face-entry : (k : ℕ) → k < 3 * quads .faces (length l) → faceCoordinate l w (k % 3) (k / 3) ≡ G (first + k)
+  face-entry k b =
+      let q : (first + k) / 3 ≡ length marks + edgeCount quads l + k / 3 = omega arith in
+      let r : (first + k) % 3 ≡ k % 3 = omega arith in
+      face-refined (k % 3) (k / 3) (omega arith) (omega arith) ∙ sym (ap₂ (refinedAxis l marks p₀) r q)
+
+  all-points : tabulate first G ++ faceCoordinates l w ≡ step kobbelt (lent l marks p₀) .vertices
+  unfolding faceCoordinates step lent refinedAxis oldAxis
+  all-points =
+      let m : ℕ = 3 * quads .faces (length l) in
+      let n : first + m ≡ 3 * refinedVertices quads (length marks) l = omega arith in
+      tabulate-join first m G (λ (k : ℕ). faceCoordinate l w (k % 3) (k / 3)) face-entry ∙ ap (λ (i : ℕ). tabulate i G) n
+
+  points-all : (t y : List ℤ) → t ≡ putMid first (length p - first) p y → y ≡ filled (faceCoordinates l w) (take (length p - first) (drop first p))
+      → t ≡ filled (step kobbelt (lent l marks p₀) .vertices) p₀
+  unfolding filled
+  points-all t y et ey =
+      let F : List ℤ = faceCoordinates l w in
+      let a : ℕ = first in
+      let m : ℕ = length F in
+      let e : p ≡ tabulate a G ++ drop a p₀ = done .points .points in
+      let la = length-tabulate a G in
+      let r = ok .room in
+      let k = done .points .kept in
+      let s : a + m ≡ length (step kobbelt (lent l marks p₀) .vertices) = ap (λ (i : ℕ). i + m) (sym la) ∙ sym (length-append (tabulate a G) F) ∙ ap length all-points in
+      let tk : take a p ≡ tabulate a G = ap (take a) e ∙ take-at (tabulate a G) (drop a p₀) a la in
+      let dk : drop a p ≡ drop a p₀ = ap (drop a) e ∙ drop-at (tabulate a G) (drop a p₀) a la in
+      let dm : drop (a + m) p ≡ drop (a + m) p₀ = sym (drop-drop m a p) ∙ ap (drop m) dk ∙ drop-drop m a p₀ in
+      et
+      ∙ part-written p F y a m (omega arith) ey
+      ∙ ap₂ (λ (u v : List ℤ). u ++ (F ++ v)) tk dm
+      ∙ sym (append-assoc (tabulate a G) F (drop (a + m) p₀))
+      ∙ ap₂ (λ (u : List ℤ) (i : ℕ). u ++ drop i p₀) all-points s
+
+  -- with r edges, the part from the first face point on
+  module _ (r : ℕ) (er : r ≡ edgeCount quads l) where
+    pub face-room : 3 * quads .faces (length l) ≤ length (take (length p - 3 * (length marks + r)) (drop (3 * (length marks + r)) p))
+    face-room =
+        let a : ℕ = 3 * (length marks + r) in
+        let k = done .points .kept in
+        let q = ok .room in
+        omega (arith, length-take (length p - a) (drop a p), length-drop a p)
+
+    pub points-made : (y : List ℤ) → y ≡ filled (faceCoordinates l w) (take (length p - 3 * (length marks + r)) (drop (3 * (length marks + r)) p))
+        → putMid (3 * (length marks + r)) (length p - 3 * (length marks + r)) p y ≡ filled (step kobbelt (lent l marks p₀) .vertices) p₀
+    points-made y ey =
+        points-all (putMid (3 * (length marks + r)) (length p - 3 * (length marks + r)) p y) y
+        (ap (λ (i : ℕ). putMid (3 * (length marks + i)) (length p - 3 * (length marks + i)) p y) er)
+        (ey ∙ ap (λ (i : ℕ). filled (faceCoordinates l w) (take (length p - 3 * (length marks + i)) (drop (3 * (length marks + i)) p))) er)

@@ -1,0 +1,88 @@
+-- `edge_side` meets its contract. Assumes nothing.
+use mathlib.Core.Path.{refl, sym}
+use Prim.Native.Nat.{_*_}
+use native.Mathlib.Omega.{arith}
+use lib.ListN.{length}
+use lib.Seq.{length-take-le}
+use borrow.Author.Needs.{needs}
+use Rattle.roundpoints.specs.Passes.{met, passed}
+use Rattle.roundpoints.proofs.Passes.{small-of, first-met, met-before}
+use Rattle.roundpoints.proofs.edge_side.Statement.{statement}
+use Rattle.roundpoints.proofs.edge_side.Tie as tie
+
+mul-mate : tie.Need-mul-mate
+mul-mate c = search needs
+
+slice-read-mate : tie.Need-slice-read-mate
+slice-read-mate c = search needs
+
+cast-mate : tie.Need-cast-mate
+cast-mate c = omega (arith, c .slice-known2 .given (c .before .before .before .before .args .h))
+
+mul-end : tie.Need-mul-end
+mul-end c = search needs
+
+slice-reshare-prefix-edge-point : tie.Need-slice-reshare-prefix-edge-point
+slice-reshare-prefix-edge-point c = search needs
+
+slice-aggregate-edge-point : tie.Need-slice-aggregate-edge-point
+slice-aggregate-edge-point c = let s = c .before .before .before .before .before .before in sym (length-take-le (3 * length (s .args .marks .now)) (s .args .points .now) (s .pre .old))
+
+edge-point-requires : tie.Need-edge-point-requires
+edge-point-requires c κs = search needs
+
+add-put-rounded : tie.Need-add-put-rounded
+add-put-rounded c = search needs
+
+put-rounded-requires : tie.Need-put-rounded-requires
+put-rounded-requires c κs = let s = c .before .before .before .before .before .before .before .before .before in let r = s .pre .room (first-met (s .args .faces .now) (s .args .marks .now) (s .args .points .now) (s .args .work .now) (s .args .h) (s .args .edges) (s .pre) (c .before .before .before .before .if1 .taken)) in (r, small-of _ _ _ _ (c .before .edge-point .ensures))
+
+mul-put-exact : tie.Need-mul-put-exact
+mul-put-exact c = search needs
+
+mul-put-exact-2 : tie.Need-mul-put-exact-2
+mul-put-exact-2 c = search needs
+
+add-put-exact : tie.Need-add-put-exact
+add-put-exact c = search needs
+
+put-exact-requires : tie.Need-put-exact-requires
+put-exact-requires c κs = let s = c .before .before .before .before .before .before .before .before .before .before .before .before in let r = s .pre .exact (first-met (s .args .faces .now) (s .args .marks .now) (s .args .points .now) (s .args .work .now) (s .args .h) (s .args .edges) (s .pre) (c .before .before .before .before .before .before .before .if1 .taken)) in (r, small-of _ _ _ _ (c .before .before .before .before .edge-point .ensures))
+
+add-result : tie.Need-add-result
+add-result c = search needs
+
+same-length : tie.Need-same-length
+same-length c = search needs
+
+same-length-2 : tie.Need-same-length-2
+same-length-2 c = search needs
+
+returns : tie.Need-returns
+returns c = let s = c .before .before .before .before .before .before .before .before .before .before .before .before .before .before .before in met _ _ _ (first-met (s .args .faces .now) (s .args .marks .now) (s .args .points .now) (s .args .work .now) (s .args .h) (s .args .edges) (s .pre) (c .before .before .before .before .before .before .before .before .before .before .if1 .taken)) refl (c .before .before .before .before .before .before .before .edge-point .ensures) (c .before .before .before .before .before .put-rounded .ensures) (c .before .before .put-exact .ensures)
+
+returns-2 : tie.Need-returns-2
+returns-2 c = let s = c .before .before .before .before .before in passed (met-before (s .args .faces .now) (s .args .marks .now) (s .args .points .now) (s .args .work .now) (s .args .h) (s .args .edges) (s .pre) (c .if1 .left)) refl refl refl
+
+pub edge-side-spec : {M : Type 1} → statement M
+edge-side-spec =
+    tie.close
+    (tie.spec
+    mul-mate
+    slice-read-mate
+    cast-mate
+    mul-end
+    slice-reshare-prefix-edge-point
+    slice-aggregate-edge-point
+    edge-point-requires
+    add-put-rounded
+    put-rounded-requires
+    mul-put-exact
+    mul-put-exact-2
+    add-put-exact
+    put-exact-requires
+    add-result
+    same-length
+    same-length-2
+    returns
+    returns-2)
