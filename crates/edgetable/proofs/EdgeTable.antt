@@ -33,7 +33,7 @@ use Rattle.scheme.specs.Step.{axis, refinedCoordinate}
 use Rattle.schemelaws.specs.Numerators.{edgeZ}
 use Rattle.schemelaws.proofs.Ties.{equals-edge}
 use Rattle.schemelaws.proofs.Coordinates.{edge-either, refined-old, refined-edge}
-use Rattle.schemelaws.proofs.Growth.{edge-size}
+use Rattle.schemelaws.proofs.Sizes.{edge-size}
 use Rattle.adjacency.specs.Chains.{MateTable}
 use Rattle.walks.specs.Ready.{Ready}
 use Rattle.growth.specs.Growth.{Numbered}
@@ -82,7 +82,7 @@ module _ (l marks : List ℕ) (p₀ : List ℤ) (w₀ : List ℕ) (ok : Round l 
   old-small a i = ok .bounded .at (3 * i + a)
 
   edge-small : (a g : ℕ) → g < length l → natAbs (edgeZ l marks (oldAxis marks p₀ a) g) ≤ 13305600 * 67108864
-  edge-small a g k = edge-size (length marks) l marks (ok .net) (oldAxis marks p₀ a) 67108864 (λ x b. old-small a x) g k
+  edge-small a g k = edge-size (length marks) l (ok .net) (oldAxis marks p₀ a) 67108864 (λ x b. old-small a x) marks g k
 
   -- the old coordinates are the first of the refined ones
   refined-first : (k : ℕ) → k < 3 * length marks → getD p₀ k (pos 0) ≡ refinedAxis l marks p₀ (k % 3) (k / 3)
