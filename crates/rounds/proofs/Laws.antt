@@ -1,0 +1,188 @@
+-- How the parts of a round fit together. Assumes nothing.
+use mathlib.Core.Path.{_≡_, refl, sym, ap, ap₂, _∙_, subst}
+use mathlib.Core.Bool.{Bool, true, false, cond}
+use mathlib.Core.List.{List, _++_}
+use Prim.Native.Nat.{ℕ, _+_, _-_, _*_, _/_, _%_, _≤_, _<_}
+use native.Mathlib.Decide.{decLt}
+use native.Mathlib.Omega.{arith}
+use lib.Dec.{ltb, lit≤}
+use lib.IntN.{ℤ, pos, natAbs}
+use lib.ListN.{length, getD, take, drop, length-take, length-drop, List·getD-eq-default}
+use lib.Seq.{length-take-le, getD-take, getD-drop, ext-getD}
+use borrow.Author.Tests.{lt-ltb, le-ltb}
+use Rattle.lists.specs.Tabulate.{tabulate}
+use Rattle.lists.proofs.Tabulate.{tabulate-cong}
+use Rattle.lists.proofs.Parts.{drop-later}
+use Rattle.curve.specs.Weights.{kobbelt}
+use Rattle.tables.specs.Net.{Net}
+use Rattle.tables.specs.Tables.{filled}
+use Rattle.tables.proofs.Laws.{length-filled}
+use Rattle.topology.specs.Shape.{quads}
+use Rattle.topology.specs.HalfEdge.{edgeCount}
+use Rattle.topology.specs.Manifold.{Oriented, Manifold}
+use Rattle.refinement.specs.Refined.{refinedVertices, refined, refinedMarks}
+use Rattle.refinement.specs.Mates.{mates, refinedMates}
+use Rattle.scheme.specs.Step.{step}
+use Rattle.schemelaws.specs.Nets.{Within, Refinable}
+use Rattle.integers.specs.Bounded.{Bounded}
+use Rattle.schemelaws.proofs.Steps.{refinable-manifold, step-faces, step-marks, step-count}
+use Rattle.adjacency.specs.Chains.{MateTable}
+use Rattle.adjacency.proofs.Chains.{mates-cong}
+use Rattle.growth.specs.Growth.{edges, extended, Mated, Numbered}
+use Rattle.growth.specs.Growth as Growth
+use Rattle.growth.proofs.Edges.{length-both}
+use Rattle.growth.proofs.Round.{oriented-wider, numbered-mates, numbered-edges, numbered-rest, numbered-cong, vertices-refined, marks-refined}
+use Rattle.mates.specs.Tables.{MatesIn}
+use Rattle.mates.proofs.Round.{mates-in, mated-refined, mates-rest}
+use Rattle.walks.specs.Ready.{Ready}
+use Rattle.stencils.specs.Stencils.{Indexed}
+use Rattle.edgetable.specs.EdgeTable.{Round}
+use Rattle.roundpoints.specs.Passes.{lent, Scratch}
+use Rattle.rounds.specs.Round.{frontNet, Current, Refines}
+
+-- the rest of a list, by places
+drop-same : (k : ℕ) (u w : List ℕ) → length u ≡ length w → ((i : ℕ) → k ≤ i → getD u i 0 ≡ getD w i 0) → drop k u ≡ drop k w
+drop-same k u w e h = ext-getD 0 (drop k u) (drop k w) (length-drop k u ∙ ap (λ (x : ℕ). x - k) e ∙ sym (length-drop k w)) (λ i b. getD-drop k u i 0 ∙ h (k + i) (omega arith) ∙ sym (getD-drop k w i 0))
+
+-- past its end a list reads zero
+bounded-if : (A B : ℕ) (t : List ℤ) → A ≤ B → Within A t → Bounded B t
+bounded-if A B t h b = record { at = λ k. go k (decLt k (length t)) }
+  where
+    go : (k : ℕ) → Dec (k < length t) → natAbs (getD t k (pos 0)) ≤ B
+    go k (yes l) = let s = b .at k l in omega arith
+    go k (no l) = let e : getD t k (pos 0) ≡ pos 0 = List·getD-eq-default t (pos 0) (omega arith) in rw e (omega arith)
+
+module _ (v n : ℕ) (points : List ℤ) (faces marks w : List ℕ) (c : Current v n points faces marks w) where
+  abbrev l : List ℕ
+  l = take n faces
+
+  pub corners : length (take n faces) ≡ n
+  corners = let r = c .roomFaces in length-take-le n faces (omega arith)
+
+  pub marked : length (take v marks) ≡ v
+  marked = let r = c .roomMarks in let q = c .vertices in length-take-le v marks (omega arith)
+
+  oriented : Oriented quads v (take n faces)
+  oriented = subst (λ (k : ℕ). Oriented quads k (take n faces)) marked (refinable-manifold (frontNet v n points faces marks) (c .refinable) .oriented)
+
+  pub mated : Mated (take n faces) w
+  mated =
+      let e = corners in
+      let s = c .small in
+      let r = c .roomWork in
+      let q = c .vertices in
+      record { oriented = oriented-wider v (length (take n faces)) (take n faces) (omega arith) oriented; small = omega arith; room = omega arith; mated = c .mated }
+
+  -- the new number of vertices
+  pub count-le : v + edgeCount quads (take n faces) + n / 4 ≤ 4 * n
+  unfolding quads
+  count-le = let e = corners in let q = c .vertices in let k = vertices-refined v (take n faces) (omega arith) in omega arith
+
+  pub count-is : v + edgeCount quads (take n faces) + n / 4 ≡ length (step kobbelt (frontNet v n points faces marks) .marks)
+  unfolding quads
+  count-is =
+      let e = corners in
+      sym (step-count kobbelt (frontNet v n points faces marks) ∙ ap (λ (k : ℕ). refinedVertices quads k (take n faces)) marked ∙ ap (λ (k : ℕ). v + edgeCount quads (take n faces) + k / 4) e)
+
+  module _ (w₁ : List ℕ) (e₁ : w₁ ≡ filled (mates quads (take n faces) ++ edges quads (take n faces)) w) where
+    length₁ : length w₁ ≡ length w
+    length₁ = let e = corners in let r = c .roomWork in let b = length-both (take n faces) in ap length e₁ ∙ length-filled _ w (omega arith)
+
+    pub ready : Round (take n faces) (take v marks) points w₁
+    ready =
+        let e = corners in
+        let s = c .small in
+        let r = c .roomWork in
+        let p = c .roomPoints in
+        let k = length₁ in
+        let m = marked in
+        let q = c .vertices in
+        let d = vertices-refined (length (take v marks)) (take n faces) (omega arith) in
+        let net = refinable-manifold (frontNet v n points faces marks) (c .refinable) in
+        record {
+          indexed = record {
+            ready = record {
+              vertices = length (take v marks);
+              net = net;
+              fours = c .refinable .fours;
+              small = omega arith;
+              room = omega arith;
+              mated = rw e₁ (numbered-mates (take n faces) w);
+            };
+            numbered = rw e₁ (numbered-edges (take n faces) w);
+            room = omega arith;
+          };
+          net = net;
+          vertices = omega arith;
+          room = omega arith;
+          bounded = rw m (bounded-if 66276137 67108864 (take (3 * v) points) (lit≤ tt) (c .within));
+        }
+
+    -- the net that the new points are made from
+    pub made : lent (take n faces) (take v marks) points ≡ frontNet v n points faces marks
+    unfolding lent
+    made = rw marked refl
+
+    module _ (w₂ : List ℕ) (e₂ : Scratch (take n faces) w₁ w₂) where
+      mated₂ : MateTable (take n faces) w₂
+      mated₂ = mates-cong (take n faces) w₁ w₂ (λ i h. e₂ .front i (omega arith)) (rw e₁ (numbered-mates (take n faces) w))
+
+      numbered₂ : Numbered (take n faces) w₂ n
+      numbered₂ =
+          subst (λ (k : ℕ). Numbered (take n faces) w₂ k) corners
+          (numbered-cong (take n faces) w₁ w₂ (λ i h g. e₂ .front i g) (rw e₁ (numbered-edges (take n faces) w)))
+
+      length₂ : length w₂ ≡ length w
+      length₂ = e₂ .kept ∙ length₁
+
+      rest₂ : drop (8 * length (take n faces)) w₂ ≡ drop (8 * length (take n faces)) w₁
+      rest₂ = drop-same (8 * length (take n faces)) w₂ w₁ (e₂ .kept) (e₂ .behind)
+
+      pub net-ready : (count : ℕ) → count ≡ edgeCount quads (take n faces) → Growth.Net n v count faces w₂
+      net-ready count h =
+          let e = corners in
+          let f = c .refinable .fours in
+          let r = c .roomWork in
+          let k = length₂ in
+          record { fours = omega arith; small = c .small; vertices = c .vertices; room = c .roomFaces; behind = omega arith; numbered = numbered₂; counted = h }
+
+      pub mates-ready : MatesIn n w₂
+      mates-ready =
+          let e = corners in
+          let r = c .roomWork in
+          let s = c .small in
+          let k = length₂ in
+          subst (λ (k : ℕ). MatesIn k w₂) e (mates-in (take n faces) w₂ (c .refinable .fours) (omega arith) (omega arith) mated₂)
+
+      same-marks : refinedMarks quads v (take n faces) (take v marks) ≡ refinedMarks quads v (take n faces) marks
+      unfolding refinedMarks
+      same-marks = tabulate-cong _ _ _ (λ p h. go p (decLt p v))
+        where
+          go : (p : ℕ) → Dec (p < v) → cond (ltb p v) (getD (take v marks) p 0) 0 ≡ cond (ltb p v) (getD marks p 0) 0
+          go p (yes h) = ap (λ (t : ℕ). cond (ltb p v) t 0) (getD-take v marks p 0 h)
+          go p (no h) = let f : ltb p v ≡ false = le-ltb p v (omega arith) in rw f
+
+      pub refines : (count : ℕ) (points′ : List ℤ) (faces′ marks′ w₃ : List ℕ) → count ≡ v + edgeCount quads (take n faces) + n / 4
+          → points′ ≡ filled (step kobbelt (frontNet v n points faces marks) .vertices) points → faces′ ≡ filled (refined quads v (take n faces)) faces
+          → marks′ ≡ filled (extended v count marks) marks → w₃ ≡ filled (refinedMates quads (take n w₂)) w₂
+          → Refines v n count points points′ faces faces′ marks marks′ w w₃
+      unfolding quads
+      refines count points′ faces′ marks′ w₃ hc hp hf hm hw =
+          let m : Net = frontNet v n points faces marks in
+          let e = corners in
+          let k = length₂ in
+          let r = c .roomWork in
+          let f : step kobbelt m .faces ≡ refined quads v (take n faces) = step-faces kobbelt m ∙ ap (λ (j : ℕ). refined quads j (take n faces)) marked in
+          let g : extended v count marks ≡ step kobbelt m .marks =
+          ap (λ (j : ℕ). extended v j marks) (hc ∙ ap (λ (j : ℕ). v + edgeCount quads (take n faces) + j / 4) (sym e)) ∙ marks-refined quads v (take n faces) marks ∙ sym same-marks
+          ∙ sym (step-marks kobbelt m ∙ ap (λ (j : ℕ). refinedMarks quads j (take n faces) (take v marks)) marked) in
+          record {
+            count = hc ∙ count-is;
+            newPoints = hp;
+            newFaces = hf ∙ ap (λ (t : List ℕ). filled t faces) (sym f);
+            newMarks = hm ∙ ap (λ (t : List ℕ). filled t marks) g;
+            mated = subst (λ (t : List ℕ). MateTable t w₃) (sym f) (subst (λ (t : List ℕ). MateTable (refined quads v (take n faces)) t) (sym (hw ∙ ap (λ (j : ℕ). filled (refinedMates quads (take j w₂)) w₂) (sym e))) (mated-refined v (take n faces) w₂ oriented (omega arith) mated₂));
+            rest = ap (drop (8 * n)) hw ∙ drop-later (4 * n) (8 * n) _ _ (omega arith) (mates-rest n w₂ (omega arith))
+                ∙ ap (λ (j : ℕ). drop (8 * j) w₂) (sym e) ∙ rest₂ ∙ ap (λ (j : ℕ). drop (8 * j) w₁) e
+                ∙ ap (drop (8 * n)) e₁ ∙ drop-later (2 * length (take n faces)) (8 * n) _ _ (omega arith) (numbered-rest (take n faces) w);
+          }

@@ -1,0 +1,173 @@
+-- The tables from round to round. Assumes nothing.
+use mathlib.Core.Path.{_≡_, refl, sym, ap, _∙_, subst}
+use mathlib.Core.List.{List}
+use Prim.Native.Nat.{ℕ, suc, _+_, _*_, _^_, _≤_, _<_}
+use native.Mathlib.Nat.{pow-suc, pow-le-pow-right, mul-le-mul-left, one-le-pow, mul-assoc, mul-comm}
+use native.Mathlib.Omega.{arith}
+use lib.IntN.{ℤ}
+use lib.ListN.{length, take, drop, take-append-drop}
+use lib.Seq.{length-take-le}
+use lib.Dec.{lit≤}
+use Rattle.lists.proofs.Parts.{drop-later}
+use Rattle.curve.specs.Weights.{kobbelt}
+use Rattle.tables.specs.Net.{Net}
+use Rattle.tables.specs.Tables.{filled}
+use Rattle.tables.proofs.Laws.{length-filled, take-filled, filled-over}
+use Rattle.topology.specs.Shape.{quads}
+use Rattle.refinement.specs.Refined.{refined}
+use Rattle.refinement.proofs.Corners.{length-refined}
+use Rattle.scheme.specs.Step.{step, steps}
+use Rattle.schemelaws.specs.Nets.{Refinable}
+use Rattle.schemelaws.proofs.Steps.{step-faces, step-count, step-length, refinable-steps}
+use Rattle.schemelaws.proofs.Growth.{steps-input}
+use Rattle.adjacency.specs.Chains.{MateTable}
+use Rattle.rounds.specs.Round.{frontNet, Current, Refines}
+use Rattle.rounds.specs.Rounds.{Prepared, After}
+use Rattle.rounds.proofs.Laws.{count-le, count-is}
+
+-- a list at the front of a table of its length is the whole
+filled-self : {A : Type 0} (n : ℕ) (d : List A) → n ≤ length d → d ≡ filled (take n d) d
+unfolding filled
+filled-self n d h = rw (length-take-le n d h) (sym (take-append-drop n d))
+
+same-net : {p p′ : List ℤ} {f f′ m m′ : List ℕ} → p ≡ p′ → f ≡ f′ → m ≡ m′ → _≡_ {A = Net} (record { vertices = p; faces = f; marks = m }) (record { vertices = p′; faces = f′; marks = m′ })
+same-net p q r = λ i. record { vertices = p i; faces = q i; marks = r i }
+
+pub next-size : (n i : ℕ) → n * 4 ^ (i + 1) ≡ 4 * (n * 4 ^ i)
+next-size n i =
+    let q : i + 1 ≡ suc i = omega arith in
+    ap (λ (x : ℕ). n * 4 ^ x) q ∙ ap (λ (x : ℕ). n * x) (pow-suc 4 i) ∙ sym (mul-assoc n (4 ^ i) 4) ∙ mul-comm (n * 4 ^ i) 4
+
+pub again : (n i c : ℕ) → c ≡ n * 4 ^ i → c * 4 ≡ n * 4 ^ (i + 1)
+again n i c e = let g = next-size n i in omega arith
+
+module _ (k v n : ℕ) (points : List ℤ) (faces marks w : List ℕ) (ok : Prepared k v n points faces marks w) where
+  abbrev m : Net
+  m = frontNet v n points faces marks
+
+  sized : (i : ℕ) → i < k → 4 * (n * 4 ^ i) ≤ n * 4 ^ k
+  sized i h =
+      let p : 4 ^ (i + 1) ≤ 4 ^ k = pow-le-pow-right {n = 4} (omega arith) (omega arith) in
+      let g : n * 4 ^ (i + 1) ≤ n * 4 ^ k = mul-le-mul-left n p in
+      let s = next-size n i in
+      omega arith
+
+  pub after-none : After 0 v n v points points faces faces marks marks w w
+  unfolding steps
+  after-none =
+      let p : 1 ≤ 4 ^ k = one-le-pow k 4 (lit≤ tt) in
+      let g : n * 1 ≤ n * 4 ^ k = mul-le-mul-left n p in
+      let a = ok .roomPoints in
+      let b = ok .roomFaces in
+      let c = ok .roomMarks in
+      let d = ok .vertices in
+      record {
+        count = sym (length-take-le v marks (omega arith));
+        corners = sym (length-take-le n faces (omega arith) ∙ omega arith);
+        fewer = omega arith;
+        newPoints = filled-self (3 * v) points (omega arith);
+        newFaces = filled-self n faces (omega arith);
+        newMarks = filled-self v marks (omega arith);
+        mated = ok .mated;
+        kept = refl;
+        rest = refl;
+      }
+
+  module _ (i r : ℕ) (points₁ : List ℤ) (faces₁ marks₁ w₁ : List ℕ) (a : After i v n r points points₁ faces faces₁ marks marks₁ w w₁) where
+    refinable : Refinable (steps kobbelt i m)
+    refinable = refinable-steps kobbelt m (ok .refinable) i
+
+    front-is : frontNet r (n * 4 ^ i) points₁ faces₁ marks₁ ≡ steps kobbelt i m
+    front-is =
+        let t = refinable .threes in
+        let c = a .count in
+        same-net
+        (ap (take (3 * r)) (a .newPoints) ∙ take-filled _ points (3 * r) (omega arith))
+        (ap (take (n * 4 ^ i)) (a .newFaces) ∙ take-filled _ faces (n * 4 ^ i) (a .corners))
+        (ap (take r) (a .newMarks) ∙ take-filled _ marks r (a .count))
+
+    module _ (h : i ≤ k) where
+      reached : n * 4 ^ i ≤ n * 4 ^ k
+      reached = let p : 4 ^ i ≤ 4 ^ k = pow-le-pow-right {n = 4} (omega arith) h in mul-le-mul-left n p
+
+      pub kept-points : length points₁ ≡ length points
+      kept-points =
+          let s = reached in
+          let t = refinable .threes in
+          let c = a .count in
+          let l = a .fewer in
+          let b = ok .roomPoints in
+          ap length (a .newPoints) ∙ length-filled _ points (omega arith)
+
+      pub kept-faces : length faces₁ ≡ length faces
+      kept-faces =
+          let s = reached in
+          let d = a .corners in
+          let b = ok .roomFaces in
+          ap length (a .newFaces) ∙ length-filled _ faces (omega arith)
+
+      pub kept-marks : length marks₁ ≡ length marks
+      kept-marks =
+          let s = reached in
+          let c = a .count in
+          let l = a .fewer in
+          let b = ok .roomMarks in
+          ap length (a .newMarks) ∙ length-filled _ marks (omega arith)
+
+    module _ (h : i < k) where
+      pub current : Current r (n * 4 ^ i) points₁ faces₁ marks₁ w₁
+      current =
+          let s = sized i h in
+          let e = ok .final in
+          let rp = ok .roomPoints in
+          let rf = ok .roomFaces in
+          let rm = ok .roomMarks in
+          let rw′ = ok .roomWork in
+          let q = ok .few in
+          let lp = kept-points (omega arith) in
+          let lf = kept-faces (omega arith) in
+          let lm = kept-marks (omega arith) in
+          let lw = a .kept in
+          record {
+            refinable = rw front-is refinable;
+            within = rw (ap (λ (x : Net). x .vertices) front-is) (steps-input m (ok .refinable) (ok .within) i (omega arith));
+            small = omega arith;
+            vertices = a .fewer;
+            roomPoints = omega arith;
+            roomFaces = omega arith;
+            roomMarks = omega arith;
+            roomWork = omega arith;
+            mated = rw (ap (λ (x : Net). x .faces) front-is) (a .mated);
+          }
+
+      module _ (r₂ : ℕ) (points₂ : List ℤ) (faces₂ marks₂ w₂ : List ℕ) (e : Refines r (n * 4 ^ i) r₂ points₁ points₂ faces₁ faces₂ marks₁ marks₂ w₁ w₂) (z : length w₂ ≡ length w₁) where
+        next : step kobbelt (frontNet r (n * 4 ^ i) points₁ faces₁ marks₁) ≡ steps kobbelt (i + 1) m
+        unfolding steps
+        next = let q : i + 1 ≡ suc i = omega arith in rw (front-is, q) refl
+
+        pub after-next : After (i + 1) v n r₂ points points₂ faces faces₂ marks marks₂ w w₂
+        after-next =
+            let t = refinable .threes in
+            let u : length (steps kobbelt (i + 1) m .vertices) ≡ 3 * length (steps kobbelt (i + 1) m .marks) = refinable-steps kobbelt m (ok .refinable) (i + 1) .threes in
+            let g : n * 4 ^ (i + 1) ≡ 4 * (n * 4 ^ i) = next-size n i in
+            let nx = next in
+            let c₁ = a .count in
+            let c₂ : r₂ ≡ length (steps kobbelt (i + 1) m .marks) = e .count ∙ ap (λ (x : Net). length (x .marks)) nx in
+            let b = count-le r (n * 4 ^ i) points₁ faces₁ marks₁ w₁ current in
+            let b₂ = e .count ∙ sym (count-is r (n * 4 ^ i) points₁ faces₁ marks₁ w₁ current) in
+            let d₁ = a .corners in
+            let d₂ : length (steps kobbelt (i + 1) m .faces) ≡ 4 * length (steps kobbelt i m .faces) =
+                ap (λ (x : Net). length (x .faces)) (sym nx) ∙ ap length (step-faces kobbelt _) ∙ length-refined quads _ _ ∙ ap (λ (x : Net). 4 * length (x .faces)) front-is in
+            record {
+              count = c₂;
+              corners = omega arith;
+              fewer = omega arith;
+              newPoints = e .newPoints ∙ ap (λ (x : Net). filled (x .vertices) points₁) nx ∙ ap (filled (steps kobbelt (i + 1) m .vertices)) (a .newPoints) ∙ filled-over _ _ points (omega arith);
+              newFaces = e .newFaces ∙ ap (λ (x : Net). filled (x .faces) faces₁) nx ∙ ap (filled (steps kobbelt (i + 1) m .faces)) (a .newFaces) ∙ filled-over _ _ faces (omega arith);
+              newMarks = e .newMarks ∙ ap (λ (x : Net). filled (x .marks) marks₁) nx ∙ ap (filled (steps kobbelt (i + 1) m .marks)) (a .newMarks) ∙ filled-over _ _ marks (omega arith);
+              mated = rw (ap (λ (x : Net). x .faces) (sym nx)) (e .mated);
+              kept = z ∙ a .kept;
+              rest = ap (λ (x : ℕ). drop (2 * x) w₂) g ∙ ap (λ (x : ℕ). drop x w₂) (let y : 2 * (4 * (n * 4 ^ i)) ≡ 8 * (n * 4 ^ i) = omega arith in y) ∙ e .rest
+                  ∙ drop-later (2 * (n * 4 ^ i)) (8 * (n * 4 ^ i)) _ _ (omega arith) (a .rest)
+                  ∙ ap (λ (x : ℕ). drop x w) (let y : 8 * (n * 4 ^ i) ≡ 2 * (n * 4 ^ (i + 1)) = omega arith in y);
+            }

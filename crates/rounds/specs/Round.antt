@@ -1,0 +1,37 @@
+-- A round in the lent tables.
+use mathlib.Core.Path.{_≡_}
+use mathlib.Core.List.{List}
+use Prim.Native.Nat.{ℕ, _*_, _≤_}
+use lib.IntN.{ℤ}
+use lib.ListN.{length, take, drop}
+use Rattle.curve.specs.Weights.{kobbelt}
+use Rattle.tables.specs.Net.{Net}
+use Rattle.tables.specs.Tables.{filled}
+use Rattle.scheme.specs.Step.{step}
+use Rattle.schemelaws.specs.Nets.{Within, Refinable}
+use Rattle.adjacency.specs.Chains.{MateTable}
+
+-- the net of v vertices and n corners at the front of the tables
+abbrev pub frontNet : ℕ → ℕ → List ℤ → List ℕ → List ℕ → Net
+frontNet v n points faces marks = record { vertices = take (3 * v) points; faces = take n faces; marks = take v marks }
+
+-- the net at the front can be refined, its mates stand in w, and all tables have room for the refined net
+pub record Current (v n : ℕ) (points : List ℤ) (faces marks w : List ℕ) : Type 0 where
+  pub refinable : Refinable (frontNet v n points faces marks)
+  pub within : Within 66276137 (take (3 * v) points)
+  pub small : n ≤ 262144
+  pub vertices : v ≤ n
+  pub roomPoints : 12 * n ≤ length points
+  pub roomFaces : 4 * n ≤ length faces
+  pub roomMarks : 4 * n ≤ length marks
+  pub roomWork : 8 * n ≤ length w
+  pub mated : MateTable (take n faces) w
+
+-- the tables after the round: the refined net at their front, its mates in the work table; past that all is as found
+pub record Refines (v n r : ℕ) (points points′ : List ℤ) (faces faces′ marks marks′ w w′ : List ℕ) : Type 0 where
+  pub count : r ≡ length (step kobbelt (frontNet v n points faces marks) .marks)
+  pub newPoints : points′ ≡ filled (step kobbelt (frontNet v n points faces marks) .vertices) points
+  pub newFaces : faces′ ≡ filled (step kobbelt (frontNet v n points faces marks) .faces) faces
+  pub newMarks : marks′ ≡ filled (step kobbelt (frontNet v n points faces marks) .marks) marks
+  pub mated : MateTable (step kobbelt (frontNet v n points faces marks) .faces) w′
+  pub rest : drop (8 * n) w′ ≡ drop (8 * n) w

@@ -1,0 +1,51 @@
+// Rounds in the lent tables: the net at their front is refined in place.
+ghost use Prim.Native.Nat.{_*_, _≤_};
+ghost use mathlib.Core.Path.{_≡_};
+ghost use lib.ListN.{length};
+ghost use Rattle.rounds.specs.Round.{Current, Refines};
+ghost use Rattle.rounds.specs.Rounds.{Prepared, After};
+
+// One round on the net of v vertices and n corners at the front of the tables. The answer is the new number of vertices.
+pub fn round(
+    points: &mut [i32],
+    faces: &mut [u32],
+    marks: &mut [u8],
+    work: &mut [u32],
+    v: usize,
+    n: usize,
+) -> usize
+    requires { ⌜ Current v n (now points) (now faces) (now marks) (now work) ⌝ }
+    ensures { λ r. ⌜ Refines v n r (now (points .entry)) (now (points .exit)) (now (faces .entry)) (now (faces .exit)) (now (marks .entry)) (now (marks .exit)) (now (work .entry)) (now (work .exit)) ⌝ }
+{
+    let edges = growth::number_edges(&faces[..n], &mut *work);
+    roundpoints::new_points(&mut *points, &faces[..n], &marks[..v], &mut *work);
+    let count = v + edges + n / 4;
+    growth::extend_marks(&mut *marks, v, count);
+    growth::refine_faces(&mut *faces, &*work, n, v, edges);
+    mates::refine_mates(&mut *work, n);
+    count
+}
+
+// k rounds. The answer is the final number of vertices.
+pub fn rounds(
+    points: &mut [i32],
+    faces: &mut [u32],
+    marks: &mut [u8],
+    work: &mut [u32],
+    v: usize,
+    n: usize,
+    k: u32,
+) -> usize
+    requires { ⌜ Prepared k v n (now points) (now faces) (now marks) (now work) ⌝ }
+    ensures { λ r. ⌜ After k v n r (now (points .entry)) (now (points .exit)) (now (faces .entry)) (now (faces .exit)) (now (marks .entry)) (now (marks .exit)) (now (work .entry)) (now (work .exit)) ⌝ }
+{
+    let mut count = v;
+    let mut corners = n;
+    let mut i = 0;
+    while i < k {
+        count = round(&mut *points, &mut *faces, &mut *marks, &mut *work, count, corners);
+        corners *= 4;
+        i += 1;
+    }
+    count
+}
