@@ -4,13 +4,23 @@ ghost use lib.ListN.{length};
 ghost use Rattle.tables.specs.Net.{Net};
 ghost use Rattle.verdict.specs.Call.{Call};
 ghost use Rattle.validate.specs.Answer.{verdictOf, checked};
-ghost use Rattle.capi.specs.Export.{finding, handed, exported};
+ghost use Rattle.outcome.specs.Outcome.{Lent, outcome};
+ghost use Rattle.refine.specs.Answer.{resultOf};
+ghost use Rattle.capi.specs.Export.{finding, handed, exported, report, delivered, exportedOutcome};
 use validate::Answer;
 
 #[repr(C)]
 pub struct Finding {
     pub reason: u32,
     pub place: u64,
+}
+
+#[repr(C)]
+pub struct Report {
+    pub reason: u32,
+    pub place: u64,
+    pub vertices: u64,
+    pub faces: u64,
 }
 
 fn finding_of(answer: Answer) -> Finding
@@ -57,4 +67,50 @@ pub extern "C" fn gedrovit_check(
         &mut *work,
     );
     finding_of(answer)
+}
+
+fn report_of(answer: refine::Answer) -> Report
+    ensures { λ r. ⌜ r ≡ report (resultOf answer) ⌝ }
+{
+    match answer {
+        refine::Answer::Refined(vertices, faces) => Report {
+            reason: 0,
+            place: 0,
+            vertices: vertices as u64,
+            faces: faces as u64,
+        },
+        refine::Answer::Refused(reason, place) => Report {
+            reason,
+            place: place as u64,
+            vertices: 0,
+            faces: 0,
+        },
+    }
+}
+
+// The refined net in the output tables and both counts, or the refusal's number and place.
+#[no_mangle]
+pub extern "C" fn gedrovit_refine(
+    rounds: u32,
+    vertices: &[i32],
+    faces: &[u32],
+    marks: &[u8],
+    out_vertices: &mut [i32],
+    out_faces: &mut [u32],
+    out_marks: &mut [u8],
+    work: &mut [u32],
+) -> Report
+    ensures { λ r. ⌜ delivered r (now («out_vertices» .exit)) (now («out_faces» .exit)) (now («out_marks» .exit)) (now (work .exit)) ≡ exportedOutcome (outcome rounds (record { vertices = now (vertices .entry); faces = now (faces .entry); marks = now (marks .entry) }) (record { vertices = now («out_vertices» .entry); faces = now («out_faces» .entry); marks = now («out_marks» .entry); work = now (work .entry) })) ⌝ }
+{
+    let answer = refine::refine(
+        rounds,
+        vertices,
+        faces,
+        marks,
+        &mut *out_vertices,
+        &mut *out_faces,
+        &mut *out_marks,
+        &mut *work,
+    );
+    report_of(answer)
 }

@@ -1,0 +1,16 @@
+-- What the answers of a refining call mean.
+use mathlib.Core.List.{List}
+use Prim.Native.Nat.{ℕ}
+use lib.IntN.{ℤ}
+use Rattle.outcome.specs.Outcome.{Result, refinedTo, refusedWith, Outcome}
+use Rattle.refine.specs.declared.Answer.{Answer}
+use Rattle.refine.specs.declared.Answer.the-variants.{Refined, Refused}
+
+-- the counts of vertices and faces, or paper 01's number and place
+abbrev pub resultOf : Answer → Result
+resultOf (Refined vertices faces) = refinedTo vertices faces
+resultOf (Refused number place) = refusedWith number place
+
+-- the answer, and every lent table as the call returns
+abbrev pub answered : Answer → List ℤ → List ℕ → List ℕ → List ℕ → Outcome
+answered r vertices faces marks work = record { result = resultOf r; vertices = vertices; faces = faces; marks = marks; work = work }
