@@ -1,0 +1,5 @@
+pub mod Examples
+pub mod Lines
+pub mod Body
+pub mod Storing
+pub mod Cases
