@@ -2,3 +2,4 @@ pub mod Bytes
 pub mod Form
 pub mod Text
 pub mod Answers
+pub mod Written
