@@ -1,9 +1,10 @@
--- What the answers of the reading functions say.
+-- What the functions that read and write say.
 use mathlib.Core.Path.{_≡_}
 use mathlib.Core.List.{List}
-use Prim.Native.Nat.{ℕ, _≤_}
+use Prim.Native.Nat.{ℕ, _+_, _≤_}
 use lib.IntN.{ℤ}
 use lib.ListN.{length, drop}
+use lib.Seq.{sets}
 use Rattle.decimal.specs.declared.Number.{Number}
 use Rattle.decimal.specs.declared.Number.the-variants as number
 use Rattle.decimal.specs.declared.Integer.{Integer}
@@ -36,3 +37,8 @@ pub record GivesNumber (r : Number) (l : List ℕ) (what : Read ℕ) : Type 0 wh
 pub record GivesInteger (r : Integer) (l : List ℕ) (what : Read ℤ) : Type 0 where
   pub reads : integerOf r l ≡ what
   pub within : integerUsed r ≤ length l
+
+-- the text s stands in o from `at` to r, and all else is as in d
+pub record Stored (d o : List ℕ) (at r : ℕ) (s : List ℕ) : Type 0 where
+  pub bytes : o ≡ sets d at s
+  pub end : r ≡ at + length s

@@ -2,10 +2,9 @@
 ghost use mathlib.Core.Path.{_≡_};
 ghost use Prim.Native.Nat.{_+_, _≤_};
 ghost use lib.ListN.{length};
-ghost use lib.Seq.{sets};
 ghost use lib.IntN.{natAbs, pos, negℤ};
 ghost use Rattle.decimal.specs.Decimal.{naturalText, integerText, isDigit, readDigits, atMost, readNatural, readInteger};
-ghost use Rattle.decimal.specs.Answers.{GivesNumber, GivesInteger};
+ghost use Rattle.decimal.specs.Answers.{GivesNumber, GivesInteger, Stored};
 
 // A number and how many bytes it took.
 pub enum Number {
@@ -99,20 +98,20 @@ pub fn read_integer(text: &[u8]) -> Integer
     Integer::Value(plus(m), n)
 }
 
-fn magnitude(z: i32) -> u32
+fn magnitude(z: i32) -> u64
     ensures { λ r. ⌜ r ≡ natAbs z ⌝ }
 {
     let w = z as i64;
     if w < 0 {
-        return (0 - w) as u32;
+        return (0 - w) as u64;
     }
-    w as u32
+    w as u64
 }
 
 // Writes n from `at` on, and answers where it ends.
-pub fn put_natural(out: &mut [u8], at: usize, n: u32) -> usize
+pub fn put_natural(out: &mut [u8], at: usize, n: u64) -> usize
     requires { ⌜ at + length (naturalText n) ≤ length (now out) ⌝ }
-    ensures { λ r. ⌜ (r ≡ at + length (naturalText n)) × (now (out .exit) ≡ sets (now (out .entry)) at (naturalText n)) ⌝ }
+    ensures { λ r. ⌜ Stored (now (out .entry)) (now (out .exit)) at r (naturalText n) ⌝ }
 {
     if n < 10 {
         out[at] = (48 + n) as u8;
@@ -126,7 +125,7 @@ pub fn put_natural(out: &mut [u8], at: usize, n: u32) -> usize
 // Writes z from `at` on, and answers where it ends.
 pub fn put_integer(out: &mut [u8], at: usize, z: i32) -> usize
     requires { ⌜ at + length (integerText z) ≤ length (now out) ⌝ }
-    ensures { λ r. ⌜ (r ≡ at + length (integerText z)) × (now (out .exit) ≡ sets (now (out .entry)) at (integerText z)) ⌝ }
+    ensures { λ r. ⌜ Stored (now (out .entry)) (now (out .exit)) at r (integerText z) ⌝ }
 {
     let m = magnitude(z);
     if z < 0 {

@@ -75,8 +75,17 @@ body-back n h =
     let k = namesText corners ++ (texts faceText (n .faces) ++ []) in
     let a = rows-back (readVertex true) vertexText vertex-back (n .vertices) k (h .vertices) in
     let b = rows-back readFace faceText face-back (n .faces) [] (h .faces) in
-    rw (← (h .vertexCount), ← (h .faceCount), a, eq-eqb (length (n .vertices)) (length (n .vertices)) refl, names-back corners (texts faceText (n .faces) ++ []), b,
-        eq-eqb (length (n .faces)) (length (n .faces)) refl, h .vertexCount, h .faceCount)
+    rw (
+      ← (h .vertexCount),
+      ← (h .faceCount),
+      a,
+      eq-eqb (length (n .vertices)) (length (n .vertices)) refl,
+      names-back corners (texts faceText (n .faces) ++ []),
+      b,
+      eq-eqb (length (n .faces)) (length (n .faces)) refl,
+      h .vertexCount,
+      h .faceCount,
+    )
 
 -- Reading what is written for a net gives that net back.
 pub net-back : (n : Net) → NetFits n → parse (netText n) ≡ parsed n []

@@ -99,7 +99,7 @@ put-natural-returns-2 : (t : ℕ) → put-natural-lts.Need-returns-2 (
   put-natural-below t,
   put-natural.Post,
 ) (put-natural-at t) put-natural.Post
-put-natural-returns-2 t c = stored-large _ _ _ _ _ (c .before .before .before .before .if1 .left) (c .before .before .put-natural .ensures .0) (c .before .before .put-natural .ensures .1)
+put-natural-returns-2 t c = stored-large _ _ _ _ _ (c .before .before .before .before .if1 .left) (c .before .before .put-natural .ensures)
 
 pub +put-natural-spec : {M : Type 1} → statement M
 +put-natural-spec = close μ-put-natural λ t. put-natural-lts.spec (

@@ -32,7 +32,7 @@ same-length c = c .before .before .put-natural .kept .0 ∙ simp length-set
 returns : tie.Need-returns
 returns c =
     let f = c .before .before .before .before .before .before .before .fits .z in
-    stored-negative _ _ _ _ _ (c .before .before .before .before .before .before .before .args .z) (simp toZ-ofZ at (c .before .before .before .before .if1 .taken)) (simp toZ-ofZ at (c .before .before .before .before .before .magnitude .ensures)) (c .before .before .put-natural .ensures .0) (c .before .before .put-natural .ensures .1)
+    stored-negative _ _ _ _ _ (c .before .before .before .before .before .before .before .args .z) (simp toZ-ofZ at (c .before .before .before .before .if1 .taken)) (simp toZ-ofZ at (c .before .before .before .before .before .magnitude .ensures)) (c .before .before .put-natural .ensures)
 
 put-natural-requires-2 : tie.Need-put-natural-requires-2
 put-natural-requires-2 c κs =
@@ -48,7 +48,7 @@ same-length-2 c = search needs
 returns-2 : tie.Need-returns-2
 returns-2 c =
     let f = c .before .before .before .before .before .before .before .fits .z in
-    stored-positive _ _ _ _ _ (c .before .before .before .before .before .before .before .args .z) (simp toZ-ofZ at (c .before .before .before .before .if1 .left)) (simp toZ-ofZ at (c .before .before .before .before .before .magnitude .ensures)) (c .before .before .put-natural2 .ensures .0) (c .before .before .put-natural2 .ensures .1)
+    stored-positive _ _ _ _ _ (c .before .before .before .before .before .before .before .args .z) (simp toZ-ofZ at (c .before .before .before .before .if1 .left)) (simp toZ-ofZ at (c .before .before .before .before .before .magnitude .ensures)) (c .before .before .put-natural2 .ensures)
 
 pub put-integer-spec : {M : Type 1} → statement M
 put-integer-spec =
