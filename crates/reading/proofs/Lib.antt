@@ -3,3 +3,4 @@ pub mod Lines
 pub mod Body
 pub mod Storing
 pub mod Cases
+pub mod Back
