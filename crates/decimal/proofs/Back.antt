@@ -1,16 +1,15 @@
 -- Reading what was written gives the number back and uses exactly its text, if no digit follows. Assumes nothing.
-use mathlib.Core.Path.{_≡_, refl, sym, ap, _∙_}
-use mathlib.Core.Bool.{Bool, true, false, cond, _&&_}
+use mathlib.Core.Path.{_≡_, refl, ap, _∙_}
+use mathlib.Core.Bool.{true, false}
 use mathlib.Core.List.{List, [], _∷_, _++_, append-assoc}
 use Prim.Native.Nat.{ℕ, zero, suc, _+_, _*_, _-_, _/_, _%_, _≤_, _<_}
 use native.Mathlib.Decide.{decLt}
 use native.Mathlib.Omega.{arith}
-use lib.Dec.{leb, ltb, eqb}
 use lib.IntN.{ℤ, pos, negsuc}
 use lib.Signed.{mag}
 use lib.ListN.{getD}
-use borrow.Author.Tests.{lt-ltb, le-ltb, le-leb, ne-eqb, eq-eqb}
-use Rattle.decimal.specs.Decimal.{Read, found, bad, digits, naturalText, integerText, isDigit, readDigits, atMost, readNatural, readInteger, negated, unsigned}
+use borrow.Author.Tests.{lt-ltb, le-ltb, le-leb, ne-eqb}
+use Rattle.decimal.specs.Decimal.{found, digits, naturalText, integerText, isDigit, readDigits, atMost, readNatural, readInteger, negated, unsigned}
 
 -- 48 + n is a digit whose value is n
 digit-is : (n : ℕ) → n < 10 → isDigit (48 + n) ≡ true

@@ -1,8 +1,8 @@
 -- Numbers as text, computed. Assumes nothing.
 use mathlib.Core.Path.{_≡_, refl}
-use mathlib.Core.List.{List, [], _∷_}
+use mathlib.Core.List.{[], _∷_}
 use lib.IntN.{pos, negsuc}
-use Rattle.decimal.specs.Decimal.{Read, found, bad, naturalText, integerText, readNatural, readInteger, readDigits}
+use Rattle.decimal.specs.Decimal.{found, bad, naturalText, integerText, readNatural, readInteger, readDigits}
 
 -- 0, 10, -120, the largest and the smallest signed 32-bit number
 zero-text : naturalText 0 ≡ 48 ∷ []

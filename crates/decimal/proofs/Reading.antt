@@ -9,14 +9,14 @@ use native.Mathlib.Numerals.{add-one}
 use native.Mathlib.Omega.{arith}
 use lib.Dec.{leb, eqb}
 use lib.ListN.{length, getD, take, drop, length-drop, drop-of-length-le}
-use lib.IntN.{ℤ, pos, negsuc, negℤ}
+use lib.IntN.{ℤ, pos, negℤ}
 use lib.Seq.{drop-cons, take-all, drop-drop}
-use borrow.Author.Tests.{eq-eqb, ne-eqb, lt-leb, le-leb, leb-true, leb-false}
+use borrow.Author.Tests.{eq-eqb, ne-eqb, lt-leb, le-leb, leb-true}
 use Rattle.decimal.specs.Decimal.{Read, found, bad, isDigit, readDigits, atMost, readNatural, negated, unsigned, readInteger}
 use Rattle.decimal.specs.declared.Number.the-variants as number
 use Rattle.decimal.specs.declared.Number.{Number}
 use Rattle.decimal.specs.declared.Integer.the-variants as integer
-use Rattle.decimal.specs.Answers.{numberOf, numberUsed, GivesNumber, GivesInteger}
+use Rattle.decimal.specs.Answers.{numberOf, GivesNumber, GivesInteger}
 
 module _ (l : List ℕ) (i v : ℕ) (h : i < length l) where
   at : drop i l ≡ getD l i 0 ∷ drop (i + 1) l

@@ -1,18 +1,18 @@
 -- Lines written one after another: what is stored so far, and what is left. Assumes nothing.
 use mathlib.Core.Path.{_≡_, refl, sym, ap, _∙_}
-use mathlib.Core.List.{List, [], _∷_, _++_, append-assoc}
-use Prim.Native.Nat.{ℕ, zero, suc, _+_, _*_, _-_, _≤_, _<_}
+use mathlib.Core.List.{List, [], _∷_, _++_}
+use Prim.Native.Nat.{ℕ, suc, _+_, _≤_, _<_}
 use native.Mathlib.Nat.{add-zero}
 use native.Mathlib.Numerals.{add-one}
 use native.Mathlib.Omega.{arith}
-use lib.IntN.{ℤ, natAbs}
+use lib.IntN.{ℤ}
 use lib.ListN.{length, getD, set, drop, length-append, drop-of-length-le}
 use lib.Seq.{sets, sets-eq, drop-cons}
 use mir.Syntax.{w32}
 use mir.Val.{SFits}
 use Rattle.integers.proofs.Range.{abs-fits}
 use Rattle.lists.proofs.Tabulate.{length-tabulate, getD-tabulate}
-use Rattle.decimal.specs.Decimal.{naturalText, integerText}
+use Rattle.decimal.specs.Decimal.{integerText}
 use Rattle.decimal.specs.Answers.{Stored}
 use Rattle.decimal.proofs.Writing.{sets-after, stored-then, length-integer}
 use Rattle.text.specs.Bytes.{bytes}

@@ -5,7 +5,7 @@ use Prim.Native.Nat.{ℕ, _≤_}
 use lib.IntN.{ℤ}
 use lib.ListN.{length}
 use borrow.Author.Tests.{le-ltb, eq-eqb}
-use Rattle.text.specs.Form.{Net, parse}
+use Rattle.text.specs.Form.{Net}
 use Rattle.text.specs.Text.{netText}
 use Rattle.text.specs.Written.{NetFits}
 use Rattle.text.proofs.Back.{net-back}

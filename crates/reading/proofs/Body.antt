@@ -1,16 +1,14 @@
 -- The lines after the third: where each answer of the first pass comes from. Assumes nothing.
 use mathlib.Core.Path.{_≡_, refl, sym, ap, _∙_, subst}
-use mathlib.Core.Bool.{Bool, true, false, cond}
 use mathlib.Core.List.{List, [], _∷_}
 use Prim.Native.Nat.{ℕ, _+_, _-_, _≤_, _<_}
 use native.Mathlib.Omega.{arith}
-use lib.Dec.{eqb}
-use lib.ListN.{length, take, drop, length-drop, drop-of-length-le}
+use lib.ListN.{length, take, drop, length-drop}
 use lib.Seq.{drop-drop}
 use borrow.Author.Tests.{eq-eqb, ne-eqb}
 use Rattle.decimal.specs.Decimal.{Read, found, bad}
 use Rattle.decimal.proofs.Reading.{part-rest}
-use Rattle.text.specs.Form.{Head, Net, Vertex, Face, Names, corners, Rows, rows, readVertex, readFace, readNames, only, isCorners, Parsed, parsed, badLine, lines, ended, parseBody}
+use Rattle.text.specs.Form.{Head, Vertex, Face, corners, Rows, rows, readVertex, readFace, readNames, only, isCorners, parsed, badLine, lines, ended, parseBody}
 use Rattle.reading.specs.declared.Block.{Block}
 use Rattle.reading.specs.Answers.{Counted}
 

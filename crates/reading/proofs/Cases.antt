@@ -1,5 +1,5 @@
 -- The outcome of each case of `read_net`. Assumes nothing.
-use mathlib.Core.Path.{_≡_, refl, sym, ap, _∙_}
+use mathlib.Core.Path.{_≡_, ap, _∙_}
 use mathlib.Core.Bool.{Bool}
 use mathlib.Core.List.{List, []}
 use Prim.Native.Nat.{ℕ, _-_, _≤_, _<_}
@@ -8,8 +8,8 @@ use lib.ListN.{length, take, drop}
 use lib.Seq.{sets}
 use borrow.Author.Tests.{lt-ltb, le-ltb, eq-eqb, ne-eqb}
 use Rattle.decimal.proofs.Reading.{part-rest}
-use Rattle.text.specs.Form.{Net, Rows, rows, readVertex, readFace, Parsed, parsed, badLine, parse}
-use Rattle.reading.specs.Outcome.{Answer, accepted, refused, Outcome, outcome, coordinates, marksOf, cornersOf, over, refusalOf, readNet}
+use Rattle.text.specs.Form.{rows, readVertex, readFace, parsed, badLine, parse}
+use Rattle.reading.specs.Outcome.{accepted, refused, outcome, coordinates, marksOf, cornersOf, over, refusalOf, readNet}
 use Rattle.reading.specs.Answers.{countsAre, headIs, netAt, Room}
 use Rattle.reading.proofs.Storing.{front-coordinates, front-marks, front-corners}
 

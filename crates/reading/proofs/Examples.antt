@@ -1,6 +1,6 @@
 -- The refusals of counts, computed. Assumes nothing.
 use mathlib.Core.Path.{_≡_, refl}
-use mathlib.Core.List.{List, [], _∷_}
+use mathlib.Core.List.{[], _∷_}
 use Prim.Native.Nat.{ℕ}
 use Rattle.reading.specs.Outcome.{refusalOf}
 

@@ -9,7 +9,7 @@ use Rattle.decimal.specs.Decimal.{Read, found, bad}
 use Rattle.decimal.proofs.Reading.{part-rest}
 use types.Run.{OneOf, miss}
 use denote.Enum.Declared.{tagOf}
-use Rattle.text.specs.Form.{Rows, rows, rowsAfter, noRows, oneMore, only, isInput, isCorners, readNames}
+use Rattle.text.specs.Form.{rows, rowsAfter, noRows, oneMore, only, isInput, isCorners, readNames}
 use Rattle.text.specs.Answers.{namesOf}
 use Rattle.text.specs.declared.NamesLine.{NamesLine}
 use Rattle.text.specs.declared.NamesLine.the-variants as names

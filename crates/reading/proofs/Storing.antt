@@ -1,14 +1,14 @@
 -- The second pass: one line's numbers are stored a turn, and the table that the whole text gives is the one that the rest gives from here. Assumes nothing.
 use mathlib.Core.Path.{_≡_, refl, sym, ap, _∙_}
 use mathlib.Core.List.{List, [], _∷_, _++_}
-use Prim.Native.Nat.{ℕ, zero, suc, _+_, _*_, _-_, _≤_, _<_}
+use Prim.Native.Nat.{ℕ, suc, _+_, _*_, _-_, _≤_, _<_}
 use native.Mathlib.Omega.{arith}
 use lib.IntN.{ℤ}
 use lib.ListN.{length, set, take, drop}
 use lib.Seq.{sets, sets-eq, drop-drop}
 use Rattle.decimal.specs.Decimal.{Read, found, bad}
 use Rattle.decimal.proofs.Reading.{part-rest}
-use Rattle.text.specs.Form.{Vertex, Face, Rows, rows, noRows, oneMore}
+use Rattle.text.specs.Form.{Vertex, Face, Rows, rows, oneMore}
 use Rattle.reading.specs.Outcome.{coordinates, marksOf, cornersOf, over}
 use Rattle.reading.proofs.Lines.{rows-none, rows-bad, rows-found, rows-length}
 

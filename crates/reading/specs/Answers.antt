@@ -4,7 +4,7 @@ use mathlib.Core.Bool.{Bool}
 use mathlib.Core.List.{List, []}
 use Prim.Native.Nat.{ℕ, _*_, _≤_}
 use lib.ListN.{length, drop}
-use Rattle.text.specs.Form.{Counts, Vertex, Face, Net, Head, Rows, rows, readVertex, readFace, Parsed, parsed, badLine}
+use Rattle.text.specs.Form.{Counts, Net, Head, Rows, rows, readVertex, readFace, Parsed, parsed, badLine}
 use Rattle.reading.specs.Outcome.{Answer, accepted, refused}
 use Rattle.reading.specs.declared.Block.{Block}
 use Rattle.reading.specs.declared.HeadLines.{HeadLines}

@@ -1,18 +1,16 @@
 -- Reading the text that a net is written as gives the net back. Assumes nothing.
-use mathlib.Core.Path.{_≡_, refl, sym, ap, _∙_}
-use mathlib.Core.Bool.{Bool, true, false, cond}
+use mathlib.Core.Path.{_≡_, refl, ap, _∙_}
+use mathlib.Core.Bool.{true, false}
 use mathlib.Core.List.{List, [], _∷_, _++_, append-assoc, append-nil}
-use Prim.Native.Nat.{ℕ, zero, suc, _+_, _≤_}
-use native.Mathlib.Omega.{arith}
-use lib.Dec.{eqb}
+use Prim.Native.Nat.{ℕ, _≤_}
 use lib.IntN.{ℤ}
 use lib.Signed.{mag}
 use lib.ListN.{length}
 use borrow.Author.Tests.{eq-eqb}
-use Rattle.decimal.specs.Decimal.{Read, found, bad, isDigit, naturalText, integerText, readNatural, readInteger}
-use Rattle.decimal.proofs.Back.{NoDigit, natural-back, integer-back}
+use Rattle.decimal.specs.Decimal.{Read, found, isDigit, naturalText, integerText}
+use Rattle.decimal.proofs.Back.{natural-back, integer-back}
 use Rattle.text.specs.Bytes.{bytes}
-use Rattle.text.specs.Form.{Counts, Vertex, Face, Net, Names, input, marked, unmarked, corners, namesText, readNames, endedBy, coordinate, natural, readCounts, readVertex, readFace, Rows, rows, Parsed, parsed, Head, parseHead, parseBody, parse}
+use Rattle.text.specs.Form.{Counts, Vertex, Face, Net, Names, input, marked, unmarked, corners, namesText, readNames, endedBy, coordinate, natural, readCounts, readVertex, readFace, rows, parsed, parseHead, parseBody, parse}
 use Rattle.text.specs.Text.{countsText, vertexText, faceText, texts, netText}
 use Rattle.text.specs.Written.{CountsFit, VertexFits, FaceFits, Each, NetFits}
 

@@ -8,7 +8,7 @@ use lib.Dec.{T, eqb}
 use lib.IntN.{ℤ, pos, negsuc}
 use Rattle.decimal.specs.Decimal.{readDigits, readNatural, readInteger, naturalText, integerText}
 use Rattle.text.specs.Bytes.{bytes}
-use Rattle.text.specs.Form.{Counts, Vertex, Face, Net, Parsed, parsed, badLine, readNames, coordinate, natural, readCounts, readVertex, readFace, rows, parseHead, parseBody, parse}
+use Rattle.text.specs.Form.{Vertex, Face, Net, Parsed, parsed, badLine, readNames, coordinate, natural, readCounts, readVertex, readFace, rows, parseHead, parseBody, parse}
 use Rattle.text.specs.Text.{countsText, pairText, vertexText, faceText, texts, netText, answerText, refusalText}
 
 abbrev at : ℤ → ℤ → ℤ → ℕ → Vertex

@@ -1,7 +1,7 @@
 -- The nets that the form can write.
 use mathlib.Core.Path.{_≡_}
 use mathlib.Core.List.{List, [], _∷_}
-use Prim.Native.Nat.{ℕ, _≤_}
+use Prim.Native.Nat.{_≤_}
 use lib.Signed.{mag}
 use lib.ListN.{length}
 use Rattle.text.specs.Form.{Counts, Vertex, Face, Net}

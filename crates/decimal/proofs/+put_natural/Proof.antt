@@ -1,5 +1,5 @@
 -- `decimal::put_natural` meets its contract. The measure is the number. Assumes nothing.
-use mathlib.Core.Path.{_≡_, _∙_, ap}
+use mathlib.Core.Path.{ap}
 use native.Mathlib.Omega.{arith}
 use lib.ListN.{length, length-set}
 use Rattle.decimal.proofs.Writing.{text-small, length-large, stored-small, stored-large}

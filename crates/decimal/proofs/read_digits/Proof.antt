@@ -1,16 +1,13 @@
-use mathlib.Core.Path.{_≡_, refl, sym, ap, _∙_}
-use Prim.Native.Nat.{ℕ, _+_, _*_, _-_, _≤_, _<_}
+use mathlib.Core.Path.{_≡_, sym, _∙_}
+use Prim.Native.Nat.{_+_, _-_, _≤_}
 use native.Mathlib.Omega.{arith}
 use borrow.Author.Needs.{needs}
 use borrow.Author.Tests.{not-true, not-false}
-use lib.ListN.{length, drop, getD}
-use Rattle.decimal.specs.Decimal.{isDigit, readDigits, atMost}
+use lib.ListN.{length, drop}
+use Rattle.decimal.specs.Decimal.{readDigits}
 use Rattle.decimal.proofs.Reading.{digits-on, digits-stop, digits-end, digits-given, digits-refused, digit-low}
 use Rattle.decimal.proofs.read_digits.Statement.{statement}
 use Rattle.decimal.proofs.read_digits.Tie as tie
-use Rattle.decimal.proofs.read_digits.Reads as reads
-use Rattle.decimal.proofs.read_digits.Lts as lts
-use Rattle.decimal.proofs.is_digit.Reads as is-digit-reads
 
 abbrev Inv-loop : tie.InvT-loop
 Inv-loop text limit most value₀ i₀ value i = (i ≤ length text) × (value ≤ limit) × (readDigits 0 text ≡ readDigits value (drop i text))

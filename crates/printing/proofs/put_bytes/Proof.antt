@@ -1,9 +1,7 @@
 -- `printing::put_bytes` meets its contract. Assumes nothing.
-use mathlib.Core.Path.{_≡_, refl, sym, ap, _∙_}
-use Prim.Native.Nat.{ℕ, _+_, _*_, _-_, _≤_, _<_}
+use mathlib.Core.Path.{_≡_, refl, ap}
+use Prim.Native.Nat.{ℕ, _+_, _-_, _≤_}
 use native.Mathlib.Omega.{arith}
-use borrow.Author.Needs.{needs}
-use mathlib.Core.List.{List}
 use lib.ListN.{length, drop, length-set}
 use lib.Seq.{sets}
 use Rattle.printing.proofs.Writing.{copy-turn, copy-end}

@@ -1,9 +1,9 @@
 -- `printing::put_faces` meets its contract. Assumes nothing.
-use mathlib.Core.Path.{_≡_, refl, sym, ap, _∙_}
-use Prim.Native.Nat.{ℕ, _+_, _*_, _-_, _≤_, _<_}
+use mathlib.Core.Path.{_≡_, refl, _∙_}
+use Prim.Native.Nat.{_+_, _*_, _-_, _≤_}
 use native.Mathlib.Omega.{arith}
 use borrow.Author.Needs.{needs}
-use lib.ListN.{length, getD}
+use lib.ListN.{length}
 use Rattle.text.specs.Text.{faceText}
 use Rattle.printing.specs.Tables.{faceAt, facesOf}
 use Rattle.printing.proofs.Writing.{Left, left-all, left-turn, left-none, face-entry, length-faces}

@@ -1,10 +1,7 @@
 -- `printing::put_pair` meets its contract. Assumes nothing.
-use mathlib.Core.Path.{_≡_, refl, sym, ap, _∙_}
-use Prim.Native.Nat.{ℕ, _+_, _*_, _-_, _≤_, _<_}
 use native.Mathlib.Omega.{arith}
 use borrow.Author.Needs.{needs}
-use lib.ListN.{length}
-use Rattle.decimal.specs.Decimal.{naturalText, integerText}
+use Rattle.decimal.specs.Decimal.{naturalText}
 use Rattle.decimal.proofs.Writing.{stored-then, length-long}
 use Rattle.text.specs.Text.{pairText}
 use Rattle.printing.proofs.Writing.{length-field}

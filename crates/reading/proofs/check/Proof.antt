@@ -1,5 +1,5 @@
 -- `reading::check` meets its contract. Assumes nothing.
-use mathlib.Core.Path.{_≡_, refl, sym, ap, _∙_}
+use mathlib.Core.Path.{refl, sym, ap, _∙_}
 use native.Mathlib.Omega.{arith}
 use Rattle.text.specs.Form.{parse}
 use Rattle.reading.specs.declared.HeadLines.{HeadLines}

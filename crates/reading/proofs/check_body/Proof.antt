@@ -1,11 +1,11 @@
 -- `reading::check_body` meets its contract. Assumes nothing.
-use mathlib.Core.Path.{_≡_, refl, sym, ap, _∙_, subst}
-use Prim.Native.Nat.{ℕ, _+_, _≤_, _<_}
+use mathlib.Core.Path.{_≡_, sym, ap, _∙_}
+use Prim.Native.Nat.{ℕ, _+_, _≤_}
 use native.Mathlib.Omega.{arith}
 use lib.ListN.{length, drop, length-drop, drop-of-length-le}
 use lib.Seq.{drop-drop}
 use Rattle.decimal.specs.Decimal.{found}
-use Rattle.text.specs.Form.{Parsed, badLine, corners, readNames, readVertex, readFace, rows, only, isCorners, parseBody}
+use Rattle.text.specs.Form.{badLine, corners, readNames, readVertex, readFace}
 use Rattle.text.specs.Answers.{namesOf, namesUsed}
 use Rattle.reading.specs.Answers.{headIs}
 use Rattle.reading.proofs.Lines.{rows-length, given-at, taken, part-within, not-corners-at}

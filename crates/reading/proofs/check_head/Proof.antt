@@ -1,9 +1,9 @@
 -- `reading::check_head` meets its contract. Assumes nothing.
-use mathlib.Core.Path.{_≡_, refl, sym, ap, _∙_}
+use mathlib.Core.Path.{refl}
 use Prim.Native.Nat.{_+_}
 use native.Mathlib.Omega.{arith}
 use lib.Seq.{drop-drop}
-use Rattle.text.specs.Form.{readNames, readCounts, parseHead, only, isInput, line, next}
+use Rattle.text.specs.Form.{readNames, readCounts, parseHead}
 use Rattle.text.specs.Answers.{namesOf, namesUsed, countsOf, countsUsed}
 use Rattle.reading.proofs.Lines.{given, given-at, taken, part-within, not-input}
 use borrow.Author.Needs.{needs}

@@ -1,14 +1,11 @@
 -- `reading::count_vertices` meets its contract. Assumes nothing.
 use Rattle.reading.proofs.Lines.{Passed, passed-none, passed-end, passed-bad, passed-more, part-within, given, taken}
-use mathlib.Core.Path.{_≡_, refl, sym, ap, _∙_}
-use mathlib.Core.List.{List}
-use Prim.Native.Nat.{ℕ, _-_, _≤_}
+use Prim.Native.Nat.{_-_, _≤_}
 use native.Mathlib.Omega.{arith}
 use borrow.Author.Needs.{needs}
-use lib.ListN.{length, take, drop}
+use lib.ListN.{length}
 use Rattle.text.specs.Form.{readVertex}
 use Rattle.text.specs.Answers.{vertexOf, vertexUsed}
-use Rattle.text.specs.declared.VertexLine.{VertexLine}
 use Rattle.reading.proofs.count_vertices.Statement.{statement}
 use Rattle.reading.proofs.count_vertices.Tie as tie
 

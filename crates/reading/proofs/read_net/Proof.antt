@@ -1,6 +1,5 @@
 -- `reading::read_net` meets its contract. Assumes nothing.
-use mathlib.Core.Path.{_≡_, refl, sym, ap, _∙_}
-use native.Mathlib.Omega.{arith}
+use mathlib.Core.Path.{sym, ap, _∙_}
 use Rattle.reading.specs.declared.Checked.{Checked}
 use Rattle.reading.specs.Answers.{checkedOf, verticesAt, facesAt}
 use Rattle.reading.proofs.Lines.{taken}

@@ -1,11 +1,10 @@
 -- `reading::store_faces` meets its contract. Assumes nothing.
 use Rattle.reading.proofs.Storing.{left-none, left-bad, corners-turn, corners-end}
-use mathlib.Core.Path.{_≡_, refl, sym, ap, _∙_, subst}
-use mathlib.Core.List.{List, [], _∷_}
-use Prim.Native.Nat.{ℕ, _+_, _*_, _-_, _≤_, _<_}
+use mathlib.Core.Path.{_≡_, refl}
+use Prim.Native.Nat.{_*_, _-_, _≤_}
 use native.Mathlib.Omega.{arith}
 use borrow.Author.Needs.{needs}
-use lib.ListN.{length, set, take, drop, length-set}
+use lib.ListN.{length, drop, length-set}
 use lib.Seq.{sets}
 use Rattle.text.specs.Form.{readFace, rows}
 use Rattle.text.specs.Answers.{faceOf, faceUsed}

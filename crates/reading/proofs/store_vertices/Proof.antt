@@ -3,12 +3,11 @@ use mir.Syntax.{w32}
 use mir.Val.{SFits}
 use mir.Facts.{toZ-ofZ}
 use Rattle.reading.proofs.Storing.{left-none, left-bad, coordinates-turn, coordinates-end, marks-turn, marks-end}
-use mathlib.Core.Path.{_≡_, refl, sym, ap, _∙_, subst}
-use mathlib.Core.List.{List, [], _∷_}
-use Prim.Native.Nat.{ℕ, _+_, _*_, _-_, _≤_, _<_}
+use mathlib.Core.Path.{_≡_, refl}
+use Prim.Native.Nat.{_*_, _-_, _≤_}
 use native.Mathlib.Omega.{arith}
 use borrow.Author.Needs.{needs}
-use lib.ListN.{length, set, take, drop, length-set}
+use lib.ListN.{length, drop, length-set}
 use lib.Seq.{sets}
 use Rattle.text.specs.Form.{readVertex, rows}
 use Rattle.text.specs.Answers.{vertexOf, vertexUsed}

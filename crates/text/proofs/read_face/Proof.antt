@@ -1,5 +1,5 @@
 -- `text::read_face` meets its contract. Assumes nothing.
-use mathlib.Core.Path.{_≡_, refl, sym, _∙_}
+use mathlib.Core.Path.{refl}
 use native.Mathlib.Omega.{arith}
 use Rattle.text.specs.Form.{readFace}
 use Rattle.text.proofs.Lines.{number-given, number-within}
