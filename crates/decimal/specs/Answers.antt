@@ -1,0 +1,44 @@
+-- What the functions that read and write say.
+use mathlib.Core.Path.{_≡_}
+use mathlib.Core.List.{List}
+use Prim.Native.Nat.{ℕ, _+_, _≤_}
+use lib.IntN.{ℤ}
+use lib.ListN.{length, drop}
+use lib.Seq.{sets}
+use Rattle.decimal.specs.declared.Number.{Number}
+use Rattle.decimal.specs.declared.Number.the-variants as number
+use Rattle.decimal.specs.declared.Integer.{Integer}
+use Rattle.decimal.specs.declared.Integer.the-variants as integer
+use Rattle.decimal.specs.Decimal.{Read, found, bad}
+
+-- a value and the number of bytes that it took from the front of l
+abbrev pub numberOf : Number → List ℕ → Read ℕ
+numberOf (number.Value v n) l = found v (drop n l)
+numberOf number.Bad l = bad
+
+abbrev pub integerOf : Integer → List ℕ → Read ℤ
+integerOf (integer.Value z n) l = found z (drop n l)
+integerOf integer.Bad l = bad
+
+-- the number of bytes
+abbrev pub numberUsed : Number → ℕ
+numberUsed (number.Value v n) = n
+numberUsed number.Bad = 0
+
+abbrev pub integerUsed : Integer → ℕ
+integerUsed (integer.Value z n) = n
+integerUsed integer.Bad = 0
+
+-- the answer r gives what is read of l and took no more bytes than there are
+pub record GivesNumber (r : Number) (l : List ℕ) (what : Read ℕ) : Type 0 where
+  pub reads : numberOf r l ≡ what
+  pub within : numberUsed r ≤ length l
+
+pub record GivesInteger (r : Integer) (l : List ℕ) (what : Read ℤ) : Type 0 where
+  pub reads : integerOf r l ≡ what
+  pub within : integerUsed r ≤ length l
+
+-- the text s stands in o from `at` to r, and all else is as in d
+pub record Stored (d o : List ℕ) (at r : ℕ) (s : List ℕ) : Type 0 where
+  pub bytes : o ≡ sets d at s
+  pub end : r ≡ at + length s

@@ -1,0 +1,130 @@
+// The program's answers, written into a buffer.
+ghost use Prim.Native.Nat.{_+_, _*_, _≤_};
+ghost use lib.ListN.{length};
+ghost use Rattle.decimal.specs.Decimal.{naturalText, integerText};
+ghost use Rattle.decimal.specs.Answers.{Stored};
+ghost use Rattle.text.specs.Text.{field, pairText, vertexText, faceText, texts, answerText, refusalText};
+ghost use Rattle.printing.specs.Tables.{verticesOf, facesOf, roomFor};
+ghost use Rattle.printing.specs.Lines.{vertexIs, faceIs, Written};
+
+fn put_bytes(out: &mut [u8], at: usize, s: &[u8]) -> usize
+    requires { ⌜ at + length (now s) ≤ length (now out) ⌝ }
+    ensures { λ r. ⌜ Stored (now (out .entry)) (now (out .exit)) at r (now (s .entry)) ⌝ }
+{
+    let mut i: usize = 0;
+    while i < s.len() {
+        out[at + i] = s[i];
+        i += 1;
+    }
+    at + i
+}
+
+// A number and the byte after it.
+fn put_natural(out: &mut [u8], at: usize, n: u64, end: u8) -> usize
+    requires { ⌜ at + length (naturalText n) + 1 ≤ length (now out) ⌝ }
+    ensures { λ r. ⌜ Stored (now (out .entry)) (now (out .exit)) at r (field (naturalText n) end) ⌝ }
+{
+    let stop = decimal::put_natural(&mut *out, at, n);
+    out[stop] = end;
+    stop + 1
+}
+
+fn put_integer(out: &mut [u8], at: usize, z: i32, end: u8) -> usize
+    requires { ⌜ at + length (integerText z) + 1 ≤ length (now out) ⌝ }
+    ensures { λ r. ⌜ Stored (now (out .entry)) (now (out .exit)) at r (field (integerText z) end) ⌝ }
+{
+    let stop = decimal::put_integer(&mut *out, at, z);
+    out[stop] = end;
+    stop + 1
+}
+
+// A line of two numbers.
+fn put_pair(out: &mut [u8], at: usize, a: u64, b: u64) -> usize
+    requires { ⌜ at + 42 ≤ length (now out) ⌝ }
+    ensures { λ r. ⌜ (Stored (now (out .entry)) (now (out .exit)) at r (pairText a b)) × (r ≤ at + 42) ⌝ }
+{
+    let i = put_natural(&mut *out, at, a, b' ');
+    put_natural(&mut *out, i, b, b'\n')
+}
+
+fn put_vertex(out: &mut [u8], at: usize, x: i32, y: i32, z: i32, mark: u8) -> usize
+    requires { ⌜ at + 40 ≤ length (now out) ⌝ }
+    ensures { λ r. ⌜ (Stored (now (out .entry)) (now (out .exit)) at r (vertexText (vertexIs x y z mark))) × (r ≤ at + 40) ⌝ }
+{
+    let i = put_integer(&mut *out, at, x, b' ');
+    let j = put_integer(&mut *out, i, y, b' ');
+    let k = put_integer(&mut *out, j, z, b' ');
+    put_natural(&mut *out, k, mark as u64, b'\n')
+}
+
+fn put_face(out: &mut [u8], at: usize, a: u32, b: u32, c: u32, d: u32) -> usize
+    requires { ⌜ at + 44 ≤ length (now out) ⌝ }
+    ensures { λ r. ⌜ (Stored (now (out .entry)) (now (out .exit)) at r (faceText (faceIs a b c d))) × (r ≤ at + 44) ⌝ }
+{
+    let i = put_natural(&mut *out, at, a as u64, b' ');
+    let j = put_natural(&mut *out, i, b as u64, b' ');
+    let k = put_natural(&mut *out, j, c as u64, b' ');
+    put_natural(&mut *out, k, d as u64, b'\n')
+}
+
+fn put_vertices(out: &mut [u8], at: usize, count: usize, vertices: &[i32], marks: &[u8]) -> usize
+    requires { ⌜ (at + 40 * count ≤ length (now out)) × (3 * count ≤ length (now vertices)) × (count ≤ length (now marks)) ⌝ }
+    ensures { λ r. ⌜ (Stored (now (out .entry)) (now (out .exit)) at r (texts vertexText (verticesOf count (now (vertices .entry)) (now (marks .entry))))) × (r ≤ at + 40 * count) ⌝ }
+{
+    let mut to = at;
+    let mut i: usize = 0;
+    while i < count {
+        let x = vertices[3 * i];
+        let y = vertices[3 * i + 1];
+        let z = vertices[3 * i + 2];
+        to = put_vertex(&mut *out, to, x, y, z, marks[i]);
+        i += 1;
+    }
+    to
+}
+
+fn put_faces(out: &mut [u8], at: usize, count: usize, faces: &[u32]) -> usize
+    requires { ⌜ (at + 44 * count ≤ length (now out)) × (4 * count ≤ length (now faces)) ⌝ }
+    ensures { λ r. ⌜ (Stored (now (out .entry)) (now (out .exit)) at r (texts faceText (facesOf count (now (faces .entry))))) × (r ≤ at + 44 * count) ⌝ }
+{
+    let mut to = at;
+    let mut i: usize = 0;
+    while i < count {
+        let a = faces[4 * i];
+        let b = faces[4 * i + 1];
+        let c = faces[4 * i + 2];
+        let d = faces[4 * i + 3];
+        to = put_face(&mut *out, to, a, b, c, d);
+        i += 1;
+    }
+    to
+}
+
+// Writes the answer with v vertices and f faces, and gives its length.
+pub fn write_net(
+    out: &mut [u8],
+    vertices: &[i32],
+    faces: &[u32],
+    marks: &[u8],
+    v: usize,
+    f: usize,
+) -> usize
+    requires { ⌜ (3 * v ≤ length (now vertices)) × (4 * f ≤ length (now faces)) × (v ≤ length (now marks)) × (roomFor v f ≤ length (now out)) ⌝ }
+    ensures { λ r. ⌜ Written (now (out .entry)) (now (out .exit)) r (answerText (verticesOf v (now (vertices .entry)) (now (marks .entry))) (facesOf f (now (faces .entry)))) (roomFor v f) ⌝ }
+{
+    let a = put_bytes(&mut *out, 0, b"vertices faces\n");
+    let b = put_pair(&mut *out, a, v as u64, f as u64);
+    let c = put_bytes(&mut *out, b, b"x y z corner\n");
+    let d = put_vertices(&mut *out, c, v, vertices, marks);
+    let e = put_bytes(&mut *out, d, b"a b c d\n");
+    put_faces(&mut *out, e, f, faces)
+}
+
+// Writes a refusal, and gives its length.
+pub fn write_refusal(out: &mut [u8], reason: u32, place: usize) -> usize
+    requires { ⌜ 56 ≤ length (now out) ⌝ }
+    ensures { λ r. ⌜ Written (now (out .entry)) (now (out .exit)) r (refusalText reason place) 56 ⌝ }
+{
+    let a = put_bytes(&mut *out, 0, b"refusal place\n");
+    put_pair(&mut *out, a, reason as u64, place as u64)
+}

@@ -1,0 +1,6 @@
+pub mod Examples
+pub mod Lines
+pub mod Body
+pub mod Storing
+pub mod Cases
+pub mod Back

@@ -1,0 +1,77 @@
+-- What the answers of the two passes say of a text l.
+use mathlib.Core.Path.{_≡_}
+use mathlib.Core.Bool.{Bool}
+use mathlib.Core.List.{List, []}
+use Prim.Native.Nat.{ℕ, _*_, _≤_}
+use lib.ListN.{length, drop}
+use Rattle.text.specs.Form.{Counts, Net, Head, Rows, rows, readVertex, readFace, Parsed, parsed, badLine}
+use Rattle.reading.specs.Outcome.{Answer, accepted, refused}
+use Rattle.reading.specs.declared.Block.{Block}
+use Rattle.reading.specs.declared.HeadLines.{HeadLines}
+use Rattle.reading.specs.declared.HeadLines.the-variants as head
+use Rattle.reading.specs.declared.BodyLines.{BodyLines}
+use Rattle.reading.specs.declared.BodyLines.the-variants as body
+use Rattle.reading.specs.declared.Checked.{Checked}
+use Rattle.reading.specs.declared.Checked.the-variants as checked
+use Rattle.reading.specs.declared.Input.{Input}
+use Rattle.reading.specs.declared.Input.the-variants as input
+
+-- r has the number of good lines and of their bytes
+pub record Counted {A : Type 0} (r : Block) (l : List ℕ) (w : Rows A) : Type 0 where
+  pub good : r .good ≡ length (w .values)
+  pub rest : drop (r .used) l ≡ w .rest
+  pub within : r .used ≤ length l
+
+abbrev pub countsAre : ℕ → ℕ → ℕ → Counts
+countsAre v f k = record { vertices = v; faces = f; rounds = k }
+
+abbrev pub headIs : ℕ → ℕ → ℕ → Bool → Head
+headIs v f k m = record { counts = countsAre v f k; marks = m }
+
+abbrev pub headOf : HeadLines → List ℕ → Parsed Head
+headOf (head.Head v f k m n) l = parsed (headIs v f k m) (drop n l)
+headOf (head.Bad n) l = badLine n
+
+abbrev pub headUsed : HeadLines → ℕ
+headUsed (head.Head v f k m n) = n
+headUsed (head.Bad n) = 0
+
+-- the net of these counts whose vertex lines start at i and whose face lines start at j
+abbrev pub netAt : Head → List ℕ → ℕ → ℕ → Net
+netAt h l i j =
+    record {
+      counts = h .counts;
+      vertices = rows (readVertex (h .marks)) (h .counts .vertices) (drop i l) .values;
+      faces = rows readFace (h .counts .faces) (drop j l) .values;
+    }
+
+abbrev pub bodyOf : BodyLines → Head → List ℕ → ℕ → Parsed Net
+bodyOf (body.Body j) h l i = parsed (netAt h l i j) []
+bodyOf (body.Bad n) h l i = badLine n
+
+abbrev pub bodyUsed : BodyLines → ℕ
+bodyUsed (body.Body j) = j
+bodyUsed (body.Bad n) = 0
+
+abbrev pub checkedOf : Checked → List ℕ → Parsed Net
+checkedOf (checked.Form v f k m i j) l = parsed (netAt (headIs v f k m) l i j) []
+checkedOf (checked.Bad n) l = badLine n
+
+abbrev pub verticesAt : Checked → ℕ
+verticesAt (checked.Form v f k m i j) = i
+verticesAt (checked.Bad n) = 0
+
+abbrev pub facesAt : Checked → ℕ
+facesAt (checked.Form v f k m i j) = j
+facesAt (checked.Bad n) = 0
+
+-- paper 01's number and place of a refusal, or what was read
+abbrev pub answerOf : Input → Answer
+answerOf (input.Net k v f) = accepted k v f
+answerOf (input.Refused reason place) = refused reason place
+
+-- the tables have room for v vertices and f faces
+pub record Room (v f vertexTable faceTable markTable : ℕ) : Type 0 where
+  pub vertices : 3 * v ≤ vertexTable
+  pub faces : 4 * f ≤ faceTable
+  pub marks : v ≤ markTable

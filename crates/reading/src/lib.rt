@@ -1,0 +1,332 @@
+// A net read from a text in two passes: the first decides refusal 13 and finds where the lines stand, the second stores them.
+use text::CountsLine;
+use text::FaceLine;
+use text::NamesLine;
+use text::VertexLine;
+ghost use mathlib.Core.Path.{_≡_};
+ghost use Prim.Native.Nat.{_*_, _^_, _≤_, _<_};
+ghost use lib.ListN.{length, drop};
+ghost use lib.Seq.{sets};
+ghost use Rattle.text.specs.Form.{readVertex, readFace, rows, parseHead, parseBody, parse};
+ghost use Rattle.reading.specs.Outcome.{coordinates, marksOf, cornersOf, refusalOf, outcome, readNet};
+ghost use Rattle.reading.specs.Answers.{Counted, countsAre, headIs, headOf, headUsed, bodyOf, bodyUsed, checkedOf, verticesAt, facesAt, answerOf, Room};
+
+// Lines that have the form, and their bytes.
+pub struct Block {
+    pub good: usize,
+    pub used: usize,
+}
+
+// The first three lines, or the number of the first bad one.
+pub enum HeadLines {
+    Head {
+        vertices: u32,
+        faces: u32,
+        rounds: u32,
+        marks: bool,
+        used: usize,
+    },
+    Bad(usize),
+}
+
+// Where the faces start, or the number of the first bad line.
+pub enum BodyLines {
+    Body(usize),
+    Bad(usize),
+}
+
+pub enum Checked {
+    Form {
+        vertices: u32,
+        faces: u32,
+        rounds: u32,
+        marks: bool,
+        vertices_at: usize,
+        faces_at: usize,
+    },
+    Bad(usize),
+}
+
+// A net, with its counts, or the number of a refusal and its place.
+pub enum Input {
+    Net {
+        rounds: u32,
+        vertices: usize,
+        faces: usize,
+    },
+    Refused(u32, usize),
+}
+
+// How many of `count` lines are good before the first bad one.
+fn count_vertices(text: &[u8], count: usize, marked: bool) -> Block
+    ensures { λ r. ⌜ Counted r (now (text .entry)) (rows (readVertex marked) count (now (text .entry))) ⌝ }
+{
+    let mut good: usize = 0;
+    let mut used: usize = 0;
+    while good < count {
+        let VertexLine::Vertex {
+            x: _,
+            y: _,
+            z: _,
+            mark: _,
+            used: n,
+        } = text::read_vertex(&text[used..], marked)
+        else {
+            return Block { good, used };
+        };
+        used += n;
+        good += 1;
+    }
+    Block { good, used }
+}
+
+fn count_faces(text: &[u8], count: usize) -> Block
+    ensures { λ r. ⌜ Counted r (now (text .entry)) (rows readFace count (now (text .entry))) ⌝ }
+{
+    let mut good: usize = 0;
+    let mut used: usize = 0;
+    while good < count {
+        let FaceLine::Face {
+            a: _,
+            b: _,
+            c: _,
+            d: _,
+            used: n,
+        } = text::read_face(&text[used..])
+        else {
+            return Block { good, used };
+        };
+        used += n;
+        good += 1;
+    }
+    Block { good, used }
+}
+
+fn check_head(text: &[u8]) -> HeadLines
+    ensures { λ r. ⌜ (headOf r (now (text .entry)) ≡ parseHead (now (text .entry))) × (headUsed r ≤ length (now (text .entry))) ⌝ }
+{
+    let NamesLine::Input(i) = text::read_names(text) else {
+        return HeadLines::Bad(1);
+    };
+    let CountsLine::Counts {
+        vertices,
+        faces,
+        rounds,
+        used,
+    } = text::read_counts(&text[i..])
+    else {
+        return HeadLines::Bad(2);
+    };
+    let j = i + used;
+    match text::read_names(&text[j..]) {
+        NamesLine::Marked(n) => HeadLines::Head {
+            vertices,
+            faces,
+            rounds,
+            marks: true,
+            used: j + n,
+        },
+        NamesLine::Unmarked(n) => HeadLines::Head {
+            vertices,
+            faces,
+            rounds,
+            marks: false,
+            used: j + n,
+        },
+        NamesLine::Input(_) => HeadLines::Bad(3),
+        NamesLine::Corners(_) => HeadLines::Bad(3),
+        NamesLine::Other => HeadLines::Bad(3),
+    }
+}
+
+fn check_body(
+    text: &[u8],
+    at: usize,
+    vertices: u32,
+    faces: u32,
+    rounds: u32,
+    marks: bool,
+) -> BodyLines
+    requires { ⌜ at ≤ length (now text) ⌝ }
+    ensures { λ r. ⌜ (bodyOf r (headIs vertices faces rounds marks) (now (text .entry)) at ≡ parseBody (headIs vertices faces rounds marks) (drop at (now (text .entry)))) × (bodyUsed r ≤ length (now (text .entry))) ⌝ }
+{
+    let v = vertices as usize;
+    let f = faces as usize;
+    let vs = count_vertices(&text[at..], v, marks);
+    if vs.good != v {
+        return BodyLines::Bad(4 + vs.good);
+    }
+    let i = at + vs.used;
+    let NamesLine::Corners(n) = text::read_names(&text[i..]) else {
+        return BodyLines::Bad(4 + v);
+    };
+    let j = i + n;
+    let fs = count_faces(&text[j..], f);
+    if fs.good != f {
+        return BodyLines::Bad(5 + v + fs.good);
+    }
+    if j + fs.used != text.len() {
+        return BodyLines::Bad(5 + v + f);
+    }
+    BodyLines::Body(j)
+}
+
+// The first pass.
+fn check(text: &[u8]) -> Checked
+    ensures { λ r. ⌜ (checkedOf r (now (text .entry)) ≡ parse (now (text .entry))) × (verticesAt r ≤ length (now (text .entry))) × (facesAt r ≤ length (now (text .entry))) ⌝ }
+{
+    match check_head(text) {
+        HeadLines::Bad(n) => Checked::Bad(n),
+        HeadLines::Head {
+            vertices,
+            faces,
+            rounds,
+            marks,
+            used,
+        } => match check_body(text, used, vertices, faces, rounds, marks) {
+            BodyLines::Bad(n) => Checked::Bad(n),
+            BodyLines::Body(j) => Checked::Form {
+                vertices,
+                faces,
+                rounds,
+                marks,
+                vertices_at: used,
+                faces_at: j,
+            },
+        },
+    }
+}
+
+fn power_of_4(k: u32) -> u64
+    requires { ⌜ k ≤ 6 ⌝ }
+    ensures { λ r. ⌜ (r ≡ 4 ^ k) × (1 ≤ r) × (r ≤ 4096) ⌝ }
+{
+    match k {
+        0 => 1,
+        1 => 4,
+        2 => 16,
+        3 => 64,
+        4 => 256,
+        5 => 1024,
+        _ => 4096,
+    }
+}
+
+// The refusal that the counts and the tables' lengths bring, or 0.
+fn refusal(
+    vertices: u32,
+    faces: u32,
+    rounds: u32,
+    vertex_table: usize,
+    face_table: usize,
+    mark_table: usize,
+) -> u32
+    ensures { λ r. ⌜ (r ≡ refusalOf (countsAre vertices faces rounds) «vertex_table» «face_table» «mark_table») × (r ≡ 0 → Room vertices faces «vertex_table» «face_table» «mark_table») ⌝ }
+{
+    if 6 < rounds {
+        return 1;
+    }
+    let refined = faces as u64 * power_of_4(rounds);
+    if 8192 < vertices {
+        return 3;
+    }
+    if 4096 < faces {
+        return 3;
+    }
+    if 262144 < refined {
+        return 3;
+    }
+    if 256 < refined {
+        return 4;
+    }
+    if 1024 < vertices {
+        return 4;
+    }
+    if vertex_table < 3072 {
+        return 4;
+    }
+    if face_table < 1024 {
+        return 4;
+    }
+    if mark_table < 1024 {
+        return 4;
+    }
+    0
+}
+
+fn store_vertices(text: &[u8], count: usize, marked: bool, vertices: &mut [i32], marks: &mut [u8])
+    requires { ⌜ (3 * count ≤ length (now vertices)) × (count ≤ length (now marks)) ⌝ }
+    ensures { λ _. ⌜ (now (vertices .exit) ≡ sets (now (vertices .entry)) 0 (coordinates (rows (readVertex marked) count (now (text .entry)) .values))) × (now (marks .exit) ≡ sets (now (marks .entry)) 0 (marksOf (rows (readVertex marked) count (now (text .entry)) .values))) ⌝ }
+{
+    let mut i: usize = 0;
+    let mut at: usize = 0;
+    while i < count {
+        let VertexLine::Vertex {
+            x,
+            y,
+            z,
+            mark,
+            used,
+        } = text::read_vertex(&text[at..], marked)
+        else {
+            return;
+        };
+        vertices[3 * i] = x;
+        vertices[3 * i + 1] = y;
+        vertices[3 * i + 2] = z;
+        marks[i] = mark;
+        at += used;
+        i += 1;
+    }
+}
+
+fn store_faces(text: &[u8], count: usize, faces: &mut [u32])
+    requires { ⌜ 4 * count ≤ length (now faces) ⌝ }
+    ensures { λ _. ⌜ now (faces .exit) ≡ sets (now (faces .entry)) 0 (cornersOf (rows readFace count (now (text .entry)) .values)) ⌝ }
+{
+    let mut i: usize = 0;
+    let mut at: usize = 0;
+    while i < count {
+        let FaceLine::Face { a, b, c, d, used } = text::read_face(&text[at..]) else {
+            return;
+        };
+        faces[4 * i] = a;
+        faces[4 * i + 1] = b;
+        faces[4 * i + 2] = c;
+        faces[4 * i + 3] = d;
+        at += used;
+        i += 1;
+    }
+}
+
+// Reads the net that `text` writes into the front of the tables, or refuses and leaves them as they are.
+pub fn read_net(text: &[u8], vertices: &mut [i32], faces: &mut [u32], marks: &mut [u8]) -> Input
+    ensures { λ r. ⌜ outcome (answerOf r) (now (vertices .exit)) (now (faces .exit)) (now (marks .exit)) ≡ readNet (now (text .entry)) (now (vertices .entry)) (now (faces .entry)) (now (marks .entry)) ⌝ }
+{
+    if 32768 < text.len() {
+        return Input::Refused(13, 0);
+    }
+    match check(text) {
+        Checked::Bad(line) => Input::Refused(13, line),
+        Checked::Form {
+            vertices: v,
+            faces: f,
+            rounds: k,
+            marks: m,
+            vertices_at: i,
+            faces_at: j,
+        } => {
+            let reason = refusal(v, f, k, vertices.len(), faces.len(), marks.len());
+            if reason != 0 {
+                return Input::Refused(reason, 0);
+            }
+            store_vertices(&text[i..], v as usize, m, vertices, marks);
+            store_faces(&text[j..], f as usize, faces);
+            Input::Net {
+                rounds: k,
+                vertices: v as usize,
+                faces: f as usize,
+            }
+        }
+    }
+}

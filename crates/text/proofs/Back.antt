@@ -1,0 +1,95 @@
+-- Reading the text that a net is written as gives the net back. Assumes nothing.
+use mathlib.Core.Path.{_≡_, refl, ap, _∙_}
+use mathlib.Core.Bool.{true, false}
+use mathlib.Core.List.{List, [], _∷_, _++_, append-assoc, append-nil}
+use Prim.Native.Nat.{ℕ, _≤_}
+use lib.IntN.{ℤ}
+use lib.Signed.{mag}
+use lib.ListN.{length}
+use borrow.Author.Tests.{eq-eqb}
+use Rattle.decimal.specs.Decimal.{Read, found, isDigit, naturalText, integerText}
+use Rattle.decimal.proofs.Back.{natural-back, integer-back}
+use Rattle.text.specs.Bytes.{bytes}
+use Rattle.text.specs.Form.{Counts, Vertex, Face, Net, Names, input, marked, unmarked, corners, namesText, readNames, endedBy, coordinate, natural, readCounts, readVertex, readFace, rows, parsed, parseHead, parseBody, parse}
+use Rattle.text.specs.Text.{countsText, vertexText, faceText, texts, netText}
+use Rattle.text.specs.Written.{CountsFit, VertexFits, FaceFits, Each, NetFits}
+
+-- ---- a number and the byte after it
+ends : {A : Type 0} (e : ℕ) (v : A) (rest : List ℕ) → endedBy e (found v (e ∷ rest)) ≡ found v rest
+ends e v rest = rw (eq-eqb e e refl)
+
+module _ (e : ℕ) (d : isDigit e ≡ false) where
+  natural-field : (limit n : ℕ) (rest : List ℕ) → n ≤ limit → natural limit e (naturalText n ++ (e ∷ rest)) ≡ found n rest
+  unfolding natural
+  natural-field limit n rest h = ap (endedBy e) (natural-back limit n (e ∷ rest) h (record { none = d })) ∙ ends e n rest
+
+  integer-field : (z : ℤ) (rest : List ℕ) → mag z ≤ 2147483647 → coordinate e (integerText z ++ (e ∷ rest)) ≡ found z rest
+  unfolding coordinate
+  integer-field z rest h = ap (endedBy e) (integer-back z (e ∷ rest) h (record { none = d })) ∙ ends e z rest
+
+-- ---- lines
+pub names-back : (n : Names) (rest : List ℕ) → readNames (namesText n ++ rest) ≡ found n rest
+unfolding readNames bytes
+names-back input rest = refl
+names-back marked rest = refl
+names-back unmarked rest = refl
+names-back corners rest = refl
+
+pub counts-back : (n : Counts) (rest : List ℕ) → CountsFit n → readCounts (countsText n ++ rest) ≡ found n rest
+unfolding readCounts countsText
+counts-back n rest h =
+    simp append-assoc
+    (rw (natural-field 32 refl 2147483647 (n .vertices) _ (h .vertices), natural-field 32 refl 2147483647 (n .faces) _ (h .faces), natural-field 10 refl 2147483647 (n .rounds) rest (h .rounds)))
+
+pub vertex-back : (v : Vertex) → VertexFits v → (rest : List ℕ) → readVertex true (vertexText v ++ rest) ≡ found v rest
+unfolding readVertex vertexText
+vertex-back v h rest =
+    simp append-assoc
+    (rw (integer-field 32 refl (v .x) _ (h .x), integer-field 32 refl (v .y) _ (h .y), integer-field 32 refl (v .z) _ (h .z), natural-field 10 refl 255 (v .mark) rest (h .mark)))
+
+pub face-back : (f : Face) → FaceFits f → (rest : List ℕ) → readFace (faceText f ++ rest) ≡ found f rest
+unfolding readFace faceText
+face-back f h rest =
+    simp append-assoc
+    (rw (natural-field 32 refl 2147483647 (f .a) _ (h .a), natural-field 32 refl 2147483647 (f .b) _ (h .b), natural-field 32 refl 2147483647 (f .c) _ (h .c), natural-field 10 refl 2147483647 (f .d) rest (h .d)))
+
+-- ---- lines after each other
+pub rows-back : {A : Type 0} {P : A → Type 0} (read : List ℕ → Read A) (text : A → List ℕ) → ((v : A) → P v → (rest : List ℕ) → read (text v ++ rest) ≡ found v rest)
+    → (vs : List A) (rest : List ℕ) → Each P vs → rows read (length vs) (texts text vs ++ rest) ≡ record { values = vs; rest = rest }
+unfolding rows texts Each
+rows-back read text back [] rest h = refl
+rows-back read text back (v ∷ vs) rest h =
+    rw (append-assoc (text v) (texts text vs) rest, back v (h .0) (texts text vs ++ rest), rows-back read text back vs rest (h .1))
+
+-- ---- the whole text
+head-back : (n : Counts) (rest : List ℕ) → CountsFit n → parseHead (namesText input ++ (countsText n ++ (namesText marked ++ rest))) ≡ parsed (record { counts = n; marks = true }) rest
+unfolding parseHead
+head-back n rest h = rw (names-back input (countsText n ++ (namesText marked ++ rest)), counts-back n (namesText marked ++ rest) h, names-back marked rest)
+
+body-back : (n : Net) → NetFits n
+    → parseBody (record { counts = n .counts; marks = true }) (texts vertexText (n .vertices) ++ (namesText corners ++ (texts faceText (n .faces) ++ []))) ≡ parsed n []
+unfolding parseBody
+body-back n h =
+    let k = namesText corners ++ (texts faceText (n .faces) ++ []) in
+    let a = rows-back (readVertex true) vertexText vertex-back (n .vertices) k (h .vertices) in
+    let b = rows-back readFace faceText face-back (n .faces) [] (h .faces) in
+    rw (
+      ← (h .vertexCount),
+      ← (h .faceCount),
+      a,
+      eq-eqb (length (n .vertices)) (length (n .vertices)) refl,
+      names-back corners (texts faceText (n .faces) ++ []),
+      b,
+      eq-eqb (length (n .faces)) (length (n .faces)) refl,
+      h .vertexCount,
+      h .faceCount,
+    )
+
+-- Reading what is written for a net gives that net back.
+pub net-back : (n : Net) → NetFits n → parse (netText n) ≡ parsed n []
+unfolding parse netText
+net-back n h =
+    let f = append-nil (texts faceText (n .faces)) in
+    rw (← f)
+    (simp append-assoc
+    (rw (head-back (n .counts) (texts vertexText (n .vertices) ++ (namesText corners ++ (texts faceText (n .faces) ++ []))) (h .counts)) (body-back n h)))

@@ -1,0 +1,132 @@
+-- Reading lines: names by their first bytes, a number with the byte after it. Assumes nothing.
+use mathlib.Core.Path.{_≡_, refl, sym, ap, _∙_}
+use mathlib.Core.Bool.{Bool, true, false, cond, _&&_}
+use mathlib.Core.List.{List, [], _∷_}
+use Prim.Native.Nat.{ℕ, _+_, _≤_, _<_}
+use native.Mathlib.Decide.{decLt}
+use native.Mathlib.Numerals.{add-one}
+use native.Mathlib.Omega.{arith}
+use lib.Dec.{eqb}
+use lib.IntN.{ℤ}
+use lib.ListN.{length, getD, drop, drop-of-length-le}
+use lib.Seq.{drop-cons, drop-drop}
+use borrow.Author.Tests.{eq-eqb, ne-eqb}
+use Rattle.decimal.specs.Decimal.{Read, found, bad, readNatural}
+use Rattle.decimal.specs.Answers.{numberOf, integerOf, GivesNumber, GivesInteger}
+use Rattle.decimal.specs.declared.Number.{Number}
+use Rattle.decimal.specs.declared.Number.the-variants as number
+use Rattle.decimal.specs.declared.Integer.{Integer}
+use Rattle.decimal.specs.declared.Integer.the-variants as integer
+use Rattle.decimal.proofs.Reading.{natural-at-most}
+use Rattle.text.specs.Bytes.{bytes}
+use Rattle.text.specs.Form.{startsWith, endedBy, natural, Names, input, marked, unmarked, corners, namesText, readOr, readNames}
+use Rattle.text.proofs.Examples as examples
+
+-- ---- a text that starts with s, one byte a turn
+module _ (s l : List ℕ) (i : ℕ) (h : i < length s) (k : i < length l) where
+  both : startsWith (drop i s) (drop i l) ≡ (eqb (getD l i 0) (getD s i 0) && startsWith (drop (i + 1) s) (drop (i + 1) l))
+  both = rw (drop-cons s i 0 h, drop-cons l i 0 k, add-one i)
+
+  pub starts-differ : (getD l i 0 ≡ getD s i 0 → ⊥) → startsWith (drop i s) (drop i l) ≡ false
+  starts-differ n = both ∙ rw (ne-eqb (getD l i 0) (getD s i 0) n)
+
+  pub starts-agree : getD l i 0 ≡ getD s i 0 → startsWith (drop i s) (drop i l) ≡ startsWith (drop (i + 1) s) (drop (i + 1) l)
+  starts-agree e = both ∙ rw (eq-eqb (getD l i 0) (getD s i 0) e)
+
+pub starts-all : (s l : List ℕ) (i : ℕ) → length s ≤ i → startsWith (drop i s) (drop i l) ≡ true
+starts-all s l i h = rw (drop-of-length-le s {i = i} h)
+
+pub starts-short : (s l : List ℕ) → length l < length s → startsWith s l ≡ false
+starts-short [] l h = absurd (omega arith)
+starts-short (c ∷ s) [] h = refl
+starts-short (c ∷ s) (b ∷ l) h = go (eqb b c) (starts-short s l (omega arith))
+  where
+    go : (t : Bool) → startsWith s l ≡ false → (t && startsWith s l) ≡ false
+    go true e = e
+    go false e = refl
+
+-- ---- the byte after a number
+module _ {A : Type 0} (l : List ℕ) (at n e : ℕ) (v : A) where
+  rest : drop n (drop at l) ≡ drop (at + n) l
+  rest = drop-drop n at l
+
+  pub field-short : length l ≤ at + n → endedBy e (found v (drop n (drop at l))) ≡ bad
+  field-short h = ap (λ (m : List ℕ). endedBy e (found v m)) (rest ∙ drop-of-length-le l {i = at + n} h)
+
+  pub field-other : at + n < length l → (getD l (at + n) 0 ≡ e → ⊥) → endedBy e (found v (drop n (drop at l))) ≡ bad
+  field-other h d = ap (λ (m : List ℕ). endedBy e (found v m)) (rest ∙ drop-cons l (at + n) 0 h) ∙ rw (ne-eqb (getD l (at + n) 0) e d)
+
+  pub field-ends : at + n < length l → getD l (at + n) 0 ≡ e → endedBy e (found v (drop n (drop at l))) ≡ found v (drop (at + n + 1) l)
+  field-ends h d = ap (λ (m : List ℕ). endedBy e (found v m)) (rest ∙ drop-cons l (at + n) 0 h) ∙ rw (eq-eqb (getD l (at + n) 0) e d, add-one (at + n))
+
+-- ---- fields of a line: what the answer q says
+pub number-given : (l : List ℕ) (what : Read ℕ) (r q : Number) → GivesNumber r l what → r ≡ q → what ≡ numberOf q l
+number-given l what r q g e = sym (g .reads) ∙ ap (λ (o : Number). numberOf o l) e
+
+pub number-within : (l : List ℕ) (what : Read ℕ) (r : Number) (v n : ℕ) → GivesNumber r l what → r ≡ number.Value v n → n ≤ length l
+number-within l what r v n g e = rw e at (g .within)
+
+pub integer-given : (l : List ℕ) (what : Read ℤ) (r q : Integer) → GivesInteger r l what → r ≡ q → what ≡ integerOf q l
+integer-given l what r q g e = sym (g .reads) ∙ ap (λ (o : Integer). integerOf o l) e
+
+pub integer-within : (l : List ℕ) (what : Read ℤ) (r : Integer) (v : ℤ) (n : ℕ) → GivesInteger r l what → r ≡ integer.Value v n → n ≤ length l
+integer-within l what r v n g e = rw e at (g .within)
+
+-- a number that is read is at most the limit
+ended-limit : (limit : ℕ) (l : List ℕ) (e x v : ℕ) (k m : List ℕ) → readNatural limit l ≡ found x k → endedBy e (found x k) ≡ found v m → v ≤ limit
+ended-limit limit l e x v [] m q s = let z : _≡_ {A = ℕ} 0 1 = cc in absurd (omega arith)
+ended-limit limit l e x v (b ∷ k) m q s = go (eqb b e) s
+  where
+    go : (t : Bool) → cond t (found x k) bad ≡ found v m → v ≤ limit
+    go true p = natural-at-most limit l v (b ∷ k) (q ∙ ap (λ (y : ℕ). found y (b ∷ k)) (cc))
+    go false p = let z : _≡_ {A = ℕ} 0 1 = cc in absurd (omega arith)
+
+pub natural-limit : (limit e : ℕ) (l : List ℕ) (v : ℕ) (m : List ℕ) → natural limit e l ≡ found v m → v ≤ limit
+unfolding natural
+natural-limit limit e l v m p = go (readNatural limit l) refl p
+  where
+    go : (w : Read ℕ) → readNatural limit l ≡ w → endedBy e w ≡ found v m → v ≤ limit
+    go bad q s = let z : _≡_ {A = ℕ} 0 1 = cc in absurd (omega arith)
+    go (found x k) q s = ended-limit limit l e x v k m q s
+
+-- ---- the lines of names
+starts-length : (s l : List ℕ) → startsWith s l ≡ true → length s ≤ length l
+starts-length s l e = go (decLt (length l) (length s))
+  where
+    go : Dec (length l < length s) → length s ≤ length l
+    go (yes h) = let f = starts-short s l h in let z : _≡_ {A = ℕ} 0 1 = cc in absurd (omega arith)
+    go (no h) = omega arith
+
+-- the names n are there, or are not
+or-found : (n : Names) (l : List ℕ) (other : Read Names) → startsWith (namesText n) l ≡ true → readOr n l other ≡ found n (drop (length (namesText n)) l)
+or-found n l other e = ap (λ (t : Bool). cond t (found n (drop (length (namesText n)) l)) other) e
+
+or-other : (n : Names) (l : List ℕ) (other : Read Names) → startsWith (namesText n) l ≡ false → readOr n l other ≡ other
+or-other n l other e = ap (λ (t : Bool). cond t (found n (drop (length (namesText n)) l)) other) e
+
+module _ (l : List ℕ) where
+  pub names-input : startsWith (namesText input) l ≡ true → (found input (drop 22 l) ≡ readNames l) × (22 ≤ length l)
+  unfolding bytes readNames
+  names-input e = (sym (or-found input l _ e), starts-length (namesText input) l e)
+
+  module _ (e₁ : startsWith (namesText input) l ≡ false) where
+    pub names-marked : startsWith (namesText marked) l ≡ true → (found marked (drop 13 l) ≡ readNames l) × (13 ≤ length l)
+    unfolding bytes readNames
+    names-marked e = (sym (or-other input l _ e₁ ∙ or-found marked l _ e), starts-length (namesText marked) l e)
+
+    module _ (e₂ : startsWith (namesText marked) l ≡ false) where
+      pub names-unmarked : startsWith (namesText unmarked) l ≡ true → (found unmarked (drop 6 l) ≡ readNames l) × (6 ≤ length l)
+      unfolding bytes readNames
+      names-unmarked e = (sym (or-other input l _ e₁ ∙ or-other marked l _ e₂ ∙ or-found unmarked l _ e), starts-length (namesText unmarked) l e)
+
+      module _ (e₃ : startsWith (namesText unmarked) l ≡ false) where
+        before : readNames l ≡ readOr corners l bad
+        unfolding readNames
+        before = or-other input l _ e₁ ∙ or-other marked l _ e₂ ∙ or-other unmarked l _ e₃
+
+        pub names-corners : startsWith (namesText corners) l ≡ true → (found corners (drop 8 l) ≡ readNames l) × (8 ≤ length l)
+        unfolding bytes
+        names-corners e = (sym (before ∙ or-found corners l _ e), starts-length (namesText corners) l e)
+
+        pub names-other : startsWith (namesText corners) l ≡ false → (bad ≡ readNames l) × (0 ≤ length l)
+        names-other e = (sym (before ∙ or-other corners l _ e), omega arith)

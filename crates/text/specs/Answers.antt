@@ -1,0 +1,52 @@
+-- What the answers of the line readers say of a text l: the values, and how many bytes of l they took.
+use mathlib.Core.List.{List}
+use Prim.Native.Nat.{ℕ}
+use lib.ListN.{drop}
+use Rattle.decimal.specs.Decimal.{Read, found, bad}
+use Rattle.text.specs.Form.{Names, input, marked, unmarked, corners, Counts, Vertex, Face}
+use Rattle.text.specs.declared.NamesLine.{NamesLine}
+use Rattle.text.specs.declared.NamesLine.the-variants as names
+use Rattle.text.specs.declared.CountsLine.{CountsLine}
+use Rattle.text.specs.declared.CountsLine.the-variants as counts
+use Rattle.text.specs.declared.VertexLine.{VertexLine}
+use Rattle.text.specs.declared.VertexLine.the-variants as vertex
+use Rattle.text.specs.declared.FaceLine.{FaceLine}
+use Rattle.text.specs.declared.FaceLine.the-variants as face
+
+abbrev pub namesOf : NamesLine → List ℕ → Read Names
+namesOf (names.Input n) l = found input (drop n l)
+namesOf (names.Marked n) l = found marked (drop n l)
+namesOf (names.Unmarked n) l = found unmarked (drop n l)
+namesOf (names.Corners n) l = found corners (drop n l)
+namesOf names.Other l = bad
+
+abbrev pub namesUsed : NamesLine → ℕ
+namesUsed (names.Input n) = n
+namesUsed (names.Marked n) = n
+namesUsed (names.Unmarked n) = n
+namesUsed (names.Corners n) = n
+namesUsed names.Other = 0
+
+abbrev pub countsOf : CountsLine → List ℕ → Read Counts
+countsOf (counts.Counts v f k n) l = found (record { vertices = v; faces = f; rounds = k }) (drop n l)
+countsOf counts.Bad l = bad
+
+abbrev pub countsUsed : CountsLine → ℕ
+countsUsed (counts.Counts v f k n) = n
+countsUsed counts.Bad = 0
+
+abbrev pub vertexOf : VertexLine → List ℕ → Read Vertex
+vertexOf (vertex.Vertex x y z m n) l = found (record { x = x; y = y; z = z; mark = m }) (drop n l)
+vertexOf vertex.Bad l = bad
+
+abbrev pub vertexUsed : VertexLine → ℕ
+vertexUsed (vertex.Vertex x y z m n) = n
+vertexUsed vertex.Bad = 0
+
+abbrev pub faceOf : FaceLine → List ℕ → Read Face
+faceOf (face.Face a b c d n) l = found (record { a = a; b = b; c = c; d = d }) (drop n l)
+faceOf face.Bad l = bad
+
+abbrev pub faceUsed : FaceLine → ℕ
+faceUsed (face.Face a b c d n) = n
+faceUsed face.Bad = 0

@@ -1,0 +1,5 @@
+pub mod Bytes
+pub mod Form
+pub mod Text
+pub mod Answers
+pub mod Written
