@@ -157,7 +157,7 @@ module _ (k v n : ℕ) (points : List ℤ) (faces marks w : List ℕ) (ok : Prep
             let b₂ = e .count ∙ sym (count-is r (n * 4 ^ i) points₁ faces₁ marks₁ w₁ current) in
             let d₁ = a .corners in
             let d₂ : length (steps kobbelt (i + 1) m .faces) ≡ 4 * length (steps kobbelt i m .faces) =
-                ap (λ (x : Net). length (x .faces)) (sym nx) ∙ ap length (step-faces kobbelt _) ∙ length-refined quads _ _ ∙ ap (λ (x : Net). 4 * length (x .faces)) front-is in
+            ap (λ (x : Net). length (x .faces)) (sym nx) ∙ ap length (step-faces kobbelt _) ∙ length-refined quads _ _ ∙ ap (λ (x : Net). 4 * length (x .faces)) front-is in
             record {
               count = c₂;
               corners = omega arith;

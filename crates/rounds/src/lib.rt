@@ -43,7 +43,14 @@ pub fn rounds(
     let mut corners = n;
     let mut i = 0;
     while i < k {
-        count = round(&mut *points, &mut *faces, &mut *marks, &mut *work, count, corners);
+        count = round(
+            &mut *points,
+            &mut *faces,
+            &mut *marks,
+            &mut *work,
+            count,
+            corners,
+        );
         corners *= 4;
         i += 1;
     }

@@ -7,17 +7,17 @@ use borrow.Author.Needs.{needs}
 use Rattle.capi.proofs.report_of.Statement.{statement}
 use Rattle.capi.proofs.report_of.Tie as tie
 
-enum-told : tie.Need-enum-told
-enum-told c = search needs
-
 enum-known-answer : tie.Need-enum-known-answer
 enum-known-answer c = search needs
 
+enum-known-answer-2 : tie.Need-enum-known-answer-2
+enum-known-answer-2 c = search needs
+
 returns : tie.Need-returns
-returns c = sym (ap (λ (a : Answer). report (resultOf a)) (c .enum-told .given .1))
+returns c = sym (ap (λ (a : Answer). report (resultOf a)) (c .before .answer .given .1))
 
 returns-2 : tie.Need-returns-2
-returns-2 c = sym (ap (λ (a : Answer). report (resultOf a)) (c .before .answer .given .1))
+returns-2 c = sym (ap (λ (a : Answer). report (resultOf a)) (c .before .answer2 .given .1))
 
 pub report-of-spec : {M : Type 1} → statement M
-report-of-spec = tie.close (tie.spec enum-told enum-known-answer returns returns-2)
+report-of-spec = tie.close (tie.spec enum-known-answer enum-known-answer-2 returns returns-2)
