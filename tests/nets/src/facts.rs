@@ -115,7 +115,7 @@ fn accepted_line(kind: &str, net: &Net, rng: &mut Rng) -> String {
         ("steps", list(nets[1..].iter().map(|net| net_text(net)))),
         (
             "readings",
-            list(readings(net).map(|r| reading_text(&nets, r))),
+            list(readings(net).iter().map(|r| reading_text(&nets, *r))),
         ),
         ("traits", list(traits(net, &steps).iter().map(quoted))),
     ])
@@ -145,18 +145,15 @@ fn near_limits(rng: &mut Rng) -> Case {
     let faces = rng.pick(&[0, 1, 64, 65, 1_024, 1_025, 4_096, 4_097]);
     let rounds = rng.pick(&[0, 1, 2, 3, 4, 5, 6, 7]);
     let mut room = Capacity::for_refined_faces(faces << (2 * rounds));
-    let short = |length: &mut usize, rng: &mut Rng| {
-        if rng.one_in(10) {
-            *length = length.saturating_sub(1);
-        }
-    };
     for length in [
         &mut room.vertices,
         &mut room.faces,
         &mut room.marks,
         &mut room.workspace,
     ] {
-        short(length, rng);
+        if rng.one_in(10) {
+            *length = length.saturating_sub(1);
+        }
     }
     Case {
         rounds,
@@ -191,13 +188,18 @@ fn call_line(kind: &str, case: &Case, reasons: &[u32]) -> String {
 fn call_text(case: &Case, with_net: bool) -> String {
     let lengths = [case.vertices.len(), case.faces.len(), case.marks.len()];
     let room = case.capacity;
-    let limits = check_call(case.rounds, &case.vertices, &case.faces, &case.marks, &room);
     let net = Net::from_tables(&case.vertices, &case.faces, &case.marks);
     let is_whole = lengths == [3 * net.points.len(), 4 * net.faces.len(), net.points.len()];
-    let verdict = match case.outcome() {
-        _ if !with_net => told(limits),
-        Outcome::Refined { .. } => vec![],
-        Outcome::Refused { reason, place } => vec![reason, place],
+    let verdict = match with_net.then(|| case.outcome()) {
+        Some(Outcome::Refined { .. }) => vec![],
+        Some(Outcome::Refused { reason, place }) => vec![reason, place],
+        None => told(check_call(
+            case.rounds,
+            &case.vertices,
+            &case.faces,
+            &case.marks,
+            &room,
+        )),
     };
     let mut fields = vec![
         ("rounds", case.rounds.to_string()),
@@ -228,14 +230,13 @@ fn net_text(net: &Net) -> String {
 
 /// Every segment from each end and every unmarked loop from its lowest
 /// vertex, both ways.
-fn readings(net: &Net) -> impl Iterator<Item = Reading> {
+fn readings(net: &Net) -> Vec<Reading> {
     let boundary = Boundary::new(net);
-    let all = boundary.readings().into_iter();
     let is_kept = |reading: &Reading| {
         let vertices = boundary.vertices(*reading).expect("a listed reading");
         reading.form == Form::Open || vertices.iter().all(|&v| reading.start <= v)
     };
-    all.filter(is_kept).collect::<Vec<_>>().into_iter()
+    boundary.readings().into_iter().filter(is_kept).collect()
 }
 
 /// A reading: its vertices in each of the nets, its points, and the rounded
