@@ -1,5 +1,5 @@
 -- The sizes of coordinates and of the three rules of the curve on them; numerators over 16 become numerators over 7,257,600.
-use mathlib.Core.Path.{_≡_, refl, sym, ap, _∙_}
+use mathlib.Core.Path.{_≡_, sym, ap, subst}
 use mathlib.Core.List.{List}
 use Prim.Native.Nat.{ℕ, _+_, _*_, _≤_}
 use native.Mathlib.Omega.{arith}
@@ -12,8 +12,12 @@ use Rattle.integers.proofs.Range.{fits-abs}
 use Rattle.curve.specs.Weights.{kobbelt, interior, endEdge, singleEdge}
 use Rattle.curve.specs.Range.{InRange}
 use Rattle.curve.proofs.Distance.{interior-size, end-size, single-size}
+use Rattle.fractions.specs.Fraction.{Fraction, whole}
+use Rattle.rules.specs.Rules.{interiorPoint, endPoint, midpoint}
+use Rattle.rules.proofs.Ties.{equals-boundary-interior, equals-boundary-end, equals-boundary-single}
 use Rattle.rules.proofs.Norm.{tame}
 use Rattle.scheme.specs.Step.{axis}
+use Rattle.curvepoints.specs.Exact.{OnAxes, ExactEdge, ExactPoint}
 
 pub axis-bound : (p : List ℤ) (a v : ℕ) → Bounded 67108864 p → natAbs (axis p a v) ≤ 67108864
 unfolding axis
@@ -40,6 +44,26 @@ module _ (t : List ℤ) (b : Bounded 67108864 t) (a : ℕ) where
   pub single-bound : (p q : ℕ) → natAbs (singleEdge kobbelt (axis t a p) (axis t a q)) ≤ 20 * 67108864
   single-bound p q = single-size kobbelt tame (axis t a p) (axis t a q) 67108864 (axis-bound t a p b) (axis-bound t a q b)
 
+  -- the rules in fractions
+  pub exact-interior : (p q r s : ℕ)
+      → ExactEdge (interiorPoint kobbelt (whole (axis t a p)) (whole (axis t a q)) (whole (axis t a r)) (whole (axis t a s))) (pos 453600 *ℤ interior kobbelt (axis t a p) (axis t a q) (axis t a r) (axis t a s))
+  exact-interior p q r s = record {
+    value = equals-boundary-interior (axis t a p) (axis t a q) (axis t a r) (axis t a s);
+    small = scaled-bound (interior kobbelt (axis t a p) (axis t a q) (axis t a r) (axis t a s)) (interior-bound p q r s);
+  }
+
+  pub exact-end : (p q r : ℕ) → ExactEdge (endPoint kobbelt (whole (axis t a p)) (whole (axis t a q)) (whole (axis t a r))) (pos 453600 *ℤ endEdge kobbelt (axis t a p) (axis t a q) (axis t a r))
+  exact-end p q r = record {
+    value = equals-boundary-end (axis t a p) (axis t a q) (axis t a r);
+    small = scaled-bound (endEdge kobbelt (axis t a p) (axis t a q) (axis t a r)) (end-bound p q r);
+  }
+
+  pub exact-single : (p q : ℕ) → ExactEdge (midpoint (whole (axis t a p)) (whole (axis t a q))) (pos 453600 *ℤ singleEdge kobbelt (axis t a p) (axis t a q))
+  exact-single p q = record {
+    value = equals-boundary-single (axis t a p) (axis t a q);
+    small = scaled-bound (singleEdge kobbelt (axis t a p) (axis t a q)) (single-bound p q);
+  }
+
 -- a rule on what was read
 pub interior-read : (n x y z u x′ y′ z′ u′ : ℤ) → n ≡ interior kobbelt x y z u → x ≡ x′ → y ≡ y′ → z ≡ z′ → u ≡ u′ → n ≡ interior kobbelt x′ y′ z′ u′
 interior-read n x y z u x′ y′ z′ u′ e a b c d = cc
@@ -49,3 +73,11 @@ end-read n x y z x′ y′ z′ e a b c = cc
 
 pub single-read : (n x y x′ y′ : ℤ) → n ≡ singleEdge kobbelt x y → x ≡ x′ → y ≡ y′ → n ≡ singleEdge kobbelt x′ y′
 single-read n x y x′ y′ e a b = cc
+
+-- an exact point from its axes
+pub on-axes : (f : ℕ → ℤ) (g : ℕ → Fraction) (x y z : ℤ) → OnAxes f x y z → ((a : ℕ) → ExactEdge (g a) (f a)) → ExactPoint g x y z
+on-axes f g x y z e k = record {
+  on₀ = subst (λ (t : ℤ). ExactEdge (g 0) t) (sym (e .on₀)) (k 0);
+  on₁ = subst (λ (t : ℤ). ExactEdge (g 1) t) (sym (e .on₁)) (k 1);
+  on₂ = subst (λ (t : ℤ). ExactEdge (g 2) t) (sym (e .on₂)) (k 2);
+}

@@ -1,6 +1,5 @@
 pub mod Written
 pub mod Edges
 pub mod Faces
-pub mod Mates
 pub mod Marks
 pub mod Round

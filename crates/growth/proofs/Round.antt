@@ -1,5 +1,5 @@
 -- What callers need of a round: that its tables meet what the functions require, and what the tables hold afterwards.
-use mathlib.Core.Path.{_≡_, refl, sym, ap, _∙_}
+use mathlib.Core.Path.{_≡_, refl, ap, _∙_}
 use mathlib.Core.Bool.{cond}
 use mathlib.Core.List.{List, _++_}
 use Prim.Native.Nat.{ℕ, _+_, _-_, _*_, _%_, _≤_, _<_}
@@ -8,19 +8,19 @@ use native.Mathlib.Omega.{arith}
 use lib.ListN.{length, getD, take, drop, length-append, length-drop, List·getD-append}
 use lib.Dec.{ltb}
 use borrow.Author.Tests.{le-ltb}
-use lib.Seq.{length-take-le, take-at, drop-at, getD-take, ext-getD}
+use lib.Seq.{take-at, drop-at}
 use Rattle.lists.proofs.Tabulate.{tabulate-cong}
 use Rattle.topology.specs.Shape.{Shape, Lawful, quads}
 use Rattle.topology.specs.Manifold.{Oriented}
-use Rattle.topology.proofs.Mates.{mate-le}
+use Rattle.topology.proofs.Mates.{edges-le}
 use Rattle.refinement.specs.Refined.{refinedVertices, refined, refinedMarks}
-use Rattle.refinement.specs.Mates.{mates, refinedMates}
+use Rattle.refinement.specs.Mates.{mates}
 use Rattle.refinement.proofs.Corners.{length-refined}
-use Rattle.refinement.proofs.Tables.{length-mates, getD-mates, mates-refined}
 use Rattle.adjacency.specs.Chains.{MateTable}
 use Rattle.tables.specs.Tables.{filled}
-use Rattle.growth.specs.Growth.{edges, Numbered, MatesIn, extended}
+use Rattle.growth.specs.Growth.{edges, Numbered, extended}
 use Rattle.growth.proofs.Edges.{length-both, both-mate, both-edge}
+use Rattle.growth.proofs.Marks.{length-extended}
 
 -- ---- a table filled from the front
 module _ {A : Type 0} (s d : List A) where
@@ -80,37 +80,25 @@ numbered-cong l w w′ f x = record { numbers = λ g b. f (length l + g) (omega 
 pub faces-front : (v : ℕ) (l c : List ℕ) → take (4 * length l) (filled (refined quads v l) c) ≡ refined quads v l
 faces-front v l c = filled-front (refined quads v l) c (4 * length l) (length-refined quads v l)
 
--- ---- mates
-
-pub mates-in : (l w : List ℕ) → length l % 4 ≡ 0 → length l ≤ 262144 → 4 * length l ≤ length w → MateTable l w → MatesIn (length l) w
-mates-in l w f s r t = record {
-  fours = f;
-  small = s;
-  room = r;
-  below = λ g b. let e = t .mates g b in let m = mate-le quads l g in omega arith;
-}
-
-mates-front : (l w : List ℕ) → length l ≤ length w → MateTable l w → take (length l) w ≡ mates quads l
-mates-front l w r t =
-    let a = length-take-le (length l) w r in
-    let b = length-mates quads l in
-    ext-getD 0 (take (length l) w) (mates quads l) (a ∙ sym b) (λ k h. getD-take (length l) w k 0 (omega arith) ∙ t .mates k (omega arith) ∙ sym (getD-mates quads l k (omega arith)))
-
--- mates refined in place are the mates of the refined net
-pub refined-mates : (v : ℕ) (l w : List ℕ) → Oriented quads v l → length l ≤ length w → MateTable l w → refinedMates quads (take (length l) w) ≡ mates quads (refined quads v l)
-refined-mates v l w ok r t = ap (refinedMates quads) (mates-front l w r t) ∙ sym (mates-refined quads v l ok)
-
-pub mated-refined : (v : ℕ) (l w : List ℕ) → Oriented quads v l → length l ≤ length w → MateTable l w → MateTable (refined quads v l) (filled (refinedMates quads (take (length l) w)) w)
-mated-refined v l w ok r t =
-    let e = refined-mates v l w ok r t in
-    let n = length-mates quads (refined quads v l) in
-    rw e (record { mates = λ g b. filled-at (mates quads (refined quads v l)) w 0 g (omega arith) ∙ getD-mates quads (refined quads v l) g b })
+pub faces-rest : (v : ℕ) (l c : List ℕ) → drop (4 * length l) (filled (refined quads v l) c) ≡ drop (4 * length l) c
+faces-rest v l c = filled-rest (refined quads v l) c (4 * length l) (length-refined quads v l)
 
 -- ---- marks
+
+-- there are at most four times as many refined vertices as half-edges
+pub vertices-refined : (v : ℕ) (l : List ℕ) → v ≤ length l → refinedVertices quads v l ≤ 4 * length l
+unfolding quads
+vertices-refined v l h = let e = edges-le quads l in omega arith
 
 pub marks-refined : (S : Shape) (v : ℕ) (l marks : List ℕ) → extended v (refinedVertices S v l) marks ≡ refinedMarks S v l marks
 unfolding extended refinedMarks
 marks-refined S v l marks = refl
+
+pub marks-front : (v count : ℕ) (marks : List ℕ) → take count (filled (extended v count marks) marks) ≡ extended v count marks
+marks-front v count marks = filled-front (extended v count marks) marks count (length-extended v count marks)
+
+pub marks-rest : (v count : ℕ) (marks : List ℕ) → drop count (filled (extended v count marks) marks) ≡ drop count marks
+marks-rest v count marks = filled-rest (extended v count marks) marks count (length-extended v count marks)
 
 -- only the first v marks count
 pub marks-cong : (S : Shape) (v : ℕ) (l m m′ : List ℕ) → ((p : ℕ) → p < v → getD m p 0 ≡ getD m′ p 0) → refinedMarks S v l m ≡ refinedMarks S v l m′

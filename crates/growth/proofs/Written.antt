@@ -45,18 +45,6 @@ written-one i f w x h e = record {
   behind = λ k l. getD-set-other w i k x 0 (omega arith);
 }
 
--- first up to b, then from b on
-written-on : (a b e : ℕ) (f : ℕ → ℕ) (w w₁ w₂ : List ℕ) → a ≤ b → b ≤ e → Written a b f w w₁ → Written b e f w₁ w₂ → Written a e f w w₂
-written-on a b e f w w₁ w₂ ab be x y = record {
-  before = λ k h. y .before k (omega arith) ∙ x .before k h;
-  inside = λ k h g. go k h g (decLt k b);
-  behind = λ k h. y .behind k h ∙ x .behind k (omega arith);
-}
-  where
-    go : (k : ℕ) → a ≤ k → k < e → Dec (k < b) → getD w₂ k 0 ≡ f k
-    go k h g (yes l) = y .before k l ∙ x .inside k h l
-    go k h g (no l) = y .inside k (omega arith) g
-
 pub length-four : (w : List ℕ) (i a b c d : ℕ) → length (putFour w i a b c d) ≡ length w
 unfolding putFour
 length-four w i a b c d = simp length-set
@@ -65,21 +53,22 @@ written-four : (i : ℕ) (f : ℕ → ℕ) (w : List ℕ) (a b c d : ℕ) → i 
     → Written i (i + 4) f w (putFour w i a b c d)
 unfolding putFour
 written-four i f w a b c d h ea eb ec ed =
-    let w₁ : List ℕ = set w i a in
-    let w₂ : List ℕ = set w₁ (i + 1) b in
-    let w₃ : List ℕ = set w₂ (i + 2) c in
-    let l₁ : length w₁ ≡ length w = length-set w i a in
-    let l₂ : length w₂ ≡ length w₁ = length-set w₁ (i + 1) b in
-    let l₃ : length w₃ ≡ length w₂ = length-set w₂ (i + 2) c in
-    let e₂ : i + 1 + 1 ≡ i + 2 = omega arith in
-    let e₃ : i + 2 + 1 ≡ i + 3 = omega arith in
-    let e₄ : i + 3 + 1 ≡ i + 4 = omega arith in
-    let x₁ : Written i (i + 1) f w w₁ = written-one i f w a (omega arith) ea in
-    let x₂ : Written (i + 1) (i + 2) f w₁ w₂ = rw e₂ at (written-one (i + 1) f w₁ b (omega arith) eb) in
-    let x₃ : Written (i + 2) (i + 3) f w₂ w₃ = rw e₃ at (written-one (i + 2) f w₂ c (omega arith) ec) in
-    let x₄ : Written (i + 3) (i + 4) f w₃ (set w₃ (i + 3) d) = rw e₄ at (written-one (i + 3) f w₃ d (omega arith) ed) in
-    written-on i (i + 3) (i + 4) f w w₃ (set w₃ (i + 3) d) (omega arith) (omega arith)
-    (written-on i (i + 2) (i + 3) f w w₂ w₃ (omega arith) (omega arith) (written-on i (i + 1) (i + 2) f w w₁ w₂ (omega arith) (omega arith) x₁ x₂) x₃) x₄
+    let w₃ : List ℕ = set w (i + 3) d in
+    let w₂ : List ℕ = set w₃ (i + 2) c in
+    let w₁ : List ℕ = set w₂ (i + 1) b in
+    let l₃ : length w₃ ≡ length w = length-set w (i + 3) d in
+    let l₂ : length w₂ ≡ length w₃ = length-set w₃ (i + 2) c in
+    let l₁ : length w₁ ≡ length w₂ = length-set w₂ (i + 1) b in
+    let e₃ : i + 3 + 1 ≡ i + 4 = omega arith in
+    let e₂ : i + 2 + 1 ≡ i + 3 = omega arith in
+    let e₁ : i + 1 + 1 ≡ i + 2 = omega arith in
+    let x₃ : Written (i + 3) (i + 4) f w w₃ = rw e₃ at (written-one (i + 3) f w d (omega arith) ed) in
+    let x₂ : Written (i + 2) (i + 3) f w₃ w₂ = rw e₂ at (written-one (i + 2) f w₃ c (omega arith) ec) in
+    let x₁ : Written (i + 1) (i + 2) f w₂ w₁ = rw e₁ at (written-one (i + 1) f w₂ b (omega arith) eb) in
+    let x₀ : Written i (i + 1) f w₁ (set w₁ i a) = written-one i f w₁ a (omega arith) ea in
+    written-then i (i + 1) (i + 4) f w w₁ (set w₁ i a) (omega arith) (omega arith)
+    (written-then (i + 1) (i + 2) (i + 4) f w w₂ w₁ (omega arith) (omega arith)
+    (written-then (i + 2) (i + 3) (i + 4) f w w₃ w₂ (omega arith) (omega arith) x₃ x₂) x₁) x₀
 
 -- four numbers given by G, from 4h on
 written-quarter : (G : ℕ → ℕ → ℕ) (i h : ℕ) (w w′ : List ℕ) → i ≡ 4 * h → i + 4 ≤ length w → w′ ≡ putFour w i (G h 0) (G h 1) (G h 2) (G h 3) → Written i (i + 4) (λ (k : ℕ). G (k / 4) (k % 4)) w w′

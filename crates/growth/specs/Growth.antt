@@ -1,5 +1,5 @@
 -- One round's topology in lent tables. A net of n half-edges has its corners at the front of one table; another table w has the mate of h at h and
--- the number of its edge at n + h. The refined corners and mates take the place of the old ones.
+-- the number of its edge at n + h. The refined corners take the place of the old ones.
 use mathlib.Core.Path.{_≡_}
 use mathlib.Core.Bool.{cond}
 use mathlib.Core.List.{List}
@@ -34,13 +34,9 @@ cornerBy S v count c e h (suc zero) = v + e h
 cornerBy S v count c e h (suc (suc zero)) = v + count + S .face h
 cornerBy S v count c e h (suc (suc (suc j))) = v + e (S .prev h)
 
--- the mate of side 0 of a refined face at a half-edge with the mate m, of n half-edges
-unfoldable pub firstMate : ℕ → ℕ → ℕ
-firstMate n m = cond (ltb m n) (4 * quads .next m + 3) (4 * n)
-
 -- w with four numbers from the place i on
 unfoldable pub putFour : List ℕ → ℕ → ℕ → ℕ → ℕ → ℕ → List ℕ
-putFour w i a b c d = set (set (set (set w i a) (i + 1) b) (i + 2) c) (i + 3) d
+putFour w i a b c d = set (set (set (set w (i + 3) d) (i + 2) c) (i + 1) b) i a
 
 -- w′ is w but for the numbers from a up to e, which are those of f
 pub record Written (a e : ℕ) (f : ℕ → ℕ) (w w′ : List ℕ) : Type 0 where
@@ -67,20 +63,6 @@ pub record Net (n v count : ℕ) (faces w : List ℕ) : Type 0 where
   pub behind : 2 * n ≤ length w
   pub numbered : Numbered (take n faces) w n
   pub counted : count ≡ edgeCount quads (take n faces)
-
--- the mates of face f of n half-edges, in a table that has room for the refined ones
-pub record SidesIn (n f : ℕ) (w : List ℕ) : Type 0 where
-  pub small : n ≤ 262144
-  pub lt : 4 * f + 4 ≤ n
-  pub room : 4 * n ≤ length w
-  pub below : (g : ℕ) → 4 * f ≤ g → g < 4 * f + 4 → getD w g 0 ≤ n
-
--- a mate for each of n half-edges, by fours, and room for four times as many
-pub record MatesIn (n : ℕ) (w : List ℕ) : Type 0 where
-  pub fours : n % 4 ≡ 0
-  pub small : n ≤ 262144
-  pub room : 4 * n ≤ length w
-  pub below : (g : ℕ) → g < n → getD w g 0 ≤ n
 
 -- the first v marks, and 0 up to `count`
 unfoldable pub extended : ℕ → ℕ → List ℕ → List ℕ

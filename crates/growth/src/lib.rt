@@ -1,4 +1,4 @@
-// One round's topology on lent tables, in place: edge numbers, refined faces, refined mates and refined marks.
+// One round's topology on lent tables, in place: edge numbers, refined faces and refined marks.
 ghost use mathlib.Core.Path.{_≡_};
 ghost use Prim.Native.Nat.{ℕ, _+_, _*_, _/_, _%_, _≤_, _<_};
 ghost use mathlib.Core.List.{_++_};
@@ -7,9 +7,9 @@ ghost use Rattle.search.specs.Search.{count};
 ghost use Rattle.topology.specs.Shape.{quads};
 ghost use Rattle.topology.specs.HalfEdge.{firstMet, edgeCount, edge};
 ghost use Rattle.refinement.specs.Refined.{refined};
-ghost use Rattle.refinement.specs.Mates.{mates, refinedMate, refinedMates};
+ghost use Rattle.refinement.specs.Mates.{mates};
 ghost use Rattle.tables.specs.Tables.{filled};
-ghost use Rattle.growth.specs.Growth.{edges, Mated, Numbered, cornerBy, firstMate, putFour, Written, FaceIn, Net, SidesIn, MatesIn, extended};
+ghost use Rattle.growth.specs.Growth.{edges, Mated, Numbered, cornerBy, putFour, Written, FaceIn, Net, extended};
 
 // Numbers the edge of half-edge h, where `edges` are met before; the answer is how many are met then.
 fn number_side(faces: &[u32], work: &mut [u32], h: usize, edges: usize) -> usize
@@ -45,23 +45,24 @@ pub fn number_edges(faces: &[u32], work: &mut [u32]) -> usize
     edges
 }
 
-// Writes four numbers from the place `at` on.
-fn put_four(table: &mut [u32], at: usize, a: u32, b: u32, c: u32, d: u32)
+// Writes four numbers from the place `at` on, the last first.
+pub fn put_four(table: &mut [u32], at: usize, a: u32, b: u32, c: u32, d: u32)
     requires { ⌜ at + 4 ≤ length (now table) ⌝ }
     ensures { λ _. ⌜ now (table .exit) ≡ putFour (now (table .entry)) at a b c d ⌝ }
 {
-    table[at] = a;
-    table[at + 1] = b;
-    table[at + 2] = c;
     table[at + 3] = d;
+    table[at + 2] = c;
+    table[at + 1] = b;
+    table[at] = a;
 }
 
-// Writes the four refined faces of face f over those that came in its place.
+// Writes the refined faces of face f, the last first, from the corners a to d of the face and the points p to s of its sides.
 fn refine_face(faces: &mut [u32], work: &[u32], n: usize, v: usize, edges: usize, f: usize)
     requires { ⌜ FaceIn n v edges f (now faces) (now work) ⌝ }
     ensures { λ _. ⌜ Written (16 * f) (16 * f + 16) (λ (k : ℕ). cornerBy quads v edges (λ (h : ℕ). getD (now (faces .entry)) h 0) (λ (h : ℕ). getD (now (work .entry)) (n + h) 0) (k / 4) (k % 4)) (now (faces .entry)) (now (faces .exit)) ⌝ }
 {
     let h = 4 * f;
+    let at = 16 * f;
     let first = v as u32;
     let point = (v + edges + f) as u32;
     let e = n + h;
@@ -73,21 +74,10 @@ fn refine_face(faces: &mut [u32], work: &[u32], n: usize, v: usize, edges: usize
     let b = faces[h + 1];
     let c = faces[h + 2];
     let d = faces[h + 3];
-    put_four(&mut *faces, 16 * f + 12, d, s, point, r);
-    put_four(&mut *faces, 16 * f + 8, c, r, point, q);
-    put_four(&mut *faces, 16 * f + 4, b, q, point, p);
-    put_four(&mut *faces, 16 * f, a, p, point, s);
-}
-
-// The mate of side 0 of a refined face at a half-edge with the mate m, of n half-edges.
-fn first_mate(n: u32, m: u32) -> u32
-    requires { ⌜ (m ≤ n) × (n ≤ 262144) ⌝ }
-    ensures { λ r. ⌜ r ≡ firstMate n m ⌝ }
-{
-    if m < n {
-        return 16 * (m / 4) + 4 * ((m + 1) % 4) + 3;
-    }
-    4 * n
+    put_four(&mut *faces, at + 12, d, s, point, r);
+    put_four(&mut *faces, at + 8, c, r, point, q);
+    put_four(&mut *faces, at + 4, b, q, point, p);
+    put_four(&mut *faces, at, a, p, point, s);
 }
 
 // Refines the faces in place, from the last to the first.
@@ -102,28 +92,6 @@ pub fn refine_faces(faces: &mut [u32], work: &[u32], n: usize, v: usize, edges: 
     }
 }
 
-// Writes the mates of the four refined faces of face f, from the mates of its sides.
-fn refine_sides(work: &mut [u32], n: usize, f: usize)
-    requires { ⌜ SidesIn n f (now work) ⌝ }
-    ensures { λ _. ⌜ Written (16 * f) (16 * f + 16) (λ (k : ℕ). refinedMate quads n (λ (h : ℕ). getD (now (work .entry)) h 0) (k / 4) (k % 4)) (now (work .entry)) (now (work .exit)) ⌝ }
-{
-    let h = 4 * f;
-    let a = work[h];
-    let b = work[h + 1];
-    let c = work[h + 2];
-    let d = work[h + 3];
-    let none = n as u32;
-    let p = first_mate(none, a);
-    let q = first_mate(none, b);
-    let r = first_mate(none, c);
-    let s = first_mate(none, d);
-    let g = 16 * f as u32;
-    put_four(&mut *work, 16 * f + 12, s, g + 2, g + 9, 4 * c);
-    put_four(&mut *work, 16 * f + 8, r, g + 14, g + 5, 4 * b);
-    put_four(&mut *work, 16 * f + 4, q, g + 10, g + 1, 4 * a);
-    put_four(&mut *work, 16 * f, p, g + 6, g + 13, 4 * d);
-}
-
 // Extends the marks of v vertices by 0, to `count` marks.
 pub fn extend_marks(marks: &mut [u8], v: usize, count: usize)
     requires { ⌜ (v ≤ count) × (count ≤ length (now marks)) ⌝ }
@@ -133,17 +101,5 @@ pub fn extend_marks(marks: &mut [u8], v: usize, count: usize)
     while p < count {
         marks[p] = 0;
         p += 1;
-    }
-}
-
-// Refines the mates in place, from the last face to the first.
-pub fn refine_mates(work: &mut [u32], n: usize)
-    requires { ⌜ MatesIn n (now work) ⌝ }
-    ensures { λ _. ⌜ now (work .exit) ≡ filled (refinedMates quads (take n (now (work .entry)))) (now (work .entry)) ⌝ }
-{
-    let mut f = n / 4;
-    while f > 0 {
-        f -= 1;
-        refine_sides(&mut *work, n, f);
     }
 }

@@ -38,27 +38,27 @@ numerator-constant n c j h k =
 
 module _ (v : ℕ) (l : List ℕ) (ok : Manifold quads v l) (c : ℤ) where
   module _ (P : ℕ) (b : boundaryFrom quads l P < length l) where
-    extrapolated-all : extrapolatedAtZ l (λ (x : ℕ). c) P ≡ pos 60 *ℤ c
+    pub extrapolatedAt-constant : extrapolatedAtZ l (λ (x : ℕ). c) P ≡ pos 60 *ℤ c
     unfolding extrapolatedAtZ
-    extrapolated-all =
+    extrapolatedAt-constant =
         let s = fan-at v l ok P b .some in
         let t = fan-le v l ok P b in
         cond-elim (λ (z : ℤ). z ≡ pos 60 *ℤ c) (eqb (valence l P) 1) (extrapolatedCornerZ c c) (extrapolatedZ c (valence l P - 1) (λ (i : ℕ). c))
         (λ e. extrapolated-corner-constant c) (λ e. let k : valence l P ≡ 1 → ⊥ = eqb-false (valence l P) 1 e in extrapolated-constant c (valence l P - 1) (omega arith) (omega arith))
 
   module _ (P : ℕ) (b : boundaryFrom quads l P < length l) where
-    neighbour-all : (i : ℕ) → fanNeighbourZ l (λ (x : ℕ). c) P i ≡ pos 60 *ℤ c
+    pub fanNeighbour-constant : (i : ℕ) → fanNeighbourZ l (λ (x : ℕ). c) P i ≡ pos 60 *ℤ c
     unfolding fanNeighbourZ
-    neighbour-all i = cond-elim (λ (z : ℤ). z ≡ pos 60 *ℤ c) (eqb i (valence l P + 1)) (extrapolatedAtZ l (λ (x : ℕ). c) P) (pos 60 *ℤ c) (λ e. extrapolated-all P b) (λ e. refl)
+    fanNeighbour-constant i = cond-elim (λ (z : ℤ). z ≡ pos 60 *ℤ c) (eqb i (valence l P + 1)) (extrapolatedAtZ l (λ (x : ℕ). c) P) (pos 60 *ℤ c) (λ e. extrapolatedAt-constant P b) (λ e. refl)
 
-    corner-all : (i : ℕ) → fanCornerZ l (λ (x : ℕ). c) P i ≡ pos 60 *ℤ c
+    pub fanCorner-constant : (i : ℕ) → fanCornerZ l (λ (x : ℕ). c) P i ≡ pos 60 *ℤ c
     unfolding fanCornerZ
-    corner-all i =
+    fanCorner-constant i =
         let b₀ : ℕ = fanEnd l (boundaryFrom quads l P) 0 in
         let c₀ : ℕ = fanEnd l (boundaryFrom quads l P) (valence l P) in
         cond-elim (λ (z : ℤ). z ≡ pos 60 *ℤ c) (eqb i (valence l P)) (extrapolatedAtZ l (λ (x : ℕ). c) c₀) (cond (eqb i (valence l P + 1)) (extrapolatedAtZ l (λ (x : ℕ). c) b₀) (pos 60 *ℤ c))
-        (λ e. extrapolated-all c₀ (last-end v l ok P b))
-        (λ e. cond-elim (λ (z : ℤ). z ≡ pos 60 *ℤ c) (eqb i (valence l P + 1)) (extrapolatedAtZ l (λ (x : ℕ). c) b₀) (pos 60 *ℤ c) (λ f. extrapolated-all b₀ (first-end v l ok P b)) (λ f. refl))
+        (λ e. extrapolatedAt-constant c₀ (last-end v l ok P b))
+        (λ e. cond-elim (λ (z : ℤ). z ≡ pos 60 *ℤ c) (eqb i (valence l P + 1)) (extrapolatedAtZ l (λ (x : ℕ). c) b₀) (pos 60 *ℤ c) (λ f. extrapolatedAt-constant b₀ (first-end v l ok P b)) (λ f. refl))
 
   fan-all : (h : ℕ) → boundaryFrom quads l (from l h) < length l → fanVirtualZ l (λ (x : ℕ). c) h ≡ pos 453600 *ℤ c
   unfolding fanVirtualZ
@@ -67,8 +67,8 @@ module _ (v : ℕ) (l : List ℕ) (ok : Manifold quads v l) (c : ℤ) where
       let n : ℕ = valence l P + 2 in
       let s = fan-at v l ok P b .some in
       let t = fan-le v l ok P b in
-      let e : wrap n (fanNeighbourZ l (λ (x : ℕ). c) P) ≡ (λ (i : ℕ). pos 60 *ℤ c) = λ y i. neighbour-all P b (i % n) y in
-      let f : wrap n (fanCornerZ l (λ (x : ℕ). c) P) ≡ (λ (i : ℕ). pos 60 *ℤ c) = λ y i. corner-all P b (i % n) y in
+      let e : wrap n (fanNeighbourZ l (λ (x : ℕ). c) P) ≡ (λ (i : ℕ). pos 60 *ℤ c) = λ y i. fanNeighbour-constant P b (i % n) y in
+      let f : wrap n (fanCornerZ l (λ (x : ℕ). c) P) ≡ (λ (i : ℕ). pos 60 *ℤ c) = λ y i. fanCorner-constant P b (i % n) y in
       ap₂ (λ (x y : ℕ → ℤ). virtualNumerator n x y (fanPlace l P h)) e f ∙ numerator-constant n c (fanPlace l P h) (omega arith) (omega arith)
 
   pub virtualAt-constant : (h : ℕ) → h < length l → virtualAtZ l (λ (x : ℕ). c) h ≡ pos 453600 *ℤ c
@@ -96,9 +96,9 @@ module _ (v : ℕ) (l : List ℕ) (ok : Manifold quads v l) (c : ℤ) where
 
 -- from edge points that are all c
 module _ (v : ℕ) (l : List ℕ) (ok : Manifold quads v l) (e : ℕ → ℤ) (c : ℤ) (const : (h : ℕ) → h < length l → e h ≡ c) where
-  direction-all : (h : ℕ) → h < length l → directionZ l e h ≡ pos 16 *ℤ c
+  pub direction-constant : (h : ℕ) → h < length l → directionZ l e h ≡ pos 16 *ℤ c
   unfolding directionZ beyond
-  direction-all h k =
+  direction-constant h k =
       let g : ℕ = across h in
       let P : ℤ → Type 0 = λ z. z ≡ pos 16 *ℤ c in
       let eh = const h k in
@@ -115,10 +115,10 @@ module _ (v : ℕ) (l : List ℕ) (ok : Manifold quads v l) (e : ℕ → ℤ) (c
 
   face-value-all : (f : ℕ) → f < quads .faces (length l) → (r : FaceRule) → faceValueZ l e f r ≡ pos 32 *ℤ c
   unfolding faceValueZ
-  face-value-all f k firstAlone = ap (λ (t : ℤ). pos 2 *ℤ t) (direction-all (4 * f) (side₀-lt l f k)) ∙ same (lit (pos 2) ⊠ (lit (pos 16) ⊠ var 0)) (lit (pos 32) ⊠ var 0) (c ∷ []) refl
-  face-value-all f k secondAlone = ap (λ (t : ℤ). pos 2 *ℤ t) (direction-all (4 * f + 1) (side₁-lt l f k)) ∙ same (lit (pos 2) ⊠ (lit (pos 16) ⊠ var 0)) (lit (pos 32) ⊠ var 0) (c ∷ []) refl
+  face-value-all f k firstAlone = ap (λ (t : ℤ). pos 2 *ℤ t) (direction-constant (4 * f) (side₀-lt l f k)) ∙ same (lit (pos 2) ⊠ (lit (pos 16) ⊠ var 0)) (lit (pos 32) ⊠ var 0) (c ∷ []) refl
+  face-value-all f k secondAlone = ap (λ (t : ℤ). pos 2 *ℤ t) (direction-constant (4 * f + 1) (side₁-lt l f k)) ∙ same (lit (pos 2) ⊠ (lit (pos 16) ⊠ var 0)) (lit (pos 32) ⊠ var 0) (c ∷ []) refl
   face-value-all f k bothDirections =
-      ap₂ _+ℤ_ (direction-all (4 * f) (side₀-lt l f k)) (direction-all (4 * f + 1) (side₁-lt l f k)) ∙ same (lit (pos 16) ⊠ var 0 ⊞ lit (pos 16) ⊠ var 0) (lit (pos 32) ⊠ var 0) (c ∷ []) refl
+      ap₂ _+ℤ_ (direction-constant (4 * f) (side₀-lt l f k)) (direction-constant (4 * f + 1) (side₁-lt l f k)) ∙ same (lit (pos 16) ⊠ var 0 ⊞ lit (pos 16) ⊠ var 0) (lit (pos 32) ⊠ var 0) (c ∷ []) refl
 
   pub faceZ-constant : (f : ℕ) → f < quads .faces (length l) → faceZ l e f ≡ pos 32 *ℤ c
   unfolding faceZ

@@ -1,6 +1,6 @@
 -- The coordinates that a round gives: old points stay, and each new one is a numerator rounded once. The point of an inner edge is the same from both its
 -- half-edges, so it does not matter at which of them it is worked out.
-use mathlib.Core.Path.{_≡_, refl, sym, ap, _∙_}
+use mathlib.Core.Path.{_≡_, refl, sym, ap, _∙_, subst}
 use mathlib.Core.Bool.{false}
 use mathlib.Core.List.{List, [], _∷_}
 use Prim.Native.Nat.{ℕ, _+_, _-_, _<_, min}
@@ -22,7 +22,8 @@ use Rattle.rules.specs.Numerators.{innerEdgeZ}
 use Rattle.topology.specs.Shape.{quads}
 use Rattle.topology.specs.HalfEdge.{from, to, mate, edgeCount, edge}
 use Rattle.topology.specs.Manifold.{Oriented, Manifold}
-use Rattle.topology.proofs.Mates.{mate-is, mate-back, mate-not, edge-lt, edge-mate, edge-same}
+use Rattle.topology.proofs.Mates.{mate-is, mate-back, mate-not, edge-lt, edge-mate, edge-same, edge-onto}
+use Rattle.refinement.specs.Refined.{refinedVertices}
 use Rattle.scheme.specs.Points.{edgePoint, facePoint}
 use Rattle.scheme.specs.Step.{edgeAt, refinedCoordinate}
 use Rattle.schemelaws.specs.Numerators.{virtualAtZ, edgeValueZ, edgeZ, faceZ}
@@ -104,3 +105,18 @@ module _ (v : ℕ) (l marks : List ℕ) (ok : Manifold quads v l) (p : ℕ → �
 
   pub refined-face : (f : ℕ) → f < quads .faces (length l) → refinedCoordinate kobbelt v l marks p (v + edgeCount quads l + f) ≡ round (faceZ l (edgeZ l marks p) f) 232243200
   refined-face f k = refined-face-at kobbelt v l marks p f ∙ toWhole-equals (omega arith) (equals-face v l marks ok p f k)
+
+-- ---- every vertex of a refined net is an old one, the point of an edge or the point of a face
+pub refined-cases : (v : ℕ) (l : List ℕ) → Manifold quads v l → (P : ℕ → Type 0) → ((i : ℕ) → i < v → P i) → ((h : ℕ) → h < length l → P (v + edge quads l h))
+    → ((f : ℕ) → f < quads .faces (length l) → P (v + edgeCount quads l + f)) → (i : ℕ) → i < refinedVertices quads v l → P i
+refined-cases v l ok P old side face i b = go (decLt i v) (decLt i (v + edgeCount quads l))
+  where
+    go : Dec (i < v) → Dec (i < v + edgeCount quads l) → P i
+    go (yes c) d = old i c
+    go (no c) (yes d) =
+        let r = edge-onto quads v l (ok .oriented) (i - v) (omega arith) in
+        let e : v + edge quads l (r .0) ≡ i = omega arith in
+        subst P e (side (r .0) (r .1))
+    go (no c) (no d) =
+        let e : v + edgeCount quads l + (i - (v + edgeCount quads l)) ≡ i = omega arith in
+        subst P e (face (i - (v + edgeCount quads l)) (omega arith))

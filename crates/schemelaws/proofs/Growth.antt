@@ -1,49 +1,28 @@
--- How large coordinates become: the sizes of edge and face points, one round and six. Paper 01: "every coordinate stays within 268,435,456".
-use mathlib.Core.Path.{_≡_, refl, ap, _∙_, subst}
+-- How far coordinates spread and grow, rounded: one round and six. Paper 01: "every coordinate stays within 268,435,456".
+use mathlib.Core.Path.{refl, ap}
 use mathlib.Core.List.{List, [], _∷_}
-use Prim.Native.Nat.{ℕ, zero, suc, _+_, _-_, _*_, _/_, _%_, _≤_, _<_}
-use native.Mathlib.Decide.{decLt}
+use Prim.Native.Nat.{ℕ, zero, suc, _+_, _*_, _/_, _%_, _≤_, _<_}
 use native.Mathlib.Nat.{mul-add, mul-left-comm, le-of-mul-le-mul-left}
 use native.Mathlib.Omega.{arith}
 use lib.IntN.{ℤ, pos, natAbs, _-ℤ_, _*ℤ_}
 use lib.ListN.{length}
 use Rattle.integers.proofs.AbsoluteValue.{abs-mul, abs-add, abs-sub}
-use Rattle.integers.proofs.Polynomial.{var, lit, _⊞_, _⊟_, _⊠_, same}
+use Rattle.integers.proofs.Polynomial.{var, _⊞_, _⊟_, _⊠_, same}
 use Rattle.rounding.specs.Rounding.{round}
 use Rattle.rounding.proofs.Laws.{round-near}
 use Rattle.curve.specs.Weights.{kobbelt}
 use Rattle.rules.proofs.Growth.{grown, rounded-grown, grown-kept, limit, limit-input, limit-output}
 use Rattle.tables.specs.Net.{Net}
 use Rattle.topology.specs.Shape.{quads}
-use Rattle.topology.specs.HalfEdge.{edgeCount, edge}
 use Rattle.topology.specs.Manifold.{Manifold}
-use Rattle.topology.proofs.Mates.{edge-onto}
 use Rattle.refinement.specs.Refined.{refinedVertices}
 use Rattle.scheme.specs.Step.{refinedCoordinate, axis, step, steps}
 use Rattle.schemelaws.specs.Numerators.{edgeZ, faceZ}
 use Rattle.schemelaws.specs.Nets.{Within, Refinable}
-use Rattle.schemelaws.proofs.Coordinates.{refined-old, refined-edge, refined-face}
+use Rattle.schemelaws.proofs.Coordinates.{refined-cases, refined-old, refined-edge, refined-face}
 use Rattle.schemelaws.proofs.Norm.{edge-near, face-near}
-use Rattle.schemelaws.proofs.Constant.{edge-constant, face-constant}
+use Rattle.schemelaws.proofs.Sizes.{edge-size, face-size}
 use Rattle.schemelaws.proofs.Steps.{refinable-manifold, refinable-steps, step-length, step-coordinate}
-
-less-none : (z x : ℤ) → x ≡ pos 0 → natAbs (z -ℤ x) ≡ natAbs z
-less-none z x e = ap (λ (t : ℤ). natAbs (z -ℤ t)) e ∙ ap natAbs (same (var 0 ⊟ lit (pos 0)) (var 0) (z ∷ []) refl)
-
--- ---- every vertex of a refined net is an old one, the point of an edge or the point of a face
-pub refined-cases : (v : ℕ) (l : List ℕ) → Manifold quads v l → (P : ℕ → Type 0) → ((i : ℕ) → i < v → P i) → ((h : ℕ) → h < length l → P (v + edge quads l h))
-    → ((f : ℕ) → f < quads .faces (length l) → P (v + edgeCount quads l + f)) → (i : ℕ) → i < refinedVertices quads v l → P i
-refined-cases v l ok P old side face i b = go (decLt i v) (decLt i (v + edgeCount quads l))
-  where
-    go : Dec (i < v) → Dec (i < v + edgeCount quads l) → P i
-    go (yes c) d = old i c
-    go (no c) (yes d) =
-        let r = edge-onto quads v l (ok .oriented) (i - v) (omega arith) in
-        let e : v + edge quads l (r .0) ≡ i = omega arith in
-        subst P e (side (r .0) (r .1))
-    go (no c) (no d) =
-        let e : v + edgeCount quads l + (i - (v + edgeCount quads l)) ≡ i = omega arith in
-        subst P e (face (i - (v + edgeCount quads l)) (omega arith))
 
 -- ---- differences, rounded: at most 55/24 d + 1
 close : (z z′ : ℤ) (D d : ℕ) → 0 < D → 24 * natAbs (z -ℤ z′) ≤ D * (55 * d) → 24 * natAbs (round z D -ℤ round z′ D) ≤ 55 * d + 24
@@ -70,28 +49,13 @@ module _ (v : ℕ) (l marks : List ℕ) (ok : Manifold quads v l) (p p′ : ℕ 
       (λ f b. rw (refined-face v l marks ok p f b, refined-face v l marks ok p′ f b)
       (close (faceZ l (edgeZ l marks p) f) (faceZ l (edgeZ l marks p′) f) 232243200 d (omega arith) (face-near v l marks ok p p′ d near f b)))
 
--- ---- sizes: the difference to the net whose points are all 0
+-- ---- sizes
 module _ (v : ℕ) (l marks : List ℕ) (ok : Manifold quads v l) (p : ℕ → ℤ) (B : ℕ) (small : (x : ℕ) → x < v → natAbs (p x) ≤ B) where
-  from-none : (x : ℕ) → x < v → natAbs (p x -ℤ pos 0) ≤ B
-  from-none x k = let e = less-none (p x) (pos 0) refl in let s = small x k in omega arith
-
-  pub edge-size : (h : ℕ) → h < length l → natAbs (edgeZ l marks p h) ≤ 13305600 * B
-  edge-size h k =
-      let e = less-none (edgeZ l marks p h) (edgeZ l marks (λ (x : ℕ). pos 0) h) (edge-constant v l ok (pos 0) marks h k) in
-      let r = edge-near v l ok p (λ (x : ℕ). pos 0) B from-none marks h k in
-      omega arith
-
-  pub face-size : (f : ℕ) → f < quads .faces (length l) → 24 * natAbs (faceZ l (edgeZ l marks p) f) ≤ 232243200 * (55 * B)
-  face-size f k =
-      let e = less-none (faceZ l (edgeZ l marks p) f) (faceZ l (edgeZ l marks (λ (x : ℕ). pos 0)) f) (face-constant v l marks ok (pos 0) f k) in
-      let r = face-near v l marks ok p (λ (x : ℕ). pos 0) B from-none f k in
-      omega arith
-
   pub refined-size : (i : ℕ) → i < refinedVertices quads v l → natAbs (refinedCoordinate kobbelt v l marks p i) ≤ grown B
   refined-size = refined-cases v l ok (λ i. natAbs (refinedCoordinate kobbelt v l marks p i) ≤ grown B)
       (λ i b. let s = small i b in let g = grown-kept B in rw (refined-old kobbelt v l marks p i b) (omega arith))
-      (λ h b. let s = edge-size h b in rw (refined-edge v l marks ok p h b) (rounded-grown (edgeZ l marks p h) 7257600 B (omega arith) (omega arith)))
-      (λ f b. rw (refined-face v l marks ok p f b) (rounded-grown (faceZ l (edgeZ l marks p) f) 232243200 B (omega arith) (face-size f b)))
+      (λ h b. let s = edge-size v l ok p B small marks h b in rw (refined-edge v l marks ok p h b) (rounded-grown (edgeZ l marks p h) 7257600 B (omega arith) (omega arith)))
+      (λ f b. rw (refined-face v l marks ok p f b) (rounded-grown (faceZ l (edgeZ l marks p) f) 232243200 B (omega arith) (face-size v l marks ok p B small f b)))
 
 -- ---- a net
 pub within-le : (A B : ℕ) (vs : List ℤ) → A ≤ B → Within A vs → Within B vs

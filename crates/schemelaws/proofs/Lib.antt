@@ -1,10 +1,13 @@
+pub mod Examples
 pub mod Vertices
 pub mod Ties
 pub mod Coordinates
 pub mod Norm
 pub mod Constant
+pub mod Sizes
 pub mod Steps
 pub mod Growth
+pub mod Virtual
 pub mod Straight
 pub mod Beyond
 pub mod Directions

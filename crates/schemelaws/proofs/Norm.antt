@@ -5,7 +5,7 @@ use mathlib.Core.Bool.{Bool, true, false, cond}
 use mathlib.Core.Logic.{_⊎_, inl, inr, ⊎-elim}
 use mathlib.Core.List.{List, [], _∷_}
 use Prim.Native.Nat.{ℕ, suc, _+_, _-_, _*_, _%_, _≤_, _<_}
-use native.Mathlib.Nat.{zero-add, mod-lt, mod-eq-of-lt, mod-eq-sub-mod}
+use native.Mathlib.Nat.{zero-add, mul-le-mul-right, mod-lt, mod-eq-of-lt, mod-eq-sub-mod}
 use native.Mathlib.Decide.{decLt, ℕ-discrete}
 use native.Mathlib.Omega.{arith}
 use lib.Dec.{eqb, ltb}
@@ -86,6 +86,14 @@ three-swap true false = refl
 three-swap false true = refl
 three-swap false false = refl
 
+three-or-one : (b : Bool) → cond b 3 1 ≤ 3
+three-or-one true = omega arith
+three-or-one false = omega arith
+
+at-most-three : (b : Bool) (w d : ℕ) {x : ℕ} → w ≤ 3 → x ≤ cond b 3 w * (60 * d) → x ≤ 180 * d
+at-most-three true w d h k = omega arith
+at-most-three false w d h k = let m : w * (60 * d) ≤ 3 * (60 * d) = mul-le-mul-right (60 * d) h in omega arith
+
 module _ (v : ℕ) (l : List ℕ) (ok : Manifold quads v l) (p p′ : ℕ → ℤ) (d : ℕ) (near : (x : ℕ) → x < v → natAbs (p x -ℤ p′ x) ≤ d) where
   sixty : (x : ℕ) → x < v → natAbs (pos 60 *ℤ p x -ℤ pos 60 *ℤ p′ x) ≤ 60 * d
   sixty x k =
@@ -131,6 +139,12 @@ module _ (v : ℕ) (l : List ℕ) (ok : Manifold quads v l) (p p′ : ℕ → �
         let y = eqb-false i (valence l P + 1) f in
         let z : i < valence l P = omega arith in
         sixty-once (oppositeCorner l (turns quads l i (boundaryFrom quads l P))) (fanOpposite-below v l ok P b i z)))
+
+    pub fanNeighbour-near : (i : ℕ) → i < valence l P + 2 → natAbs (fanNeighbourZ l p P i -ℤ fanNeighbourZ l p′ P i) ≤ 180 * d
+    fanNeighbour-near i k = at-most-three (eqb i (valence l P + 1)) 1 d (omega arith) (neighbour-near i k .bound)
+
+    pub fanCorner-near : (i : ℕ) → i < valence l P + 2 → natAbs (fanCornerZ l p P i -ℤ fanCornerZ l p′ P i) ≤ 180 * d
+    fanCorner-near i k = at-most-three (eqb i (valence l P)) (cond (eqb i (valence l P + 1)) 3 1) d (three-or-one (eqb i (valence l P + 1))) (corner-near i k .bound)
 
   -- ---- virtual points: 17/3 at a boundary vertex, 40/9 inside
   module _ (h : ℕ) (k : h < length l) (inner : mate quads l h < length l) where

@@ -38,7 +38,7 @@ module _ (w : Weights) (m : Net) where
   unfolding step
   step-length = length-tabulate (3 * refinedVertices quads (length (m .marks)) (m .faces)) (λ (i : ℕ). refinedCoordinate w (length (m .marks)) (m .faces) (m .marks) (axis (m .vertices) (i % 3)) (i / 3))
 
-  -- coordinate a of refined vertex i
+  -- number i of the refined vertex table, and coordinate a of refined vertex i
   pub step-coordinate : (i : ℕ) → i < 3 * refinedVertices quads (length (m .marks)) (m .faces)
       → getD (step w m .vertices) i (pos 0) ≡ refinedCoordinate w (length (m .marks)) (m .faces) (m .marks) (axis (m .vertices) (i % 3)) (i / 3)
   unfolding step

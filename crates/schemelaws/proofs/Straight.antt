@@ -5,7 +5,6 @@ use Prim.Native.Nat.{ℕ, _<_}
 use native.Mathlib.Omega.{arith}
 use lib.IntN.{ℤ, pos, _*ℤ_}
 use lib.ListN.{length}
-use borrow.Author.Tests.{le-ltb}
 use Rattle.integers.proofs.Polynomial.{var, lit, _⊞_, _⊟_, _⊠_, same}
 use Rattle.curve.specs.Weights.{kobbelt, interior}
 use Rattle.rings.specs.RingWeights.{virtualNumerator}
@@ -16,14 +15,10 @@ use Rattle.topology.specs.HalfEdge.{from, to, mate}
 use Rattle.topology.specs.Boundary.{boundaryFrom}
 use Rattle.topology.specs.Vertex.{valence, turns, Ring}
 use Rattle.topology.specs.Manifold.{Manifold}
-use Rattle.schemelaws.specs.Numerators.{ringNeighbourZ, ringCornerZ, ringVirtualZ, virtualAtZ, edgeZ}
+use Rattle.schemelaws.specs.Numerators.{ringNeighbourZ, ringCornerZ, virtualAtZ, edgeZ}
 use Rattle.schemelaws.proofs.Vertices.{ring-of, neighbours-periodic, corners-periodic}
 use Rattle.schemelaws.proofs.Coordinates.{edge-inner}
-
--- inside, the virtual point is that of the ring
-pub virtual-inside : (l : List ℕ) (p : ℕ → ℤ) (h : ℕ) → boundaryFrom quads l (from l h) ≡ length l → virtualAtZ l p h ≡ virtualNumerator (valence l (from l h)) (ringNeighbourZ l p h) (ringCornerZ l p h) 0
-unfolding virtualAtZ ringVirtualZ
-virtual-inside l p h b = let t = le-ltb (boundaryFrom quads l (from l h)) (length l) (omega arith) in rw t
+use Rattle.schemelaws.proofs.Virtual.{virtual-inside}
 
 module _ (v : ℕ) (l : List ℕ) (ok : Manifold quads v l) (p : ℕ → ℤ) where
   module _ (h : ℕ) (k : h < length l) (b : boundaryFrom quads l (from l h) ≡ length l) (four : valence l (from l h) ≡ 4) where

@@ -70,7 +70,7 @@ module _ (v : ℕ) (l : List ℕ) (ok : Manifold quads v l) where
         let f : boundaryFrom quads l (from l g) < length l = let x = boundaryFrom-is quads v l ok (from l g) g o refl in omega arith in
         subst (λ (i : ℕ). boundaryFrom quads l (fanEnd l (boundaryFrom quads l P) i) < length l) e (subst (λ (q : ℕ). boundaryFrom quads l (from l q) < length l) t f)
 
-    -- the place of an inner half-edge that leaves P
+    -- the place of a half-edge that leaves P; that of an inner one is not the first
     pub place-at : (h : ℕ) → h < length l → from l h ≡ P → (fanPlace l P h < valence l P) × (turns quads l (fanPlace l P h) (boundaryFrom quads l P) ≡ h)
     unfolding fanPlace
     place-at h k e =
@@ -104,7 +104,7 @@ module _ (v : ℕ) (l : List ℕ) (ok : Manifold quads v l) where
     pub ring-le : valence l (from l h) ≤ 8
     ring-le = ring-range quads v l ok (from l h) (ok .oriented .below h k) none .1
 
-    -- all turns stay in the net
+    -- the half-edges that leave it
     pub turns-lt : (i : ℕ) → i < valence l (from l h) → turns quads l i h < length l
     turns-lt i c = ring-of .walk .inside i c
 

@@ -1,11 +1,11 @@
 -- Laws of cleared and filled tables, and of the loops that make them. Assumes nothing.
 use mathlib.Core.Path.{_≡_, sym, ap, _∙_}
 use mathlib.Core.List.{List, _++_}
-use Prim.Native.Nat.{ℕ, _+_, _≤_, _<_}
+use Prim.Native.Nat.{ℕ, _+_, _-_, _≤_, _<_}
 use native.Mathlib.Omega.{arith}
 use borrow.Author.Fill.{fill-more}
 use lib.ListN.{length, getD, take, drop, set, replicate, length-append, length-drop, length-replicate}
-use lib.Seq.{drop-at}
+use lib.Seq.{take-at, drop-at, drop-append-add, drop-drop}
 use Rattle.lists.proofs.Prefix.{copy-one}
 use Rattle.tables.specs.Tables.{filled, cleared}
 
@@ -29,3 +29,24 @@ drop-cleared n w = drop-at (replicate n 0) (drop n w) n (length-replicate {A = �
 pub cleared-over : (n : ℕ) (w u : List ℕ) → drop n u ≡ drop n w → cleared n u ≡ cleared n w
 unfolding cleared
 cleared-over n w u e = ap (λ (t : List ℕ). replicate n 0 ++ t) e
+
+-- ---- filled tables
+pub length-filled : {A : Type 0} (s d : List A) → length s ≤ length d → length (filled s d) ≡ length d
+unfolding filled
+length-filled s d h = let a = length-append s (drop (length s) d) in let c = length-drop (length s) d in omega arith
+
+-- the front is what was written
+pub take-filled : {A : Type 0} (s d : List A) (n : ℕ) → n ≡ length s → take n (filled s d) ≡ s
+unfolding filled
+take-filled s d n e = take-at s (drop (length s) d) n (sym e)
+
+-- what lies past the front is as found; so filling again with more writes over it
+pub drop-filled : {A : Type 0} (s d : List A) (n : ℕ) → length s ≤ n → drop n (filled s d) ≡ drop n d
+unfolding filled
+drop-filled s d n h =
+    let e : length s + (n - length s) ≡ n = omega arith in
+    ap (λ (k : ℕ). drop k (s ++ drop (length s) d)) (sym e) ∙ drop-append-add s (drop (length s) d) (n - length s) ∙ drop-drop (n - length s) (length s) d ∙ ap (λ (k : ℕ). drop k d) e
+
+pub filled-over : {A : Type 0} (s t d : List A) → length s ≤ length t → filled t (filled s d) ≡ filled t d
+unfolding filled
+filled-over {A} s t d h = ap (λ (x : List A). t ++ x) (drop-filled s d (length t) h)

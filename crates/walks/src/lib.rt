@@ -1,20 +1,11 @@
 // Walks round the vertices of a net and along its boundary, on lent tables of corners and mates. The number of half-edges stands for 'none'.
 ghost use mathlib.Core.Path.{_≡_};
-ghost use Prim.Native.Nat.{ℕ, _^_, _<_};
+ghost use Prim.Native.Nat.{_<_};
 ghost use lib.ListN.{length};
 ghost use Rattle.topology.specs.Shape.{quads};
 ghost use Rattle.topology.specs.Boundary.{along, back};
 ghost use Rattle.topology.specs.Vertex.{turn};
-ghost use Rattle.scheme.specs.Points.{across};
 ghost use Rattle.walks.specs.Ready.{Ready, FanStart, Across};
-
-// The side opposite h in its face.
-pub fn across_side(h: usize) -> usize
-    requires { ⌜ h < 2 ^ 24 ⌝ }
-    ensures { λ r. ⌜ r ≡ across h ⌝ }
-{
-    4 * (h / 4) + (h + 2) % 4
-}
 
 // The half-edge that leaves the vertex of h in the face beyond the side before h, or none.
 pub fn turn_side(faces: &[u32], work: &[u32], h: usize) -> usize

@@ -1,142 +1,132 @@
 -- `refine_face` meets its contract. Assumes nothing.
 use Prim.Native.Nat.{_*_}
 use native.Mathlib.Omega.{arith}
-use borrow.Author.Needs.{needs}
 use Rattle.growth.proofs.Faces.{side-le, corners-written}
 use Rattle.growth.proofs.refine_face.Statement.{statement}
 use Rattle.growth.proofs.refine_face.Tie as tie
 
 mul-h : tie.Need-mul-h
-mul-h c = search needs
+mul-h c = omega arith
+
+mul-at : tie.Need-mul-at
+mul-at c = omega arith
 
 cast-first : tie.Need-cast-first
-cast-first c = search needs
+cast-first c = omega arith
 
 add-point : tie.Need-add-point
-add-point c = search needs
+add-point c = omega arith
 
 add-point-2 : tie.Need-add-point-2
-add-point-2 c = search needs
+add-point-2 c = omega arith
 
 cast-point : tie.Need-cast-point
-cast-point c = search needs
+cast-point c = omega arith
 
 add-e : tie.Need-add-e
-add-e c = search needs
+add-e c = omega arith
 
 mul-p : tie.Need-mul-p
-mul-p c = search needs
+mul-p c = omega arith
 
 shared-slice-read-p : tie.Need-shared-slice-read-p
-shared-slice-read-p c = search needs
+shared-slice-read-p c = omega arith
 
 add-p : tie.Need-add-p
 add-p c = let s = c .before .before .before in let p = s .pre in let e = p .below (4 * s .args .f) (omega arith) in omega arith
 
 add-q : tie.Need-add-q
-add-q c = search needs
+add-q c = omega arith
 
 mul-q : tie.Need-mul-q
-mul-q c = search needs
+mul-q c = omega arith
 
 shared-slice-read-q : tie.Need-shared-slice-read-q
-shared-slice-read-q c = search needs
+shared-slice-read-q c = omega arith
 
 add-q-2 : tie.Need-add-q-2
 add-q-2 c = let s = c .before .before .before .before in let p = s .pre in let e = side-le _ _ _ _ _ _ 1 (omega arith) p in omega arith
 
 add-r : tie.Need-add-r
-add-r c = search needs
+add-r c = omega arith
 
 mul-r : tie.Need-mul-r
-mul-r c = search needs
+mul-r c = omega arith
 
 shared-slice-read-r : tie.Need-shared-slice-read-r
-shared-slice-read-r c = search needs
+shared-slice-read-r c = omega arith
 
 add-r-2 : tie.Need-add-r-2
 add-r-2 c = let s = c .before .before .before .before .before in let p = s .pre in let e = side-le _ _ _ _ _ _ 2 (omega arith) p in omega arith
 
 add-s : tie.Need-add-s
-add-s c = search needs
+add-s c = omega arith
 
 mul-s : tie.Need-mul-s
-mul-s c = search needs
+mul-s c = omega arith
 
 shared-slice-read-s : tie.Need-shared-slice-read-s
-shared-slice-read-s c = search needs
+shared-slice-read-s c = omega arith
 
 add-s-2 : tie.Need-add-s-2
 add-s-2 c = let s = c .before .before .before .before .before .before in let p = s .pre in let e = side-le _ _ _ _ _ _ 3 (omega arith) p in omega arith
 
 mul-a : tie.Need-mul-a
-mul-a c = search needs
+mul-a c = omega arith
 
 slice-read-a : tie.Need-slice-read-a
-slice-read-a c = search needs
+slice-read-a c = omega arith
 
 add-b : tie.Need-add-b
-add-b c = search needs
+add-b c = omega arith
 
 mul-b : tie.Need-mul-b
-mul-b c = search needs
+mul-b c = omega arith
 
 slice-read-b : tie.Need-slice-read-b
-slice-read-b c = search needs
+slice-read-b c = omega arith
 
 add-c : tie.Need-add-c
-add-c c = search needs
+add-c c = omega arith
 
 mul-c : tie.Need-mul-c
-mul-c c = search needs
+mul-c c = omega arith
 
 slice-read-c : tie.Need-slice-read-c
-slice-read-c c = search needs
+slice-read-c c = omega arith
 
 add-d : tie.Need-add-d
-add-d c = search needs
+add-d c = omega arith
 
 mul-d : tie.Need-mul-d
-mul-d c = search needs
+mul-d c = omega arith
 
 slice-read-d : tie.Need-slice-read-d
-slice-read-d c = search needs
-
-mul-put-four : tie.Need-mul-put-four
-mul-put-four c = search needs
+slice-read-d c = omega arith
 
 add-put-four : tie.Need-add-put-four
-add-put-four c = search needs
+add-put-four c = omega arith
 
 put-four-requires : tie.Need-put-four-requires
-put-four-requires c κs = search needs
-
-mul-put-four-2 : tie.Need-mul-put-four-2
-mul-put-four-2 c = search needs
+put-four-requires c κs = omega arith
 
 add-put-four-2 : tie.Need-add-put-four-2
-add-put-four-2 c = search needs
+add-put-four-2 c = omega arith
 
 put-four-requires-2 : tie.Need-put-four-requires-2
-put-four-requires-2 c κs = search needs
-
-mul-put-four-3 : tie.Need-mul-put-four-3
-mul-put-four-3 c = search needs
+put-four-requires-2 c κs = omega arith
 
 add-put-four-3 : tie.Need-add-put-four-3
-add-put-four-3 c = search needs
+add-put-four-3 c = omega arith
 
 put-four-requires-3 : tie.Need-put-four-requires-3
-put-four-requires-3 c κs = search needs
-
-mul-put-four-4 : tie.Need-mul-put-four-4
-mul-put-four-4 c = search needs
+put-four-requires-3 c κs = omega arith
 
 put-four-requires-4 : tie.Need-put-four-requires-4
-put-four-requires-4 c κs = search needs
+put-four-requires-4 c κs = omega arith
 
 same-length : tie.Need-same-length
-same-length c = search needs
+same-length c = omega arith
 
 returns : tie.Need-returns
 returns c =
@@ -153,6 +143,7 @@ refine-face-spec =
     tie.close
     (tie.spec
     mul-h
+    mul-at
     cast-first
     add-point
     add-point-2
@@ -184,16 +175,12 @@ refine-face-spec =
     add-d
     mul-d
     slice-read-d
-    mul-put-four
     add-put-four
     put-four-requires
-    mul-put-four-2
     add-put-four-2
     put-four-requires-2
-    mul-put-four-3
     add-put-four-3
     put-four-requires-3
-    mul-put-four-4
     put-four-requires-4
     same-length
     returns)

@@ -1,0 +1,102 @@
+// The exact point on any edge, over 7,257,600, on lent tables.
+ghost use mathlib.Core.Path.{_≡_};
+ghost use Prim.Native.Nat.{ℕ, _*_, _≤_, _<_};
+ghost use lib.IntN.{natAbs};
+ghost use lib.ListN.{length};
+ghost use Rattle.curve.specs.Weights.{kobbelt};
+ghost use Rattle.rules.specs.Numerators.{innerEdgeZ};
+ghost use Rattle.topology.specs.Shape.{quads};
+ghost use Rattle.topology.specs.HalfEdge.{mate};
+ghost use Rattle.scheme.specs.Points.{innerRule, edgeValue, edgePoint};
+ghost use Rattle.scheme.specs.Step.{axis};
+ghost use Rattle.walks.specs.Ready.{Ready};
+ghost use Rattle.curvepoints.specs.Exact.{Points, Marks, ExactEdge, ExactPoint};
+
+// The numerator of an inner edge's point, from the ends p and q of the edge and the virtual points u and w over 453,600.
+pub fn inner_sum(p: i64, q: i64, u: i64, w: i64) -> i64
+    requires { ⌜ (natAbs p ≤ 67108864) × (natAbs q ≤ 67108864) × (natAbs u ≤ 2570400 * 67108864) × (natAbs w ≤ 2570400 * 67108864) ⌝ }
+    ensures { λ r. ⌜ r ≡ innerEdgeZ p q u w ⌝ }
+{
+    4082400 * (p + q) - (u + w)
+}
+
+// Coordinate a of the point on the inner edge of h, whose mate is g.
+pub fn inner_on(points: &[i32], faces: &[u32], work: &[u32], h: usize, g: usize, a: usize) -> i64
+    requires { ⌜ Ready (now faces) (now work) ⌝ }
+    requires { ⌜ Points (now faces) (now points) × (a < 3) ⌝ }
+    requires { ⌜ (h < length (now faces)) × (g ≡ mate quads (now faces) h) × (g < length (now faces)) ⌝ }
+    ensures { λ r. ⌜ ExactEdge (edgeValue kobbelt (now (faces .entry)) (axis (now (points .entry)) a) h innerRule) r ⌝ }
+{
+    let p = extrapolation::coordinate_wide(points, corners::start_of(faces, h), a);
+    let q = extrapolation::coordinate_wide(points, corners::end_of(faces, h), a);
+    let u = fanpoints::virtual_point(points, faces, work, h, a);
+    let w = fanpoints::virtual_point(points, faces, work, g, a);
+    inner_sum(p, q, u, w)
+}
+
+// The point on the inner edge of h, whose mate is g, from its two virtual points.
+pub fn inner_exact(
+    points: &[i32],
+    faces: &[u32],
+    work: &[u32],
+    h: usize,
+    g: usize,
+) -> curvepoints::Exact
+    requires { ⌜ Ready (now faces) (now work) ⌝ }
+    requires { ⌜ Points (now faces) (now points) ⌝ }
+    requires { ⌜ (h < length (now faces)) × (g ≡ mate quads (now faces) h) × (g < length (now faces)) ⌝ }
+    ensures { λ e. ⌜ ExactPoint (λ (a : ℕ). edgeValue kobbelt (now (faces .entry)) (axis (now (points .entry)) a) h innerRule) (e .x) (e .y) (e .z) ⌝ }
+{
+    curvepoints::Exact {
+        x: inner_on(points, faces, work, h, g, 0),
+        y: inner_on(points, faces, work, h, g, 1),
+        z: inner_on(points, faces, work, h, g, 2),
+    }
+}
+
+// The point on the inner edge of h, whose mate is g. Where both ends have full rings of four, the virtual points are the vertices straight across.
+pub fn inner_edge(
+    points: &[i32],
+    faces: &[u32],
+    work: &[u32],
+    h: usize,
+    g: usize,
+) -> curvepoints::Exact
+    requires { ⌜ Ready (now faces) (now work) ⌝ }
+    requires { ⌜ Points (now faces) (now points) ⌝ }
+    requires { ⌜ (h < length (now faces)) × (g ≡ mate quads (now faces) h) × (g < length (now faces)) ⌝ }
+    ensures { λ e. ⌜ ExactPoint (λ (a : ℕ). edgeValue kobbelt (now (faces .entry)) (axis (now (points .entry)) a) h innerRule) (e .x) (e .y) (e .z) ⌝ }
+{
+    let n = faces.len();
+    let o = walks::regular_across(faces, work, h);
+    if o >= n {
+        return inner_exact(points, faces, work, h, g);
+    }
+    let r = walks::regular_across(faces, work, g);
+    if r >= n {
+        return inner_exact(points, faces, work, h, g);
+    }
+    let p = corners::start_of(faces, h);
+    let q = corners::end_of(faces, h);
+    curvepoints::interior_exact(points, o, p, q, r)
+}
+
+// The point on the edge of h.
+pub fn edge_point(
+    points: &[i32],
+    faces: &[u32],
+    marks: &[u8],
+    work: &[u32],
+    h: usize,
+) -> curvepoints::Exact
+    requires { ⌜ Ready (now faces) (now work) ⌝ }
+    requires { ⌜ Points (now faces) (now points) × Marks (now faces) (now marks) × (h < length (now faces)) ⌝ }
+    ensures { λ e. ⌜ ExactPoint (λ (a : ℕ). edgePoint kobbelt (now (faces .entry)) (now (marks .entry)) (axis (now (points .entry)) a) h) (e .x) (e .y) (e .z) ⌝ }
+{
+    let n = faces.len();
+    let g = work[h] as usize;
+    if g == n {
+        return boundarypoints::boundary_edge(points, faces, marks, work, h);
+    }
+    inner_edge(points, faces, work, h, g)
+}

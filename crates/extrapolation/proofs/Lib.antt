@@ -1,0 +1,2 @@
+pub mod FanWalk
+pub mod Values

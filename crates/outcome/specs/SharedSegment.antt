@@ -1,0 +1,52 @@
+-- Demand 3, over what calls give: "one statement over all pairs of accepted nets, all their shared readings and all k".
+use mathlib.Core.Path.{_≡_}
+use mathlib.Core.Logic.{_↔_}
+use mathlib.Core.List.{List, []}
+use Prim.Native.Nat.{ℕ, _*_, _≤_}
+use lib.ListN.{take}
+use Rattle.curve.specs.Weights.{kobbelt}
+use Rattle.curve.specs.Curve.{Kind, Point, curve}
+use Rattle.curve.specs.Near.{CloseToExact}
+use Rattle.topology.specs.Boundary.{Way}
+use Rattle.tables.specs.Net.{Net}
+use Rattle.seam.specs.Reading.{Reads}
+use Rattle.outcome.specs.Outcome.{Lent, Result, refinedTo, refusedWith, Outcome, outcome}
+
+-- the rounds asked for, the net and the tables lent
+pub record Request : Type 0 where
+  pub rounds : ℕ
+  pub net : Net
+  pub lent : Lent
+
+-- "The net after round k of an accepted call is what the same call gives when asked for k rounds only."
+abbrev pub resultAfter : Request → ℕ → Outcome
+resultAfter a k = outcome k (a .net) (a .lent)
+
+-- the call for k rounds is accepted
+pub record AcceptedFor (a : Request) (k : ℕ) : Type 0 where
+  pub vertices : ℕ
+  pub faces : ℕ
+  pub result : resultAfter a k .result ≡ refinedTo vertices faces
+
+-- the net at the front of the output tables, by the counts reported
+abbrev pub netBy : Result → Outcome → Net
+netBy (refinedTo v f) o = record { vertices = take (3 * v) (o .vertices); faces = take (4 * f) (o .faces); marks = take v (o .marks) }
+netBy (refusedWith r p) o = record { vertices = []; faces = []; marks = [] }
+
+abbrev pub netAfter : Request → ℕ → Net
+netAfter a k = netBy (resultAfter a k .result) (resultAfter a k)
+
+-- two accepted calls whose nets share the list L, read from s and from t, after k rounds
+pub record SharedAfter (a b : Request) (v w : Way) (c : Kind) (s t : ℕ) (L : List Point) (k : ℕ) : Type 0 where
+  -- the same calls asked for k rounds only are accepted too
+  pub accepted-left : AcceptedFor a k
+  pub accepted-right : AcceptedFor b k
+  -- "the stretch is read there from the same vertex and the same way", and is the rounded curve worked out from L alone
+  pub left : (P : List Point) → Reads (netAfter a k) v c s P ↔ (P ≡ curve kobbelt c k L)
+  pub right : (P : List Point) → Reads (netAfter b k) w c t P ↔ (P ≡ curve kobbelt c k L)
+  -- each coordinate lies within the seam distance of the exact curve
+  pub close : CloseToExact c k L
+
+pub record SharedSegments : Type 0 where
+  pub shared : (a b : Request) → AcceptedFor a (a .rounds) → AcceptedFor b (b .rounds) → (v w : Way) (c : Kind) (s t : ℕ) (L : List Point)
+      → Reads (a .net) v c s L → Reads (b .net) w c t L → (k : ℕ) → k ≤ a .rounds → k ≤ b .rounds → SharedAfter a b v w c s t L k

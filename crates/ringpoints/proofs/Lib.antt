@@ -1,0 +1,3 @@
+pub mod Circuit
+pub mod Bounds
+pub mod Values

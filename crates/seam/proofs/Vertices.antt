@@ -1,0 +1,69 @@
+-- The vertices along the boundary are the starts of its half-edges; after a round the old ones follow each other with the point of an edge between each two.
+use mathlib.Core.Path.{_≡_, refl, sym, ap, _∙_}
+use mathlib.Core.List.{List}
+use Prim.Native.Nat.{ℕ, zero, suc, _+_, _*_, _<_}
+use native.Mathlib.Omega.{arith}
+use lib.ListN.{length}
+use Rattle.search.specs.Search.{iterate}
+use Rattle.topology.specs.Shape.{quads}
+use Rattle.topology.specs.HalfEdge.{from, to, edge}
+use Rattle.topology.specs.Boundary.{OnBoundary, boundaryFrom, back, Way, withSides, againstSides, step, passed}
+use Rattle.topology.specs.Manifold.{Manifold}
+use Rattle.topology.proofs.Boundary.{boundaryFrom-on, boundaryFrom-at, boundaryFrom-is, along-from}
+use Rattle.topology.proofs.Loops.{steps-on}
+use Rattle.refinement.specs.Refined.{refinedVertices, refined}
+use Rattle.refinement.proofs.Manifold.{manifold-refined}
+use Rattle.refinement.proofs.Boundary.{first-half, first-from, boundaryFrom-old}
+use Rattle.refinement.proofs.Corners.{length-refined}
+use Rattle.refinement.proofs.Loops.{steps-vertex, steps-edge}
+use Rattle.seam.specs.Reading.{nextVertex, vertexAt}
+
+module _ (v : ℕ) (l : List ℕ) (ok : Manifold quads v l) where
+  next-step : (way : Way) (h : ℕ) → OnBoundary quads l h → nextVertex l way (from l h) ≡ from l (step quads l way h)
+  unfolding nextVertex step back
+  next-step withSides h o = ap (to quads l) (boundaryFrom-is quads v l ok (from l h) h o refl) ∙ sym (along-from quads v l ok h o)
+  next-step againstSides h o = refl
+
+  pub vertex-from : (way : Way) (h i : ℕ) → OnBoundary quads l h → vertexAt l way (from l h) i ≡ from l (iterate (step quads l way) i h)
+  unfolding vertexAt iterate
+  vertex-from way h zero o = refl
+  vertex-from way h (suc i) o = ap (nextVertex l way) (vertex-from way h i o) ∙ next-step way (iterate (step quads l way) i h) (steps-on quads v l ok way i h o)
+
+module _ (v : ℕ) (l : List ℕ) (ok : Manifold quads v l) (way : Way) (u : ℕ) (b : boundaryFrom quads l u < length l) where
+  -- the half-edge i steps on from the one that leaves u; it leaves the vertex i edges on
+  pub halfEdge-on : (i : ℕ) → OnBoundary quads l (iterate (step quads l way) i (boundaryFrom quads l u))
+  halfEdge-on i = steps-on quads v l ok way i (boundaryFrom quads l u) (boundaryFrom-on quads l u b)
+
+  pub vertex-at : (i : ℕ) → vertexAt l way u i ≡ from l (iterate (step quads l way) i (boundaryFrom quads l u))
+  vertex-at i =
+      ap (λ (x : ℕ). vertexAt l way x i) (sym (boundaryFrom-at quads l u b))
+      ∙ vertex-from v l ok way (boundaryFrom quads l u) i (boundaryFrom-on quads l u b)
+
+  pub vertex-lt : (i : ℕ) → vertexAt l way u i < v
+  vertex-lt i = let e = vertex-at i in let k = ok .oriented .below (iterate (step quads l way) i (boundaryFrom quads l u)) (halfEdge-on i .lt) in omega arith
+
+  -- it too is on the boundary
+  pub boundary-at : (i : ℕ) → boundaryFrom quads l (vertexAt l way u i) < length l
+  boundary-at i =
+      let h : ℕ = iterate (step quads l way) i (boundaryFrom quads l u) in
+      let e = boundaryFrom-is quads v l ok (vertexAt l way u i) h (halfEdge-on i) (sym (vertex-at i)) in
+      let k = halfEdge-on i .lt in
+      omega arith
+
+  -- ---- after a round
+  pub boundary-refined : boundaryFrom quads (refined quads v l) u < length (refined quads v l)
+  unfolding vertexAt iterate
+  boundary-refined = let e = boundaryFrom-old quads v l ok u (vertex-lt 0) in let n = length-refined quads v l in omega arith
+
+  refined-at : (i : ℕ) → vertexAt (refined quads v l) way u i ≡ from (refined quads v l) (iterate (step quads (refined quads v l) way) i (4 * boundaryFrom quads l u))
+  refined-at i =
+      let h : ℕ = boundaryFrom quads l u in
+      let o = boundaryFrom-on quads l u b in
+      ap (λ (x : ℕ). vertexAt (refined quads v l) way x i) (sym (first-from quads v l ok h o ∙ boundaryFrom-at quads l u b))
+      ∙ vertex-from (refinedVertices quads v l) (refined quads v l) (manifold-refined quads v l ok) way (4 * h) i (first-half quads v l ok h o)
+
+  pub vertex-even : (i : ℕ) → vertexAt (refined quads v l) way u (2 * i) ≡ vertexAt l way u i
+  vertex-even i = refined-at (2 * i) ∙ steps-vertex quads v l ok way i (boundaryFrom quads l u) (boundaryFrom-on quads l u b) ∙ sym (vertex-at i)
+
+  pub vertex-odd : (i : ℕ) → vertexAt (refined quads v l) way u (suc (2 * i)) ≡ v + edge quads l (passed quads l way (iterate (step quads l way) i (boundaryFrom quads l u)))
+  vertex-odd i = refined-at (suc (2 * i)) ∙ steps-edge quads v l ok way i (boundaryFrom quads l u) (boundaryFrom-on quads l u b)

@@ -1,0 +1,27 @@
+-- The seam: "Two nets share a stretch if a reading in one and a reading in the other are equal lists, both open or both round."
+use mathlib.Core.Path.{_≡_}
+use mathlib.Core.Logic.{_↔_}
+use mathlib.Core.List.{List}
+use Prim.Native.Nat.{ℕ}
+use lib.ListN.{length}
+use Rattle.tables.specs.Net.{Net}
+use Rattle.curve.specs.Weights.{kobbelt}
+use Rattle.curve.specs.Curve.{Kind, Point, curve}
+use Rattle.curve.specs.Near.{CloseToExact}
+use Rattle.topology.specs.Shape.{quads}
+use Rattle.topology.specs.Boundary.{Way}
+use Rattle.topology.specs.Manifold.{Manifold}
+use Rattle.scheme.specs.Step.{steps}
+use Rattle.seam.specs.Reading.{Reads}
+
+-- what the seam asks of a net: refusals 7 to 11 do not hold. Of coordinates and of the values of marks it asks nothing.
+abbrev pub Admissible : Net → Type 0
+Admissible m = Manifold quads (length (m .marks)) (m .faces)
+
+-- Of two nets a and b that share the list L, read from s and from t: after k rounds "the stretch is read there from the same vertex and the same way", and
+-- both readings are "the curve after k rounds", which "is fed that list as it was before the first round, and whether it is open or round"; and that curve
+-- lies within the seam distance of the exact one.
+pub record Seam (a b : Net) (v w : Way) (c : Kind) (s t : ℕ) (L : List Point) (k : ℕ) : Type 0 where
+  pub left : (P : List Point) → Reads (steps kobbelt k a) v c s P ↔ (P ≡ curve kobbelt c k L)
+  pub right : (P : List Point) → Reads (steps kobbelt k b) w c t P ↔ (P ≡ curve kobbelt c k L)
+  pub close : CloseToExact c k L
