@@ -68,8 +68,10 @@ GROUPS = {
         "seam.Reading": "",
     },
 }
+# Joins as soon as the crate `outcome` is there.
+GROUPS["Outcome"] = {**GROUPS["Verdict"], **GROUPS["Round"], "tables.Tables": "", "outcome.Outcome": "refinedTo, refusedWith"}
 # Names that two modules of a group have; the group does not need the first module's.
-LEFT_OUT = {("Round", "topology.Boundary", "step"), ("Seam", "topology.Boundary", "step"), ("Seam", "curve.Curve", "step"), ("Seam", "curve.Curve", "steps")}
+LEFT_OUT = {("Round", "topology.Boundary", "step"), ("Outcome", "topology.Boundary", "step"), ("Seam", "topology.Boundary", "step"), ("Seam", "curve.Curve", "step"), ("Seam", "curve.Curve", "steps")}
 LIBRARY = """use mathlib.Core.Path.{_≡_, refl, ap, _∙_}
 use mathlib.Core.Bool.{Bool, true, false}
 use mathlib.Core.List.{List, [], _∷_}
@@ -112,6 +114,12 @@ def net_text(name, net):
     return f"abbrev {name} : Net\n{name} = record {{ {fields} }}\n"
 
 
+def lent_text(tables):
+    vertices, *others = tables
+    fields = [f"vertices = {integers(vertices)}"] + [f"{name} = {naturals(table)}" for name, table in zip(("faces", "marks", "work"), others)]
+    return "; ".join(fields)
+
+
 def verdict_text(verdict):
     return f"refused {verdict[0]} {verdict[1]}" if verdict else "accepted"
 
@@ -130,6 +138,18 @@ def verdict_facts(label, case):
     yield "Verdict", "call", f"verdict (record {{ rounds = {call['rounds']}; net = {label}; room = {room} }})", stated, cost
     if call.get("net_verdict", call["verdict"]) != call["verdict"]:
         yield "Verdict", "net", f"netVerdict {label}", verdict_text(call["net_verdict"]), cost
+
+
+def outcome_facts(label, case):
+    """What the call reports, and every lent table as it returns."""
+    call = case["call"]
+    if "lent" not in call:
+        return
+    (counts, verdict), rounds = (call["counts"], call["verdict"]), call["rounds"]
+    result = f"refinedTo {counts[0]} {counts[1]}" if counts else f"refusedWith {verdict[0]} {verdict[1]}"
+    size = len(case["net"][1]) // 4
+    cost = 0.3 + (0.1 * size**2 if rounds else 0)
+    yield "Outcome", "outcome", f"outcome {rounds} {label} (record {{ {lent_text(call['lent'])} }})", f"record {{ result = {result}; {lent_text(call['left'])} }}", cost
 
 
 def round_facts(label, case, seed, whole_faces):
@@ -190,6 +210,8 @@ def reading_facts(label, place, reading, case, with_seam):
 
 def all_facts(label, number, case, options):
     yield from verdict_facts(label, case)
+    if options.outcome:
+        yield from outcome_facts(label, case)
     if "steps" not in case:
         return
     yield from round_facts(label, case, options.seed, options.whole)
@@ -432,7 +454,7 @@ def write_scratch(folder, cases, options, group):
     """Writes the scratch repository; returns its crates of definitions, and its chunks with their cases."""
     crates = make_scratch(options.tree, folder)
     uses, unfolding = headers(folder / "crates")
-    options.seam = "Seam" in uses
+    options.seam, options.outcome = "Seam" in uses, "Outcome" in uses
     written = [written_case(number, case, unfolding, options) for number, case in enumerate(cases)]
     if group:
         written = [case._replace(facts=[fact for fact in case.facts if fact.group == group]) for case in written]
@@ -479,7 +501,9 @@ def print_coverage(cases, options):
     traits = collections.Counter(trait for case in cases for trait in case["traits"])
     by_number = sorted(traits, key=lambda trait: re.sub(r"\d+", lambda digits: digits.group().zfill(2), trait))
     print("nets with: " + ", ".join(f"{trait}: {traits[trait]}" for trait in by_number))
-    print(f"the crate `seam`: {'its lists of points and marks too' if options.seam else 'not there; readings as vertices along the boundary only'}")
+    lent = sum("lent" in case["call"] for case in cases)
+    print(f"crate `seam`: {'lists of points and marks of the same readings' if options.seam else 'not there'}")
+    print(f"crate `outcome`: {f'{lent} small calls with their lent tables' if options.outcome else 'not there'}")
 
 
 def arguments():

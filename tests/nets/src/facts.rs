@@ -6,7 +6,7 @@
 use std::collections::BTreeSet;
 use std::fmt::Display;
 
-use reference::call::Outcome;
+use reference::call::{Outcome, Tables, refine_into};
 use reference::curve::{Form, exact_curve, rounded_curve};
 use reference::net::Net;
 use reference::refusal::{Capacity, Refusal, check_call, check_net};
@@ -29,6 +29,8 @@ const FEW_FACES: usize = 6;
 const TWO_ROUNDS: usize = 2;
 /// Most corners of a net whose tables are told; of others only the lengths.
 const MOST_CORNERS: usize = 200;
+/// Most work numbers of a call whose lent tables are told.
+const MOST_WORK: usize = 81;
 /// Most rounds for which the definitions can work out the number of faces.
 const MOST_ROUNDS: u32 = 100;
 /// Calls for each refusal alone.
@@ -213,7 +215,42 @@ fn call_text(case: &Case, with_net: bool) -> String {
     if with_net && is_whole {
         fields.push(("net_verdict", numbers(&told(check_net(&net)))));
     }
+    if with_net && room.workspace <= MOST_WORK {
+        fields.extend(lent_fields(case));
+    }
     object(&fields)
+}
+
+/// The lent tables before the call and after it, and what the call reports of
+/// an accepted net: its counts of vertices and faces.
+fn lent_fields(case: &Case) -> [(&'static str, String); 3] {
+    let before = case.tables(&mut Rng::new(0));
+    let mut after = before.clone();
+    let outcome = refine_into(
+        case.rounds,
+        &case.vertices,
+        &case.faces,
+        &case.marks,
+        &mut after,
+    );
+    let counts = match outcome {
+        Outcome::Refined { faces, marks, .. } => vec![marks.len(), faces.len() / 4],
+        Outcome::Refused { .. } => vec![],
+    };
+    [
+        ("lent", tables_text(&before)),
+        ("left", tables_text(&after)),
+        ("counts", numbers(&counts)),
+    ]
+}
+
+fn tables_text(tables: &Tables) -> String {
+    list([
+        numbers(&tables.vertices),
+        numbers(&tables.faces),
+        numbers(&tables.marks),
+        numbers(&tables.workspace),
+    ])
 }
 
 fn told(verdict: Result<(), Refusal>) -> Vec<u32> {
