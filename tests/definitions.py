@@ -467,7 +467,7 @@ def write_scratch(folder, cases, options, group):
 
 def check_all(folder, cases, options, mutation=None):
     """The number of disagreements. With a wrong definition put in, only its group is checked, up to the first chunk that disagrees."""
-    group, *edit = mutation or (None,)
+    group, *edit = mutation or (options.group,)
     crates, chunks = write_scratch(folder, cases, options, group)
     if edit:
         mutate(folder, *edit)
@@ -513,6 +513,7 @@ def arguments():
     parser.add_argument("--rounds", type=int, choices=(1, 2), default=2, help="2 rounds are told of the smallest nets only")
     parser.add_argument("--whole", type=int, default=WHOLE_FACES, metavar="FACES", help="all three axes up to so many faces, one axis above")
     parser.add_argument("--only", metavar="KIND", help="only the kinds whose names begin so")
+    parser.add_argument("--group", choices=GROUPS, help="only the facts of this group")
     parser.add_argument("--tree", type=pathlib.Path, default=HERE.parent, help="the tree whose definitions are checked")
     parser.add_argument("--mutate", action="store_true", help="self-test: wrong definitions must be found out")
     return parser.parse_args()
