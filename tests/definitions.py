@@ -360,15 +360,14 @@ def check_chunk(folder, name, cases):
     if result.returncode == 0:
         return 0
     if result.returncode != 1:
-        print((result.stdout + result.stderr)[-3000:])
+        print(f"exit status {result.returncode}\n" + (result.stdout + result.stderr)[-3000:])
         return None
     found = list(disagreements(result.stdout + result.stderr, cases))
     for fact, kind, value, difference in found:
         print(f"  {fact} ({kind}): the reference gives {value[:400]}\n    {difference}")
     if not found:
-        print("\n".join((result.stdout + result.stderr).splitlines()[-20:]))
-        return None
-    return len(found)
+        print((result.stdout + result.stderr)[-3000:])
+    return len(found) or None
 
 
 # ---- wrong definitions: the group of facts that must find each out, its file, and texts with what replaces them
@@ -447,7 +446,7 @@ def cases_from_generator(options):
     for case in cases:
         if "steps" in case:
             case["steps"] = case["steps"][:options.rounds]
-    return cases
+    return cases[options.first:]
 
 
 def write_scratch(folder, cases, options, group):
@@ -455,7 +454,7 @@ def write_scratch(folder, cases, options, group):
     crates = make_scratch(options.tree, folder)
     uses, unfolding = headers(folder / "crates")
     options.seam, options.outcome = "Seam" in uses, "Outcome" in uses
-    written = [written_case(number, case, unfolding, options) for number, case in enumerate(cases)]
+    written = [written_case(number, case, unfolding, options) for number, case in enumerate(cases, options.first)]
     if group:
         written = [case._replace(facts=[fact for fact in case.facts if fact.group == group]) for case in written]
     chunks = {f"facts{number:02}": chunk for number, chunk in enumerate(chunks_of(case for case in written if case.facts), 1)}
@@ -490,7 +489,7 @@ def print_coverage(cases, options):
     nets = [case for case in cases if "steps" in case]
     whole = sum(len(case["net"][1]) // 4 <= options.whole for case in nets)
     two = sum(len(case["steps"]) == 2 for case in nets)
-    readings = [reading for number, case in enumerate(cases) if "steps" in case for reading in chosen_readings(case["readings"], number)]
+    readings = [reading for number, case in enumerate(cases, options.first) if "steps" in case for reading in chosen_readings(case["readings"], number)]
     ways = collections.Counter(f"{'open' if r['open'] else 'closed'} {'with' if r['with'] else 'against'} the sides" for r in readings)
     print(f"{len(nets)} accepted nets with 1 round: {whole} with all coordinates, {len(nets) - whole} with one axis of every point; {two} of them with 2 rounds")
     calls = collections.Counter(case["kind"].split("-")[0] for case in cases if "steps" not in case)
@@ -513,6 +512,7 @@ def arguments():
     parser.add_argument("--rounds", type=int, choices=(1, 2), default=2, help="2 rounds are told of the smallest nets only")
     parser.add_argument("--whole", type=int, default=WHOLE_FACES, metavar="FACES", help="all three axes up to so many faces, one axis above")
     parser.add_argument("--only", metavar="KIND", help="only the kinds whose names begin so")
+    parser.add_argument("--first", type=int, default=0, metavar="NUMBER", help="only the cases from this number on, as after a run that was broken off")
     parser.add_argument("--group", choices=GROUPS, help="only the facts of this group")
     parser.add_argument("--tree", type=pathlib.Path, default=HERE.parent, help="the tree whose definitions are checked")
     parser.add_argument("--mutate", action="store_true", help="self-test: wrong definitions must be found out")
