@@ -27,6 +27,8 @@ WHOLE_FACES = 5
 # The estimated seconds of processor time, and the nets, of a chunk.
 CHUNK_SECONDS = 30.0
 CHUNK_CASES = 20
+# Disagreements that are printed for a chunk.
+SHOWN = 4
 
 # ---- the definitions that facts unfold: the modules of each group, and what else it names of them
 TOPOLOGY = {"search.Search": "", "topology.Shape": "", "topology.HalfEdge": "", "topology.Boundary": ""}
@@ -68,8 +70,10 @@ GROUPS = {
         "seam.Reading": "",
     },
 }
+# Joins as soon as the crate `outcome` is there.
+GROUPS["Outcome"] = {**GROUPS["Verdict"], **GROUPS["Round"], "tables.Tables": "", "outcome.Outcome": "refinedTo, refusedWith"}
 # Names that two modules of a group have; the group does not need the first module's.
-LEFT_OUT = {("Round", "topology.Boundary", "step"), ("Seam", "topology.Boundary", "step"), ("Seam", "curve.Curve", "step"), ("Seam", "curve.Curve", "steps")}
+LEFT_OUT = {("Round", "topology.Boundary", "step"), ("Outcome", "topology.Boundary", "step"), ("Seam", "topology.Boundary", "step"), ("Seam", "curve.Curve", "step"), ("Seam", "curve.Curve", "steps")}
 LIBRARY = """use mathlib.Core.Path.{_≡_, refl, ap, _∙_}
 use mathlib.Core.Bool.{Bool, true, false}
 use mathlib.Core.List.{List, [], _∷_}
@@ -81,7 +85,7 @@ at a b c = record { x = a; y = b; z = c }
 """
 
 Fact = collections.namedtuple("Fact", "group name text stated cost")
-Case = collections.namedtuple("Case", "label kind nets facts")
+Case = collections.namedtuple("Case", "label told nets facts")
 
 
 # ---- antt text
@@ -112,6 +116,12 @@ def net_text(name, net):
     return f"abbrev {name} : Net\n{name} = record {{ {fields} }}\n"
 
 
+def lent_text(tables):
+    vertices, *others = tables
+    fields = [f"vertices = {integers(vertices)}"] + [f"{name} = {naturals(table)}" for name, table in zip(("faces", "marks", "work"), others)]
+    return "; ".join(fields)
+
+
 def verdict_text(verdict):
     return f"refused {verdict[0]} {verdict[1]}" if verdict else "accepted"
 
@@ -130,6 +140,18 @@ def verdict_facts(label, case):
     yield "Verdict", "call", f"verdict (record {{ rounds = {call['rounds']}; net = {label}; room = {room} }})", stated, cost
     if call.get("net_verdict", call["verdict"]) != call["verdict"]:
         yield "Verdict", "net", f"netVerdict {label}", verdict_text(call["net_verdict"]), cost
+
+
+def outcome_facts(label, case):
+    """What the call reports, and every lent table as it returns."""
+    call = case["call"]
+    if "lent" not in call:
+        return
+    (counts, verdict), rounds = (call["counts"], call["verdict"]), call["rounds"]
+    result = f"refinedTo {counts[0]} {counts[1]}" if counts else f"refusedWith {verdict[0]} {verdict[1]}"
+    size = len(case["net"][1]) // 4
+    cost = 0.3 + (0.1 * size**2 if rounds else 0)
+    yield "Outcome", "outcome", f"outcome {rounds} {label} (record {{ {lent_text(call['lent'])} }})", f"record {{ result = {result}; {lent_text(call['left'])} }}", cost
 
 
 def round_facts(label, case, seed, whole_faces):
@@ -190,6 +212,8 @@ def reading_facts(label, place, reading, case, with_seam):
 
 def all_facts(label, number, case, options):
     yield from verdict_facts(label, case)
+    if options.outcome:
+        yield from outcome_facts(label, case)
     if "steps" not in case:
         return
     yield from round_facts(label, case, options.seed, options.whole)
@@ -214,7 +238,7 @@ def written_case(number, case, unfolding, options):
     if "net" in case:
         nets = [net_text(label, case["net"])]
         nets += [net_text(f"{label}-after{k}", net) for k, net in enumerate(case.get("steps", []), 1)]
-    return Case(label, case["kind"], nets, facts)
+    return Case(label, case, nets, facts)
 
 
 # ---- the scratch repository
@@ -313,47 +337,66 @@ def kit_check(folder, name):
     return subprocess.run(["rt", "check", *name], cwd=folder, env=environment, capture_output=True, text=True)
 
 
-def disagreements(output, cases):
-    """For each fact that the kit refuses: its name, what was stated, and what the kit says of the difference."""
-    stated = {fact.name: (case.kind, fact.stated) for case in cases for fact in case.facts}
-    blocks = re.split(r"^(?=\S*\.antt:\d+)", output, flags=re.M)
-    for block in blocks:
-        found = re.match(r"\S*\.antt:\d+:\d+: error: `(\S+)`", block)
-        if not found:
+def disagreements(output):
+    """Each fact that the kit refuses by itself, with what the kit says of the difference."""
+    for name, message in re.findall(r"^\S+\.antt:\d+:\d+: error: `(\S+)`: (.*(?:\n  .*)*)", output, re.M):
+        if "was not admitted" in message:
             continue
-        kind, value = stated.get(found.group(1), ("", ""))
-        difference = re.search(r"^ *(computed as far.*)$", block, re.M)
-        yield found.group(1), kind, value, difference.group(1) if difference else block.strip()[:1500]
+        values = re.search(r"the two types are `Path \S+ (\(.*?\)|\S+) (\(.*?\)|\S+)` \(expected\)", message)
+        difference = re.search(r"computed as far as they go, (.*)", message)
+        if values:
+            yield name, f"the definition gives {values.group(1)}, the reference {values.group(2)}"
+        else:
+            yield name, difference.group(1) if difference else "too long for the kit to show where"
 
 
-def check_chunk(folder, name, cases):
+def check_chunk(folder, name, cases, uses, crates):
     """The number of disagreements, which are printed; None if the kit could not tell."""
     before, start = resource.getrusage(resource.RUSAGE_CHILDREN), time.time()
     result = kit_check(folder, [name])
     after = resource.getrusage(resource.RUSAGE_CHILDREN)
     seconds = after.ru_utime + after.ru_stime - before.ru_utime - before.ru_stime
-    facts = sum(len(case.facts) for case in cases)
+    facts = {fact.name: (case, fact) for case in cases for fact in case.facts}
     verdict = {0: "agree", 1: "DO NOT AGREE"}.get(result.returncode, "could not be checked")
-    print(f"{name}: {cases[0].label} to {cases[-1].label}, {facts} facts {verdict} ({seconds:.0f} s of processor time, {time.time() - start:.0f} s)", flush=True)
-    if result.returncode == 0:
-        return 0
-    if result.returncode != 1:
-        print((result.stdout + result.stderr)[-3000:])
+    print(f"{name}: {cases[0].label} to {cases[-1].label}, {len(facts)} facts {verdict} ({seconds:.0f} s of processor time, {time.time() - start:.0f} s)", flush=True)
+    found = [refusal for refusal in disagreements(result.stdout + result.stderr) if refusal[0] in facts]
+    if result.returncode != 0 and (result.returncode != 1 or not found):
+        print(f"exit status {result.returncode}\n" + (result.stdout + result.stderr)[-3000:])
         return None
-    found = list(disagreements(result.stdout + result.stderr, cases))
-    for fact, kind, value, difference in found:
-        print(f"  {fact} ({kind}): the reference gives {value[:400]}\n    {difference}")
-    if not found:
-        print("\n".join((result.stdout + result.stderr).splitlines()[-20:]))
-        return None
+    for number, (fact, difference) in enumerate(found[:SHOWN]):
+        case, stated = facts[fact]
+        print(f"  {fact} ({case.told['kind']}), stated as {stated.stated[:300]}: {difference[:600]}")
+        if number == 0:
+            print_detail(folder, case, stated, uses, crates)
     return len(found)
 
 
-# ---- wrong definitions: the group of facts that must find each out, its file, and texts with what replaces them
+def print_detail(folder, case, fact, uses, crates):
+    """Of a round that does not agree, the new coordinates that do not, each by itself."""
+    if fact.group != "Round":
+        return
+    number = 1 if fact.name.endswith("second") else 0
+    net, after = [case.told["net"], *case.told["steps"]][number:number + 2]
+    label = f"{case.label}-after1" if number else case.label
+    unfolding = re.search(r"^unfolding .*$", fact.text, re.M).group()
+    facts = {}
+    for vertex in range(len(net[2]), len(after[2])):
+        for axis in range(3):
+            name, value = f"{case.label}-vertex{vertex}-axis{axis}", integer(after[0][3 * vertex + axis])
+            computed = f"refinedCoordinate kobbelt {len(net[2])} ({label} .faces) ({label} .marks) (axis ({label} .vertices) {axis}) {vertex}"
+            facts[name] = Fact("Round", name, f"{name} : {computed} ≡ {value}\n{unfolding}\n{name} = refl\n", value, 0)
+    write_chunk(folder, "detail", [case._replace(facts=list(facts.values()))], uses, crates)
+    result = kit_check(folder, ["detail"])
+    for name, difference in list(disagreements(result.stdout + result.stderr))[:SHOWN]:
+        print(f"    {name}, stated as {facts[name].stated}: {difference[:300]}")
+
+
+# ---- wrong definitions: the group of facts and the kinds of nets that must find each out, its file, and texts with what replaces them
 MUTATIONS = {
-    "1/5 for 1/9 in the virtual point": ("Round", "rings/specs/Ring.antt", [("+ᶠ k (j + 1)) /ᶠ w .near", "+ᶠ k (j + 1)) /ᶠ 5")]),
+    "1/5 for 1/9 in the virtual point": ("Round", "fan", "rings/specs/Ring.antt", [("+ᶠ k (j + 1)) /ᶠ w .near", "+ᶠ k (j + 1)) /ᶠ 5")]),
     "b* and c* exchanged": (
         "Round",
+        "fan",
         "scheme/specs/Rings.antt",
         [
             ("    cond (eqb i (valence l v)) (extrapolatedAt", "    cond (eqb i (valence l v + 1)) (extrapolatedAt"),
@@ -362,31 +405,34 @@ MUTATIONS = {
     ),
     "halves towards zero": (
         "Round",
+        "halves",
         "rounding/specs/Rounding.antt",
         [("{ℕ, suc, _+_, _*_, _/_}", "{ℕ, suc, _+_, _-_, _*_, _/_}"), ("(2 * a + d) / (2 * d)", "(2 * a + d - 1) / (2 * d)")],
     ),
     "edge points rounded before the face point": (
         "Round",
+        "single",
         "scheme/specs/Points.antt",
         [
             ("Fraction.{Fraction, whole}", "Fraction.{Fraction, whole, toWhole}"),
             ("faceValue w l (edgePoint w l marks p) f", "faceValue w l (λ (h : ℕ). whole (toWhole (edgePoint w l marks p h))) f"),
         ],
     ),
-    "the last edge of a segment taken as cyclic": ("Round", "scheme/specs/Points.antt", [("endOfSegment insideSegment)", "insideSegment insideSegment)")]),
-    "never the second direction alone": ("Round", "scheme/specs/Points.antt", [("secondAlone bothDirections)", "bothDirections bothDirections)")]),
-    "side i+1 for side i-1 in refined faces": ("Round", "refinement/specs/Refined.antt", [("edge S l (S .prev h)", "edge S l (S .next h)")]),
-    "a fan of 7 accepted": ("Verdict", "refusals/specs/Refusals.antt", [("(ltb 6 (valence l p))", "(ltb 7 (valence l p))")]),
+    "the last edge of a segment taken as cyclic": ("Round", "single", "scheme/specs/Points.antt", [("endOfSegment insideSegment)", "insideSegment insideSegment)")]),
+    "never the second direction alone": ("Round", "annulus", "scheme/specs/Points.antt", [("secondAlone bothDirections)", "bothDirections bothDirections)")]),
+    "side i+1 for side i-1 in refined faces": ("Round", "single", "refinement/specs/Refined.antt", [("edge S l (S .prev h)", "edge S l (S .next h)")]),
+    "a fan of 7 accepted": ("Verdict", "refused-11", "refusals/specs/Refusals.antt", [("(ltb 6 (valence l p))", "(ltb 7 (valence l p))")]),
     "refusal 12 before 11": (
         "Verdict",
+        "refused-11",
         "verdict/specs/Verdict.antt",
         [
             ("    (orElse (refusedAt 11 (badValence quads l) v", "    (orElse (refusedAt 12 (markedRing quads l marks) v"),
             ("    (refusedAt 12 (markedRing quads l marks) v (λ p. p)))", "    (refusedAt 11 (badValence quads l) v (λ p. p)))"),
         ],
     ),
-    "another end weight of the curve": ("Curve", "curve/specs/Weights.antt", [("pos (w .near + w .far) *ℤ q", "pos (w .near) *ℤ q")]),
-    "a loop followed backwards": ("Reading", "topology/specs/Boundary.antt", [("step S l withSides h = along S l h", "step S l withSides h = back S l h")]),
+    "another end weight of the curve": ("Curve", "single", "curve/specs/Weights.antt", [("pos (w .near + w .far) *ℤ q", "pos (w .near) *ℤ q")]),
+    "a loop followed backwards": ("Reading", "single", "topology/specs/Boundary.antt", [("step S l withSides h = along S l h", "step S l withSides h = back S l h")]),
 }
 
 
@@ -401,13 +447,14 @@ def mutate(folder, file, replacements):
 
 
 def run_mutations(cases, options):
-    """Each wrong definition must be found out by some chunk, the smallest nets first; returns how many are not."""
+    """Each wrong definition must be found out by the nets of its kind, the smallest first; returns how many are not."""
     missed = 0
     cases = sorted(cases, key=lambda case: len(case["net"][1]) if "net" in case else 0)
-    for name, mutation in MUTATIONS.items():
+    for name, (group, kind, *edit) in MUTATIONS.items():
         print(f"== {name}", flush=True)
+        options.group = group
         with tempfile.TemporaryDirectory() as folder:
-            if check_all(pathlib.Path(folder), cases, options, mutation) == 0:
+            if check_all(pathlib.Path(folder), [case for case in cases if case["kind"].startswith(kind)], options, edit) == 0:
                 print("NOT FOUND OUT")
                 missed += 1
     print(f"definitions: {len(MUTATIONS) - missed} of {len(MUTATIONS)} wrong definitions found out")
@@ -425,28 +472,27 @@ def cases_from_generator(options):
     for case in cases:
         if "steps" in case:
             case["steps"] = case["steps"][:options.rounds]
-    return cases
+    return cases[options.first:]
 
 
-def write_scratch(folder, cases, options, group):
-    """Writes the scratch repository; returns its crates of definitions, and its chunks with their cases."""
+def write_scratch(folder, cases, options):
+    """Writes the scratch repository; returns its crates of definitions, the headers of modules, and the chunks with their cases."""
     crates = make_scratch(options.tree, folder)
     uses, unfolding = headers(folder / "crates")
-    options.seam = "Seam" in uses
-    written = [written_case(number, case, unfolding, options) for number, case in enumerate(cases)]
-    if group:
-        written = [case._replace(facts=[fact for fact in case.facts if fact.group == group]) for case in written]
+    options.seam, options.outcome = "Seam" in uses, "Outcome" in uses
+    written = [written_case(number, case, unfolding, options) for number, case in enumerate(cases, options.first)]
+    if options.group:
+        written = [case._replace(facts=[fact for fact in case.facts if fact.group == options.group]) for case in written]
     chunks = {f"facts{number:02}": chunk for number, chunk in enumerate(chunks_of(case for case in written if case.facts), 1)}
     for name, chunk in chunks.items():
         write_chunk(folder, name, chunk, uses, crates)
     options.facts = sum(len(case.facts) for case in written)
-    return crates, chunks
+    return crates, uses, chunks
 
 
-def check_all(folder, cases, options, mutation=None):
-    """The number of disagreements. With a wrong definition put in, only its group is checked, up to the first chunk that disagrees."""
-    group, *edit = mutation or (None,)
-    crates, chunks = write_scratch(folder, cases, options, group)
+def check_all(folder, cases, options, edit=None):
+    """The number of disagreements; with a wrong definition put in, that of the first chunk that disagrees."""
+    crates, uses, chunks = write_scratch(folder, cases, options)
     if edit:
         mutate(folder, *edit)
     ready = kit_check(folder, crates)
@@ -454,7 +500,7 @@ def check_all(folder, cases, options, mutation=None):
         sys.exit("definitions: the kit refuses the definitions alone\n" + (ready.stdout + ready.stderr)[-3000:])
     wrong = 0
     for name, chunk in chunks.items():
-        found = check_chunk(folder, name, chunk)
+        found = check_chunk(folder, name, chunk, uses, crates)
         if found is None:
             sys.exit(2)
         wrong += found
@@ -468,7 +514,7 @@ def print_coverage(cases, options):
     nets = [case for case in cases if "steps" in case]
     whole = sum(len(case["net"][1]) // 4 <= options.whole for case in nets)
     two = sum(len(case["steps"]) == 2 for case in nets)
-    readings = [reading for number, case in enumerate(cases) if "steps" in case for reading in chosen_readings(case["readings"], number)]
+    readings = [reading for number, case in enumerate(cases, options.first) if "steps" in case for reading in chosen_readings(case["readings"], number)]
     ways = collections.Counter(f"{'open' if r['open'] else 'closed'} {'with' if r['with'] else 'against'} the sides" for r in readings)
     print(f"{len(nets)} accepted nets with 1 round: {whole} with all coordinates, {len(nets) - whole} with one axis of every point; {two} of them with 2 rounds")
     calls = collections.Counter(case["kind"].split("-")[0] for case in cases if "steps" not in case)
@@ -479,7 +525,9 @@ def print_coverage(cases, options):
     traits = collections.Counter(trait for case in cases for trait in case["traits"])
     by_number = sorted(traits, key=lambda trait: re.sub(r"\d+", lambda digits: digits.group().zfill(2), trait))
     print("nets with: " + ", ".join(f"{trait}: {traits[trait]}" for trait in by_number))
-    print(f"the crate `seam`: {'its lists of points and marks too' if options.seam else 'not there; readings as vertices along the boundary only'}")
+    lent = sum("lent" in case["call"] for case in cases)
+    print(f"crate `seam`: {'lists of points and marks of the same readings' if options.seam else 'not there'}")
+    print(f"crate `outcome`: {f'{lent} small calls with their lent tables' if options.outcome else 'not there'}")
 
 
 def arguments():
@@ -489,6 +537,8 @@ def arguments():
     parser.add_argument("--rounds", type=int, choices=(1, 2), default=2, help="2 rounds are told of the smallest nets only")
     parser.add_argument("--whole", type=int, default=WHOLE_FACES, metavar="FACES", help="all three axes up to so many faces, one axis above")
     parser.add_argument("--only", metavar="KIND", help="only the kinds whose names begin so")
+    parser.add_argument("--first", type=int, default=0, metavar="NUMBER", help="only the cases from this number on, as after a run that was broken off")
+    parser.add_argument("--group", choices=GROUPS, help="only the facts of this group")
     parser.add_argument("--tree", type=pathlib.Path, default=HERE.parent, help="the tree whose definitions are checked")
     parser.add_argument("--mutate", action="store_true", help="self-test: wrong definitions must be found out")
     return parser.parse_args()
@@ -496,6 +546,8 @@ def arguments():
 
 def main():
     options = arguments()
+    if options.mutate:
+        options.rounds = 1
     cases = cases_from_generator(options)
     if options.mutate:
         sys.exit(1 if run_mutations(cases, options) else 0)

@@ -6,7 +6,7 @@
 use std::collections::BTreeSet;
 use std::fmt::Display;
 
-use reference::call::Outcome;
+use reference::call::{Outcome, Tables, refine_into};
 use reference::curve::{Form, exact_curve, rounded_curve};
 use reference::net::Net;
 use reference::refusal::{Capacity, Refusal, check_call, check_net};
@@ -29,6 +29,8 @@ const FEW_FACES: usize = 6;
 const TWO_ROUNDS: usize = 2;
 /// Most corners of a net whose tables are told; of others only the lengths.
 const MOST_CORNERS: usize = 200;
+/// Most work numbers of a call whose lent tables are told.
+const MOST_WORK: usize = 81;
 /// Most rounds for which the definitions can work out the number of faces.
 const MOST_ROUNDS: u32 = 100;
 /// Calls for each refusal alone.
@@ -115,7 +117,7 @@ fn accepted_line(kind: &str, net: &Net, rng: &mut Rng) -> String {
         ("steps", list(nets[1..].iter().map(|net| net_text(net)))),
         (
             "readings",
-            list(readings(net).map(|r| reading_text(&nets, r))),
+            list(readings(net).iter().map(|r| reading_text(&nets, *r))),
         ),
         ("traits", list(traits(net, &steps).iter().map(quoted))),
     ])
@@ -145,18 +147,15 @@ fn near_limits(rng: &mut Rng) -> Case {
     let faces = rng.pick(&[0, 1, 64, 65, 1_024, 1_025, 4_096, 4_097]);
     let rounds = rng.pick(&[0, 1, 2, 3, 4, 5, 6, 7]);
     let mut room = Capacity::for_refined_faces(faces << (2 * rounds));
-    let short = |length: &mut usize, rng: &mut Rng| {
-        if rng.one_in(10) {
-            *length = length.saturating_sub(1);
-        }
-    };
     for length in [
         &mut room.vertices,
         &mut room.faces,
         &mut room.marks,
         &mut room.workspace,
     ] {
-        short(length, rng);
+        if rng.one_in(10) {
+            *length = length.saturating_sub(1);
+        }
     }
     Case {
         rounds,
@@ -191,13 +190,18 @@ fn call_line(kind: &str, case: &Case, reasons: &[u32]) -> String {
 fn call_text(case: &Case, with_net: bool) -> String {
     let lengths = [case.vertices.len(), case.faces.len(), case.marks.len()];
     let room = case.capacity;
-    let limits = check_call(case.rounds, &case.vertices, &case.faces, &case.marks, &room);
     let net = Net::from_tables(&case.vertices, &case.faces, &case.marks);
     let is_whole = lengths == [3 * net.points.len(), 4 * net.faces.len(), net.points.len()];
-    let verdict = match case.outcome() {
-        _ if !with_net => told(limits),
-        Outcome::Refined { .. } => vec![],
-        Outcome::Refused { reason, place } => vec![reason, place],
+    let verdict = match with_net.then(|| case.outcome()) {
+        Some(Outcome::Refined { .. }) => vec![],
+        Some(Outcome::Refused { reason, place }) => vec![reason, place],
+        None => told(check_call(
+            case.rounds,
+            &case.vertices,
+            &case.faces,
+            &case.marks,
+            &room,
+        )),
     };
     let mut fields = vec![
         ("rounds", case.rounds.to_string()),
@@ -211,7 +215,42 @@ fn call_text(case: &Case, with_net: bool) -> String {
     if with_net && is_whole {
         fields.push(("net_verdict", numbers(&told(check_net(&net)))));
     }
+    if with_net && room.workspace <= MOST_WORK {
+        fields.extend(lent_fields(case));
+    }
     object(&fields)
+}
+
+/// The lent tables before the call and after it, and what the call reports of
+/// an accepted net: its counts of vertices and faces.
+fn lent_fields(case: &Case) -> [(&'static str, String); 3] {
+    let before = case.tables(&mut Rng::new(0));
+    let mut after = before.clone();
+    let outcome = refine_into(
+        case.rounds,
+        &case.vertices,
+        &case.faces,
+        &case.marks,
+        &mut after,
+    );
+    let counts = match outcome {
+        Outcome::Refined { faces, marks, .. } => vec![marks.len(), faces.len() / 4],
+        Outcome::Refused { .. } => vec![],
+    };
+    [
+        ("lent", tables_text(&before)),
+        ("left", tables_text(&after)),
+        ("counts", numbers(&counts)),
+    ]
+}
+
+fn tables_text(tables: &Tables) -> String {
+    list([
+        numbers(&tables.vertices),
+        numbers(&tables.faces),
+        numbers(&tables.marks),
+        numbers(&tables.workspace),
+    ])
 }
 
 fn told(verdict: Result<(), Refusal>) -> Vec<u32> {
@@ -228,14 +267,13 @@ fn net_text(net: &Net) -> String {
 
 /// Every segment from each end and every unmarked loop from its lowest
 /// vertex, both ways.
-fn readings(net: &Net) -> impl Iterator<Item = Reading> {
+fn readings(net: &Net) -> Vec<Reading> {
     let boundary = Boundary::new(net);
-    let all = boundary.readings().into_iter();
     let is_kept = |reading: &Reading| {
         let vertices = boundary.vertices(*reading).expect("a listed reading");
         reading.form == Form::Open || vertices.iter().all(|&v| reading.start <= v)
     };
-    all.filter(is_kept).collect::<Vec<_>>().into_iter()
+    boundary.readings().into_iter().filter(is_kept).collect()
 }
 
 /// A reading: its vertices in each of the nets, its points, and the rounded
