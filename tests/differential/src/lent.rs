@@ -1,0 +1,46 @@
+//! Tables lent to a call, between zones that it must leave alone.
+
+use std::fmt::Debug;
+
+/// Entries of the zone before a table, and of the zone after it.
+const ZONE: usize = 64;
+
+/// What every entry of a zone is made of.
+const ZONE_ENTRY: u8 = 0xA5;
+
+/// A table with a zone on either side.
+#[derive(Clone, Debug)]
+pub struct Lent<T> {
+    entries: Vec<T>,
+}
+
+impl<T: Copy + Debug + PartialEq + From<u8>> Lent<T> {
+    pub fn new(table: &[T]) -> Self {
+        let zone = [T::from(ZONE_ENTRY); ZONE];
+        Self {
+            entries: [&zone[..], table, &zone[..]].concat(),
+        }
+    }
+
+    /// Where the table begins; the zones lie in the same allocation, so that
+    /// a write beyond the table is found there.
+    pub fn pointer(&mut self) -> *mut T {
+        self.entries.as_mut_ptr().wrapping_add(ZONE)
+    }
+
+    pub fn length(&self) -> usize {
+        self.entries.len() - 2 * ZONE
+    }
+
+    pub fn table(&self) -> &[T] {
+        &self.entries[ZONE..ZONE + self.length()]
+    }
+
+    /// The table's name if the table is not as expected or a zone has changed.
+    pub fn differs(&self, name: &'static str, expected: &[T]) -> Option<&'static str> {
+        let (before, rest) = self.entries.split_at(ZONE);
+        let (table, after) = rest.split_at(self.length());
+        let is_zone = |zone: &[T]| zone.iter().all(|&entry| entry == T::from(ZONE_ENTRY));
+        (table != expected || !is_zone(before) || !is_zone(after)).then_some(name)
+    }
+}
