@@ -80,12 +80,12 @@ impl Inputs {
         }
     }
 
-    /// The input tables that are not as the case has them, by name.
-    pub fn changed(&self, case: &Case) -> Vec<&'static str> {
+    /// What is not as the case has it.
+    pub fn differences(&self, case: &Case) -> Vec<String> {
         [
-            self.vertices.differs("vertices", &case.vertices),
-            self.faces.differs("faces", &case.faces),
-            self.marks.differs("marks", &case.marks),
+            self.vertices.difference("vertices", &case.vertices),
+            self.faces.difference("faces", &case.faces),
+            self.marks.difference("marks", &case.marks),
         ]
         .into_iter()
         .flatten()
@@ -111,13 +111,13 @@ impl Outputs {
         }
     }
 
-    /// The tables that are not as expected, by name.
-    pub fn changed(&self, expected: &Tables) -> Vec<&'static str> {
+    /// What is not as expected.
+    pub fn differences(&self, expected: &Tables) -> Vec<String> {
         [
-            self.vertices.differs("out vertices", &expected.vertices),
-            self.faces.differs("out faces", &expected.faces),
-            self.marks.differs("out marks", &expected.marks),
-            self.work.differs("work", &expected.workspace),
+            self.vertices.difference("out vertices", &expected.vertices),
+            self.faces.difference("out faces", &expected.faces),
+            self.marks.difference("out marks", &expected.marks),
+            self.work.difference("work", &expected.workspace),
         ]
         .into_iter()
         .flatten()

@@ -33,13 +33,13 @@ pub fn compare(case: &Case, rng: &mut Rng) -> Result<Option<Net>, String> {
         place: report.place,
     };
     agree("check", &finding, &expected_finding)?;
-    untouched("check", inputs.changed(case))?;
-    untouched("check", work.differs("work", &expected.workspace))?;
+    as_expected("check", inputs.differences(case))?;
+    as_expected("check", work.difference("work", &expected.workspace))?;
 
     let mut outputs = Outputs::new(&found);
     agree("refine", &refine(&mut inputs, &mut outputs), &report)?;
-    untouched("refine", inputs.changed(case))?;
-    untouched("refine", outputs.changed(&expected))?;
+    as_expected("refine", inputs.differences(case))?;
+    as_expected("refine", outputs.differences(&expected))?;
     Ok((report.reason == 0).then(|| net_of(&outputs, &report)))
 }
 
@@ -74,16 +74,13 @@ fn agree<T: std::fmt::Debug + PartialEq>(
     }
 }
 
-/// No table may differ from its expected state, nor a zone round it.
-fn untouched(call: &str, differing: impl IntoIterator<Item = &'static str>) -> Result<(), String> {
-    let names: Vec<&str> = differing.into_iter().collect();
-    if names.is_empty() {
+/// Every table and the zones round it are as they must be after a call.
+fn as_expected(call: &str, differences: impl IntoIterator<Item = String>) -> Result<(), String> {
+    let differences: Vec<String> = differences.into_iter().collect();
+    if differences.is_empty() {
         Ok(())
     } else {
-        Err(format!(
-            "{call} leaves a different state: {}",
-            names.join(", ")
-        ))
+        Err(format!("after {call} {}", differences.join("; ")))
     }
 }
 

@@ -59,7 +59,8 @@ impl Kind {
         for size in [Size::Small, Size::Medium] {
             kinds.extend(Shape::ALL.map(|shape| Kind::Accepted(shape, size)));
         }
-        kinds.push(Kind::Accepted(Shape::Components, Size::Large));
+        let large = [Shape::Grid, Shape::Holes, Shape::Torus, Shape::Components];
+        kinds.extend(large.map(|shape| Kind::Accepted(shape, Size::Large)));
         kinds.extend(Table::ALL.map(Kind::Short));
         kinds.extend((1..=12).map(Kind::Refused));
         kinds.extend([Kind::RefusedTwice, Kind::Damaged, Kind::Random].repeat(6));
@@ -105,8 +106,9 @@ pub fn some_rounds(net: &Net, most: u32, rng: &mut Rng) -> u32 {
 
 /// An accepted net of one face or more, and one table too short for it.
 fn short(table: Table, rng: &mut Rng) -> Case {
-    let shapes = &Shape::ALL[1..];
-    let net = accepted(rng.pick(shapes), Size::Small, rng);
+    let mut shapes = Shape::ALL.to_vec();
+    shapes.retain(|&shape| shape != Shape::Empty);
+    let net = accepted(rng.pick(&shapes), Size::Small, rng);
     let rounds = some_rounds(&net, 3, rng);
     let expected = Expected::Refused(Refusal::new(4, 0));
     let mut case = Case::new(&net, rounds, expected);

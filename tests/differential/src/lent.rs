@@ -36,11 +36,13 @@ impl<T: Copy + Debug + PartialEq + From<u8>> Lent<T> {
         &self.entries[ZONE..ZONE + self.length()]
     }
 
-    /// The table's name if the table is not as expected or a zone has changed.
-    pub fn differs(&self, name: &'static str, expected: &[T]) -> Option<&'static str> {
-        let (before, rest) = self.entries.split_at(ZONE);
-        let (table, after) = rest.split_at(self.length());
-        let is_zone = |zone: &[T]| zone.iter().all(|&entry| entry == T::from(ZONE_ENTRY));
-        (table != expected || !is_zone(before) || !is_zone(after)).then_some(name)
+    /// The first entry that differs from the expected table and the zones
+    /// round it, counted from the table's beginning.
+    pub fn difference(&self, name: &str, expected: &[T]) -> Option<String> {
+        let expected = Self::new(expected).entries;
+        let at = (0..expected.len()).find(|&at| self.entries[at] != expected[at])?;
+        let place = at.cast_signed() - ZONE.cast_signed();
+        let (given, due) = (self.entries[at], expected[at]);
+        Some(format!("{name}[{place}] is {given:?}, not {due:?}"))
     }
 }
