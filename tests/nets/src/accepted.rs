@@ -178,14 +178,16 @@ fn draw_part(size: Size, rng: &mut Rng) -> Net {
     topology(part, size, rng)
 }
 
-/// A grid without some of its faces.
+/// A grid without some of its faces; one at least stays.
 fn holes(size: Size, rng: &mut Rng) -> Net {
     let columns = size.upto(3, [4, 8, 64], rng);
     let rows = size.upto(3, [3, 8, 64], rng);
     let mut net = shapes::grid(columns, rows);
     for _ in 0..size.upto(1, [2, 6, 40], rng) {
-        let last = net.faces.len();
-        net.faces.remove(rng.below(last));
+        let count = net.faces.len();
+        if count > 1 {
+            net.faces.remove(rng.below(count));
+        }
     }
     repair(net, rng)
 }
