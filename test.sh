@@ -40,6 +40,8 @@ run "documents agree with the tree" python3 tests/documents.py
 if [ -f tests/Cargo.toml ]; then
     run "reference implementation" cargo test --offline --quiet --manifest-path tests/Cargo.toml
 fi
+run "archive for C" rt staticlib capi
+run "against the reference through the C interface" cargo run --release --offline --quiet --manifest-path tests/differential/Cargo.toml
 
 if [ "$proved" -ne 0 ] || [ "$failed" -ne 0 ] || [ "$more" -ne 0 ]; then
     [ "$failed" -eq 0 ] && [ "$more" -eq 0 ] && more=1
