@@ -342,7 +342,7 @@ def disagreements(output):
     for name, message in re.findall(r"^\S+\.antt:\d+:\d+: error: `(\S+)`: (.*(?:\n  .*)*)", output, re.M):
         if "was not admitted" in message:
             continue
-        values = re.search(r"the two types are `Path \S+ (\(.*?\)|\S+) (\(.*?\)|\S+)` \(expected\)", message)
+        values = re.search(r"the two types are `Path (?:\([^()]*\)|\S+) (\([^()]*\)|\S+) (\([^()]*\)|\S+)` \(expected\)", message)
         difference = re.search(r"computed as far as they go, (.*)", message)
         if values:
             yield name, f"the definition gives {values.group(1)}, the reference {values.group(2)}"
@@ -483,10 +483,11 @@ def write_scratch(folder, cases, options):
     written = [written_case(number, case, unfolding, options) for number, case in enumerate(cases, options.first)]
     if options.group:
         written = [case._replace(facts=[fact for fact in case.facts if fact.group == options.group]) for case in written]
-    chunks = {f"facts{number:02}": chunk for number, chunk in enumerate(chunks_of(case for case in written if case.facts), 1)}
+    written = [case for case in written if case.facts]
+    chunks = {f"facts{number:02}": chunk for number, chunk in enumerate(chunks_of(written), 1)}
     for name, chunk in chunks.items():
         write_chunk(folder, name, chunk, uses, crates)
-    options.facts = sum(len(case.facts) for case in written)
+    options.checked = len(written), sum(len(case.facts) for case in written)
     return crates, uses, chunks
 
 
@@ -557,7 +558,8 @@ def main():
     print_coverage(cases, options)
     used = resource.getrusage(resource.RUSAGE_CHILDREN)
     print(f"{used.ru_utime + used.ru_stime:.0f} s of processor time, {time.time() - start:.0f} s")
-    print(f"definitions: {len(cases)} nets, " + (f"{wrong} facts do not agree" if wrong else f"{options.facts} facts agree"))
+    nets, facts = options.checked
+    print(f"definitions: {nets} nets and calls, " + (f"{wrong} of {facts} facts do not agree" if wrong else f"{facts} facts agree"))
     sys.exit(1 if wrong else 0)
 
 
