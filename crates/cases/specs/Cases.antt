@@ -114,6 +114,14 @@ raised =
       marks = 1 ∷ 0 ∷ 1 ∷ 0 ∷ 0 ∷ 0 ∷ 1 ∷ 0 ∷ 1 ∷ [];
     }
 
+-- the square with one vertex a count higher: its edge points have z = -1/16, -1/16, 9/16, 9/16
+abbrev pub tilted : Net
+tilted = record {
+  vertices = pos 0 ∷ pos 0 ∷ pos 0 ∷ pos 16 ∷ pos 0 ∷ pos 0 ∷ pos 16 ∷ pos 16 ∷ pos 0 ∷ pos 0 ∷ pos 16 ∷ pos 1 ∷ [];
+  faces = 0 ∷ 1 ∷ 2 ∷ 3 ∷ [];
+  marks = unmarked 4;
+}
+
 -- z of the refined vertex i of `raised`
 abbrev pub raisedZ : ℕ → ℤ
 raisedZ i = refinedCoordinate kobbelt 9 (raised .faces) (raised .marks) (axis (raised .vertices) 2) i
@@ -130,6 +138,8 @@ netCases =
     -- "two by two squares of side 16, four outer corners marked, centre raised to z = 16, rest 0: inner edge points have z = 10, face points z = 6 (100/16)."
     ∷ record { computed = raisedZ 10 ∷ raisedZ 11 ∷ raisedZ 15 ∷ raisedZ 16 ∷ []; stated = pos 10 ∷ pos 10 ∷ pos 10 ∷ pos 10 ∷ [] }
     ∷ record { computed = raisedZ 21 ∷ raisedZ 22 ∷ raisedZ 23 ∷ raisedZ 24 ∷ []; stated = pos 6 ∷ pos 6 ∷ pos 6 ∷ pos 6 ∷ [] }
+    -- "from unrounded edge points": the face point's z is 0, from 1/4; from rounded edge points it would be 1. From the second implementation.
+    ∷ record { computed = refinedPoint tilted 6 ++ refinedPoint tilted 8; stated = coordinates (at (pos 8) (pos 18) (pos 1) ∷ at (pos 8) (pos 8) (pos 0) ∷ []) }
     ∷ []
 
 -- ---- the table
