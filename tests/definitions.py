@@ -24,6 +24,8 @@ import time
 HERE = pathlib.Path(__file__).resolve().parent
 # Up to so many faces a round is stated as one equality of nets, all axes; above, as faces, marks and one axis.
 WHOLE_FACES = 5
+# Up to so many corners of a net the lists of the crate `seam` are stated; they are slow.
+SEAM_CORNERS = 24
 # The estimated seconds of processor time, and the nets, of a chunk.
 CHUNK_SECONDS = 30.0
 CHUNK_CASES = 20
@@ -202,7 +204,7 @@ def reading_facts(label, place, reading, case, with_seam):
         faces = naturals(net[1])
         along = f"(λ (i : ℕ). from ({faces}) (iterate (step quads ({faces}) {way}) i (boundaryFrom quads ({faces}) {start})))"
         yield "Reading", f"vertices{place}-{rounds}", f"tabulate {count} {along}", naturals(vertices), cost
-        if with_seam:
+        if with_seam and len(net[1]) <= SEAM_CORNERS:
             read = [value for vertex in vertices for value in net[0][3 * vertex:3 * vertex + 3]]
             marks = ["true" if net[2][vertex] == 1 else "false" for vertex in vertices]
             marked = f"(λ (i : ℕ). marked ({name} .marks) (vertexAt ({name} .faces) {way} {start} i))"
@@ -527,7 +529,7 @@ def print_coverage(cases, options):
     by_number = sorted(traits, key=lambda trait: re.sub(r"\d+", lambda digits: digits.group().zfill(2), trait))
     print("nets with: " + ", ".join(f"{trait}: {traits[trait]}" for trait in by_number))
     lent = sum("lent" in case["call"] for case in cases)
-    print(f"crate `seam`: {'lists of points and marks of the same readings' if options.seam else 'not there'}")
+    print(f"crate `seam`: {f'lists of points and marks of the readings in nets of up to {SEAM_CORNERS // 4} faces' if options.seam else 'not there'}")
     print(f"crate `outcome`: {f'{lent} small calls with their lent tables' if options.outcome else 'not there'}")
 
 
