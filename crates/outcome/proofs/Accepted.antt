@@ -21,7 +21,7 @@ use Rattle.outcome.specs.Outcome.{Lent, Result, refinedTo, refusedWith, 
 use Rattle.outcome.specs.SharedSegment.{Request, resultAfter, AcceptedFor, netBy, netAfter}
 
 -- ---- the verdict behind the result
-by-result : (v : Verdict) (n : Net) (o : Lent) (w : List ℕ) (x y : ℕ) → outcomeBy v n o w .result ≡ refinedTo x y → v ≡ accepted
+pub by-result : (v : Verdict) (n : Net) (o : Lent) (w : List ℕ) (x y : ℕ) → outcomeBy v n o w .result ≡ refinedTo x y → v ≡ accepted
 by-result accepted n o w x y e = refl
 by-result (refused r p) n o w x y e = let z : _≡_ {A = ℕ} 0 1 = cc in absurd (omega arith)
 

@@ -12,6 +12,7 @@ use mir.Syntax.{w32}
 use mir.Val.{SFits}
 use Rattle.integers.proofs.Range.{abs-fits}
 use Rattle.lists.proofs.Tabulate.{length-tabulate, getD-tabulate}
+use Rattle.tables.specs.Tables.{filled}
 use Rattle.decimal.specs.Decimal.{integerText}
 use Rattle.decimal.specs.Answers.{Stored}
 use Rattle.decimal.proofs.Writing.{sets-after, stored-then, length-integer}
@@ -97,6 +98,7 @@ module _ (n : ℕ) (fs : List ℕ) where
 
 -- ---- a text at the front
 pub at-front : (d o : List ℕ) (r : ℕ) (s : List ℕ) (most : ℕ) → Stored d o 0 r s → r ≤ most → most ≤ length d → Written d o r s most
+unfolding filled
 at-front d o r s most w h k =
     let e = w .end in
     let z : 0 + length s ≡ length s = omega arith in

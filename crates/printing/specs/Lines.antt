@@ -1,9 +1,10 @@
 -- Lines by their numbers, and what a writer leaves.
 use mathlib.Core.Path.{_≡_}
-use mathlib.Core.List.{List, _++_}
+use mathlib.Core.List.{List}
 use Prim.Native.Nat.{ℕ, _≤_}
 use lib.IntN.{ℤ}
-use lib.ListN.{length, drop}
+use lib.ListN.{length}
+use Rattle.tables.specs.Tables.{filled}
 use Rattle.text.specs.Form.{Vertex, Face}
 
 abbrev pub vertexIs : ℤ → ℤ → ℤ → ℕ → Vertex
@@ -14,6 +15,6 @@ faceIs a b c d = record { a = a; b = b; c = c; d = d }
 
 -- o is the text s and then what d has after it; r is the text's length, at most `most`
 pub record Written (d o : List ℕ) (r : ℕ) (s : List ℕ) (most : ℕ) : Type 0 where
-  pub bytes : o ≡ s ++ drop (length s) d
+  pub bytes : o ≡ filled s d
   pub long : r ≡ length s
   pub fits : r ≤ most

@@ -4,15 +4,16 @@ use mathlib.Core.List.{List}
 use Prim.Native.Nat.{ℕ, _≤_}
 use lib.IntN.{ℤ}
 use lib.ListN.{length}
-use borrow.Author.Tests.{le-ltb, eq-eqb}
+use Rattle.verdict.specs.Verdict.{accepted}
+use borrow.Author.Tests.{le-ltb}
 use Rattle.text.specs.Form.{Net}
 use Rattle.text.specs.Text.{netText}
 use Rattle.text.specs.Written.{NetFits}
 use Rattle.text.proofs.Back.{net-back}
-use Rattle.reading.specs.Outcome.{refusalOf, filled, readNet}
+use Rattle.reading.specs.Loaded.{countsVerdict, stored, readNet}
 use Rattle.reading.proofs.Cases as cases
 
-pub read-back : (n : Net) (vs : List ℤ) (fs ms : List ℕ) → NetFits n → length (netText n) ≤ 32768 → refusalOf (n .counts) (length vs) (length fs) (length ms) ≡ 0
-    → readNet (netText n) vs fs ms ≡ filled vs fs ms n
+pub read-back : (n : Net) (vs : List ℤ) (fs ms : List ℕ) → NetFits n → length (netText n) ≤ 32768 → countsVerdict (n .counts) ≡ accepted
+    → readNet (netText n) vs fs ms ≡ stored vs fs ms n
 unfolding readNet
-read-back n vs fs ms h short room = rw (le-ltb 32768 (length (netText n)) short, net-back n h, eq-eqb (refusalOf (n .counts) (length vs) (length fs) (length ms)) 0 room)
+read-back n vs fs ms h short room = rw (le-ltb 32768 (length (netText n)) short, net-back n h, room)

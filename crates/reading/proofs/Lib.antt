@@ -1,6 +1,7 @@
 pub mod Examples
 pub mod Lines
 pub mod Body
+pub mod Limits
 pub mod Storing
 pub mod Cases
 pub mod Back

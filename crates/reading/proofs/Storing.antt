@@ -9,7 +9,8 @@ use lib.Seq.{sets, sets-eq, drop-drop}
 use Rattle.decimal.specs.Decimal.{Read, found, bad}
 use Rattle.decimal.proofs.Reading.{part-rest}
 use Rattle.text.specs.Form.{Vertex, Face, Rows, rows, oneMore}
-use Rattle.reading.specs.Outcome.{coordinates, marksOf, cornersOf, over}
+use Rattle.tables.specs.Tables.{filled}
+use Rattle.reading.specs.Loaded.{coordinates, marksOf, cornersOf}
 use Rattle.reading.proofs.Lines.{rows-none, rows-bad, rows-found, rows-length}
 
 module _ {A : Type 0} (read : List ℕ → Read A) (count : ℕ) (l : List ℕ) (i at : ℕ) where
@@ -94,38 +95,39 @@ module _ (read : List ℕ → Read Face) (count : ℕ) (l : List ℕ) (i at : �
   corners-end z = sym (e ∙ ap (λ (vs : List Face). sets t (4 * i) (cornersOf vs)) z ∙ no-corners t (4 * i))
 
 -- ---- a table that has room is filled from the front
-length-coordinates : (vs : List Vertex) → length (coordinates vs) ≡ 3 * length vs
+pub length-coordinates : (vs : List Vertex) → length (coordinates vs) ≡ 3 * length vs
 unfolding coordinates
 length-coordinates [] = refl
 length-coordinates (v ∷ vs) = let e = length-coordinates vs in omega arith
 
-length-marks : (vs : List Vertex) → length (marksOf vs) ≡ length vs
+pub length-marks : (vs : List Vertex) → length (marksOf vs) ≡ length vs
 unfolding marksOf
 length-marks [] = refl
 length-marks (v ∷ vs) = let e = length-marks vs in omega arith
 
-length-corners : (fs : List Face) → length (cornersOf fs) ≡ 4 * length fs
+pub length-corners : (fs : List Face) → length (cornersOf fs) ≡ 4 * length fs
 unfolding cornersOf
 length-corners [] = refl
 length-corners (f ∷ fs) = let e = length-corners fs in omega arith
 
-front : {A : Type 0} (new old : List A) → length new ≤ length old → sets old 0 new ≡ over new old
+front : {A : Type 0} (new old : List A) → length new ≤ length old → sets old 0 new ≡ filled new old
+unfolding filled
 front new old h = let e : 0 + length new ≡ length new = omega arith in sets-eq new old 0 (omega arith) ∙ ap (λ (k : ℕ). new ++ drop k old) e
 
 module _ (n : ℕ) (l : List ℕ) where
-  pub front-coordinates : (read : List ℕ → Read Vertex) (t : List ℤ) → 3 * n ≤ length t → sets t 0 (coordinates (rows read n l .values)) ≡ over (coordinates (rows read n l .values)) t
+  pub front-coordinates : (read : List ℕ → Read Vertex) (t : List ℤ) → 3 * n ≤ length t → sets t 0 (coordinates (rows read n l .values)) ≡ filled (coordinates (rows read n l .values)) t
   front-coordinates read t h =
       let a = rows-length read n l in
       let b = length-coordinates (rows read n l .values) in
       front (coordinates (rows read n l .values)) t (omega arith)
 
-  pub front-marks : (read : List ℕ → Read Vertex) (t : List ℕ) → n ≤ length t → sets t 0 (marksOf (rows read n l .values)) ≡ over (marksOf (rows read n l .values)) t
+  pub front-marks : (read : List ℕ → Read Vertex) (t : List ℕ) → n ≤ length t → sets t 0 (marksOf (rows read n l .values)) ≡ filled (marksOf (rows read n l .values)) t
   front-marks read t h =
       let a = rows-length read n l in
       let b = length-marks (rows read n l .values) in
       front (marksOf (rows read n l .values)) t (omega arith)
 
-  pub front-corners : (read : List ℕ → Read Face) (t : List ℕ) → 4 * n ≤ length t → sets t 0 (cornersOf (rows read n l .values)) ≡ over (cornersOf (rows read n l .values)) t
+  pub front-corners : (read : List ℕ → Read Face) (t : List ℕ) → 4 * n ≤ length t → sets t 0 (cornersOf (rows read n l .values)) ≡ filled (cornersOf (rows read n l .values)) t
   front-corners read t h =
       let a = rows-length read n l in
       let b = length-corners (rows read n l .values) in

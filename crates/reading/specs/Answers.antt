@@ -2,10 +2,10 @@
 use mathlib.Core.Path.{_≡_}
 use mathlib.Core.Bool.{Bool}
 use mathlib.Core.List.{List, []}
-use Prim.Native.Nat.{ℕ, _*_, _≤_}
+use Prim.Native.Nat.{ℕ, _≤_}
 use lib.ListN.{length, drop}
 use Rattle.text.specs.Form.{Counts, Net, Head, Rows, rows, readVertex, readFace, Parsed, parsed, badLine}
-use Rattle.reading.specs.Outcome.{Answer, accepted, refused}
+use Rattle.reading.specs.Loaded.{Answer, netRead, refusedWith}
 use Rattle.reading.specs.declared.Block.{Block}
 use Rattle.reading.specs.declared.HeadLines.{HeadLines}
 use Rattle.reading.specs.declared.HeadLines.the-variants as head
@@ -67,11 +67,11 @@ facesAt (checked.Bad n) = 0
 
 -- paper 01's number and place of a refusal, or what was read
 abbrev pub answerOf : Input → Answer
-answerOf (input.Net k v f) = accepted k v f
-answerOf (input.Refused reason place) = refused reason place
+answerOf (input.Net k v f) = netRead k v f
+answerOf (input.Refused reason place) = refusedWith reason place
 
--- the tables have room for v vertices and f faces
-pub record Room (v f vertexTable faceTable markTable : ℕ) : Type 0 where
-  pub vertices : 3 * v ≤ vertexTable
-  pub faces : 4 * f ≤ faceTable
-  pub marks : v ≤ markTable
+-- room for every net that the counts let pass
+pub record Tables (vertexTable faceTable markTable : ℕ) : Type 0 where
+  pub vertices : 3072 ≤ vertexTable
+  pub faces : 1024 ≤ faceTable
+  pub marks : 1024 ≤ markTable

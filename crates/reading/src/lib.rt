@@ -4,12 +4,13 @@ use text::FaceLine;
 use text::NamesLine;
 use text::VertexLine;
 ghost use mathlib.Core.Path.{_≡_};
-ghost use Prim.Native.Nat.{_*_, _^_, _≤_, _<_};
+ghost use Prim.Native.Nat.{_*_, _≤_, _<_};
 ghost use lib.ListN.{length, drop};
 ghost use lib.Seq.{sets};
 ghost use Rattle.text.specs.Form.{readVertex, readFace, rows, parseHead, parseBody, parse};
-ghost use Rattle.reading.specs.Outcome.{coordinates, marksOf, cornersOf, refusalOf, outcome, readNet};
-ghost use Rattle.reading.specs.Answers.{Counted, countsAre, headIs, headOf, headUsed, bodyOf, bodyUsed, checkedOf, verticesAt, facesAt, answerOf, Room};
+ghost use Rattle.limits.specs.Answer.{limitsOf};
+ghost use Rattle.reading.specs.Loaded.{coordinates, marksOf, cornersOf, countsVerdict, loaded, readNet};
+ghost use Rattle.reading.specs.Answers.{Counted, countsAre, headIs, headOf, headUsed, bodyOf, bodyUsed, checkedOf, verticesAt, facesAt, answerOf, Tables};
 
 // Lines that have the form, and their bytes.
 pub struct Block {
@@ -197,58 +198,17 @@ fn check(text: &[u8]) -> Checked
     }
 }
 
-fn power_of_4(k: u32) -> u64
-    requires { ⌜ k ≤ 6 ⌝ }
-    ensures { λ r. ⌜ (r ≡ 4 ^ k) × (1 ≤ r) × (r ≤ 4096) ⌝ }
+// Refusals 1, 3 and 4 from the counts alone, or 0.
+fn refusal(vertices: u32, faces: u32, rounds: u32) -> u32
+    ensures { λ r. ⌜ countsVerdict (countsAre vertices faces rounds) ≡ limitsOf r ⌝ }
 {
-    match k {
-        0 => 1,
-        1 => 4,
-        2 => 16,
-        3 => 64,
-        4 => 256,
-        5 => 1024,
-        _ => 4096,
-    }
-}
-
-// The refusal that the counts and the tables' lengths bring, or 0.
-fn refusal(
-    vertices: u32,
-    faces: u32,
-    rounds: u32,
-    vertex_table: usize,
-    face_table: usize,
-    mark_table: usize,
-) -> u32
-    ensures { λ r. ⌜ (r ≡ refusalOf (countsAre vertices faces rounds) «vertex_table» «face_table» «mark_table») × (r ≡ 0 → Room vertices faces «vertex_table» «face_table» «mark_table») ⌝ }
-{
-    if 6 < rounds {
-        return 1;
-    }
-    let refined = faces as u64 * power_of_4(rounds);
-    if 8192 < vertices {
-        return 3;
-    }
-    if 4096 < faces {
-        return 3;
-    }
-    if 262144 < refined {
-        return 3;
-    }
-    if 256 < refined {
-        return 4;
+    let v = vertices as usize;
+    let f = faces as usize;
+    let reason = limits::limits(rounds, 3 * v, 4 * f, v, 3072, 1024, 1024, 4096);
+    if reason != 0 {
+        return reason;
     }
     if 1024 < vertices {
-        return 4;
-    }
-    if vertex_table < 3072 {
-        return 4;
-    }
-    if face_table < 1024 {
-        return 4;
-    }
-    if mark_table < 1024 {
         return 4;
     }
     0
@@ -301,7 +261,8 @@ fn store_faces(text: &[u8], count: usize, faces: &mut [u32])
 
 // Reads the net that `text` writes into the front of the tables, or refuses and leaves them as they are.
 pub fn read_net(text: &[u8], vertices: &mut [i32], faces: &mut [u32], marks: &mut [u8]) -> Input
-    ensures { λ r. ⌜ outcome (answerOf r) (now (vertices .exit)) (now (faces .exit)) (now (marks .exit)) ≡ readNet (now (text .entry)) (now (vertices .entry)) (now (faces .entry)) (now (marks .entry)) ⌝ }
+    requires { ⌜ Tables (length (now vertices)) (length (now faces)) (length (now marks)) ⌝ }
+    ensures { λ r. ⌜ loaded (answerOf r) (now (vertices .exit)) (now (faces .exit)) (now (marks .exit)) ≡ readNet (now (text .entry)) (now (vertices .entry)) (now (faces .entry)) (now (marks .entry)) ⌝ }
 {
     if 32768 < text.len() {
         return Input::Refused(13, 0);
@@ -316,16 +277,18 @@ pub fn read_net(text: &[u8], vertices: &mut [i32], faces: &mut [u32], marks: &mu
             vertices_at: i,
             faces_at: j,
         } => {
-            let reason = refusal(v, f, k, vertices.len(), faces.len(), marks.len());
+            let reason = refusal(v, f, k);
             if reason != 0 {
                 return Input::Refused(reason, 0);
             }
             store_vertices(&text[i..], v as usize, m, vertices, marks);
             store_faces(&text[j..], f as usize, faces);
+            let vertex_count = v as usize;
+            let face_count = f as usize;
             Input::Net {
                 rounds: k,
-                vertices: v as usize,
-                faces: f as usize,
+                vertices: vertex_count,
+                faces: face_count,
             }
         }
     }

@@ -36,7 +36,7 @@ same-net : {p p′ : List ℤ} {f f′ m m′ : List ℕ} → p ≡ p′ → f �
 same-net p q r = λ i. record { vertices = p i; faces = q i; marks = r i }
 
 -- corners are four to a face
-by-faces : (n p : ℕ) → n % 4 ≡ 0 → n * p ≡ 4 * (n / 4 * p)
+pub by-faces : (n p : ℕ) → n % 4 ≡ 0 → n * p ≡ 4 * (n / 4 * p)
 by-faces n p e = let q : n ≡ 4 * (n / 4) = omega arith in ap (λ (x : ℕ). x * p) q ∙ mul-assoc 4 (n / 4) p
 
 -- vertices never grow fewer
@@ -45,7 +45,7 @@ unfolding steps
 more-vertices m zero = omega arith
 more-vertices m (suc k) = let a = more-vertices m k in let b = step-count kobbelt (steps kobbelt k m) in omega arith
 
-corners-grown : (m : Net) (k : ℕ) → length (steps kobbelt k m .faces) ≡ length (m .faces) * 4 ^ k
+pub corners-grown : (m : Net) (k : ℕ) → length (steps kobbelt k m .faces) ≡ length (m .faces) * 4 ^ k
 unfolding steps
 corners-grown m zero = omega arith
 corners-grown m (suc k) =

@@ -1,3 +1,4 @@
 pub mod Examples
 pub mod Lines
 pub mod Back
+pub mod Counts

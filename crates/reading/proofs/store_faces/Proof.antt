@@ -8,7 +8,7 @@ use lib.ListN.{length, drop, length-set}
 use lib.Seq.{sets}
 use Rattle.text.specs.Form.{readFace, rows}
 use Rattle.text.specs.Answers.{faceOf, faceUsed}
-use Rattle.reading.specs.Outcome.{cornersOf}
+use Rattle.reading.specs.Loaded.{cornersOf}
 use Rattle.reading.proofs.Lines.{given, taken, part-within}
 use Rattle.reading.proofs.store_faces.Statement.{statement}
 use Rattle.reading.proofs.store_faces.Tie as tie

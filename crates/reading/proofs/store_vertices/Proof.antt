@@ -11,7 +11,7 @@ use lib.ListN.{length, drop, length-set}
 use lib.Seq.{sets}
 use Rattle.text.specs.Form.{readVertex, rows}
 use Rattle.text.specs.Answers.{vertexOf, vertexUsed}
-use Rattle.reading.specs.Outcome.{coordinates, marksOf}
+use Rattle.reading.specs.Loaded.{coordinates, marksOf}
 use Rattle.reading.proofs.Lines.{given, taken, part-within}
 use Rattle.reading.proofs.store_vertices.Statement.{statement}
 use Rattle.reading.proofs.store_vertices.Tie as tie

@@ -1,0 +1,114 @@
+-- What the reader hands on, and the program's answer to it. Assumes nothing.
+use mathlib.Core.Path.{_≡_, refl, sym, ap, ap₂, _∙_, subst}
+use mathlib.Core.Bool.{Bool, true, false, cond}
+use mathlib.Core.List.{List, []}
+use Prim.Native.Nat.{ℕ, _*_, _≤_}
+use native.Mathlib.Omega.{arith}
+use lib.Dec.{ltb}
+use lib.IntN.{ℤ}
+use lib.ListN.{length, take}
+use Rattle.curve.specs.Weights.{kobbelt}
+use Rattle.tables.specs.Net as tables
+use Rattle.tables.proofs.Laws.{take-filled}
+use Rattle.verdict.specs.Verdict.{Verdict, accepted, refused, orElse, limitsVerdict, netVerdict}
+use Rattle.verdict.proofs.Accepted.{or-both}
+use Rattle.scheme.specs.Step.{steps}
+use Rattle.text.specs.Form.{Net, Parsed, parsed, badLine, parse}
+use Rattle.text.specs.Text.{refusalText}
+use Rattle.text.proofs.Counts.{Stated, text-stated}
+use Rattle.reading.specs.Loaded.{Answer, netRead, refusedWith, Loaded, loaded, coordinates, cornersOf, marksOf, tablesOf, programRoom, countsVerdict, untouched, stored, judged, ofParsed, readNet}
+use Rattle.reading.proofs.Storing.{length-coordinates, length-marks, length-corners}
+use Rattle.reading.proofs.Limits.{Served, passed-served}
+use Rattle.program.specs.Answer.{answerBy, answerTo, programText}
+
+-- the front of three tables
+abbrev pub front : ℕ → ℕ → List ℤ → List ℕ → List ℕ → tables.Net
+front v f vs fs ms = record { vertices = take (3 * v) vs; faces = take (4 * f) fs; marks = take v ms }
+
+-- tables with a net of k rounds at their front, whose counts pass and whose answer is `answer`
+pub record Handed (k v f : ℕ) (vs : List ℤ) (fs ms : List ℕ) (answer : List ℕ) : Type 0 where
+  pub served : Served v f
+  pub limits : limitsVerdict k (length (take (3 * v) vs)) (length (take (4 * f) fs)) (length (take v ms)) programRoom ≡ accepted
+  pub text : answerBy (netVerdict (front v f vs fs ms)) (steps kobbelt k (front v f vs fs ms)) ≡ answer
+
+-- ---- what an answer says
+abbrev firstNumber : Answer → ℕ
+firstNumber (netRead k v f) = k
+firstNumber (refusedWith r p) = r
+
+abbrev secondNumber : Answer → ℕ
+secondNumber (netRead k v f) = v
+secondNumber (refusedWith r p) = p
+
+abbrev thirdNumber : Answer → ℕ
+thirdNumber (netRead k v f) = f
+thirdNumber (refusedWith r p) = 0
+
+module _ (zv : List ℤ) (zf zm : List ℕ) where
+  -- ---- a net
+  module _ (k v f : ℕ) (vs : List ℤ) (fs ms : List ℕ) where
+    by-counts : (d : Verdict) (n : Net) → loaded (netRead k v f) vs fs ms ≡ judged zv zf zm d n → (d ≡ accepted) × (loaded (netRead k v f) vs fs ms ≡ stored zv zf zm n)
+    by-counts accepted n e = (refl, e)
+    by-counts (refused r p) n e = let a : netRead k v f ≡ refusedWith r p = ap (λ (x : Loaded). x .answer) e in let z : _≡_ {A = ℕ} 0 1 = cc in absurd (omega arith)
+
+    of-net : (n : Net) → Stated (parsed n []) → countsVerdict (n .counts) ≡ accepted → loaded (netRead k v f) vs fs ms ≡ stored zv zf zm n
+        → Handed k v f vs fs ms (answerBy (netVerdict (tablesOf n)) (steps kobbelt (n .counts .rounds) (tablesOf n)))
+    unfolding countsVerdict
+    of-net n s a e =
+        let ek : k ≡ n .counts .rounds = ap (λ (x : Loaded). firstNumber (x .answer)) e in
+        let ev : v ≡ n .counts .vertices = ap (λ (x : Loaded). secondNumber (x .answer)) e in
+        let ef : f ≡ n .counts .faces = ap (λ (x : Loaded). thirdNumber (x .answer)) e in
+        let lv = length-coordinates (n .vertices) in
+        let lm = length-marks (n .vertices) in
+        let lf = length-corners (n .faces) in
+        let sv = s .0 in
+        let sf = s .1 in
+        let tv : take (3 * v) vs ≡ coordinates (n .vertices) = ap (λ (x : Loaded). take (3 * v) (x .vertices)) e ∙ take-filled (coordinates (n .vertices)) zv (3 * v) (omega arith) in
+        let tf : take (4 * f) fs ≡ cornersOf (n .faces) = ap (λ (x : Loaded). take (4 * f) (x .faces)) e ∙ take-filled (cornersOf (n .faces)) zf (4 * f) (omega arith) in
+        let tm : take v ms ≡ marksOf (n .vertices) = ap (λ (x : Loaded). take v (x .marks)) e ∙ take-filled (marksOf (n .vertices)) zm v (omega arith) in
+        let g : front v f vs fs ms ≡ tablesOf n = λ i. record { vertices = tv i; faces = tf i; marks = tm i } in
+        let jv : length (take (3 * v) vs) ≡ 3 * n .counts .vertices = ap length tv ∙ omega arith in
+        let jf : length (take (4 * f) fs) ≡ 4 * n .counts .faces = ap length tf ∙ omega arith in
+        let jm : length (take v ms) ≡ n .counts .vertices = ap length tm ∙ omega arith in
+        record {
+          served = rw (ev, ef) (passed-served (n .counts) a);
+          limits = rw (ek, jv, jf, jm) (or-both _ _ a .0);
+          text = ap₂ (λ (j : ℕ) (m : tables.Net). answerBy (netVerdict m) (steps kobbelt j m)) ek g;
+        }
+
+    of-parsed : (q : Parsed Net) → Stated q → loaded (netRead k v f) vs fs ms ≡ ofParsed zv zf zm q → Handed k v f vs fs ms (answerTo q)
+    of-parsed (parsed n l) s e =
+        let j = by-counts (countsVerdict (n .counts)) n e in
+        rw (j .0) (of-net n s (j .0) (j .1))
+    of-parsed (badLine n) s e = let a : netRead k v f ≡ refusedWith 13 n = ap (λ (x : Loaded). x .answer) e in let z : _≡_ {A = ℕ} 0 1 = cc in absurd (omega arith)
+
+    pub net-handed : (text : List ℕ) → loaded (netRead k v f) vs fs ms ≡ readNet text zv zf zm → Handed k v f vs fs ms (programText text)
+    unfolding readNet programText
+    net-handed text e = go (ltb 32768 (length text)) e
+      where
+        go : (b : Bool) → loaded (netRead k v f) vs fs ms ≡ cond b (untouched zv zf zm (refusedWith 13 0)) (ofParsed zv zf zm (parse text))
+            → Handed k v f vs fs ms (cond b (refusalText 13 0) (answerTo (parse text)))
+        go true e = let a : netRead k v f ≡ refusedWith 13 0 = ap (λ (x : Loaded). x .answer) e in let z : _≡_ {A = ℕ} 0 1 = cc in absurd (omega arith)
+        go false e = of-parsed (parse text) (text-stated text) e
+
+  -- ---- a refusal
+  module _ (r p : ℕ) (vs : List ℤ) (fs ms : List ℕ) where
+    same-text : (s q : ℕ) → loaded (refusedWith r p) vs fs ms ≡ untouched zv zf zm (refusedWith s q) → refusalText r p ≡ refusalText s q
+    same-text s q e = ap₂ refusalText (ap (λ (x : Loaded). firstNumber (x .answer)) e) (ap (λ (x : Loaded). secondNumber (x .answer)) e)
+
+    of-counts : (d : Verdict) (n : Net) → loaded (refusedWith r p) vs fs ms ≡ judged zv zf zm d n → refusalText r p ≡ answerBy (orElse d (netVerdict (tablesOf n))) (steps kobbelt (n .counts .rounds) (tablesOf n))
+    of-counts accepted n e = let a : refusedWith r p ≡ netRead (n .counts .rounds) (n .counts .vertices) (n .counts .faces) = ap (λ (x : Loaded). x .answer) e in let z : _≡_ {A = ℕ} 0 1 = cc in absurd (omega arith)
+    of-counts (refused s q) n e = same-text s q e
+
+    of-lines : (q : Parsed Net) → loaded (refusedWith r p) vs fs ms ≡ ofParsed zv zf zm q → refusalText r p ≡ answerTo q
+    of-lines (parsed n l) e = of-counts (countsVerdict (n .counts)) n e
+    of-lines (badLine n) e = same-text 13 n e
+
+    pub refusal-handed : (text : List ℕ) → loaded (refusedWith r p) vs fs ms ≡ readNet text zv zf zm → refusalText r p ≡ programText text
+    unfolding readNet programText
+    refusal-handed text e = go (ltb 32768 (length text)) e
+      where
+        go : (b : Bool) → loaded (refusedWith r p) vs fs ms ≡ cond b (untouched zv zf zm (refusedWith 13 0)) (ofParsed zv zf zm (parse text))
+            → refusalText r p ≡ cond b (refusalText 13 0) (answerTo (parse text))
+        go true e = same-text 13 0 e
+        go false e = of-lines (parse text) e

@@ -1,0 +1,134 @@
+-- The refining call over the program's tables, and the text of what it gives. Assumes nothing.
+use mathlib.Core.Path.{_≡_, refl, sym, ap, ap₂, _∙_}
+use mathlib.Core.List.{List}
+use Prim.Native.Nat.{ℕ, zero, suc, _+_, _*_, _/_, _^_, _≤_, _<_}
+use native.Mathlib.Omega.{arith}
+use lib.IntN.{ℤ, pos}
+use lib.ListN.{length, getD}
+use Rattle.lists.proofs.Tabulate.{tabulate-cong}
+use Rattle.curve.specs.Weights.{kobbelt}
+use Rattle.tables.specs.Net.{Net}
+use Rattle.tables.specs.Tables.{filled}
+use Rattle.topology.specs.Shape.{quads}
+use Rattle.verdict.specs.Verdict.{Verdict, accepted, refused, limitsVerdict, callVerdict, netVerdict, verdict, workAfter}
+use Rattle.verdict.proofs.Accepted.{WithinLimits, within-if, accepted-net}
+use Rattle.refinement.proofs.Corners.{length-refined}
+use Rattle.scheme.specs.Step.{steps}
+use Rattle.schemelaws.specs.Nets.{Refinable}
+use Rattle.schemelaws.proofs.Steps.{step-faces, step-count, refinable-steps}
+use Rattle.growth.proofs.Round.{filled-at, vertices-refined}
+use Rattle.validate.proofs.Laws.{joined}
+use Rattle.outcome.specs.Outcome.{Lent, Result, refinedTo, refusedWith, Outcome, callOf, outcomeBy, outcome}
+use Rattle.outcome.proofs.Accepted.{by-result, accepted-refinable}
+use Rattle.refine.specs.declared.Answer.the-variants.{Refined, Refused}
+use Rattle.refine.specs.Answer.{answered}
+use Rattle.refine.proofs.Laws.{by-faces, corners-grown}
+use Rattle.text.specs.Form.{Vertex, Face}
+use Rattle.text.specs.Text.{answerText, refusalText}
+use Rattle.reading.specs.Loaded.{programRoom}
+use Rattle.printing.specs.Lines.{Written}
+use Rattle.printing.specs.Tables.{vertexAt, faceAt, verticesOf, facesOf}
+use Rattle.program.specs.Answer.{answerBy}
+
+-- vertices stay at most as many as half-edges
+few-vertices : (m : Net) → length (m .marks) ≤ length (m .faces) → (k : ℕ) → length (steps kobbelt k m .marks) ≤ length (steps kobbelt k m .faces)
+unfolding steps
+few-vertices m h zero = h
+few-vertices m h (suc k) =
+    let a = step-count kobbelt (steps kobbelt k m) in
+    let b : length (steps kobbelt (suc k) m .faces) ≡ 4 * length (steps kobbelt k m .faces) = ap length (step-faces kobbelt (steps kobbelt k m)) ∙ length-refined quads _ _ in
+    let c = vertices-refined (length (steps kobbelt k m .marks)) (steps kobbelt k m .faces) (few-vertices m h k) in
+    omega arith
+
+-- ---- the text of tables that a net was written to
+module _ (n : Net) (vs : List ℤ) (fs ms : List ℕ) (e : length (n .vertices) ≡ 3 * length (n .marks)) where
+  vertices-same : verticesOf (length (n .marks)) (filled (n .vertices) vs) (filled (n .marks) ms) ≡ verticesOf (length (n .marks)) (n .vertices) (n .marks)
+  unfolding verticesOf
+  vertices-same = tabulate-cong (length (n .marks)) (vertexAt (filled (n .vertices) vs) (filled (n .marks) ms)) (vertexAt (n .vertices) (n .marks)) (λ i h.
+    let x = filled-at (n .vertices) vs (pos 0) (3 * i) (omega arith) in
+    let y = filled-at (n .vertices) vs (pos 0) (3 * i + 1) (omega arith) in
+    let z = filled-at (n .vertices) vs (pos 0) (3 * i + 2) (omega arith) in
+    let m = filled-at (n .marks) ms 0 i h in
+    λ j. record { x = x j; y = y j; z = z j; mark = m j })
+
+  faces-same : facesOf (length (n .faces) / 4) (filled (n .faces) fs) ≡ facesOf (length (n .faces) / 4) (n .faces)
+  unfolding facesOf
+  faces-same = tabulate-cong (length (n .faces) / 4) (faceAt (filled (n .faces) fs)) (faceAt (n .faces)) (λ i h.
+    let a = filled-at (n .faces) fs 0 (4 * i) (omega arith) in
+    let b = filled-at (n .faces) fs 0 (4 * i + 1) (omega arith) in
+    let c = filled-at (n .faces) fs 0 (4 * i + 2) (omega arith) in
+    let d = filled-at (n .faces) fs 0 (4 * i + 3) (omega arith) in
+    λ j. record { a = a j; b = b j; c = c j; d = d j })
+
+-- ---- what a result says
+abbrev vertexNumber : Result → ℕ
+vertexNumber (refinedTo v f) = v
+vertexNumber (refusedWith r p) = r
+
+abbrev faceNumber : Result → ℕ
+faceNumber (refinedTo v f) = f
+faceNumber (refusedWith r p) = p
+
+module _ (k : ℕ) (m : Net) (o : Lent) (lv : length (o .vertices) ≡ 3072) (lf : length (o .faces) ≡ 1024) (lm : length (o .marks) ≡ 1024) (lw : length (o .work) ≡ 4096)
+    (h : limitsVerdict k (length (m .vertices)) (length (m .faces)) (length (m .marks)) programRoom ≡ accepted) where
+  by-net : verdict (callOf k m o) ≡ netVerdict m
+  unfolding verdict
+  by-net = rw (lv, lf, lm, lw, h)
+
+  abbrev given : Verdict → Outcome
+  given v = outcomeBy v (steps kobbelt k m) o (workAfter (callOf k m o) (o .work))
+
+  outcome-is : outcome k m o ≡ given (netVerdict m)
+  unfolding outcome
+  outcome-is = ap given by-net
+
+  -- a refusal
+  by-refused : (v : Verdict) (r p : ℕ) → refusedWith r p ≡ given v .result → refusalText r p ≡ answerBy v (steps kobbelt k m)
+  by-refused accepted r p e = let z : _≡_ {A = ℕ} 0 1 = cc in absurd (omega arith)
+  by-refused (refused s q) r p e = ap₂ refusalText (ap vertexNumber e) (ap faceNumber e)
+
+  module _ (vs : List ℤ) (fs ms w : List ℕ) where
+    pub refused-text : (r p : ℕ) → answered (Refused r p) vs fs ms w ≡ outcome k m o → refusalText r p ≡ answerBy (netVerdict m) (steps kobbelt k m)
+    refused-text r p e = by-refused (netVerdict m) r p (ap (λ (x : Outcome). x .result) (e ∙ outcome-is))
+
+    -- a refined net
+    module _ (v f : ℕ) (e : answered (Refined v f) vs fs ms w ≡ outcome k m o) where
+      accepts : netVerdict m ≡ accepted
+      accepts = by-result (netVerdict m) (steps kobbelt k m) o (workAfter (callOf k m o) (o .work)) v f (sym (ap (λ (x : Outcome). x .result) (e ∙ outcome-is)))
+
+      is : answered (Refined v f) vs fs ms w ≡ given accepted
+      is = e ∙ outcome-is ∙ ap given accepts
+
+      vertex-count : v ≡ length (steps kobbelt k m .marks)
+      vertex-count = ap (λ (x : Outcome). vertexNumber (x .result)) is
+
+      face-count : f ≡ length (steps kobbelt k m .faces) / 4
+      face-count = ap (λ (x : Outcome). faceNumber (x .result)) is
+
+      refinable : Refinable m
+      refinable = accepted-refinable (callOf k m o) (by-net ∙ accepts)
+
+      pub served : (v ≤ 1024) × (f ≤ 256)
+      served =
+          let a = vertex-count in
+          let b = face-count in
+          let w = within-if k _ _ _ programRoom h in
+          let c = w .roomFaces in
+          let q = w .quadrilaterals in
+          let g = corners-grown m k in
+          let l = few-vertices m (joined (m .faces) (length (m .marks)) (accepted-net (callOf k m o) (by-net ∙ accepts) .no8) .few) k in
+          let s = by-faces (length (m .faces)) (4 ^ k) q in
+          (omega arith, omega arith)
+
+      pub refined-text : answerText (verticesOf v vs ms) (facesOf f fs) ≡ answerBy (netVerdict m) (steps kobbelt k m)
+      refined-text =
+          let n = steps kobbelt k m in
+          let t = refinable-steps kobbelt m refinable k .threes in
+          let ev : verticesOf v vs ms ≡ verticesOf (length (n .marks)) (n .vertices) (n .marks) =
+          (λ i. verticesOf (vertex-count i) (is i .vertices) (is i .marks)) ∙ vertices-same n (o .vertices) (o .faces) (o .marks) t in
+          let ef : facesOf f fs ≡ facesOf (length (n .faces) / 4) (n .faces) = (λ i. facesOf (face-count i) (is i .faces)) ∙ faces-same n (o .vertices) (o .faces) (o .marks) t in
+          ap₂ answerText ev ef ∙ ap (λ (x : Verdict). answerBy x n) (sym accepts)
+
+-- the same text, and a larger bound
+pub wider : (d o : List ℕ) (r : ℕ) (s t : List ℕ) (most : ℕ) → Written d o r s most → s ≡ t → most ≤ 52302 → Written d o r t 52302
+wider d o r s t most w e h = let f = w .fits in record { bytes = w .bytes ∙ ap (λ (x : List ℕ). filled x d) e; long = w .long ∙ ap length e; fits = omega arith }

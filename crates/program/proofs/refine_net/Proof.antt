@@ -1,0 +1,130 @@
+-- `program::refine_net` meets its contract. Assumes nothing.
+use mathlib.Core.Path.{_≡_, sym, ap, _∙_}
+use Prim.Native.Nat.{ℕ}
+use native.Mathlib.Omega.{arith}
+use lib.IntN.{pos}
+use lib.ListN.{length, replicate, length-replicate}
+use Rattle.tables.specs.Net.{Net}
+use Rattle.outcome.specs.Outcome.{Lent}
+use Rattle.refine.specs.declared.Answer.{Answer}
+use Rattle.refine.specs.Answer.{answered}
+use Rattle.printing.proofs.Writing.{every-answer-fits}
+use Rattle.program.proofs.Refined.{served, refined-text, refused-text, wider}
+use borrow.Author.Needs.{needs}
+use Rattle.program.proofs.refine_net.Statement.{statement}
+use Rattle.program.proofs.refine_net.Tie as tie
+
+-- the tables before the call
+abbrev zeros : Lent
+zeros = record { vertices = replicate 3072 (pos 0); faces = replicate 1024 0; marks = replicate 1024 0; work = replicate 4096 0 }
+
+long-vertices : length (zeros .vertices) ≡ 3072
+long-vertices = length-replicate 3072 (pos 0)
+
+long-corners : length (zeros .faces) ≡ 1024
+long-corners = length-replicate {A = ℕ} 1024 0
+
+long-marks : length (zeros .marks) ≡ 1024
+long-marks = length-replicate {A = ℕ} 1024 0
+
+long-work : length (zeros .work) ≡ 4096
+long-work = length-replicate {A = ℕ} 4096 0
+
+abbrev net : tie.Start → Net
+net s = record { vertices = s .args .vertices .now; faces = s .args .faces .now; marks = s .args .marks .now }
+
+slice-aggregate-refine : tie.Need-slice-aggregate-refine
+slice-aggregate-refine c = search needs
+
+slice-aggregate-refine-2 : tie.Need-slice-aggregate-refine-2
+slice-aggregate-refine-2 c = search needs
+
+slice-aggregate-refine-3 : tie.Need-slice-aggregate-refine-3
+slice-aggregate-refine-3 c = search needs
+
+slice-aggregate-refine-4 : tie.Need-slice-aggregate-refine-4
+slice-aggregate-refine-4 c = search needs
+
+refine-requires : tie.Need-refine-requires
+refine-requires c κs = search needs
+
+enum-known-v : tie.Need-enum-known-v
+enum-known-v c = search needs
+
+slice-aggregate-write-net : tie.Need-slice-aggregate-write-net
+slice-aggregate-write-net c = search needs
+
+slice-aggregate-write-net-2 : tie.Need-slice-aggregate-write-net-2
+slice-aggregate-write-net-2 c = search needs
+
+slice-aggregate-write-net-3 : tie.Need-slice-aggregate-write-net-3
+slice-aggregate-write-net-3 c = search needs
+
+write-net-requires : tie.Need-write-net-requires
+write-net-requires c κs =
+    let s = c .before .before .before .before .before .before .before .before .before .before .before .before .before .before .before .before .before .before .before in
+    let x = c .before .before .before .before .before .before .before .before .before .before .before .refine in
+    let o = x .last .1 .1 .1 .1 in
+    let e = sym (ap (λ (a : Answer). answered a (o .0) (o .1 .0) (o .1 .1 .0) (o .1 .1 .1 .0)) (c .before .before .before .before .before .v .given .1)) ∙ x .ensures in
+    let t = served (s .args .rounds) (net s) zeros long-vertices long-corners long-marks long-work (s .pre .0) (o .0) (o .1 .0) (o .1 .1 .0) (o .1 .1 .1 .0) _ _ e in
+    let a = t .0 in
+    let b = t .1 in
+    let k = x .kept .1 .1 .1 .1 in
+    let lv = k .0 ∙ long-vertices in
+    let lf = k .1 .0 ∙ long-corners in
+    let lm = k .1 .1 .0 ∙ long-marks in
+    let r = s .pre .1 in
+    let f = every-answer-fits _ _ a b in
+    (omega arith, omega arith, omega arith, omega arith)
+
+enum-known-reason : tie.Need-enum-known-reason
+enum-known-reason c = search needs
+
+write-refusal-requires : tie.Need-write-refusal-requires
+write-refusal-requires c κs = search needs
+
+same-length : tie.Need-same-length
+same-length c = search needs
+
+returns : tie.Need-returns
+returns c =
+    let s = c .before .before .before .before .before .before .before .before .before .before .before .before .before .before .before .before .before .before .before .before .before .before in
+    let x = c .before .before .before .before .before .before .before .before .before .before .before .before .before .before .refine in
+    let o = x .last .1 .1 .1 .1 in
+    let e = sym (ap (λ (a : Answer). answered a (o .0) (o .1 .0) (o .1 .1 .0) (o .1 .1 .1 .0)) (c .before .before .before .before .before .before .before .before .v .given .1)) ∙ x .ensures in
+    let y = c .before .before .write-net .ensures in
+    let t = served (s .args .rounds) (net s) zeros long-vertices long-corners long-marks long-work (s .pre .0) (o .0) (o .1 .0) (o .1 .1 .0) (o .1 .1 .1 .0) _ _ e in
+    wider _ _ _ _ _ _ y (refined-text (s .args .rounds) (net s) zeros long-vertices long-corners long-marks long-work (s .pre .0) (o .0) (o .1 .0) (o .1 .1 .0) (o .1 .1 .1 .0) _ _ e) (every-answer-fits _ _ (t .0) (t .1))
+
+same-length-2 : tie.Need-same-length-2
+same-length-2 c = search needs
+
+returns-2 : tie.Need-returns-2
+returns-2 c =
+    let s = c .before .before .before .before .before .before .before .before .before .before .before .before .before .before .before .before .before .before .before in
+    let x = c .before .before .before .before .before .before .before .before .before .before .before .refine in
+    let o = x .last .1 .1 .1 .1 in
+    let e = sym (ap (λ (a : Answer). answered a (o .0) (o .1 .0) (o .1 .1 .0) (o .1 .1 .1 .0)) (c .before .before .before .before .before .reason .given .1)) ∙ x .ensures in
+    let y = c .before .before .write-refusal .ensures in
+    wider _ _ _ _ _ _ y (refused-text (s .args .rounds) (net s) zeros long-vertices long-corners long-marks long-work (s .pre .0) (o .0) (o .1 .0) (o .1 .1 .0) (o .1 .1 .1 .0) _ _ e) (omega arith)
+
+pub refine-net-spec : {M : Type 1} → statement M
+refine-net-spec =
+    tie.close
+    (tie.spec
+    slice-aggregate-refine
+    slice-aggregate-refine-2
+    slice-aggregate-refine-3
+    slice-aggregate-refine-4
+    refine-requires
+    enum-known-v
+    slice-aggregate-write-net
+    slice-aggregate-write-net-2
+    slice-aggregate-write-net-3
+    write-net-requires
+    enum-known-reason
+    write-refusal-requires
+    same-length
+    returns
+    same-length-2
+    returns-2)

@@ -1,0 +1,29 @@
+-- What the program prints for a text.
+use mathlib.Core.Bool.{cond}
+use mathlib.Core.List.{List}
+use Prim.Native.Nat.{ℕ}
+use lib.Dec.{ltb}
+use lib.ListN.{length}
+use Rattle.curve.specs.Weights.{kobbelt}
+use Rattle.tables.specs.Net as tables
+use Rattle.verdict.specs.Call.{vertexCount, faceCount}
+use Rattle.verdict.specs.Verdict.{Verdict, accepted, refused, orElse, netVerdict}
+use Rattle.scheme.specs.Step.{steps}
+use Rattle.text.specs.Form.{Net, Parsed, parsed, badLine, parse}
+use Rattle.text.specs.Text.{answerText, refusalText}
+use Rattle.reading.specs.Loaded.{tablesOf, countsVerdict}
+use Rattle.printing.specs.Tables.{verticesOf, facesOf}
+
+-- the refined net, or the refusal's number and place
+abbrev pub answerBy : Verdict → tables.Net → List ℕ
+answerBy accepted m = answerText (verticesOf (vertexCount m) (m .vertices) (m .marks)) (facesOf (faceCount m) (m .faces))
+answerBy (refused r p) m = refusalText r p
+
+-- Paper 01: 13 "is tested before 1"; then 1, 3 and 4 from the counts, then 5 to 12 from the net
+abbrev pub answerTo : Parsed Net → List ℕ
+answerTo (parsed n l) = answerBy (orElse (countsVerdict (n .counts)) (netVerdict (tablesOf n))) (steps kobbelt (n .counts .rounds) (tablesOf n))
+answerTo (badLine n) = refusalText 13 n
+
+-- Paper 01: "more than 32,768 bytes; the place is .. 0 for length, which goes first"
+unfoldable pub programText : List ℕ → List ℕ
+programText text = cond (ltb 32768 (length text)) (refusalText 13 0) (answerTo (parse text))

@@ -1,0 +1,69 @@
+// The program between its input and its output.
+use reading::Input;
+use refine::Answer;
+ghost use mathlib.Core.Path.{_≡_};
+ghost use Prim.Native.Nat.{_≤_};
+ghost use lib.ListN.{length};
+ghost use Rattle.curve.specs.Weights.{kobbelt};
+ghost use Rattle.tables.specs.Net.{Net};
+ghost use Rattle.verdict.specs.Verdict.{accepted, netVerdict, limitsVerdict};
+ghost use Rattle.scheme.specs.Step.{steps};
+ghost use Rattle.reading.specs.Loaded.{programRoom};
+ghost use Rattle.printing.specs.Lines.{Written};
+ghost use Rattle.program.specs.Answer.{answerBy, programText};
+
+// The answer to a net whose counts pass.
+fn refine_net(
+    rounds: u32,
+    vertices: &[i32],
+    faces: &[u32],
+    marks: &[u8],
+    out: &mut [u8],
+) -> usize
+    requires { ⌜ (limitsVerdict rounds (length (now vertices)) (length (now faces)) (length (now marks)) programRoom ≡ accepted) × (52302 ≤ length (now out)) ⌝ }
+    ensures { λ r. ⌜ Written (now (out .entry)) (now (out .exit)) r (answerBy (netVerdict (record { vertices = now (vertices .entry); faces = now (faces .entry); marks = now (marks .entry) })) (steps kobbelt rounds (record { vertices = now (vertices .entry); faces = now (faces .entry); marks = now (marks .entry) }))) 52302 ⌝ }
+{
+    let mut out_vertices = [0i32; 3072];
+    let mut out_faces = [0u32; 1024];
+    let mut out_marks = [0u8; 1024];
+    let mut work = [0u32; 4096];
+    match refine::refine(
+        rounds,
+        vertices,
+        faces,
+        marks,
+        &mut out_vertices,
+        &mut out_faces,
+        &mut out_marks,
+        &mut work,
+    ) {
+        Answer::Refined(v, f) => {
+            printing::write_net(out, &out_vertices, &out_faces, &out_marks, v, f)
+        }
+        Answer::Refused(reason, place) => printing::write_refusal(out, reason, place),
+    }
+}
+
+// Writes the answer to `text` into `out`, and gives its length.
+pub fn answer(text: &[u8], out: &mut [u8]) -> usize
+    requires { ⌜ 52302 ≤ length (now out) ⌝ }
+    ensures { λ r. ⌜ Written (now (out .entry)) (now (out .exit)) r (programText (now (text .entry))) 52302 ⌝ }
+{
+    let mut vertices = [0i32; 3072];
+    let mut faces = [0u32; 1024];
+    let mut marks = [0u8; 1024];
+    match reading::read_net(text, &mut vertices, &mut faces, &mut marks) {
+        Input::Net {
+            rounds,
+            vertices: v,
+            faces: f,
+        } => refine_net(
+            rounds,
+            &vertices[..3 * v],
+            &faces[..4 * f],
+            &marks[..v],
+            out,
+        ),
+        Input::Refused(reason, place) => printing::write_refusal(out, reason, place),
+    }
+}
