@@ -1,0 +1,108 @@
+#!/usr/bin/env python3
+"""Compares the program with the reference implementation, byte for byte.
+
+usage: program.py [--count N] [--seed S]
+
+The stored texts of tests/nets/cases and N seeded ones (2,000) go through ./refine's program and through the reference; then come inputs that
+no file can give: in small pieces, without end, unreadable. The exit status is 1 if an answer differs.
+"""
+import argparse
+import os
+import pathlib
+import subprocess
+import sys
+import tempfile
+import time
+
+ROOT = pathlib.Path(__file__).resolve().parent.parent
+PROGRAM = ROOT / 'target/bin/gedrovit'
+CASES = ROOT / 'tests/nets/cases'
+CARGO = ['cargo', 'run', '--release', '--offline', '--quiet', '--manifest-path', str(ROOT / 'tests/Cargo.toml'), '-p']
+SAMPLE = (CASES / 'paper-sample.txt').read_bytes()
+ANSWER = (CASES / 'paper-sample.out').read_bytes()
+LIMIT = 32768
+
+
+def answer(text):
+    """What the program prints for a text; it must end well and say nothing on standard error."""
+    done = subprocess.run([PROGRAM], input=text, capture_output=True, timeout=20)
+    return done.stdout if done.returncode == 0 and not done.stderr else None
+
+
+def different(folder):
+    """The texts of a folder whose stored answer is not the program's."""
+    return [path.name for path in sorted(folder.glob('*.txt')) if answer(path.read_bytes()) != path.with_suffix('.out').read_bytes()]
+
+
+def seeded(folder, seed, count):
+    subprocess.run([*CARGO, 'nets', '--', 'batch', '--seed', str(seed), '--count', str(count), '--dir', str(folder)], check=True)
+    subprocess.run([*CARGO, 'reference', '--', '--batch', str(folder / 'list')], check=True)
+
+
+def in_pieces():
+    """A text that arrives in pieces of a few bytes."""
+    program = subprocess.Popen([PROGRAM], stdin=subprocess.PIPE, stdout=subprocess.PIPE)
+    for at in range(0, len(SAMPLE), 7):
+        program.stdin.write(SAMPLE[at:at + 7])
+        program.stdin.flush()
+        time.sleep(0.002)
+    return program.communicate(timeout=20)[0] == ANSWER
+
+
+def endless():
+    """An input without end is refused as too long, and the program does not wait for its end."""
+    with open('/dev/zero', 'rb') as zeros:
+        done = subprocess.run([PROGRAM], stdin=zeros, capture_output=True, timeout=20)
+    return done.stdout == b'refusal place\n13 0\n'
+
+
+def long_texts():
+    """The longest text is read to its last line; one byte more is too long, whatever it says."""
+    padded = SAMPLE + b'0' * (LIMIT - len(SAMPLE))
+    return answer(padded) == b'refusal place\n13 10\n' and answer(padded + b'\n') == b'refusal place\n13 0\n'
+
+
+def unreadable():
+    """A read that fails prints no answer and says why on standard error."""
+    folder = os.open('/', os.O_RDONLY)
+    try:
+        done = subprocess.run([PROGRAM], stdin=folder, capture_output=True, timeout=20)
+    finally:
+        os.close(folder)
+    return done.stdout == b'' and done.stderr.startswith(b'standard input: ')
+
+
+def unwritable():
+    """An answer that cannot be written is told on standard error."""
+    with open('/dev/full', 'wb') as full:
+        done = subprocess.run([PROGRAM], input=SAMPLE, stdout=full, stderr=subprocess.PIPE, timeout=20)
+    return done.stderr.startswith(b'standard output: ')
+
+
+def command():
+    """./refine from another folder gives the answer and nothing else."""
+    done = subprocess.run([ROOT / 'refine'], input=SAMPLE, stdout=subprocess.PIPE, cwd='/', timeout=600)
+    return done.stdout == ANSWER and done.returncode == 0
+
+
+def main():
+    options = argparse.ArgumentParser()
+    options.add_argument('--count', type=int, default=2000)
+    options.add_argument('--seed', type=int, default=1)
+    options = options.parse_args()
+    failures = [f'stored text {name}' for name in different(CASES)]
+    with tempfile.TemporaryDirectory() as name:
+        folder = pathlib.Path(name)
+        seeded(folder, options.seed, options.count)
+        failures += [f'seed {options.seed}, text {name}' for name in different(folder)]
+    checks = [in_pieces, endless, long_texts, unreadable, unwritable, command]
+    failures += [check.__doc__.split('\n')[0] for check in checks if not check()]
+    for failure in failures[:20]:
+        print(f'program: NOT as it must be: {failure}')
+    stored = len(list(CASES.glob('*.txt')))
+    print(f'program: {stored} stored and {options.count} seeded texts, {len(checks)} ways of input and output: {len(failures)} failures')
+    return 1 if failures else 0
+
+
+if __name__ == '__main__':
+    sys.exit(main())
