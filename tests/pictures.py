@@ -136,8 +136,10 @@ def refusals(folder):
     (folder / "beyond.txt").write_text(text.replace("\n0 1 10 9\n", "\n0 1 10 27\n"), encoding="ascii")
     (folder / "empty.txt").write_text("", encoding="ascii")
     (folder / "none.txt").write_text("vertices faces rounds\n0 0 0\nx y z\na b c d\n", encoding="ascii")
+    (folder / "cut.txt").write_text("refusal place\n", encoding="ascii")
     (folder / "bytes.txt").write_bytes(b"\xff\xfe")
     yield 1, "refused, number and place 1 0", ["--refine", REFINE, folder / "seven.txt"]
+    yield 1, "cut.txt: refused", [panel, folder / "cut.txt"]
     for name in ("short", "beyond", "empty", "none"):
         yield 1, f"{name}.txt: not the text of a net", [panel, folder / f"{name}.txt"]
     yield 1, "ascii", ["--refine", REFINE, folder / "bytes.txt"]

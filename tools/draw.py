@@ -33,7 +33,7 @@ def parse(text, name):
     """The net in a text that the program reads or prints; a printed one tells no rounds."""
     lines = [line.split() for line in text.splitlines()]
     if lines[:1] == [["refusal", "place"]]:
-        raise ValueError(f"{name}: refused, number and place {' '.join(lines[1])}")
+        raise ValueError(f"{name}: refused, number and place {' '.join(sum(lines[1:], []))}")
     try:
         vertices, faces, *rounds = map(int, lines[1])
         rows = [tuple(map(int, line)) for line in lines[3:3 + vertices]]
