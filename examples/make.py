@@ -1,0 +1,96 @@
+#!/usr/bin/env python3
+"""Makes the example nets beside this file, or compares them with --check. Lengths here are millimetres; one count is 0.01 mm."""
+import argparse
+import itertools
+import math
+import pathlib
+import sys
+
+# The bow of a boat with a hard chine, port side: x runs aft, y to starboard, z up; one point for each station.
+SHEER = [(0, 0, 1600), (480, -470, 1400), (1060, -800, 1255), (1700, -1000, 1160), (2400, -1090, 1110), (3150, -1110, 1100)]
+CHINE = [(420, 0, 760), (820, -250, 560), (1310, -510, 410), (1870, -710, 310), (2480, -830, 250), (3150, -880, 220)]
+KEEL = [(800, 0, 330), (1120, 0, 165), (1530, 0, 70), (2020, 0, 25), (2560, 0, 5), (3150, 0, 0)]
+# How far y leaves the straight line half way between two of these lines: hollow forward and full aft above the chine, full below it.
+TOPSIDE = [0, 80, 80, 40, -10, -40]
+BOTTOM = [0, -40, -50, -40, -25, -10]
+
+# A coach wing seen from the side: rear half of the wheel arch and of the outline, x and z.
+ARCH = [(-600, 0), (-554, 230), (-424, 424), (-230, 554), (0, 600)]
+OUTLINE = [(-1200, 0), (-1160, 460), (-960, 790), (-530, 970), (0, 1000)]
+
+
+def text(points, marks, faces):
+    """The program's input for two rounds."""
+    vertices = [(*(round(100 * value) for value in point), mark) for point, mark in zip(points, marks)]
+    counts = [("vertices", "faces", "rounds"), (len(points), len(faces), 2)]
+    lines = [*counts, ("x", "y", "z", "corner"), *vertices, ("a", "b", "c", "d"), *faces]
+    return "".join(" ".join(map(str, line)) + "\n" for line in lines)
+
+
+def grid(rows):
+    """A net of rows of points with marks at its four corners."""
+    height, width = len(rows), len(rows[0])
+    marks = [int(r in (0, height - 1) and c in (0, width - 1)) for r in range(height) for c in range(width)]
+    starts = [r * width + c for r in range(height - 1) for c in range(width - 1)]
+    return text(sum(rows, []), marks, [(a, a + 1, a + width + 1, a + width) for a in starts])
+
+
+def between(low, high, camber, share):
+    """The line at a share of the way up from one line to another."""
+    blend = [[(1 - share) * a + share * b for a, b in zip(p, q)] for p, q in zip(low, high)]
+    return [(x, y + 4 * share * (1 - share) * out, z) for (x, y, z), out in zip(blend, camber)]
+
+
+def topside():
+    return grid([CHINE, between(CHINE, SHEER, TOPSIDE, 1 / 3), between(CHINE, SHEER, TOPSIDE, 2 / 3), SHEER])
+
+
+def bottom():
+    return grid([KEEL, between(KEEL, CHINE, BOTTOM, 1 / 2), CHINE])
+
+
+def panel():
+    """The wing: a quarter round from the arch to the outline, with its front end drawn in."""
+    def across(share, inward, arch, outline):
+        x, z = ((1 - share) * a + share * b for a, b in zip(arch, outline))
+        forward = x / 2400 + 0.5
+        return (x, 450 * inward + 260 * forward * forward * forward, z)
+
+    arch, outline = ([*rear, *((-x, z) for x, z in reversed(rear[:-1]))] for rear in (ARCH, OUTLINE))
+    quarter = [(0, 0), (0.7, 0.3), (1, 1)]
+    return grid([[across(*step, a, b) for a, b in zip(arch, outline)] for step in quarter])
+
+
+def dome():
+    """A front corner of a coach roof: sheets of roof, side and front that meet in a vertex of three faces, laid on x^4 + y^4 + z^4 = 1."""
+    sheets = [(3, 2, lambda p, q: (p, q, 2)), (2, 3, lambda p, q: (q, 2, p)), (2, 2, lambda p, q: (3, p, q))]
+    numbers, faces = {}, []
+    for height, width, place in sheets:
+        for p, q in itertools.product(range(height), range(width)):
+            ring = [place(p, q), place(p + 1, q), place(p + 1, q + 1), place(p, q + 1)]
+            faces.append([numbers.setdefault(spot, len(numbers)) for spot in ring])
+
+    def point(x, y, z):
+        length = math.sqrt(math.sqrt(x * x * x * x + y * y * y * y + z * z * z * z))
+        return (1500 * x / length, 1100 * y / length, 900 * z / length)
+
+    marks = [int(spot in ((3, 0, 0), (0, 2, 0), (0, 0, 2))) for spot in numbers]
+    return text([point(i / 3, j / 2, k / 2) for i, j, k in numbers], marks, faces)
+
+
+def main():
+    options = argparse.ArgumentParser(description=__doc__)
+    options.add_argument("--check", action="store_true", help="compare the stored nets with what would be made, and write nothing")
+    check = options.parse_args().check
+    stale = []
+    for make in (panel, topside, bottom, dome):
+        path, made = pathlib.Path(__file__).resolve().with_name(f"{make.__name__}.txt"), make().encode("ascii")
+        if not check:
+            path.write_bytes(made)
+        elif not path.is_file() or path.read_bytes() != made:
+            stale.append(path.name)
+    sys.exit(f"make.py makes something else: {', '.join(stale)}" if stale else 0)
+
+
+if __name__ == "__main__":
+    main()

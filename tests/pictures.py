@@ -1,0 +1,181 @@
+#!/usr/bin/env python3
+"""Tests the example nets, the drawing tool and the stored pictures.
+
+REFINE is the refiner command, as seen from the repository's root; without it, ./refine.
+"""
+import collections
+import os
+import pathlib
+import shutil
+import subprocess
+import sys
+import tempfile
+import xml.etree.ElementTree
+
+ROOT = pathlib.Path(__file__).resolve().parent.parent
+REFINE = os.environ.get("REFINE", "./refine")
+NAMES = ["panel", "topside", "bottom", "dome"]
+SVG = "{http://www.w3.org/2000/svg}"
+DRAW = [sys.executable, "tools/draw.py"]
+
+Net = collections.namedtuple("Net", "points marks faces")
+
+
+def run(*command, text=None, folder=ROOT, refine=REFINE):
+    environment = {**os.environ, "REFINE": refine}
+    return subprocess.run([str(word) for word in command], cwd=folder, env=environment, input=text, capture_output=True, encoding="utf-8")
+
+
+def refined(text):
+    """The refiner's answer, which must be a net."""
+    answer = run("sh", "-c", REFINE, text=text)
+    if answer.returncode or not answer.stdout.startswith("vertices faces\n"):
+        sys.exit(f"the refiner {REFINE} gives no net: {answer.stdout[:40]}{answer.stderr}")
+    return answer.stdout
+
+
+def example(name):
+    return (ROOT / "examples" / f"{name}.txt").read_text(encoding="ascii")
+
+
+def parse(text):
+    lines = [line.split() for line in text.splitlines()]
+    vertices = int(lines[1][0])
+    rows = [tuple(map(int, line)) for line in lines[3:3 + vertices]]
+    return Net([row[:3] for row in rows], [row[3] for row in rows], [tuple(map(int, line)) for line in lines[4 + vertices:]])
+
+
+def next_on_boundary(net):
+    sides = {(face[s], face[(s + 1) % 4]) for face in net.faces for s in range(4)}
+    return {a: b for a, b in sides if (b, a) not in sides}
+
+
+def segments(net):
+    """The open boundary segments as lists of points, the way the sides run."""
+    after = next_on_boundary(net)
+    for start in (v for v in after if net.marks[v]):
+        walk = [start, after[start]]
+        while not net.marks[walk[-1]]:
+            walk.append(after[walk[-1]])
+        yield [net.points[v] for v in walk]
+
+
+def extraordinary(net):
+    """The valences of inner vertices that are not 4."""
+    valence = collections.Counter(v for face in net.faces for v in face)
+    after = next_on_boundary(net)
+    return [n for v, n in valence.items() if v not in after and n != 4]
+
+
+def example_faults():
+    if run(sys.executable, "examples/make.py", "--check").returncode:
+        yield "examples/make.py makes other nets"
+    for name in NAMES:
+        for net in parse(example(name)), parse(refined(example(name))):
+            if sum(net.marks) != (3 if name == "dome" else 4):
+                yield f"{name} has {sum(net.marks)} marks"
+            if extraordinary(net) != ([3] if name == "dome" else []):
+                yield f"{name} has extraordinary vertices of valence {extraordinary(net)}"
+
+
+def seam_faults():
+    texts = [example("topside"), example("bottom")]
+    for length, pair in (6, texts), (21, map(refined, texts)):
+        first, second = (list(segments(parse(text))) for text in pair)
+        shared = [walk for walk in first if walk[::-1] in second]
+        if [len(walk) for walk in shared] != [length]:
+            yield f"topside and bottom share segments of {[len(walk) for walk in shared]} points, not of {length}"
+
+
+def boxes(picture):
+    """A generous box for each text: left, right, top, bottom."""
+    for text in picture.iter(f"{SVG}text"):
+        wide, x, y = 9 * len(text.text), int(text.get("x")), int(text.get("y"))
+        left = x - wide / 2 if text.get("class") else x
+        yield left, left + wide, y - 14, y + 5
+
+
+def picture_faults():
+    check = run("bash", "tools/pictures.sh", "--check")
+    if check.returncode:
+        yield f"tools/pictures.sh --check: {check.stdout}{check.stderr}"
+    for name, faces in ("panel", 16 + 256), ("seam", 25 + 400), ("extraordinary", 16 + 256):
+        path = ROOT / "docs" / "pictures" / f"{name}.svg"
+        picture = xml.etree.ElementTree.parse(path).getroot()
+        filled = [face for face in picture.iter(f"{SVG}path") if face.get("fill")]
+        wide, tall = int(picture.get("width")), int(picture.get("height"))
+        found = list(boxes(picture))
+        if len(filled) != faces or path.stat().st_size > 60_000:
+            yield f"{name}.svg has {len(filled)} faces and {path.stat().st_size} bytes"
+        if any(a < 0 or b > wide or c < 0 or d > tall for a, b, c, d in found):
+            yield f"{name}.svg has a text beyond its edge"
+        if any(p[0] < q[1] and q[0] < p[1] and p[2] < q[3] and q[2] < p[3] for n, p in enumerate(found) for q in found[:n]):
+            yield f"{name}.svg has overlapping texts"
+
+
+def same_picture_faults(folder):
+    """Files or a command, from here or elsewhere: the same picture."""
+    nets = [ROOT / "examples" / f"{name}.txt" for name in ("topside", "bottom")]
+    answers = [folder / net.name for net in nets]
+    for net, answer in zip(nets, answers):
+        answer.write_text(refined(example(net.stem)), encoding="ascii")
+    files = [file for pair in zip(nets, answers) for file in pair]
+    by_files = run(sys.executable, ROOT / "tools" / "draw.py", "--view=-6,-5,-1", *files, folder=folder)
+    if by_files.stdout != (ROOT / "docs" / "pictures" / "seam.svg").read_text(encoding="ascii"):
+        yield f"draw.py draws the seam otherwise from files: {by_files.stderr}"
+    if run("bash", ROOT / "tools" / "pictures.sh", "--check", folder=folder).returncode:
+        yield "tools/pictures.sh --check fails in another folder"
+
+
+def refusals(folder):
+    """Calls of draw.py that must fail: the exit status, a part of the message, the arguments."""
+    panel, dome = "examples/panel.txt", "examples/dome.txt"
+    text = example("panel")
+    (folder / "seven.txt").write_text(text.replace("27 16 2", "27 16 7"), encoding="ascii")
+    (folder / "short.txt").write_text(text[:-10], encoding="ascii")
+    (folder / "beyond.txt").write_text(text.replace("\n0 1 10 9\n", "\n0 1 10 27\n"), encoding="ascii")
+    (folder / "empty.txt").write_text("", encoding="ascii")
+    (folder / "none.txt").write_text("vertices faces rounds\n0 0 0\nx y z\na b c d\n", encoding="ascii")
+    (folder / "cut.txt").write_text("refusal place\n", encoding="ascii")
+    (folder / "bytes.txt").write_bytes(b"\xff\xfe")
+    yield 1, "refused, number and place 1 0", ["--refine", REFINE, folder / "seven.txt"]
+    yield 1, "cut.txt: refused", [panel, folder / "cut.txt"]
+    for name in ("short", "beyond", "empty", "none"):
+        yield 1, f"{name}.txt: not the text of a net", [panel, folder / f"{name}.txt"]
+    yield 1, "ascii", ["--refine", REFINE, folder / "bytes.txt"]
+    yield 1, "No such file", ["--refine", REFINE, folder / "missing.txt"]
+    yield 1, "No such file", ["--refine", folder / "missing", panel]
+    yield 1, "non-zero exit status", ["--refine", "false", panel]
+    yield 1, "does not begin with the drawn vertices", [panel, dome]
+    yield 2, "one or two nets", [panel]
+    yield 2, "one or two nets", ["--refine", REFINE, panel, dome, panel]
+    for view in ("0,0,0", "1,2", "1,2,x"):
+        yield 2, "invalid", [f"--view={view}", panel, panel]
+
+
+def failing_faults(folder):
+    for status, message, arguments in refusals(folder):
+        answer = run(*DRAW, *arguments)
+        if answer.returncode != status or message not in answer.stderr or "Traceback" in answer.stderr or answer.stdout:
+            yield f"draw.py {arguments}: status {answer.returncode}, {answer.stderr}"
+    for refine in "cat", "false":
+        if run("bash", "tools/pictures.sh", "--check", refine=refine).returncode != 1:
+            yield f"tools/pictures.sh --check passes with {refine}"
+    if run("bash", "tools/pictures.sh", "--chekc").returncode != 2:
+        yield "tools/pictures.sh takes a wrong option"
+    shutil.copy(ROOT / "examples" / "make.py", folder)
+    if run(sys.executable, folder / "make.py", "--check").returncode != 1:
+        yield "make.py --check passes without nets"
+
+
+def main():
+    with tempfile.TemporaryDirectory() as name:
+        folder = pathlib.Path(name)
+        groups = [example_faults(), seam_faults(), picture_faults(), same_picture_faults(folder), failing_faults(folder)]
+        faults = [fault for group in groups for fault in group]
+    print(*faults, sep="\n", end="\n" if faults else "")
+    sys.exit(1 if faults else 0)
+
+
+if __name__ == "__main__":
+    main()
