@@ -4,6 +4,8 @@
  *   stack TEXT ..      refines the net of each text that can be read on a painted stack and prints the deepest use;
  *                      the exit status is 1 if it is not below GEDROVIT_STACK_BYTES
  */
+#define _POSIX_C_SOURCE 200809L /* pthread_attr_setstack */
+
 #include <gedrovit.h>
 
 #include <inttypes.h>
