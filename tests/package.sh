@@ -108,7 +108,7 @@ empty_vector() {
 }
 
 stack() {
-    program stack stack.c "${c[@]}" && "$scratch/stack" "$root"/tests/nets/cases/*.txt
+    program stack stack.c "${c[@]}" -Wl,-z,lazy && "$scratch/stack" "$root"/tests/nets/cases/*.txt
 }
 
 # A shared object with the archive in it, as a plug-in would have.

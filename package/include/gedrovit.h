@@ -19,8 +19,9 @@
  *
  * Side s of a face runs from corner s to corner s + 1, modulo 4. Two faces that share an edge run
  * along it in opposite directions. An edge of one face is a boundary edge. Marked vertices cut a
- * boundary loop into segments, and each segment is refined as a curve of its own points alone; a loop
- * without marks is refined as a closed curve.
+ * boundary loop into segments, from one mark to the next; a loop without marks is one closed segment.
+ * Each segment is refined as a curve of its own points alone. Two nets share a segment if both have
+ * one with the same points in the same order, read in one direction or the other.
  *
  *
  * The refined net
@@ -56,8 +57,8 @@
  * Your duties, which no call can check:
  *
  *   - Every pointer is non-null and aligned for its type, also at length 0. data() of an empty
- *     std::vector may be null, and so may malloc(0): pass the address of any variable of the
- *     element's type instead. It is neither read nor written.
+ *     std::vector may be null (with GNU's library it is), and so may malloc(0): pass the address of
+ *     any variable of the element's type instead. It is neither read nor written.
  *   - Each table has the length that you state, in bytes at most PTRDIFF_MAX.
  *   - No output and no work table overlaps another table of the call.
  *
@@ -72,7 +73,9 @@
  *
  * Stack and time
  *
- * A call uses less than GEDROVIT_STACK_BYTES of stack; this is measured, not proved.
+ * A call uses less than GEDROVIT_STACK_BYTES of stack. This is measured, not proved; it includes the
+ * dynamic linker's work where the call is the program's first to use memset, the one function of the
+ * C library that it needs.
  *
  * The net is checked first, in time linear in its tables where few faces meet at each vertex; where
  * d faces meet, finding the neighbours there takes at most d * d steps. After that the time is
@@ -81,12 +84,12 @@
 #ifndef GEDROVIT_H
 #define GEDROVIT_H
 
-#include <stddef.h>
-#include <stdint.h>
-
 #if !defined(__x86_64__) || !defined(__linux__) || !defined(__LP64__)
 #error "gedrovit is built for x86-64 Linux with 64-bit pointers"
 #endif
+
+#include <stddef.h>
+#include <stdint.h>
 
 #define GEDROVIT_VERSION "0.1.0"
 

@@ -12,7 +12,6 @@
 #include <pthread.h>
 #include <stdio.h>
 #include <stdlib.h>
-#include <string.h>
 
 enum { STACK = 1 << 18, PAINT = 0xA5 };
 
@@ -66,14 +65,15 @@ static void *calls(void *wanted)
     return NULL;
 }
 
-/* How many bytes of a painted stack a thread changes. */
+/* How many bytes of a painted stack a thread changes. Volatile keeps memset out: the first call then counts the dynamic linker's binding of it too. */
 static size_t depth(void *wanted)
 {
-    static _Alignas(64) unsigned char stack[STACK];
+    static _Alignas(64) volatile unsigned char stack[STACK];
     pthread_attr_t attributes;
     pthread_t thread;
-    memset(stack, PAINT, STACK);
-    if (pthread_attr_init(&attributes) != 0 || pthread_attr_setstack(&attributes, stack, STACK) != 0
+    for (size_t i = 0; i < STACK; i++)
+        stack[i] = PAINT;
+    if (pthread_attr_init(&attributes) != 0 || pthread_attr_setstack(&attributes, (void *)stack, STACK) != 0
         || pthread_create(&thread, &attributes, calls, wanted) != 0 || pthread_join(thread, NULL) != 0)
         exit((fprintf(stderr, "stack: no thread\n"), EXIT_FAILURE));
     pthread_attr_destroy(&attributes);
