@@ -57,14 +57,14 @@ symbols() {
         && ! nm -g --undefined-only -j "$prefix/lib/libgedrovit.a" | grep -v ':$' | grep . | grep -vxE 'mem(cpy|move|set)|gedrovit_[a-z_]+'
 }
 
+# The header's version is that of the other files.
 versions() {
-    diff <(echo "$version") <(sed -n 's/^version = "\(.*\)"$/\1/p' "$root/package/rust/Cargo.toml") \
-        && diff <(echo "$version") <(flags "$1" --modversion)
+    grep -qxF "version = \"$version\"" "$root/package/rust/Cargo.toml" && grep -qxF "Version: $version" "$prefix/lib/pkgconfig/gedrovit.pc" \
+        && grep -qxF "set(PACKAGE_VERSION \"$version\")" "$prefix/lib/cmake/gedrovit/gedrovit-config-version.cmake"
 }
 
-# flags PREFIX WORDS ..: what pkg-config says of the package there
 flags() {
-    PKG_CONFIG_PATH=$1/lib/pkgconfig pkg-config "${@:2}" gedrovit
+    PKG_CONFIG_PATH=$prefix/lib/pkgconfig pkg-config "$@" gedrovit
 }
 
 # outputs FOLDER: the examples built there write what is stored, also where a call is refused
@@ -77,14 +77,14 @@ outputs() {
 by_pkg_config() {
     local to=$scratch/pkg-config
     rm -rf "$to" && mkdir "$to" \
-        && "${c[@]}" $(flags "$1" --cflags) "$root/package/examples/refine.c" $(flags "$1" --libs) -o "$to/refine" \
-        && "${cxx[@]}" $(flags "$1" --cflags) "$root/package/examples/seam.cpp" $(flags "$1" --libs) -o "$to/seam" \
+        && "${c[@]}" $(flags --cflags) "$root/package/examples/refine.c" $(flags --libs) -o "$to/refine" \
+        && "${cxx[@]}" $(flags --cflags) "$root/package/examples/seam.cpp" $(flags --libs) -o "$to/seam" \
         && outputs "$to"
 }
 
 by_cmake() {
     local to=$scratch/cmake
-    rm -rf "$to" && cmake -S "$root/package/examples" -B "$to" -DCMAKE_PREFIX_PATH="$1" -DCMAKE_C_FLAGS="${strict[*]}" -DCMAKE_CXX_FLAGS="${strict[*]}" \
+    rm -rf "$to" && cmake -S "$root/package/examples" -B "$to" -DCMAKE_PREFIX_PATH="$prefix" -DCMAKE_C_FLAGS="${strict[*]}" -DCMAKE_CXX_FLAGS="${strict[*]}" \
         && cmake --build "$to" && outputs "$to"
 }
 
@@ -116,14 +116,19 @@ shared_object() {
     "${CC:-cc}" -shared -Wl,--fatal-warnings,-z,text,-z,defs -Wl,--whole-archive "$prefix/lib/libgedrovit.a" -Wl,--no-whole-archive -o "$scratch/plugin.so"
 }
 
-# rust WORDS ..: cargo on the wrapper crate; assignments that go before it are in WORDS
+# rust WORDS ..: cargo on the wrapper crate; WORDS may begin with assignments
 rust() {
     env -u GEDROVIT_LIB_DIR -u PKG_CONFIG_PATH CARGO_TARGET_DIR="$root/target/cargo" "$@" --offline --locked --manifest-path "$root/package/rust/Cargo.toml"
 }
 
+# rust_links FOLDER [ASSIGNMENT]: the build takes the archive from this folder
+rust_links() {
+    rust "${@:2}" cargo build -vv >"$scratch/said" 2>&1 && grep -F "rustc-link-search=native=$1" "$scratch/said" || ! cat "$scratch/said"
+}
+
 # Without an archive the build fails and says how to name one.
 rust_refused() {
-    ! rust GEDROVIT_LIB_DIR="$scratch" cargo build 2>"$scratch/said" && grep -q 'name the folder of libgedrovit.a' "$scratch/said"
+    ! rust GEDROVIT_LIB_DIR="$scratch" cargo build 2>"$scratch/said" && grep -F 'name the folder of libgedrovit.a' "$scratch/said"
 }
 
 check "header alone, C11" header_alone "${CC:-cc}" -std=c11 -x c
@@ -134,22 +139,22 @@ check "symbols of the archive" symbols
 check "archive in a shared object" shared_object
 check "empty vectors" empty_vector
 check "stack" stack
+check "one version everywhere" versions
+check "Rust crate: tests" rust GEDROVIT_LIB_DIR="$prefix/lib" cargo test --quiet
+check "Rust crate: archive of the repository" rust_links "$root/package/rust/../../target/staticlib"
+check "Rust crate: no archive" rust_refused
 if have pkg-config; then
-    check "one version everywhere" versions "$prefix"
-    check "examples by pkg-config" by_pkg_config "$prefix"
+    check "Rust crate: archive by pkg-config" rust_links "$prefix/lib" PKG_CONFIG_PATH="$prefix/lib/pkgconfig"
+    check "examples by pkg-config" by_pkg_config
 fi
 if have cmake; then
-    check "examples by CMake" by_cmake "$prefix"
+    check "examples by CMake" by_cmake
     check "versions for CMake" cmake_versions
 fi
-check "Rust crate: archive by GEDROVIT_LIB_DIR, tests" rust GEDROVIT_LIB_DIR="$prefix/lib" cargo test --quiet
-have pkg-config && check "Rust crate: archive by pkg-config" rust PKG_CONFIG_PATH="$prefix/lib/pkgconfig" cargo build
-check "Rust crate: archive of the repository" rust cargo build
-check "Rust crate: no archive" rust_refused
 
 prefix=$scratch/moved
 mv "$scratch/installed" "$prefix"
-have pkg-config >/dev/null && check "moved: examples by pkg-config" by_pkg_config "$prefix"
-have cmake >/dev/null && check "moved: examples by CMake" by_cmake "$prefix"
+have pkg-config >/dev/null && check "moved: examples by pkg-config" by_pkg_config
+have cmake >/dev/null && check "moved: examples by CMake" by_cmake
 
 [ "$failed" -eq 0 ]

@@ -30,7 +30,8 @@
  * the old ones, with their numbers, coordinates and marks; then one for each edge, in the order in
  * which the edges are first met, face by face and from side 0 to 3; then one for each face. New marks
  * are 0. Face f becomes the faces 4f + i, for i = 0 to 3, with the corners: old corner i, point of
- * side i, point of the face, point of side i - 1. No refined coordinate exceeds 268,435,456 in size.
+ * side i, point of the face, point of side i - 1. Refined coordinates stay within 268,435,456 in
+ * absolute value.
  *
  *
  * The tables that you provide
@@ -102,9 +103,8 @@
 #define GEDROVIT_MAX_RING 8
 #define GEDROVIT_MAX_FAN 6
 
-/* No refined coordinate exceeds this in size. */
+/* What calls stay within, as said above. */
 #define GEDROVIT_MAX_REFINED_COORDINATE 268435456
-
 #define GEDROVIT_STACK_BYTES 8192
 
 #ifdef __cplusplus
@@ -122,22 +122,35 @@ enum gedrovit_reason {
     GEDROVIT_ACCEPTED = 0,
 
     /* The calling program can cause these. The place is 0. */
-    GEDROVIT_TOO_MANY_ROUNDS = 1,       /* rounds above 6 */
-    GEDROVIT_UNEVEN_TABLES = 2,         /* vertices not a multiple of 3 long, faces not of 4, or marks not V */
-    GEDROVIT_NET_TOO_LARGE = 3,         /* V above 8,192, F above 4,096 or G above 262,144 */
-    GEDROVIT_TABLE_TOO_SHORT = 4,       /* an output or the work table shorter than stated above */
 
-    /* The net can cause these. */
-    GEDROVIT_COORDINATE_RANGE = 5,      /* place: vertex with a coordinate outside -1,048,576 to 1,048,576 */
-    GEDROVIT_INVALID_MARK = 6,          /* place: vertex with a mark above 1 */
-    GEDROVIT_INVALID_CORNER = 7,        /* place: face with a corner not below V, or with two equal corners */
-    GEDROVIT_ISOLATED_VERTEX = 8,       /* place: vertex in no face */
-    GEDROVIT_REPEATED_HALF_EDGE = 9,    /* place: face with a side that runs from one vertex to another as a side of
-                                           an earlier face does: one of them is turned, or the edge has three faces */
-    GEDROVIT_NON_MANIFOLD_VERTEX = 10,  /* place: vertex whose faces form neither one full ring nor one open fan */
-    GEDROVIT_VALENCE_RANGE = 11,        /* place: vertex with a ring of fewer than 3 or more than 8 faces, or a fan
-                                           of more than 6 */
-    GEDROVIT_MARKED_INNER_VERTEX = 12   /* place: vertex with mark 1 and a full ring, so not on the boundary */
+    /* rounds above 6 */
+    GEDROVIT_TOO_MANY_ROUNDS = 1,
+    /* vertices_length not a multiple of 3, faces_length not of 4, or marks_length not V */
+    GEDROVIT_INVALID_LENGTHS = 2,
+    /* V above 8,192, F above 4,096 or G above 262,144 */
+    GEDROVIT_NET_TOO_LARGE = 3,
+    /* an output or the work table shorter than stated above */
+    GEDROVIT_TABLE_TOO_SHORT = 4,
+
+    /* The net can cause these. The place is a vertex, or for 7 and 9 a face. */
+
+    /* vertex with a coordinate outside -1,048,576 to 1,048,576 */
+    GEDROVIT_COORDINATE_OUT_OF_RANGE = 5,
+    /* vertex with a mark above 1 */
+    GEDROVIT_INVALID_MARK = 6,
+    /* face with a corner not below V, or with two equal corners */
+    GEDROVIT_INVALID_CORNER = 7,
+    /* vertex in no face */
+    GEDROVIT_ISOLATED_VERTEX = 8,
+    /* face with a side that runs from one vertex to another as a side of an earlier face does: one
+       of them is turned the wrong way, or the edge has three faces */
+    GEDROVIT_REPEATED_HALF_EDGE = 9,
+    /* vertex whose faces form neither one full ring nor one open fan */
+    GEDROVIT_NON_MANIFOLD_VERTEX = 10,
+    /* vertex with a ring of fewer than 3 or more than 8 faces, or a fan of more than 6 */
+    GEDROVIT_VALENCE_OUT_OF_RANGE = 11,
+    /* vertex with mark 1 and a full ring, so not on the boundary */
+    GEDROVIT_MARKED_INTERIOR_VERTEX = 12
 };
 
 /* What gedrovit_refine answers. */

@@ -11,13 +11,13 @@ pub enum Reason {
     TooManyRounds = 1,
     /// The vertex table is no multiple of 3 long, the face table none of 4, or the marks are not one
     /// for each vertex.
-    UnevenTables = 2,
+    InvalidLengths = 2,
     /// More than 8,192 vertices, 4,096 faces or 262,144 refined faces.
     NetTooLarge = 3,
     /// An output or the work table is shorter than [`lengths`](crate::lengths) says.
     TableTooShort = 4,
     /// A coordinate outside -1,048,576 to 1,048,576. The place is the vertex.
-    CoordinateRange = 5,
+    CoordinateOutOfRange = 5,
     /// A mark above 1. The place is the vertex.
     InvalidMark = 6,
     /// A corner that is no vertex, or two equal corners. The place is the face.
@@ -31,26 +31,26 @@ pub enum Reason {
     NonManifoldVertex = 10,
     /// A ring of fewer than 3 or more than 8 faces, or a fan of more than 6. The place is the
     /// vertex.
-    ValenceRange = 11,
+    ValenceOutOfRange = 11,
     /// Mark 1 on a vertex with a full ring. The place is the vertex.
-    MarkedInnerVertex = 12,
+    MarkedInteriorVertex = 12,
 }
 
 use Reason::*;
 
 const ALL: [Reason; 12] = [
     TooManyRounds,
-    UnevenTables,
+    InvalidLengths,
     NetTooLarge,
     TableTooShort,
-    CoordinateRange,
+    CoordinateOutOfRange,
     InvalidMark,
     InvalidCorner,
     IsolatedVertex,
     RepeatedHalfEdge,
     NonManifoldVertex,
-    ValenceRange,
-    MarkedInnerVertex,
+    ValenceOutOfRange,
+    MarkedInteriorVertex,
 ];
 
 impl Reason {
@@ -63,24 +63,24 @@ impl Reason {
     fn text(self) -> &'static str {
         match self {
             TooManyRounds => "more than 6 rounds",
-            UnevenTables => "the tables of the net do not fit each other",
+            InvalidLengths => "the tables of the net do not fit each other",
             NetTooLarge => "the net is too large",
             TableTooShort => "an output or the work table is too short",
-            CoordinateRange => "a coordinate is outside -1,048,576 to 1,048,576",
+            CoordinateOutOfRange => "a coordinate is outside -1,048,576 to 1,048,576",
             InvalidMark => "the mark is neither 0 nor 1",
             InvalidCorner => "a corner is no vertex, or two corners are equal",
             IsolatedVertex => "it is in no face",
             RepeatedHalfEdge => "a side runs as a side of an earlier face does",
             NonManifoldVertex => "its faces form neither one full ring nor one open fan",
-            ValenceRange => "its ring is not of 3 to 8 faces, or its fan is of more than 6",
-            MarkedInnerVertex => "it is marked and not on the boundary",
+            ValenceOutOfRange => "its ring is not of 3 to 8 faces, or its fan is of more than 6",
+            MarkedInteriorVertex => "it is marked and not on the boundary",
         }
     }
 
     /// What the place of a refusal is the number of, if it is one.
     fn subject(self) -> Option<&'static str> {
         match self {
-            TooManyRounds | UnevenTables | NetTooLarge | TableTooShort => None,
+            TooManyRounds | InvalidLengths | NetTooLarge | TableTooShort => None,
             InvalidCorner | RepeatedHalfEdge => Some("face"),
             _ => Some("vertex"),
         }

@@ -166,7 +166,7 @@ fn a_refused_net_clears_the_workspace_only() {
     let mut tables = Owned::new(n);
     assert_eq!(
         refine(2, net.view(), tables.lend()),
-        Err(refusal(Reason::CoordinateRange, 2))
+        Err(refusal(Reason::CoordinateOutOfRange, 2))
     );
     assert_eq!(
         tables,
@@ -186,9 +186,9 @@ fn each_table_of_the_net_is_checked() {
     );
     let cases = [
         (7, vertices, faces, marks, Reason::TooManyRounds, 0),
-        (1, &vertices[..11], faces, marks, Reason::UnevenTables, 0),
-        (1, vertices, &faces[..3], marks, Reason::UnevenTables, 0),
-        (1, vertices, faces, &marks[..3], Reason::UnevenTables, 0),
+        (1, &vertices[..11], faces, marks, Reason::InvalidLengths, 0),
+        (1, vertices, &faces[..3], marks, Reason::InvalidLengths, 0),
+        (1, vertices, faces, &marks[..3], Reason::InvalidLengths, 0),
         (6, vertices, &[0; 4 * 65], marks, Reason::NetTooLarge, 0),
         (1, vertices, faces, &[1, 1, 1, 2], Reason::InvalidMark, 3),
         (
@@ -213,7 +213,7 @@ fn each_table_of_the_net_is_checked() {
             vertices,
             &[0, 1, 2, 3, 0, 3, 2, 1],
             marks,
-            Reason::ValenceRange,
+            Reason::ValenceOutOfRange,
             0,
         ),
     ];
@@ -225,6 +225,36 @@ fn each_table_of_the_net_is_checked() {
         };
         assert_eq!(net.refined(rounds), Err(refusal(reason, place)));
     }
+}
+
+#[test]
+fn vertices_are_checked() {
+    let touching = NetView {
+        vertices: &[0; 21],
+        faces: &[0, 1, 2, 3, 3, 4, 5, 6],
+        marks: &[0; 7],
+    };
+    assert_eq!(
+        touching.refined(1),
+        Err(refusal(Reason::NonManifoldVertex, 3))
+    );
+    let mut marked = refined_square();
+    marked.marks[8] = 1;
+    assert_eq!(
+        marked.refined(1),
+        Err(refusal(Reason::MarkedInteriorVertex, 8))
+    );
+}
+
+#[test]
+fn lengths_follow_the_refined_faces() {
+    let expected = Lengths {
+        vertices: 12 * 4096,
+        faces: 4 * 4096,
+        marks: 4 * 4096,
+        work: 16 * 4096,
+    };
+    assert_eq!(lengths(6, square().view()), Ok(expected));
 }
 
 #[test]
