@@ -68,15 +68,16 @@
  *
  * It keeps no state, allocates nothing, takes no lock and does no input or output. Calls from any
  * threads may run at the same time if each has its own output and work tables; they may share the
- * tables of a net. A call always returns. It calls nothing of yours and throws nothing; no exception
- * may unwind through it, as one thrown by a signal handler would.
+ * tables of a net, if nothing writes to these meanwhile. A call always returns. It calls nothing of
+ * yours and throws nothing; no exception may unwind through it, as one thrown by a signal handler
+ * would.
  *
  *
  * Stack and time
  *
  * A call uses less than GEDROVIT_STACK_BYTES of stack. This is measured, not proved; it includes the
- * dynamic linker's work where the call is the program's first to use memset, the one function of the
- * C library that it needs.
+ * dynamic linker's work where the call is the program's first to use memset or another memory
+ * function of the C library. It needs no other functions.
  *
  * The net is checked first, in time linear in its tables where few faces meet at each vertex; where
  * d faces meet, finding the neighbours there takes at most d * d steps. After that the time is
