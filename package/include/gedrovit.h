@@ -1,0 +1,210 @@
+/*
+ * Gedrovit refines nets of quadrilateral faces by Kobbelt's interpolatory subdivision at weight 1.
+ * Every new coordinate is worked out exactly and rounded once, to the nearest whole number, halves
+ * away from zero. Two nets that share a boundary segment before refining share it afterwards, point
+ * for point, whatever the rest of either net is.
+ *
+ * C11 and C++17, x86-64 Linux (System V ABI). Link with libgedrovit.a; nothing but the C library is
+ * needed beside it.
+ *
+ *
+ * The net: three tables
+ *
+ *   vertices   int32_t    x, y, z of each vertex, from -1,048,576 to 1,048,576
+ *   faces      uint32_t   the four corners of each face, as vertex numbers from 0, in order round it
+ *   marks      uint8_t    for each vertex 1 if the boundary has a corner there, 0 if not
+ *
+ * V is the number of vertices, F the number of faces, and G = F * 4^rounds the number of faces after
+ * refining. V = 0 with F = 0 is allowed.
+ *
+ * Side s of a face runs from corner s to corner s + 1, modulo 4. Two faces that share an edge run
+ * along it in opposite directions. An edge of one face is a boundary edge. Marked vertices cut a
+ * boundary loop into segments, from one mark to the next; a loop without marks is one closed segment.
+ * Each segment is refined as a curve of its own points alone. Two nets share a segment if both have
+ * one with the same points in the same order, read in one direction or the other.
+ *
+ *
+ * The refined net
+ *
+ * `rounds` refinement steps are done, from 0 to 6; 0 copies the net. In each step the vertices are
+ * the old ones, with their numbers, coordinates and marks; then one for each edge, in the order in
+ * which the edges are first met, face by face and from side 0 to 3; then one for each face. New marks
+ * are 0. Face f becomes the faces 4f + i, for i = 0 to 3, with the corners: old corner i, point of
+ * side i, point of the face, point of side i - 1. Refined coordinates stay within 268,435,456 in
+ * absolute value.
+ *
+ *
+ * The tables that you provide
+ *
+ * Every length is in elements, not in bytes. Beside the net you provide at least
+ *
+ *   out_vertices   12 G   int32_t
+ *   out_faces       4 G   uint32_t
+ *   out_marks       4 G   uint8_t
+ *   work           16 G   uint32_t
+ *
+ * gedrovit_sizes_for works these numbers out. What the four tables hold before the call does not
+ * matter. What they hold after it:
+ *
+ *   reason     output tables                                  work
+ *   0          from the front, the refined vertices, faces    the first 16 G are 0
+ *              and marks
+ *   1 to 4     as before                                      as before
+ *   5 to 12    as before                                      the first 16 G are 0
+ *
+ * Output elements beyond the refined net and work elements beyond 16 G are never written. The
+ * tables of the net are only read.
+ *
+ * Your duties, which no call can check:
+ *
+ *   - Every pointer is non-null and aligned for its type, also at length 0. data() of an empty
+ *     std::vector may be null (with GNU's library it is), and so may malloc(0): pass the address of
+ *     any variable of the element's type instead. It is neither read nor written.
+ *   - Each table has the length that you state, in bytes at most PTRDIFF_MAX.
+ *   - No output and no work table overlaps another table of the call.
+ *
+ *
+ * What a call does not do
+ *
+ * It keeps no state, allocates nothing, takes no lock and does no input or output. Calls from any
+ * threads may run at the same time if each has its own output and work tables; they may share the
+ * tables of a net, if nothing writes to these meanwhile. A call always returns. It calls nothing of
+ * yours and throws nothing; no exception may unwind through it, as one thrown by a signal handler
+ * would.
+ *
+ *
+ * Stack and time
+ *
+ * A call uses less than GEDROVIT_STACK_BYTES of stack. This is measured, not proved; it includes the
+ * dynamic linker's work where the call is the program's first to use memset or another memory
+ * function of the C library. It needs no other functions.
+ *
+ * The net is checked first, in time linear in its tables where few faces meet at each vertex; where
+ * d faces meet, finding the neighbours there takes at most d * d steps. After that the time is
+ * linear in G, for a net that is refused as well: its work table is cleared.
+ */
+#ifndef GEDROVIT_H
+#define GEDROVIT_H
+
+#if !defined(__x86_64__) || !defined(__linux__) || !defined(__LP64__)
+#error "gedrovit is built for x86-64 Linux with 64-bit pointers"
+#endif
+
+#include <stddef.h>
+#include <stdint.h>
+
+#define GEDROVIT_VERSION "0.1.0"
+
+/* Limits of a call. */
+#define GEDROVIT_MAX_ROUNDS 6
+#define GEDROVIT_MAX_VERTICES 8192
+#define GEDROVIT_MAX_FACES 4096
+#define GEDROVIT_MAX_REFINED_FACES 262144
+#define GEDROVIT_MAX_COORDINATE 1048576
+#define GEDROVIT_MAX_RING 8
+#define GEDROVIT_MAX_FAN 6
+
+/* What calls stay within, as said above. */
+#define GEDROVIT_MAX_REFINED_COORDINATE 268435456
+#define GEDROVIT_STACK_BYTES 8192
+
+#ifdef __cplusplus
+#define GEDROVIT_NOEXCEPT noexcept
+extern "C" {
+#else
+#define GEDROVIT_NOEXCEPT
+#endif
+
+/*
+ * Why a call was refused. If several reasons hold, the lowest number is reported, with the lowest
+ * vertex or face number concerned as the place.
+ */
+enum gedrovit_reason {
+    GEDROVIT_ACCEPTED = 0,
+
+    /* The calling program can cause these. The place is 0. */
+
+    /* rounds above 6 */
+    GEDROVIT_TOO_MANY_ROUNDS = 1,
+    /* vertices_length not a multiple of 3, faces_length not of 4, or marks_length not V */
+    GEDROVIT_INVALID_LENGTHS = 2,
+    /* V above 8,192, F above 4,096 or G above 262,144 */
+    GEDROVIT_NET_TOO_LARGE = 3,
+    /* an output or the work table shorter than stated above */
+    GEDROVIT_TABLE_TOO_SHORT = 4,
+
+    /* The net can cause these. The place is a vertex, or for 7 and 9 a face. */
+
+    /* vertex with a coordinate outside -1,048,576 to 1,048,576 */
+    GEDROVIT_COORDINATE_OUT_OF_RANGE = 5,
+    /* vertex with a mark above 1 */
+    GEDROVIT_INVALID_MARK = 6,
+    /* face with a corner not below V, or with two equal corners */
+    GEDROVIT_INVALID_CORNER = 7,
+    /* vertex in no face */
+    GEDROVIT_ISOLATED_VERTEX = 8,
+    /* face with a side that runs from one vertex to another as a side of an earlier face does: one
+       of them is turned the wrong way, or the edge has three faces */
+    GEDROVIT_REPEATED_HALF_EDGE = 9,
+    /* vertex whose faces form neither one full ring nor one open fan */
+    GEDROVIT_NON_MANIFOLD_VERTEX = 10,
+    /* vertex with a ring of fewer than 3 or more than 8 faces, or a fan of more than 6 */
+    GEDROVIT_VALENCE_OUT_OF_RANGE = 11,
+    /* vertex with mark 1 and a full ring, so not on the boundary */
+    GEDROVIT_MARKED_INTERIOR_VERTEX = 12
+};
+
+/* What gedrovit_refine answers. */
+typedef struct {
+    uint32_t reason;   /* 0: refined; otherwise an enum gedrovit_reason */
+    uint64_t place;    /* 0 if refined */
+    uint64_t vertices; /* number of refined vertices; 0 on a refusal */
+    uint64_t faces;    /* number of refined faces, G; 0 on a refusal */
+} gedrovit_report;
+
+/* Refines a net into the output tables, or says why not. */
+gedrovit_report gedrovit_refine(uint32_t rounds,
+                                const int32_t *vertices, size_t vertices_length,
+                                const uint32_t *faces, size_t faces_length,
+                                const uint8_t *marks, size_t marks_length,
+                                int32_t *out_vertices, size_t out_vertices_length,
+                                uint32_t *out_faces, size_t out_faces_length,
+                                uint8_t *out_marks, size_t out_marks_length,
+                                uint32_t *work, size_t work_length) GEDROVIT_NOEXCEPT;
+
+/* What gedrovit_check answers. */
+typedef struct {
+    uint32_t reason; /* 0: gedrovit_refine would refine; otherwise an enum gedrovit_reason */
+    uint64_t place;  /* 0 if reason is 0 */
+} gedrovit_finding;
+
+/*
+ * Checks without refining: the reason and place that gedrovit_refine would report for output tables
+ * of these lengths. The work table is needed, and afterwards holds what it would after that call.
+ */
+gedrovit_finding gedrovit_check(uint32_t rounds,
+                                const int32_t *vertices, size_t vertices_length,
+                                const uint32_t *faces, size_t faces_length,
+                                const uint8_t *marks, size_t marks_length,
+                                size_t out_vertices_length, size_t out_faces_length, size_t out_marks_length,
+                                uint32_t *work, size_t work_length) GEDROVIT_NOEXCEPT;
+
+/* What gedrovit_sizes_for answers: the least lengths, in elements. All are 0 unless reason is 0. */
+typedef struct {
+    uint32_t reason; /* 0, or 1, 2 or 3 if no call with these lengths is accepted, whatever tables it gets */
+    uint64_t out_vertices;
+    uint64_t out_faces;
+    uint64_t out_marks;
+    uint64_t work;
+} gedrovit_sizes;
+
+/* The lengths of tables that serve a net of these lengths. */
+gedrovit_sizes gedrovit_sizes_for(uint32_t rounds, size_t vertices_length, size_t faces_length,
+                                  size_t marks_length) GEDROVIT_NOEXCEPT;
+
+#ifdef __cplusplus
+}
+#endif
+#undef GEDROVIT_NOEXCEPT
+
+#endif

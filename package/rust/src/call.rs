@@ -1,0 +1,113 @@
+//! The functions of the archive over slices.
+
+use crate::foreign::{gedrovit_check, gedrovit_refine, gedrovit_sizes_for};
+use crate::{NetView, Refusal, Tables};
+
+/// How many vertices and faces a refined net has.
+#[derive(Clone, Copy, Debug, PartialEq, Eq)]
+pub struct Counts {
+    /// The number of vertices.
+    pub vertices: usize,
+    /// The number of faces.
+    pub faces: usize,
+}
+
+/// Lengths of the tables that a call fills, in elements.
+#[derive(Clone, Copy, Debug, PartialEq, Eq)]
+pub struct Lengths {
+    /// Of the refined vertices.
+    pub vertices: usize,
+    /// Of the refined faces.
+    pub faces: usize,
+    /// Of the refined marks.
+    pub marks: usize,
+    /// Of the workspace.
+    pub work: usize,
+}
+
+/// The least lengths of the tables that serve a net, by the lengths of its own tables alone.
+///
+/// # Errors
+///
+/// Reasons 1 to 3: no call with these lengths is accepted.
+pub fn lengths(rounds: u32, net: NetView<'_>) -> Result<Lengths, Refusal> {
+    // SAFETY: the function takes numbers only.
+    let sizes =
+        unsafe { gedrovit_sizes_for(rounds, net.vertices.len(), net.faces.len(), net.marks.len()) };
+    Refusal::accept(sizes.reason, 0)?;
+    Ok(Lengths {
+        vertices: sizes.out_vertices as usize,
+        faces: sizes.out_faces as usize,
+        marks: sizes.out_marks as usize,
+        work: sizes.work as usize,
+    })
+}
+
+/// Refines a net into the tables, from their front, and tells its numbers of vertices and faces.
+/// Elements beyond the refined net stay as they are. The first 16 G work numbers are 0 afterwards,
+/// G being the number of refined faces.
+///
+/// # Errors
+///
+/// Every reason. The vertices, faces and marks stay as they are, and on reasons 1 to 4 the work
+/// numbers too.
+pub fn refine(rounds: u32, net: NetView<'_>, tables: Tables<'_>) -> Result<Counts, Refusal> {
+    // SAFETY: slices are non-null, aligned and of at most isize::MAX bytes; mutable ones overlap no
+    // other.
+    let report = unsafe {
+        gedrovit_refine(
+            rounds,
+            net.vertices.as_ptr(),
+            net.vertices.len(),
+            net.faces.as_ptr(),
+            net.faces.len(),
+            net.marks.as_ptr(),
+            net.marks.len(),
+            tables.vertices.as_mut_ptr(),
+            tables.vertices.len(),
+            tables.faces.as_mut_ptr(),
+            tables.faces.len(),
+            tables.marks.as_mut_ptr(),
+            tables.marks.len(),
+            tables.work.as_mut_ptr(),
+            tables.work.len(),
+        )
+    };
+    Refusal::accept(report.reason, report.place)?;
+    Ok(Counts {
+        vertices: report.vertices as usize,
+        faces: report.faces as usize,
+    })
+}
+
+/// Whether [`refine`] would refine the net into tables of these lengths and this work table, which
+/// is left as by that call. `lengths.work` does not count.
+///
+/// # Errors
+///
+/// As [`refine`].
+pub fn check(
+    rounds: u32,
+    net: NetView<'_>,
+    lengths: Lengths,
+    work: &mut [u32],
+) -> Result<(), Refusal> {
+    // SAFETY: as in `refine`.
+    let finding = unsafe {
+        gedrovit_check(
+            rounds,
+            net.vertices.as_ptr(),
+            net.vertices.len(),
+            net.faces.as_ptr(),
+            net.faces.len(),
+            net.marks.as_ptr(),
+            net.marks.len(),
+            lengths.vertices,
+            lengths.faces,
+            lengths.marks,
+            work.as_mut_ptr(),
+            work.len(),
+        )
+    };
+    Refusal::accept(finding.reason, finding.place)
+}

@@ -1,0 +1,66 @@
+//! The functions of `gedrovit.h`.
+
+#[repr(C)]
+pub struct Report {
+    pub reason: u32,
+    pub place: u64,
+    pub vertices: u64,
+    pub faces: u64,
+}
+
+#[repr(C)]
+pub struct Finding {
+    pub reason: u32,
+    pub place: u64,
+}
+
+#[repr(C)]
+pub struct Sizes {
+    pub reason: u32,
+    pub out_vertices: u64,
+    pub out_faces: u64,
+    pub out_marks: u64,
+    pub work: u64,
+}
+
+extern "C" {
+    pub fn gedrovit_refine(
+        rounds: u32,
+        vertices: *const i32,
+        vertices_length: usize,
+        faces: *const u32,
+        faces_length: usize,
+        marks: *const u8,
+        marks_length: usize,
+        out_vertices: *mut i32,
+        out_vertices_length: usize,
+        out_faces: *mut u32,
+        out_faces_length: usize,
+        out_marks: *mut u8,
+        out_marks_length: usize,
+        work: *mut u32,
+        work_length: usize,
+    ) -> Report;
+
+    pub fn gedrovit_check(
+        rounds: u32,
+        vertices: *const i32,
+        vertices_length: usize,
+        faces: *const u32,
+        faces_length: usize,
+        marks: *const u8,
+        marks_length: usize,
+        out_vertices_length: usize,
+        out_faces_length: usize,
+        out_marks_length: usize,
+        work: *mut u32,
+        work_length: usize,
+    ) -> Finding;
+
+    pub fn gedrovit_sizes_for(
+        rounds: u32,
+        vertices_length: usize,
+        faces_length: usize,
+        marks_length: usize,
+    ) -> Sizes;
+}

@@ -1,0 +1,31 @@
+//! Refines nets of quadrilateral faces by Kobbelt's interpolatory subdivision at weight 1, with exact
+//! arithmetic and one rounding for each new coordinate. Two nets that share a boundary segment
+//! before refining share it afterwards, point for point.
+//!
+//! The work is done by proved code in the archive `libgedrovit.a`. The header `gedrovit.h` has the
+//! whole contract; what it says of tables, numbering and limits holds here too.
+//!
+//! ```
+//! let square = gedrovit::Net {
+//!     vertices: vec![0, 0, 0, 16, 0, 0, 16, 16, 0, 0, 16, 0],
+//!     faces: vec![0, 1, 2, 3],
+//!     marks: vec![1, 1, 1, 1],
+//! };
+//! let refined = square.refined(1)?;
+//! assert_eq!(refined.faces.len() / 4, 4);
+//! assert_eq!(refined.vertices[24..], [8, 8, 0]);
+//! # Ok::<(), gedrovit::Refusal>(())
+//! ```
+//!
+//! The build takes the archive from the folder that the environment variable `GEDROVIT_LIB_DIR`
+//! names; without it, from where `pkg-config` finds this version of the package, or else from the
+//! repository that this crate is part of.
+
+mod call;
+mod foreign;
+mod net;
+mod refusal;
+
+pub use call::{check, lengths, refine, Counts, Lengths};
+pub use net::{Net, NetView, Tables};
+pub use refusal::{Reason, Refusal};

@@ -1,0 +1,91 @@
+//! Nets and the tables that a call fills.
+
+use crate::{lengths, refine, Refusal};
+
+/// A net in tables of its own.
+#[derive(Clone, Debug, Default, PartialEq, Eq)]
+pub struct Net {
+    /// Three coordinates for each vertex.
+    pub vertices: Vec<i32>,
+    /// Four vertex numbers for each face.
+    pub faces: Vec<u32>,
+    /// For each vertex 1 if the boundary has a corner there, 0 if not.
+    pub marks: Vec<u8>,
+}
+
+/// A net in borrowed tables. Tables of arrays, as `[[i32; 3]]`, give theirs by `as_flattened`.
+#[derive(Clone, Copy, Debug)]
+pub struct NetView<'a> {
+    /// Three coordinates for each vertex.
+    pub vertices: &'a [i32],
+    /// Four vertex numbers for each face.
+    pub faces: &'a [u32],
+    /// For each vertex 1 if the boundary has a corner there, 0 if not.
+    pub marks: &'a [u8],
+}
+
+/// The tables that [`refine`] fills, with its workspace. What they hold before does not matter.
+#[derive(Debug)]
+pub struct Tables<'a> {
+    /// The refined vertices.
+    pub vertices: &'a mut [i32],
+    /// The refined faces.
+    pub faces: &'a mut [u32],
+    /// The refined marks.
+    pub marks: &'a mut [u8],
+    /// The workspace.
+    pub work: &'a mut [u32],
+}
+
+impl Net {
+    /// The net as borrowed tables.
+    #[must_use]
+    pub fn view(&self) -> NetView<'_> {
+        NetView {
+            vertices: &self.vertices,
+            faces: &self.faces,
+            marks: &self.marks,
+        }
+    }
+
+    /// The net after this many refinement steps, in tables allocated for it.
+    ///
+    /// # Errors
+    ///
+    /// Every reason but 4.
+    pub fn refined(&self, rounds: u32) -> Result<Net, Refusal> {
+        self.view().refined(rounds)
+    }
+}
+
+impl NetView<'_> {
+    /// As [`Net::refined`].
+    ///
+    /// # Errors
+    ///
+    /// Every reason but 4.
+    pub fn refined(self, rounds: u32) -> Result<Net, Refusal> {
+        let n = lengths(rounds, self)?;
+        let mut net = Net {
+            vertices: vec![0; n.vertices],
+            faces: vec![0; n.faces],
+            marks: vec![0; n.marks],
+        };
+        let tables = Tables {
+            vertices: &mut net.vertices,
+            faces: &mut net.faces,
+            marks: &mut net.marks,
+            work: &mut vec![0; n.work],
+        };
+        let counts = refine(rounds, self, tables)?;
+        cut(&mut net.vertices, 3 * counts.vertices);
+        cut(&mut net.faces, 4 * counts.faces);
+        cut(&mut net.marks, counts.vertices);
+        Ok(net)
+    }
+}
+
+fn cut<T>(table: &mut Vec<T>, length: usize) {
+    table.truncate(length);
+    table.shrink_to_fit();
+}

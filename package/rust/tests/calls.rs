@@ -1,0 +1,277 @@
+//! Calls through the safe functions: answers, refusals, and what they leave in the tables.
+
+use gedrovit::{check, lengths, refine, Counts, Lengths, Net, NetView, Reason, Refusal, Tables};
+
+/// What the tables hold before a call.
+const FILL: u8 = 0xA5;
+
+/// Output tables and workspace with content of their own.
+#[derive(Clone, Debug, PartialEq)]
+struct Owned {
+    vertices: Vec<i32>,
+    faces: Vec<u32>,
+    marks: Vec<u8>,
+    work: Vec<u32>,
+}
+
+impl Owned {
+    fn new(n: Lengths) -> Self {
+        Self {
+            vertices: vec![FILL.into(); n.vertices],
+            faces: vec![FILL.into(); n.faces],
+            marks: vec![FILL; n.marks],
+            work: vec![FILL.into(); n.work],
+        }
+    }
+
+    fn lend(&mut self) -> Tables<'_> {
+        Tables {
+            vertices: &mut self.vertices,
+            faces: &mut self.faces,
+            marks: &mut self.marks,
+            work: &mut self.work,
+        }
+    }
+}
+
+/// The square of side 16 with four marked corners.
+fn square() -> Net {
+    Net {
+        vertices: vec![0, 0, 0, 16, 0, 0, 16, 16, 0, 0, 16, 0],
+        faces: vec![0, 1, 2, 3],
+        marks: vec![1, 1, 1, 1],
+    }
+}
+
+/// The square after one step.
+fn refined_square() -> Net {
+    Net {
+        vertices: [
+            [0, 0, 0],
+            [16, 0, 0],
+            [16, 16, 0],
+            [0, 16, 0],
+            [8, 0, 0],
+            [16, 8, 0],
+            [8, 16, 0],
+            [0, 8, 0],
+            [8, 8, 0],
+        ]
+        .concat(),
+        faces: [[0, 4, 8, 7], [1, 5, 8, 4], [2, 6, 8, 5], [3, 7, 8, 6]].concat(),
+        marks: vec![1, 1, 1, 1, 0, 0, 0, 0, 0],
+    }
+}
+
+fn refusal(reason: Reason, place: usize) -> Refusal {
+    Refusal { reason, place }
+}
+
+#[test]
+fn the_square_is_refined() {
+    assert_eq!(square().refined(1), Ok(refined_square()));
+}
+
+#[test]
+fn zero_rounds_copy() {
+    assert_eq!(refined_square().refined(0), Ok(refined_square()));
+}
+
+#[test]
+fn steps_can_be_done_one_by_one() {
+    let twice = square().refined(1).unwrap().refined(1).unwrap();
+    assert_eq!(square().refined(2), Ok(twice));
+}
+
+#[test]
+fn an_empty_net_needs_no_tables() {
+    let none = Lengths {
+        vertices: 0,
+        faces: 0,
+        marks: 0,
+        work: 0,
+    };
+    let empty = Net::default();
+    assert_eq!(lengths(6, empty.view()), Ok(none));
+    assert_eq!(
+        refine(6, empty.view(), Owned::new(none).lend()),
+        Ok(Counts {
+            vertices: 0,
+            faces: 0
+        })
+    );
+    assert_eq!(empty.refined(6), Ok(Net::default()));
+}
+
+#[test]
+fn elements_beyond_the_refined_net_stay() {
+    let mut n = lengths(1, square().view()).unwrap();
+    n.work += 5;
+    let mut tables = Owned::new(n);
+    assert_eq!(
+        refine(1, square().view(), tables.lend()),
+        Ok(Counts {
+            vertices: 9,
+            faces: 4
+        })
+    );
+
+    let refined = refined_square();
+    let mut expected = Owned::new(n);
+    expected.vertices[..27].copy_from_slice(&refined.vertices);
+    expected.faces[..16].copy_from_slice(&refined.faces);
+    expected.marks[..9].copy_from_slice(&refined.marks);
+    expected.work[..64].fill(0);
+    assert_eq!(tables, expected);
+}
+
+#[test]
+fn short_tables_are_refused_and_left_alone() {
+    let enough = lengths(1, square().view()).unwrap();
+    let short = [
+        Lengths {
+            vertices: enough.vertices - 1,
+            ..enough
+        },
+        Lengths {
+            faces: enough.faces - 1,
+            ..enough
+        },
+        Lengths {
+            marks: enough.marks - 1,
+            ..enough
+        },
+        Lengths {
+            work: enough.work - 1,
+            ..enough
+        },
+    ];
+    for n in short {
+        let mut tables = Owned::new(n);
+        let expected = Err(refusal(Reason::TableTooShort, 0));
+        assert_eq!(
+            check(1, square().view(), n, &mut tables.work),
+            expected.map(|_: Counts| ())
+        );
+        assert_eq!(refine(1, square().view(), tables.lend()), expected);
+        assert_eq!(tables, Owned::new(n));
+    }
+}
+
+#[test]
+fn a_refused_net_clears_the_workspace_only() {
+    let mut net = square();
+    net.vertices[7] = 1_048_577;
+    let n = lengths(2, net.view()).unwrap();
+    let mut tables = Owned::new(n);
+    assert_eq!(
+        refine(2, net.view(), tables.lend()),
+        Err(refusal(Reason::CoordinateOutOfRange, 2))
+    );
+    assert_eq!(
+        tables,
+        Owned {
+            work: vec![0; n.work],
+            ..Owned::new(n)
+        }
+    );
+}
+
+#[test]
+fn each_table_of_the_net_is_checked() {
+    let (vertices, faces, marks) = (
+        &square().vertices[..],
+        &square().faces[..],
+        &square().marks[..],
+    );
+    let cases = [
+        (7, vertices, faces, marks, Reason::TooManyRounds, 0),
+        (1, &vertices[..11], faces, marks, Reason::InvalidLengths, 0),
+        (1, vertices, &faces[..3], marks, Reason::InvalidLengths, 0),
+        (1, vertices, faces, &marks[..3], Reason::InvalidLengths, 0),
+        (6, vertices, &[0; 4 * 65], marks, Reason::NetTooLarge, 0),
+        (1, vertices, faces, &[1, 1, 1, 2], Reason::InvalidMark, 3),
+        (
+            1,
+            vertices,
+            &[0, 1, 2, 3, 0, 1, 2, 4],
+            marks,
+            Reason::InvalidCorner,
+            1,
+        ),
+        (1, vertices, &[], marks, Reason::IsolatedVertex, 0),
+        (
+            1,
+            vertices,
+            &[0, 1, 2, 3, 0, 1, 2, 3],
+            marks,
+            Reason::RepeatedHalfEdge,
+            1,
+        ),
+        (
+            1,
+            vertices,
+            &[0, 1, 2, 3, 0, 3, 2, 1],
+            marks,
+            Reason::ValenceOutOfRange,
+            0,
+        ),
+    ];
+    for (rounds, vertices, faces, marks, reason, place) in cases {
+        let net = NetView {
+            vertices,
+            faces,
+            marks,
+        };
+        assert_eq!(net.refined(rounds), Err(refusal(reason, place)));
+    }
+}
+
+#[test]
+fn vertices_are_checked() {
+    let touching = NetView {
+        vertices: &[0; 21],
+        faces: &[0, 1, 2, 3, 3, 4, 5, 6],
+        marks: &[0; 7],
+    };
+    assert_eq!(
+        touching.refined(1),
+        Err(refusal(Reason::NonManifoldVertex, 3))
+    );
+    let mut marked = refined_square();
+    marked.marks[8] = 1;
+    assert_eq!(
+        marked.refined(1),
+        Err(refusal(Reason::MarkedInteriorVertex, 8))
+    );
+}
+
+#[test]
+fn lengths_follow_the_refined_faces() {
+    let expected = Lengths {
+        vertices: 12 * 4096,
+        faces: 4 * 4096,
+        marks: 4 * 4096,
+        work: 16 * 4096,
+    };
+    assert_eq!(lengths(6, square().view()), Ok(expected));
+}
+
+#[test]
+fn the_check_tells_what_refining_would() {
+    let net = square();
+    let n = lengths(3, net.view()).unwrap();
+    assert_eq!(check(3, net.view(), n, &mut vec![7; n.work]), Ok(()));
+}
+
+#[test]
+fn threads_share_a_net() {
+    let net = refined_square();
+    let expected = net.refined(5).unwrap();
+    std::thread::scope(|scope| {
+        let calls: Vec<_> = (0..4).map(|_| scope.spawn(|| net.refined(5))).collect();
+        for call in calls {
+            assert_eq!(call.join().unwrap().as_ref(), Ok(&expected));
+        }
+    });
+}
