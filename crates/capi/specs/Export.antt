@@ -1,14 +1,16 @@
 -- What crosses the C boundary: paper 01's number and place of each answer.
 use mathlib.Core.List.{List}
-use Prim.Native.Nat.{ℕ}
+use Prim.Native.Nat.{ℕ, _*_, _/_, _^_}
 use lib.IntN.{ℤ}
 use Rattle.validate.specs.declared.Answer.{Answer}
 use Rattle.validate.specs.declared.Answer.the-variants.{Accepted, Refused}
 use Rattle.validate.specs.Answer.{Checked}
-use Rattle.verdict.specs.Verdict.{Verdict, accepted, refused}
+use Rattle.verdict.specs.Call.{Room}
+use Rattle.verdict.specs.Verdict.{Verdict, accepted, refused, limitsVerdict}
 use Rattle.outcome.specs.Outcome.{Result, refinedTo, refusedWith, Outcome}
 use Rattle.capi.specs.declared.Finding.{Finding}
 use Rattle.capi.specs.declared.Report.{Report}
+use Rattle.capi.specs.declared.Sizes.{Sizes}
 
 -- reason 0: accepted
 abbrev pub finding : Verdict → Finding
@@ -44,3 +46,16 @@ delivered r vertices faces marks work = record { report = r; vertices = vertices
 
 abbrev pub exportedOutcome : Outcome → Delivered
 exportedOutcome o = delivered (report (o .result)) (o .vertices) (o .faces) (o .marks) (o .work)
+
+-- "outputs of at least 12G coordinates, 4G corners and 4G marks, and a work table of at least 16G 32-bit numbers"
+abbrev pub needed : ℕ → Room
+needed g = record { vertices = 12 * g; faces = 4 * g; marks = 4 * g; work = 16 * g }
+
+-- the lengths, or the refusal that holds whatever tables are given, with lengths 0
+abbrev pub sizesBy : Verdict → Room → Sizes
+sizesBy accepted n = record { reason = 0; «out_vertices» = n .vertices; «out_faces» = n .faces; «out_marks» = n .marks; work = n .work }
+sizesBy (refused r p) n = record { reason = r; «out_vertices» = 0; «out_faces» = 0; «out_marks» = 0; work = 0 }
+
+-- the verdict of the limits on a call with just these lengths
+unfoldable pub sizes : (rounds coordinates corners marks : ℕ) → Sizes
+sizes k nv nf nm = sizesBy (limitsVerdict k nv nf nm (needed (nf / 4 * 4 ^ k))) (needed (nf / 4 * 4 ^ k))

@@ -1,20 +1,23 @@
 // The functions for C.
 ghost use mathlib.Core.Path.{_≡_};
+ghost use Prim.Native.Nat.{_*_, _/_, _^_, _≤_};
 ghost use lib.ListN.{length};
 ghost use Rattle.tables.specs.Net.{Net};
 ghost use Rattle.verdict.specs.Call.{Call};
 ghost use Rattle.validate.specs.Answer.{verdictOf, checked};
 ghost use Rattle.outcome.specs.Outcome.{Lent, outcome};
 ghost use Rattle.refine.specs.Answer.{resultOf};
-ghost use Rattle.capi.specs.Export.{finding, handed, exported, report, delivered, exportedOutcome};
+ghost use Rattle.capi.specs.Export.{finding, handed, exported, report, delivered, exportedOutcome, sizes};
 use validate::Answer;
 
+// The verdict on a call: reason 0, or the refusal's number and place.
 #[repr(C)]
 pub struct Finding {
     pub reason: u32,
     pub place: u64,
 }
 
+// The result of a refining call: reason 0 and the counts of the refined net, or the refusal's number and place.
 #[repr(C)]
 pub struct Report {
     pub reason: u32,
@@ -113,4 +116,63 @@ pub extern "C" fn gedrovit_refine(
         &mut *work,
     );
     report_of(answer)
+}
+
+// The lengths that the output tables and the work table of a call must have at least, in elements.
+#[repr(C)]
+pub struct Sizes {
+    pub reason: u32,
+    pub out_vertices: u64,
+    pub out_faces: u64,
+    pub out_marks: u64,
+    pub work: u64,
+}
+
+// The number of refined faces, where rounds and faces are within their limits; else 0.
+fn refined_faces(rounds: u32, corners: usize) -> usize
+    ensures { λ r. ⌜ (r ≤ 16777216) × (rounds ≤ 6 → corners / 4 ≤ 4096 → r ≡ corners / 4 * 4 ^ rounds) ⌝ }
+{
+    if rounds > 6 {
+        return 0;
+    }
+    let faces = corners / 4;
+    if faces > 4096 {
+        return 0;
+    }
+    faces * limits::pow4(rounds)
+}
+
+// The lengths to provide for a call, from the lengths of the net's tables; or refusal 1, 2 or 3, which no tables avert, and lengths 0.
+#[no_mangle]
+pub extern "C" fn gedrovit_sizes_for(
+    rounds: u32,
+    vertices: usize,
+    faces: usize,
+    marks: usize,
+) -> Sizes
+    ensures { λ r. ⌜ r ≡ sizes rounds vertices faces marks ⌝ }
+{
+    let g = refined_faces(rounds, faces);
+    let points = 12 * g;
+    let corners = 4 * g;
+    let work = 16 * g;
+    let reason = limits::limits(
+        rounds, vertices, faces, marks, points, corners, corners, work,
+    );
+    if reason != 0 {
+        return Sizes {
+            reason,
+            out_vertices: 0,
+            out_faces: 0,
+            out_marks: 0,
+            work: 0,
+        };
+    }
+    Sizes {
+        reason: 0,
+        out_vertices: points as u64,
+        out_faces: corners as u64,
+        out_marks: corners as u64,
+        work: work as u64,
+    }
 }
