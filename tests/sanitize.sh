@@ -15,7 +15,7 @@ trap 'rm -rf "$folder"' EXIT
 differential() { cargo run --release --offline --quiet --manifest-path tests/differential/Cargo.toml -- "$@"; }
 harness() { cc -std=c11 -g -O1 -Wall -Wextra -Werror -pedantic "$@" tests/sanitize/calls.c "$archive"; }
 
-differential --nets "${1:-1000}" --dump "$folder/calls"
+differential --nets "${1:-4000}" --dump "$folder/calls"
 harness -fsanitize=address,undefined -fno-sanitize-recover=all -o "$folder/sanitized"
 echo "with -fsanitize=address,undefined:"
 "$folder/sanitized" "$folder/calls"

@@ -4,7 +4,7 @@ use nets::accepted::{Shape, Size, accepted};
 use nets::build::to_u32;
 use nets::case::{Case, Expected};
 use nets::change::{PLACINGS, mark, place, renumber};
-use nets::damaged::{damaged_tables, random_tables};
+use nets::damaged::{damaged_call, damaged_tables, random_tables};
 use nets::refused::refused_call;
 use nets::rng::Rng;
 use nets::shapes;
@@ -19,6 +19,9 @@ const NETS_PER_LARGEST: u64 = 10_000;
 /// The rounds of the largest nets, in turn.
 const LARGEST_ROUNDS: [u32; 4] = [6, 3, 4, 5];
 
+/// Shapes that are drawn fast with up to 4,096 faces.
+const LARGE: [Shape; 4] = [Shape::Grid, Shape::Holes, Shape::Annulus, Shape::Torus];
+
 /// A kind of call.
 #[derive(Clone, Copy, Debug)]
 pub enum Kind {
@@ -26,6 +29,8 @@ pub enum Kind {
     Largest(u32),
     /// Accepted, up to 3 rounds.
     Accepted(Shape, Size),
+    /// Accepted, up to 4,096 faces.
+    Large,
     /// Accepted, 4 to 6 rounds.
     Deep,
     /// Accepted but for one table, which is one entry short.
@@ -35,7 +40,9 @@ pub enum Kind {
     /// With two or three reasons for a refusal.
     RefusedTwice,
     /// A sound net changed at random.
-    Damaged(Size),
+    Damaged,
+    /// The same with up to 4,096 faces.
+    DamagedLarge,
     /// A sound net with tables of other lengths.
     Lengths,
     /// Small random tables, up to 9 rounds.
@@ -65,12 +72,10 @@ impl Kind {
         for size in [Size::Small, Size::Medium] {
             kinds.extend(Shape::ALL.map(|shape| Kind::Accepted(shape, size)));
         }
-        kinds.extend([Shape::Holes, Shape::Torus].map(|shape| Kind::Accepted(shape, Size::Large)));
         kinds.extend(Table::RESULTS.map(Kind::Short));
         kinds.extend((1..=12).map(Kind::Refused));
-        kinds.extend([Kind::Damaged(Size::Large), Kind::Brink]);
-        let damaged = Kind::Damaged(Size::Medium);
-        kinds.extend([Kind::RefusedTwice, damaged, Kind::Random].repeat(6));
+        kinds.extend([Kind::Large, Kind::Large, Kind::DamagedLarge, Kind::Brink]);
+        kinds.extend([Kind::RefusedTwice, Kind::Damaged, Kind::Random].repeat(6));
         kinds.extend([Kind::Lengths, Kind::Noise].repeat(11));
         kinds
     }
@@ -78,11 +83,8 @@ impl Kind {
     pub fn draw(self, rng: &mut Rng) -> Case {
         let mut case = match self {
             Kind::Largest(rounds) => Case::new(&largest(rounds, rng), rounds, Expected::Accepted),
-            Kind::Accepted(shape, size) => {
-                let net = accepted(shape, size, rng);
-                let rounds = rng.below(most_rounds(&net, 3, most_faces(size)) as usize + 1);
-                Case::new(&net, to_u32(rounds), Expected::Accepted)
-            }
+            Kind::Accepted(shape, size) => refined(&accepted(shape, size, rng), 1_024, rng),
+            Kind::Large => refined(&accepted(rng.pick(&LARGE), Size::Large, rng), 4_096, rng),
             Kind::Deep => deep(rng),
             Kind::Short(table) => return short(table, rng),
             Kind::Refused(reason) => refused_call(&[reason], rng),
@@ -92,22 +94,29 @@ impl Kind {
                     .collect();
                 refused_call(&reasons, rng)
             }
-            Kind::Damaged(size) => damaged_tables(size, rng),
+            Kind::Damaged => damaged_tables(Size::Medium, rng),
+            Kind::DamagedLarge => damaged_large(rng),
             Kind::Lengths => return other_lengths(sound_call(rng), rng),
             Kind::Random => random(rng),
             Kind::Noise => return noise(rng),
             Kind::Brink => return brink(rng),
         };
-        if case.expected != Expected::Refused(Refusal::new(4, 0)) {
-            lengthen(&mut case, rng);
+        match case.expected {
+            Expected::Refused(Refusal { reason: 4, .. }) => {}
+            // no results are needed then, whatever their tables are
+            Expected::Refused(Refusal { reason: 1..=3, .. }) => {
+                case.capacity = Capacity::for_refined_faces(rng.below(64));
+            }
+            _ => lengthen(&mut case, rng),
         }
         case
     }
 }
 
-/// The most refined faces of an accepted net of this size.
-fn most_faces(size: Size) -> usize {
-    if size == Size::Large { 4_096 } else { 1_024 }
+/// An accepted call, up to 3 rounds and this many refined faces.
+fn refined(net: &Net, faces: usize, rng: &mut Rng) -> Case {
+    let rounds = rng.below(most_rounds(net, 3, faces) as usize + 1);
+    Case::new(net, to_u32(rounds), Expected::Accepted)
 }
 
 /// The most rounds, up to `most`, after which there are at most `faces` faces.
@@ -167,6 +176,15 @@ fn short(table: Table, rng: &mut Rng) -> Case {
     lengthen(&mut case, rng);
     table.resize(&mut case, least - 1);
     case.expected = Expected::Refused(Refusal::new(4, 0));
+    case
+}
+
+/// A large sound net changed at random and not refined.
+fn damaged_large(rng: &mut Rng) -> Case {
+    let net = accepted(rng.pick(&LARGE), Size::Large, rng);
+    let mut case = damaged_call(&net, rng);
+    case.rounds = 0;
+    case.capacity = Capacity::for_refined_faces(case.faces.len().div_ceil(4));
     case
 }
 

@@ -105,7 +105,7 @@ impl Display for Seams {
 /// that 5 or 6 rounds are made.
 fn drawn_pair(rng: &mut Rng) -> (SharedPair, usize) {
     if !rng.one_in(20) {
-        return (shared_pair(rng), rng.pick(&[64, 256, 256, 1_024]));
+        return (shared_pair(rng), rng.pick(&[64, 256, 256, 256, 1_024]));
     }
     let few = rng.pick(&[1, 4]);
     loop {
