@@ -103,7 +103,7 @@ impl Kind {
         };
         match case.expected {
             Expected::Refused(Refusal { reason: 4, .. }) => {}
-            // no results are needed then, whatever their tables are
+            // given before the tables for the results are measured
             Expected::Refused(Refusal { reason: 1..=3, .. }) => {
                 case.capacity = Capacity::for_refined_faces(rng.below(64));
             }

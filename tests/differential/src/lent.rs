@@ -84,7 +84,7 @@ impl<T: Entry> Lent<T> {
             entry: PhantomData,
         };
         lent.allow(READ_AND_WRITE);
-        // SAFETY: the pages are open, and so long.
+        // SAFETY: the pages are open and hold the table.
         unsafe {
             ptr::write_bytes(lent.first_page(), CANARY, pages);
             ptr::copy_nonoverlapping(table.as_ptr(), lent.pointer(), table.len());
