@@ -3,11 +3,12 @@
 #![allow(unsafe_code)]
 
 use reference::call::Tables;
+use reference::net::Net;
 use reference::refusal::Capacity;
 
 use nets::case::Case;
 
-use crate::lent::Lent;
+use crate::lent::{Lent, Side};
 
 /// What the check reports; reason 0 stands for no refusal.
 #[repr(C)]
@@ -62,21 +63,39 @@ unsafe extern "C" {
     ) -> Report;
 }
 
+/// For each table of a call the zone that it touches, one bit each.
+#[derive(Clone, Copy, Debug)]
+pub struct Sides(pub u64);
+
+impl Sides {
+    pub fn opposite(self) -> Self {
+        Self(!self.0)
+    }
+
+    fn of(self, table: u32) -> Side {
+        if self.0 >> table & 1 == 0 {
+            Side::Before
+        } else {
+            Side::After
+        }
+    }
+}
+
 /// The tables that a call reads.
 pub struct Inputs {
-    rounds: u32,
-    vertices: Lent<i32>,
-    faces: Lent<u32>,
-    marks: Lent<u8>,
+    pub rounds: u32,
+    pub vertices: Lent<i32>,
+    pub faces: Lent<u32>,
+    pub marks: Lent<u8>,
 }
 
 impl Inputs {
-    pub fn new(case: &Case) -> Self {
+    pub fn new(case: &Case, sides: Sides) -> Self {
         Self {
             rounds: case.rounds,
-            vertices: Lent::new(&case.vertices),
-            faces: Lent::new(&case.faces),
-            marks: Lent::new(&case.marks),
+            vertices: Lent::read_only(&case.vertices, sides.of(0)),
+            faces: Lent::read_only(&case.faces, sides.of(1)),
+            marks: Lent::read_only(&case.marks, sides.of(2)),
         }
     }
 
@@ -95,20 +114,25 @@ impl Inputs {
 
 /// The tables that a call writes.
 pub struct Outputs {
-    vertices: Lent<i32>,
-    faces: Lent<u32>,
-    marks: Lent<u8>,
-    work: Lent<u32>,
+    pub vertices: Lent<i32>,
+    pub faces: Lent<u32>,
+    pub marks: Lent<u8>,
+    pub work: Lent<u32>,
 }
 
 impl Outputs {
-    pub fn new(found: &Tables) -> Self {
+    pub fn new(found: &Tables, sides: Sides) -> Self {
         Self {
-            vertices: Lent::new(&found.vertices),
-            faces: Lent::new(&found.faces),
-            marks: Lent::new(&found.marks),
-            work: Lent::new(&found.workspace),
+            vertices: Lent::new(&found.vertices, sides.of(3)),
+            faces: Lent::new(&found.faces, sides.of(4)),
+            marks: Lent::new(&found.marks, sides.of(5)),
+            work: Self::work(found, sides),
         }
+    }
+
+    /// The work table alone, for the check.
+    pub fn work(found: &Tables, sides: Sides) -> Lent<u32> {
+        Lent::new(&found.workspace, sides.of(6))
     }
 
     /// What is not as expected.
@@ -124,9 +148,11 @@ impl Outputs {
         .collect()
     }
 
-    /// The front of each output, for this many vertices and faces.
-    pub fn front(&self, vertices: usize, faces: usize) -> (&[i32], &[u32], &[u8]) {
-        (
+    /// The refined net that a call reports.
+    pub fn net(&self, report: &Report) -> Net {
+        let count = |number: u64| usize::try_from(number).expect("a count of entries in memory");
+        let (vertices, faces) = (count(report.vertices), count(report.faces));
+        Net::from_tables(
             &self.vertices.table()[..3 * vertices],
             &self.faces.table()[..4 * faces],
             &self.marks.table()[..vertices],
@@ -135,7 +161,7 @@ impl Outputs {
 }
 
 /// The check, with output tables of these lengths.
-pub fn check(inputs: &mut Inputs, room: &Capacity, work: &mut Lent<u32>) -> Finding {
+pub fn check(inputs: &Inputs, room: &Capacity, work: &mut Lent<u32>) -> Finding {
     // SAFETY: every pointer is lent with its length and lives through the call.
     unsafe {
         gedrovit_check(
@@ -156,7 +182,7 @@ pub fn check(inputs: &mut Inputs, room: &Capacity, work: &mut Lent<u32>) -> Find
 }
 
 /// The refining call.
-pub fn refine(inputs: &mut Inputs, outputs: &mut Outputs) -> Report {
+pub fn refine(inputs: &Inputs, outputs: &mut Outputs) -> Report {
     // SAFETY: every pointer is lent with its length and lives through the call.
     unsafe {
         gedrovit_refine(

@@ -2,48 +2,78 @@
 
 use nets::case::Case;
 use nets::rng::Rng;
-use reference::call::{Outcome, refine_into};
+use reference::call::{Outcome, Tables, refine_into};
 use reference::net::Net;
 
-use crate::capi::{Finding, Inputs, Outputs, Report, check, refine};
-use crate::lent::Lent;
+use crate::capi::{Finding, Inputs, Outputs, Report, Sides, check, refine};
 
-/// Compares the answers to a call and the final state of every table with the
-/// reference's. The result is the net that the call through C gave, if any.
-pub fn compare(case: &Case, rng: &mut Rng) -> Result<Option<Net>, String> {
-    let found = case.tables(rng);
-    let mut expected = found.clone();
-    let outcome = refine_into(
-        case.rounds,
-        &case.vertices,
-        &case.faces,
-        &case.marks,
-        &mut expected,
-    );
-    if !case.expected.agrees_with(&outcome) {
-        return Err("the reference's answer is not the one drawn".to_owned());
-    }
-    let report = expected_report(&outcome);
-    let mut inputs = Inputs::new(case);
-
-    let mut work = Lent::new(&found.workspace);
-    let finding = check(&mut inputs, &case.capacity, &mut work);
-    let expected_finding = Finding {
-        reason: report.reason,
-        place: report.place,
-    };
-    agree("check", &finding, &expected_finding)?;
-    as_expected("check", inputs.differences(case))?;
-    as_expected("check", work.difference("work", &expected.workspace))?;
-
-    let mut outputs = Outputs::new(&found);
-    agree("refine", &refine(&mut inputs, &mut outputs), &report)?;
-    as_expected("refine", inputs.differences(case))?;
-    as_expected("refine", outputs.differences(&expected))?;
-    Ok((report.reason == 0).then(|| net_of(&outputs, &report)))
+/// A call with what the reference says of it.
+pub struct Known {
+    pub case: Case,
+    /// The tables for the results as they are found.
+    pub found: Tables,
+    /// The same after the call.
+    pub left: Tables,
+    pub report: Report,
 }
 
-fn expected_report(outcome: &Outcome) -> Report {
+impl Known {
+    /// The call with random contents in the tables for its results.
+    pub fn new(case: Case, rng: &mut Rng) -> Result<Self, String> {
+        let found = case.tables(rng);
+        let mut left = found.clone();
+        let outcome = refine_into(
+            case.rounds,
+            &case.vertices,
+            &case.faces,
+            &case.marks,
+            &mut left,
+        );
+        if !case.expected.agrees_with(&outcome) {
+            return Err("the reference's answer is not the one drawn".to_owned());
+        }
+        Ok(Self {
+            report: report(&outcome),
+            case,
+            found,
+            left,
+        })
+    }
+
+    /// Both functions for C give the same answer and leave the same tables,
+    /// wherever the tables lie: each touches either zone in turn. The result
+    /// is the net that the refining call gave, if any.
+    pub fn compare(&self, rng: &mut Rng) -> Result<Option<Net>, String> {
+        let drawn = Sides(rng.next_u64());
+        self.compare_at(drawn)?;
+        self.compare_at(drawn.opposite())
+    }
+
+    fn compare_at(&self, sides: Sides) -> Result<Option<Net>, String> {
+        let inputs = Inputs::new(&self.case, sides);
+        self.compare_check(&inputs, sides)?;
+        self.compare_refine(&inputs, sides)
+    }
+
+    fn compare_check(&self, inputs: &Inputs, sides: Sides) -> Result<(), String> {
+        let mut work = Outputs::work(&self.found, sides);
+        let finding = check(inputs, &self.case.capacity, &mut work);
+        let Report { reason, place, .. } = self.report;
+        agree("check", &finding, &Finding { reason, place })?;
+        as_expected("check", inputs.differences(&self.case))?;
+        as_expected("check", work.difference("work", &self.left.workspace))
+    }
+
+    fn compare_refine(&self, inputs: &Inputs, sides: Sides) -> Result<Option<Net>, String> {
+        let mut outputs = Outputs::new(&self.found, sides);
+        agree("refine", &refine(inputs, &mut outputs), &self.report)?;
+        as_expected("refine", inputs.differences(&self.case))?;
+        as_expected("refine", outputs.differences(&self.left))?;
+        Ok((self.report.reason == 0).then(|| outputs.net(&self.report)))
+    }
+}
+
+fn report(outcome: &Outcome) -> Report {
     match outcome {
         Outcome::Refined { faces, marks, .. } => Report {
             reason: 0,
@@ -60,7 +90,7 @@ fn expected_report(outcome: &Outcome) -> Report {
     }
 }
 
-fn agree<T: std::fmt::Debug + PartialEq>(
+pub fn agree<T: std::fmt::Debug + PartialEq>(
     call: &str,
     given: &T,
     expected: &T,
@@ -68,24 +98,19 @@ fn agree<T: std::fmt::Debug + PartialEq>(
     if given == expected {
         Ok(())
     } else {
-        Err(format!(
-            "{call} gives {given:?}, the reference {expected:?}"
-        ))
+        Err(format!("{call} gives {given:?}, not {expected:?}"))
     }
 }
 
-/// Every table and the zones round it are as they must be after a call.
-fn as_expected(call: &str, differences: impl IntoIterator<Item = String>) -> Result<(), String> {
+/// Every table and the rest of its pages are as they must be after a call.
+pub fn as_expected(
+    call: &str,
+    differences: impl IntoIterator<Item = String>,
+) -> Result<(), String> {
     let differences: Vec<String> = differences.into_iter().collect();
     if differences.is_empty() {
         Ok(())
     } else {
         Err(format!("after {call} {}", differences.join("; ")))
     }
-}
-
-fn net_of(outputs: &Outputs, report: &Report) -> Net {
-    let count = |number: u64| usize::try_from(number).expect("a count of entries in memory");
-    let (vertices, faces, marks) = outputs.front(count(report.vertices), count(report.faces));
-    Net::from_tables(vertices, faces, marks)
 }

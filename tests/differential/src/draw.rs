@@ -1,22 +1,37 @@
 //! The calls to compare, by kind.
 
 use nets::accepted::{Shape, Size, accepted};
+use nets::build::to_u32;
 use nets::case::{Case, Expected};
-use nets::damaged::{damaged_tables, random_tables};
+use nets::change::{PLACINGS, mark, place, renumber};
+use nets::damaged::{damaged_call, damaged_tables, random_tables};
 use nets::refused::refused_call;
 use nets::rng::Rng;
+use nets::shapes;
 use reference::net::Net;
 use reference::refusal::{Capacity, MAX_ROUNDS, Refusal};
 
-/// Refined nets have at most this many faces.
-pub const MOST_FACES: usize = 4_096;
+use crate::lengths::{Table, brink, noise, other_lengths};
+
+/// One net as large as a call allows for so many nets.
+const NETS_PER_LARGEST: u64 = 10_000;
+
+/// The rounds of the largest nets, in turn.
+const LARGEST_ROUNDS: [u32; 4] = [6, 3, 4, 5];
+
+/// Shapes that are drawn fast with up to 4,096 faces.
+const LARGE: [Shape; 4] = [Shape::Grid, Shape::Holes, Shape::Annulus, Shape::Torus];
 
 /// A kind of call.
 #[derive(Clone, Copy, Debug)]
 pub enum Kind {
+    /// Accepted, with 262,144 refined faces after this many rounds.
+    Largest(u32),
     /// Accepted, up to 3 rounds.
     Accepted(Shape, Size),
-    /// One face and 6 rounds.
+    /// Accepted, up to 4,096 faces.
+    Large,
+    /// Accepted, 4 to 6 rounds.
     Deep,
     /// Accepted but for one table, which is one entry short.
     Short(Table),
@@ -26,58 +41,51 @@ pub enum Kind {
     RefusedTwice,
     /// A sound net changed at random.
     Damaged,
-    /// Random tables, up to 9 rounds.
+    /// The same with up to 4,096 faces.
+    DamagedLarge,
+    /// A sound net with tables of other lengths.
+    Lengths,
+    /// Small random tables, up to 9 rounds.
     Random,
-}
-
-/// A table that a call writes.
-#[derive(Clone, Copy, Debug)]
-pub enum Table {
-    Vertices,
-    Faces,
-    Marks,
-    Work,
-}
-
-impl Table {
-    const ALL: [Self; 4] = [Self::Vertices, Self::Faces, Self::Marks, Self::Work];
-
-    fn length(self, capacity: &mut Capacity) -> &mut usize {
-        match self {
-            Self::Vertices => &mut capacity.vertices,
-            Self::Faces => &mut capacity.faces,
-            Self::Marks => &mut capacity.marks,
-            Self::Work => &mut capacity.workspace,
-        }
-    }
+    /// Any lengths, any numbers.
+    Noise,
+    /// Counts at the limits or just beyond, any numbers.
+    Brink,
 }
 
 impl Kind {
-    /// All kinds in the order of a series of calls.
-    pub fn rotation() -> Vec<Kind> {
+    /// The kind of a net in a series.
+    pub fn of(number: u64) -> Kind {
+        let at = |count: u64, length: usize| {
+            usize::try_from(count % length as u64).expect("below a length")
+        };
+        if number.is_multiple_of(NETS_PER_LARGEST) {
+            let turn = at(number / NETS_PER_LARGEST, LARGEST_ROUNDS.len());
+            return Kind::Largest(LARGEST_ROUNDS[turn]);
+        }
+        let kinds = Kind::rotation();
+        kinds[at(number, kinds.len())]
+    }
+
+    fn rotation() -> Vec<Kind> {
         let mut kinds = vec![Kind::Deep];
         for size in [Size::Small, Size::Medium] {
             kinds.extend(Shape::ALL.map(|shape| Kind::Accepted(shape, size)));
         }
-        let large = [Shape::Grid, Shape::Holes, Shape::Torus, Shape::Components];
-        kinds.extend(large.map(|shape| Kind::Accepted(shape, Size::Large)));
-        kinds.extend(Table::ALL.map(Kind::Short));
+        kinds.extend(Table::RESULTS.map(Kind::Short));
         kinds.extend((1..=12).map(Kind::Refused));
+        kinds.extend([Kind::Large, Kind::Large, Kind::DamagedLarge, Kind::Brink]);
         kinds.extend([Kind::RefusedTwice, Kind::Damaged, Kind::Random].repeat(6));
+        kinds.extend([Kind::Lengths, Kind::Noise].repeat(11));
         kinds
     }
 
     pub fn draw(self, rng: &mut Rng) -> Case {
         let mut case = match self {
-            Kind::Accepted(shape, size) => {
-                let net = accepted(shape, size, rng);
-                let rounds = some_rounds(&net, 3, rng);
-                Case::new(&net, rounds, Expected::Accepted)
-            }
-            Kind::Deep => {
-                let net = accepted(Shape::Single, Size::Small, rng);
-                Case::new(&net, 6, Expected::Accepted)
-            }
+            Kind::Largest(rounds) => Case::new(&largest(rounds, rng), rounds, Expected::Accepted),
+            Kind::Accepted(shape, size) => refined(&accepted(shape, size, rng), 1_024, rng),
+            Kind::Large => refined(&accepted(rng.pick(&LARGE), Size::Large, rng), 4_096, rng),
+            Kind::Deep => deep(rng),
             Kind::Short(table) => return short(table, rng),
             Kind::Refused(reason) => refused_call(&[reason], rng),
             Kind::RefusedTwice => {
@@ -87,34 +95,96 @@ impl Kind {
                 refused_call(&reasons, rng)
             }
             Kind::Damaged => damaged_tables(Size::Medium, rng),
+            Kind::DamagedLarge => damaged_large(rng),
+            Kind::Lengths => return other_lengths(sound_call(rng), rng),
             Kind::Random => random(rng),
+            Kind::Noise => return noise(rng),
+            Kind::Brink => return brink(rng),
         };
-        if case.expected != Expected::Refused(Refusal::new(4, 0)) {
-            lengthen(&mut case.capacity, rng);
+        match case.expected {
+            Expected::Refused(Refusal { reason: 4, .. }) => {}
+            // given before the tables for the results are measured
+            Expected::Refused(Refusal { reason: 1..=3, .. }) => {
+                case.capacity = Capacity::for_refined_faces(rng.below(64));
+            }
+            _ => lengthen(&mut case, rng),
         }
         case
     }
 }
 
-/// From 0 to `most` rounds, fewer if there were too many faces.
-pub fn some_rounds(net: &Net, most: u32, rng: &mut Rng) -> u32 {
-    let fitting: Vec<u32> = (0..=most)
-        .filter(|rounds| net.faces.len() << (2 * rounds) <= MOST_FACES)
-        .collect();
-    rng.pick(&fitting)
+/// An accepted call, up to 3 rounds and this many refined faces.
+fn refined(net: &Net, faces: usize, rng: &mut Rng) -> Case {
+    let rounds = rng.below(most_rounds(net, 3, faces) as usize + 1);
+    Case::new(net, to_u32(rounds), Expected::Accepted)
 }
 
-/// An accepted net of one face or more, and one table too short for it.
+/// The most rounds, up to `most`, after which there are at most `faces` faces.
+pub fn most_rounds(net: &Net, most: u32, faces: usize) -> u32 {
+    let fits = |rounds: &u32| net.faces.len() << (2 * rounds) <= faces;
+    (0..=most).rev().find(fits).unwrap_or(0)
+}
+
+/// As many faces as this many rounds allow; with 3 rounds also as many
+/// vertices as a call may have.
+fn largest(rounds: u32, rng: &mut Rng) -> Net {
+    let side = 512 >> rounds;
+    let faces = side * side;
+    let mut net = match rng.below(4) {
+        _ if rounds == 3 => shapes::annulus(faces, 1),
+        0 => shapes::grid(side, side),
+        1 => shapes::skew_torus(faces, rng.between(2, (faces - 1) / 2)),
+        2 => shapes::sectors(4, side / 2, false),
+        _ => shapes::annulus(side, side),
+    };
+    place(&mut net, rng.pick(&PLACINGS), rng);
+    mark(&mut net, rng);
+    renumber(&net, rng).0
+}
+
+/// A net with few faces and many rounds.
+fn deep(rng: &mut Rng) -> Case {
+    let rounds = rng.pick(&[4, 4, 4, 5, 5, 6]);
+    loop {
+        let net = sound_net(rng);
+        if most_rounds(&net, MAX_ROUNDS, 4_096) >= rounds {
+            return Case::new(&net, rounds, Expected::Accepted);
+        }
+    }
+}
+
+/// A small accepted net of one face or more.
+fn sound_net(rng: &mut Rng) -> Net {
+    loop {
+        let net = accepted(rng.pick(&Shape::ALL), Size::Small, rng);
+        if !net.faces.is_empty() {
+            return net;
+        }
+    }
+}
+
+/// A call with such a net, up to 2 rounds.
+fn sound_call(rng: &mut Rng) -> Case {
+    let net = sound_net(rng);
+    Case::new(&net, rng.between(0, 2).unsigned_abs(), Expected::Accepted)
+}
+
+/// An accepted net and one table too short for it.
 fn short(table: Table, rng: &mut Rng) -> Case {
-    let mut shapes = Shape::ALL.to_vec();
-    shapes.retain(|&shape| shape != Shape::Empty);
-    let net = accepted(rng.pick(&shapes), Size::Small, rng);
-    let rounds = some_rounds(&net, 3, rng);
-    let expected = Expected::Refused(Refusal::new(4, 0));
-    let mut case = Case::new(&net, rounds, expected);
-    lengthen(&mut case.capacity, rng);
-    let least = &mut Case::new(&net, rounds, expected).capacity;
-    *table.length(&mut case.capacity) = *table.length(least) - 1;
+    let mut case = sound_call(rng);
+    let least = table.length(&case);
+    lengthen(&mut case, rng);
+    table.resize(&mut case, least - 1);
+    case.expected = Expected::Refused(Refusal::new(4, 0));
+    case
+}
+
+/// A large sound net changed at random and not refined.
+fn damaged_large(rng: &mut Rng) -> Case {
+    let net = accepted(rng.pick(&LARGE), Size::Large, rng);
+    let mut case = damaged_call(&net, rng);
+    case.rounds = 0;
+    case.capacity = Capacity::for_refined_faces(case.faces.len().div_ceil(4));
     case
 }
 
@@ -129,9 +199,10 @@ fn random(rng: &mut Rng) -> Case {
     case
 }
 
-/// Makes some of the tables longer.
-fn lengthen(capacity: &mut Capacity, rng: &mut Rng) {
-    for table in Table::ALL {
-        *table.length(capacity) += rng.pick(&[0, 0, 1, 7, 100]);
+/// Makes some of the tables for the results longer.
+fn lengthen(case: &mut Case, rng: &mut Rng) {
+    for table in Table::RESULTS {
+        let length = table.length(case) + rng.pick(&[0, 0, 1, 7, 100, 2_000]);
+        table.resize(case, length);
     }
 }

@@ -1,85 +1,77 @@
 //! Compares the refiner with the second implementation through its C
-//! interface: `differential [COUNT] [SEED]`.
+//! interface, with every table of a call between zones without access.
 
 mod capi;
 mod compare;
 mod draw;
+mod dump;
+mod guards;
+mod huge;
+mod lengths;
 mod lent;
+mod options;
+mod run;
 mod seams;
+mod tally;
 
+use std::path::Path;
 use std::process::ExitCode;
 
-use nets::case::Case;
-use nets::rng::Rng;
-
+use compare::Known;
 use draw::Kind;
+use dump::Dump;
+use options::{Mode, Options, USAGE};
+use run::{Run, rng};
 
-const COUNT: u64 = 2_000;
-const SEED: u64 = 20_261_115;
-
-/// One pair of nets with a seam for so many nets.
-const NETS_PER_PAIR: u64 = 10;
-
-/// Calls with at most so many vertex coordinates are printed whole.
-const PRINTED: usize = 120;
+/// Calls with longer work tables are not dumped.
+const DUMPED_WORK: usize = 20_000;
 
 fn main() -> ExitCode {
-    let Some([count, seed]) = arguments() else {
-        eprintln!("usage: differential [COUNT] [SEED]");
+    let arguments: Vec<String> = std::env::args().skip(1).collect();
+    let Some(options) = Options::parse(&arguments) else {
+        eprintln!("{USAGE}");
         return ExitCode::from(2);
     };
-    match compare_nets(count, seed).and_then(|()| compare_pairs(count, seed)) {
-        Ok(seams) => {
-            println!("{count} nets and {seams} seams agree");
+    match answer(&options, &arguments) {
+        Ok(text) => {
+            println!("{text}");
             ExitCode::SUCCESS
         }
-        Err(difference) => {
-            println!("{difference}");
+        Err(text) => {
+            println!("{text}");
             ExitCode::FAILURE
         }
     }
 }
 
-fn arguments() -> Option<[u64; 2]> {
-    let mut arguments = std::env::args().skip(1);
-    let mut number = |default| match arguments.next() {
-        Some(text) => text.parse().ok(),
-        None => Some(default),
-    };
-    let numbers = [number(COUNT)?, number(SEED)?];
-    arguments.next().is_none().then_some(numbers)
+fn answer(options: &Options, arguments: &[String]) -> Result<String, String> {
+    match &options.mode {
+        Mode::Stray(trial) => guards::stray(*trial),
+        Mode::ProveGuards => guards::prove(),
+        Mode::Dump(path) => dump(options, path),
+        Mode::Compare if !options.here => {
+            println!("{}", guards::prove()?);
+            guards::supervise(arguments)
+        }
+        Mode::Compare => Run::new(options.seed).all(options.nets),
+        Mode::One(what, number) if options.here => Run::new(options.seed).one(*what, *number),
+        Mode::One(..) => guards::supervise(arguments),
+    }
 }
 
-fn compare_nets(count: u64, seed: u64) -> Result<(), String> {
-    for (number, kind) in (0..count).zip(Kind::rotation().into_iter().cycle()) {
-        let rng = &mut Rng::new(seed.wrapping_add(number));
-        let case = kind.draw(rng);
-        compare::compare(&case, rng).map_err(|fault| {
-            format!(
-                "seed {seed}, net {number}, {kind:?}: {fault}{}",
-                shown(&case)
-            )
-        })?;
+/// Writes the calls of a series without comparing them.
+fn dump(options: &Options, path: &Path) -> Result<String, String> {
+    let mut dump = Dump::new(path).map_err(|error| error.to_string())?;
+    let mut dumped = 0;
+    for number in 0..options.nets {
+        let rng = &mut rng(options.seed, number);
+        let case = Kind::of(number).draw(rng);
+        if case.capacity.workspace <= DUMPED_WORK {
+            let known = Known::new(case, rng)?;
+            dump.add(&known).map_err(|error| error.to_string())?;
+            dumped += 1;
+        }
     }
-    Ok(())
-}
-
-/// A small call as it is, of a large one the rounds and lengths.
-fn shown(case: &Case) -> String {
-    if case.vertices.len() <= PRINTED {
-        return format!("\n{case:?}");
-    }
-    let (vertices, faces, marks) = (case.vertices.len(), case.faces.len(), case.marks.len());
-    let rounds = case.rounds;
-    format!("\n{rounds} rounds, tables of {vertices}, {faces} and {marks} entries")
-}
-
-fn compare_pairs(count: u64, seed: u64) -> Result<usize, String> {
-    let mut seams = 0;
-    for number in 0..count / NETS_PER_PAIR {
-        let rng = &mut Rng::new(seed.wrapping_add(number));
-        seams += seams::compare_pair(rng)
-            .map_err(|fault| format!("seed {seed}, pair {number}: {fault}"))?;
-    }
-    Ok(seams)
+    dump.finish().map_err(|error| error.to_string())?;
+    Ok(format!("{dumped} calls written"))
 }

@@ -1,58 +1,160 @@
 //! Boundary segments that two nets share, refined through the C interface.
 
+use std::fmt::{self, Display, Formatter};
+
 use nets::case::{Case, Expected};
-use nets::pairs::shared_pair;
+use nets::pairs::{SharedPair, shared_pair};
 use nets::rng::Rng;
-use reference::curve::rounded_curve;
+use reference::curve::{Form, exact_curve, rounded_curve};
 use reference::net::Net;
-use reference::seam::{Boundary, Reading, shared_readings};
+use reference::refusal::MAX_ROUNDS;
+use reference::seam::{Boundary, Reading, is_near, shared_readings};
 
-use crate::compare::compare;
-use crate::draw::some_rounds;
+use crate::compare::Known;
+use crate::draw::most_rounds;
+use crate::tally::Tally;
 
-/// Compares all that a pair of nets shares, after each round; returns the
-/// number of seams compared.
-pub fn compare_pair(rng: &mut Rng) -> Result<usize, String> {
-    let pair = shared_pair(rng);
-    let [first, second] = &pair.nets;
-    let shared = shared_readings(first, second);
-    if !shared.contains(&pair.readings.into()) {
-        return Err("the nets do not share what was drawn".to_owned());
+/// What the compared seams were.
+pub struct Seams {
+    pairs: u64,
+    readings: u64,
+    rounds: Tally<u32>,
+    sorts: Tally<&'static str>,
+}
+
+impl Default for Seams {
+    fn default() -> Self {
+        let ways = ["run the same way", "run opposite ways"];
+        let forms = [
+            "between two marks",
+            "from one mark to itself",
+            "without marks",
+        ];
+        Self {
+            pairs: 0,
+            readings: 0,
+            rounds: Tally::new(0..=MAX_ROUNDS),
+            sorts: Tally::new(ways.into_iter().chain(forms)),
+        }
     }
-    let most = some_rounds(first, 4, rng).min(some_rounds(second, 4, rng));
-    for rounds in 0..=most {
-        let refined = [refined(first, rounds, rng)?, refined(second, rounds, rng)?];
-        compare_shared(first, &refined, &shared, rounds)?;
+}
+
+impl Seams {
+    pub fn is_complete(&self) -> bool {
+        self.rounds.is_complete() && self.sorts.is_complete()
     }
-    Ok(shared.len() * (most as usize + 1))
+
+    /// Compares all readings of a pair of nets after each round.
+    pub fn compare_pair(&mut self, rng: &mut Rng) -> Result<(), String> {
+        let (pair, faces) = drawn_pair(rng);
+        let shared = shared_readings(&pair.nets[0], &pair.nets[1]);
+        if !shared.contains(&pair.readings.into()) {
+            return Err("the nets do not share what was drawn".to_owned());
+        }
+        let most = (pair.nets.each_ref()).map(|net| most_rounds(net, MAX_ROUNDS, faces));
+        for rounds in 0..=most[0].min(most[1]) {
+            let mut after = Vec::new();
+            for net in &pair.nets {
+                let refined = refined(net, rounds, rng)?;
+                self.readings += compare_readings(net, &refined, rounds)?;
+                after.push(refined);
+            }
+            compare_shared(&after, &shared, rounds)?;
+            self.rounds.add_many(rounds, shared.len() as u64);
+        }
+        for readings in &shared {
+            self.add_sorts(&pair.nets, readings);
+        }
+        self.pairs += 1;
+        Ok(())
+    }
+
+    fn add_sorts(&mut self, nets: &[Net; 2], (one, other): &(Reading, Reading)) {
+        self.sorts.add(if one.way == other.way {
+            "run the same way"
+        } else {
+            "run opposite ways"
+        });
+        let returns = |net: &Net, reading: &Reading| {
+            let vertices = Boundary::new(net).vertices(*reading).unwrap_or_default();
+            vertices.first() == vertices.last()
+        };
+        self.sorts.add(match one.form {
+            Form::Round => "without marks",
+            Form::Open if returns(&nets[0], one) || returns(&nets[1], other) => {
+                "from one mark to itself"
+            }
+            Form::Open => "between two marks",
+        });
+    }
+}
+
+impl Display for Seams {
+    fn fmt(&self, f: &mut Formatter) -> fmt::Result {
+        let (pairs, readings, shared) = (self.pairs, self.readings, self.rounds.total());
+        writeln!(
+            f,
+            "{pairs} pairs agree: {readings} readings are the rounded curve, {shared} shared ones are equal"
+        )?;
+        writeln!(f, "{}", self.rounds.line("shared by rounds"))?;
+        write!(f, "{}", self.sorts.line("shared by sort"))
+    }
+}
+
+/// A pair of nets with the most faces after refining; some have so few faces
+/// that 5 or 6 rounds are made.
+fn drawn_pair(rng: &mut Rng) -> (SharedPair, usize) {
+    if !rng.one_in(20) {
+        return (shared_pair(rng), rng.pick(&[64, 256, 256, 256, 1_024]));
+    }
+    let few = rng.pick(&[1, 4]);
+    loop {
+        let pair = shared_pair(rng);
+        if pair.nets.iter().all(|net| net.faces.len() <= few) {
+            return (pair, 4_096);
+        }
+    }
 }
 
 /// The net that the call through C gives.
 fn refined(net: &Net, rounds: u32, rng: &mut Rng) -> Result<Net, String> {
-    let case = Case::new(net, rounds, Expected::Accepted);
-    let answer = compare(&case, rng).map_err(|fault| format!("{fault}; {case:?}"))?;
+    let known = Known::new(Case::new(net, rounds, Expected::Accepted), rng)?;
+    let answer = known
+        .compare(rng)
+        .map_err(|fault| format!("{fault}; {:?}", known.case))?;
     answer.ok_or_else(|| "an accepted net is missing".to_owned())
 }
 
-/// Each shared segment is in both refined nets the rounded curve of what it
-/// was in the first net.
-fn compare_shared(
-    first: &Net,
-    refined: &[Net; 2],
-    shared: &[(Reading, Reading)],
-    rounds: u32,
-) -> Result<(), String> {
-    let initial = Boundary::new(first);
-    let [one, other] = refined.each_ref().map(Boundary::new);
-    for &(in_one, in_other) in shared {
-        let points = initial.read(in_one).ok_or("a shared reading is missing")?;
-        let curve = Some(rounded_curve(in_one.form, &points, rounds));
-        let (left, right) = (one.read(in_one), other.read(in_other));
-        if left != right || left != curve {
+/// Each reading of the refined net is the rounded curve of what it was at
+/// first, near enough to the exact curve. Returns the number of readings.
+fn compare_readings(net: &Net, refined: &Net, rounds: u32) -> Result<u64, String> {
+    let (initial, after) = (Boundary::new(net), Boundary::new(refined));
+    let readings = initial.readings();
+    for &reading in &readings {
+        let points = initial.read(reading).ok_or("a reading is missing")?;
+        let curve = rounded_curve(reading.form, &points, rounds);
+        let given = after.read(reading).ok_or("a reading got lost")?;
+        let exact = exact_curve(reading.form, &points, rounds);
+        if given != curve || !is_near(&given, &exact, rounds) {
             return Err(format!(
-                "{in_one:?} and {in_other:?} part in round {rounds}"
+                "{reading:?} leaves its curve in round {rounds}; {net:?}"
             ));
         }
     }
-    Ok(())
+    Ok(readings.len() as u64)
+}
+
+/// Each shared segment is the same in both refined nets.
+fn compare_shared(
+    refined: &[Net],
+    shared: &[(Reading, Reading)],
+    rounds: u32,
+) -> Result<(), String> {
+    let [one, other] = [&refined[0], &refined[1]].map(Boundary::new);
+    let parts =
+        |(a, b): &&(Reading, Reading)| one.read(*a).is_none() || one.read(*a) != other.read(*b);
+    match shared.iter().find(parts) {
+        Some((a, b)) => Err(format!("{a:?} and {b:?} part in round {rounds}")),
+        None => Ok(()),
+    }
 }

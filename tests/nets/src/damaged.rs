@@ -1,5 +1,6 @@
 //! Texts and tables damaged in known or random ways.
 
+use reference::net::Net;
 use reference::refusal::{Capacity, Refusal};
 use reference::text::MAX_BYTES;
 
@@ -266,7 +267,12 @@ fn random_bytes(text: &[u8], rng: &mut Rng) -> TextCase {
 /// A call with a sound net changed at random: some entries, some lengths.
 pub fn damaged_tables(size: Size, rng: &mut Rng) -> Case {
     let net = accepted(rng.pick(&Shape::ALL), size, rng);
-    let mut case = Case::new(&net, to_u32(rng.below(3)), Expected::Unknown);
+    damaged_call(&net, rng)
+}
+
+/// The same with this net.
+pub fn damaged_call(net: &Net, rng: &mut Rng) -> Case {
+    let mut case = Case::new(net, to_u32(rng.below(3)), Expected::Unknown);
     for _ in 0..rng.between(1, 3) {
         damage_entry(&mut case, rng);
     }

@@ -5,8 +5,9 @@ use reference::net::Net;
 use reference::point::Point;
 use reference::seam::{Reading, Way};
 
+use crate::accepted::{Shape, Size, accepted};
 use crate::build::to_u32;
-use crate::change::{Placing, flip, mark, place, renumber};
+use crate::change::{Placing, boundary_loops, flip, mark, place, renumber};
 use crate::rng::Rng;
 use crate::shapes;
 
@@ -28,7 +29,8 @@ pub fn shared_pair(rng: &mut Rng) -> SharedPair {
     }
 }
 
-/// Random points of a segment; open ones sometimes end where they begin.
+/// Random points of a segment; open ones sometimes end where they begin, and
+/// some segments are the same both ways or several times round.
 fn segment(form: Form, rng: &mut Rng) -> Vec<Point> {
     let fewest = if form == Form::Open { 2 } else { 3 };
     let length = rng.between(fewest, 9);
@@ -40,24 +42,29 @@ fn segment(form: Form, rng: &mut Rng) -> Vec<Point> {
         let last = points.len() - 1;
         points[last] = points[0];
     }
+    repeat(&mut points, rng);
     points
+}
+
+/// Makes some lists of points equal to their reverse, and some periodic.
+fn repeat(points: &mut [Point], rng: &mut Rng) {
+    let length = points.len();
+    match rng.below(8) {
+        0 => (0..length / 2).for_each(|i| points[length - 1 - i] = points[i]),
+        1 => {
+            let period = length.div_ceil(2);
+            (period..length).for_each(|i| points[i] = points[i - period]);
+        }
+        _ => {}
+    }
 }
 
 /// A random net with the segment on its boundary, and the reading there.
 fn carrier(form: Form, points: &[Point], rng: &mut Rng) -> (Net, Reading) {
     let edges = i32::try_from(points.len()).expect("small") - i32::from(form == Form::Open);
-    let layers = rng.between(1, 3);
     let is_closed = points[0] == points[points.len() - 1];
-    let (mut net, rim): (Net, Vec<u32>) = match form {
-        Form::Open if is_closed && edges >= 3 && rng.one_in(2) => around(edges, layers),
-        Form::Open => across(edges, layers),
-        Form::Round if edges % 2 == 0 && rng.one_in(2) => {
-            let net = shapes::grid(edges / 2 - 1, 1);
-            let rim = crate::change::boundary_loops(&net).concat();
-            (net, rim)
-        }
-        Form::Round => around(edges, layers),
-    };
+    let (mut net, rim) =
+        drawn(form, edges, is_closed, rng).unwrap_or_else(|| plain(form, edges, is_closed, rng));
     place(&mut net, Placing::Scattered, rng);
     mark(&mut net, rng);
     for (&vertex, &point) in rim.iter().zip(points) {
@@ -80,10 +87,43 @@ fn carrier(form: Form, points: &[Point], rng: &mut Rng) -> (Net, Reading) {
     (net, Reading { start, way, form })
 }
 
+/// A small net of any kind with room for the segment on one of its loops, and
+/// the loop from where the segment begins.
+fn drawn(form: Form, edges: i32, is_closed: bool, rng: &mut Rng) -> Option<(Net, Vec<u32>)> {
+    let net = accepted(rng.pick(&Shape::ALL), Size::Small, rng);
+    let edges = usize::try_from(edges).expect("positive");
+    let has_room = |rim: &Vec<u32>| match form {
+        Form::Open => rim.len() > edges || rim.len() == edges && is_closed,
+        Form::Round => rim.len() == edges,
+    };
+    let mut rims = boundary_loops(&net);
+    rims.retain(has_room);
+    rng.shuffle(&mut rims);
+    let mut rim = rims.pop()?;
+    let start = rng.below(rim.len());
+    rim.rotate_left(start);
+    Some((net, rim))
+}
+
+/// A grid or a band with the segment on its boundary.
+fn plain(form: Form, edges: i32, is_closed: bool, rng: &mut Rng) -> (Net, Vec<u32>) {
+    let layers = rng.between(1, 3);
+    match form {
+        Form::Open if is_closed && edges >= 3 && rng.one_in(2) => around(edges, layers),
+        Form::Open => across(edges, layers),
+        Form::Round if edges % 2 == 0 && rng.one_in(2) => {
+            let net = shapes::grid(edges / 2 - 1, 1);
+            let rim = boundary_loops(&net).concat();
+            (net, rim)
+        }
+        Form::Round => around(edges, layers),
+    }
+}
+
 /// A band with the segment round its first loop.
 fn around(edges: i32, layers: i32) -> (Net, Vec<u32>) {
     let net = shapes::annulus(edges, layers);
-    let mut rims = crate::change::boundary_loops(&net);
+    let mut rims = boundary_loops(&net);
     (net, rims.swap_remove(0))
 }
 

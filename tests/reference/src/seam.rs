@@ -128,7 +128,9 @@ pub fn check_seam(net: &Net, rounds: u32) -> Result<usize, SeamFault> {
     Ok(readings.len())
 }
 
-fn is_near(curve: &[Point], exact: &[[i128; 3]], rounds: u32) -> bool {
+/// Whether a rounded curve after `rounds` steps is within the distance from
+/// the exact one, which is at the scale 16^rounds.
+pub fn is_near(curve: &[Point], exact: &[[i128; 3]], rounds: u32) -> bool {
     let scale = 16_i128.pow(rounds);
     let curve = curve.as_flattened().iter();
     let exact = exact.as_flattened().iter();

@@ -1,0 +1,88 @@
+//! Counts of what the compared calls and seams were.
+
+use std::collections::BTreeMap;
+use std::fmt::{self, Display, Formatter};
+
+use reference::refusal::MAX_ROUNDS;
+
+use crate::compare::Known;
+
+/// How many were of each sort; sorts that must occur begin at 0.
+#[derive(Clone, Debug)]
+pub struct Tally<K> {
+    counts: BTreeMap<K, u64>,
+}
+
+impl<K: Ord + Display> Tally<K> {
+    pub fn new(due: impl IntoIterator<Item = K>) -> Self {
+        Self {
+            counts: due.into_iter().map(|sort| (sort, 0)).collect(),
+        }
+    }
+
+    pub fn add(&mut self, sort: K) {
+        self.add_many(sort, 1);
+    }
+
+    pub fn add_many(&mut self, sort: K, number: u64) {
+        *self.counts.entry(sort).or_default() += number;
+    }
+
+    pub fn total(&self) -> u64 {
+        self.counts.values().sum()
+    }
+
+    pub fn line(&self, name: &str) -> String {
+        let parts = self.counts.iter().map(|(sort, n)| format!("{sort}: {n}"));
+        format!("{name}: {}", parts.collect::<Vec<_>>().join(", "))
+    }
+
+    /// Whether every sort that must occur did.
+    pub fn is_complete(&self) -> bool {
+        self.counts.values().all(|&count| count > 0)
+    }
+}
+
+/// What the compared calls were.
+pub struct Calls {
+    refusals: Tally<u32>,
+    rounds: Tally<u32>,
+    empty: u64,
+}
+
+impl Default for Calls {
+    fn default() -> Self {
+        Self {
+            refusals: Tally::new(1..=12),
+            rounds: Tally::new(0..=MAX_ROUNDS),
+            empty: 0,
+        }
+    }
+}
+
+impl Calls {
+    pub fn add(&mut self, known: &Known) {
+        match known.report.reason {
+            0 if known.case.faces.is_empty() => self.empty += 1,
+            0 => self.rounds.add(known.case.rounds),
+            reason => self.refusals.add(reason),
+        }
+    }
+
+    pub fn is_complete(&self) -> bool {
+        self.refusals.is_complete() && self.rounds.is_complete()
+    }
+}
+
+impl Display for Calls {
+    fn fmt(&self, f: &mut Formatter) -> fmt::Result {
+        let (accepted, refused) = (self.rounds.total() + self.empty, self.refusals.total());
+        let (all, empty) = (accepted + refused, self.empty);
+        writeln!(
+            f,
+            "{all} nets agree: {accepted} accepted, {empty} of them empty, {refused} refused"
+        )?;
+        writeln!(f, "{}", self.rounds.line("accepted by rounds"))?;
+        write!(f, "{}", self.refusals.line("refused by reason"))
+    }
+}

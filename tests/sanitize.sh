@@ -1,0 +1,38 @@
+#!/usr/bin/env bash
+# Makes dumped calls of the archive from C, with every table a heap block of its exact size. Built with the sanitizers for addresses and
+# undefined behaviour, which see the harness and what the archive hands to libc (the archive itself is not instrumented), and under
+# valgrind, which sees every access of the archive to the heap, and results that depend on what was in a table before.
+#   sanitize.sh [NETS]     so many nets of the series of tests/differential; those with long work tables are left out
+set -eu
+cd "$(dirname "$0")/.."
+archive=target/staticlib/libcapi.a
+if [ ! -f "$archive" ]; then
+    echo "there is no $archive; make it with: rt staticlib capi"
+    exit 1
+fi
+folder=$(mktemp -d)
+trap 'rm -rf "$folder"' EXIT
+differential() { cargo run --release --offline --quiet --manifest-path tests/differential/Cargo.toml -- "$@"; }
+harness() { cc -std=c11 -g -O1 -Wall -Wextra -Werror -pedantic "$@" tests/sanitize/calls.c "$archive"; }
+
+differential --nets "${1:-4000}" --dump "$folder/calls"
+harness -fsanitize=address,undefined -fno-sanitize-recover=all -o "$folder/sanitized"
+echo "with -fsanitize=address,undefined:"
+"$folder/sanitized" "$folder/calls"
+
+if ! command -v valgrind >/dev/null; then
+    echo "no valgrind here: skipped"
+    exit 0
+fi
+harness -o "$folder/plain"
+echo "under valgrind:"
+valgrind --quiet --error-exitcode=1 --leak-check=full "$folder/plain" "$folder/calls"
+# a stray access by the archive must be seen
+differential --nets 20 --dump "$folder/few"
+status=0
+valgrind --quiet --error-exitcode=99 --log-file=/dev/null "$folder/plain" "$folder/few" short || status=$?
+if [ "$status" -ne 99 ]; then
+    echo "valgrind does not see a work table that is too short (exit status $status)"
+    exit 1
+fi
+echo "valgrind sees a work table that is one entry shorter than told"

@@ -1,0 +1,153 @@
+/* Makes dumped calls, with every table a heap block of its exact size, and compares answers and tables with those dumped:
+       calls FILE          each call twice, with the tables for the results as dumped and uninitialised
+       calls FILE short    each call once, with a work table one entry shorter than told; nothing is compared
+   The form of FILE is in tests/differential/src/dump.rs. */
+#include <stdint.h>
+#include <stdio.h>
+#include <stdlib.h>
+#include <string.h>
+
+typedef struct { uint32_t reason; uint64_t place; } finding;
+typedef struct { uint32_t reason; uint64_t place, vertices, faces; } report;
+finding gedrovit_check(uint32_t rounds, const int32_t *vertices, size_t, const uint32_t *faces, size_t, const uint8_t *marks, size_t,
+                       size_t out_vertices, size_t out_faces, size_t out_marks, uint32_t *work, size_t);
+report gedrovit_refine(uint32_t rounds, const int32_t *vertices, size_t, const uint32_t *faces, size_t, const uint8_t *marks, size_t,
+                       int32_t *out_vertices, size_t, uint32_t *out_faces, size_t, uint8_t *out_marks, size_t, uint32_t *work, size_t);
+
+enum { VERTICES, FACES, MARKS, OUT_VERTICES, OUT_FACES, OUT_MARKS, WORK, TABLES };
+static const char *const names[] = {"vertices", "faces", "marks", "out vertices", "out faces", "out marks", "work"};
+static const size_t entry[] = {4, 4, 1, 4, 4, 1, 4};
+
+typedef enum { AS_DUMPED, UNINITIALISED, SHORT_WORK } manner;
+typedef enum { CHECK, REFINE } function;
+
+typedef struct { uint64_t rounds, length[TABLES], reason, place, vertices, faces; } head;
+typedef struct { head head; void *before[TABLES], *after[TABLES]; } call;
+
+static void *block(size_t bytes)
+{
+    void *memory = malloc(bytes);
+    if (!memory) {
+        fprintf(stderr, "no memory\n");
+        exit(2);
+    }
+    return memory;
+}
+
+static void read_exactly(FILE *file, void *memory, size_t bytes)
+{
+    if (fread(memory, 1, bytes, file) != bytes) {
+        fprintf(stderr, "the file is cut off\n");
+        exit(2);
+    }
+}
+
+static size_t bytes_of(const head *h, int table) { return h->length[table] * entry[table]; }
+
+static int read_call(FILE *file, call *c)
+{
+    if (fread(&c->head, sizeof c->head, 1, file) != 1)
+        return 0;
+    for (int t = 0; t < TABLES; t++)
+        read_exactly(file, c->before[t] = block(bytes_of(&c->head, t)), bytes_of(&c->head, t));
+    for (int t = 0; t < TABLES; t++) {
+        c->after[t] = block(bytes_of(&c->head, t));
+        if (t < OUT_VERTICES)
+            memcpy(c->after[t], c->before[t], bytes_of(&c->head, t));
+        else
+            read_exactly(file, c->after[t], bytes_of(&c->head, t));
+    }
+    return 1;
+}
+
+static void free_all(void **tables)
+{
+    for (int t = 0; t < TABLES; t++)
+        free(tables[t]);
+}
+
+/* bytes at the front of a table that are known after the call if nothing is known of it before */
+static size_t known(const head *h, int table)
+{
+    if (table < OUT_VERTICES)
+        return bytes_of(h, table);
+    if (h->reason >= 1 && h->reason <= 4)
+        return 0;
+    if (table == WORK)
+        return 64 * (h->length[FACES] / 4 << 2 * h->rounds);
+    return table == OUT_VERTICES ? 12 * h->vertices : table == OUT_FACES ? 16 * h->faces : h->vertices;
+}
+
+static void lend(const call *c, manner how, void **lent)
+{
+    for (int t = 0; t < TABLES; t++) {
+        size_t bytes = bytes_of(&c->head, t), missing = how == SHORT_WORK && t == WORK && bytes ? entry[t] : 0;
+        lent[t] = block(bytes - missing);
+        if (t < OUT_VERTICES || how != UNINITIALISED)
+            memcpy(lent[t], c->before[t], bytes - missing);
+    }
+}
+
+/* the check is not lent the outputs */
+static int tables_agree(const call *c, manner how, function which, void **lent)
+{
+    for (int t = 0; t < TABLES; t++) {
+        size_t compared = how == UNINITIALISED ? known(&c->head, t) : bytes_of(&c->head, t);
+        if (which == CHECK && t >= OUT_VERTICES && t <= OUT_MARKS)
+            continue;
+        if (memcmp(lent[t], c->after[t], compared) != 0) {
+            printf("%s differ\n", names[t]);
+            return 0;
+        }
+    }
+    return 1;
+}
+
+static report answer(const head *h, function which, void **lent)
+{
+    const uint64_t *n = h->length;
+    uint32_t rounds = (uint32_t)h->rounds;
+    if (which == REFINE)
+        return gedrovit_refine(rounds, lent[VERTICES], n[VERTICES], lent[FACES], n[FACES], lent[MARKS], n[MARKS], lent[OUT_VERTICES],
+                               n[OUT_VERTICES], lent[OUT_FACES], n[OUT_FACES], lent[OUT_MARKS], n[OUT_MARKS], lent[WORK], n[WORK]);
+    finding f = gedrovit_check(rounds, lent[VERTICES], n[VERTICES], lent[FACES], n[FACES], lent[MARKS], n[MARKS], n[OUT_VERTICES],
+                               n[OUT_FACES], n[OUT_MARKS], lent[WORK], n[WORK]);
+    return (report){f.reason, f.place, h->vertices, h->faces};
+}
+
+static int agrees(const call *c, manner how, function which)
+{
+    const head *h = &c->head;
+    void *lent[TABLES];
+    lend(c, how, lent);
+    report r = answer(h, which, lent);
+    int same = r.reason == h->reason && r.place == h->place && r.vertices == h->vertices && r.faces == h->faces;
+    same = how == SHORT_WORK || (same && tables_agree(c, how, which, lent));
+    free_all(lent);
+    return same;
+}
+
+static int all_agree(const call *c)
+{
+    return agrees(c, AS_DUMPED, CHECK) && agrees(c, UNINITIALISED, CHECK) && agrees(c, AS_DUMPED, REFINE) && agrees(c, UNINITIALISED, REFINE);
+}
+
+int main(int count, char **arguments)
+{
+    FILE *file = count > 1 ? fopen(arguments[1], "rb") : NULL;
+    int is_short = count > 2 && strcmp(arguments[2], "short") == 0, failed = 0;
+    unsigned long calls = 0;
+    call c;
+    if (!file) {
+        fprintf(stderr, "usage: calls FILE [short]\n");
+        return 2;
+    }
+    for (; !failed && read_call(file, &c); calls++) {
+        failed = is_short ? !agrees(&c, SHORT_WORK, REFINE) : !all_agree(&c);
+        free_all(c.before);
+        free_all(c.after);
+    }
+    fclose(file);
+    printf("%lu calls %s\n", calls, failed ? "made, the last one differs" : is_short ? "made" : "agree, with tables as dumped and uninitialised");
+    return failed;
+}
