@@ -28,9 +28,10 @@ build() {
     g++ -o "$objects/refine" "$objects"/{refine,straight,straight_check}.o "$archive"
 }
 
-# count PROGRAM NET CALL: the instructions of one call
+# count PROGRAM NET CALL: the instructions of one call. Without string instructions, for callgrind would count each byte that they write as one.
 count() {
-    valgrind --tool=callgrind --callgrind-out-file=/dev/null --toggle-collect=counted_call "$out/$1" count "$2" "$3" 2>&1 | sed -n 's/.*Collected : //p'
+    GLIBC_TUNABLES=glibc.cpu.x86_rep_stosb_threshold=0x7fffffff:glibc.cpu.x86_rep_movsb_threshold=0x7fffffff \
+        valgrind --tool=callgrind --callgrind-out-file=/dev/null --toggle-collect=counted_call "$out/$1" count "$2" "$3" 2>&1 | sed -n 's/.*Collected : //p'
 }
 
 # measure PROGRAM PREFIX CALL ..: rows of times, and of instructions where valgrind is installed
@@ -52,6 +53,8 @@ build native "$native"
 # shellcheck disable=SC2086
 cc -std=gnu11 $warnings $plain -o "$out/check" bench/check.c "$archive"
 
+counted="of one call after another one, by callgrind --toggle-collect, C++ with $plain; memory cleared and copied by vector instructions"
+command -v valgrind >/dev/null || counted="not counted, for valgrind is not installed"
 machine="$(sed -n 's/^model name[^:]*: //p' /proc/cpuinfo | head -n 1), $(nproc) cores, $(uname -sm); load before: $load"
 agreement=$("$out/plain/agree")
 "$out/native/agree" >/dev/null
@@ -67,7 +70,8 @@ REFINEMENT
 Both sides check refusals 5 to 12, then make all rounds with exact arithmetic and one rounding for each coordinate, in one thread. Gedrovit also checks the
 table lengths, allocates nothing and clears the work table at the end; C++ keeps its vectors from call to call.
 Tables: touched by a call before, not cleared between calls. Times: processor time, the best of 40 calls, the implementations taking turns in one process.
-Instructions: of one call after another one, by callgrind --toggle-collect, C++ with $plain. Ratio: Gedrovit divided by that row; above 1 it takes more.
+Instructions: $counted.
+Ratio: Gedrovit divided by that row; above 1 it takes more.
 
 TEXT
 {
