@@ -46,7 +46,7 @@ static void make_grid(uint32_t rounds)
 static void measure(void)
 {
     size_t refined = net.face_count << 2 * net.rounds;
-    finding found = {0, 0};
+    gedrovit_finding found = {0, 0};
     double best = 1e9;
     for (int run = 0; run <= RUNS; run++) {
         double taken = seconds();

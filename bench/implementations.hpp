@@ -41,7 +41,7 @@ public:
     }
 
 private:
-    report last = {};
+    gedrovit_report last = {};
     std::vector<int32_t> vertices = std::vector<int32_t>(12 * MOST_REFINED, 1);
     std::vector<uint32_t> faces = std::vector<uint32_t>(4 * MOST_REFINED, 1), work = std::vector<uint32_t>(16 * MOST_REFINED, 1);
     std::vector<uint8_t> marks = std::vector<uint8_t>(4 * MOST_REFINED, 1);
