@@ -1,97 +1,74 @@
-/* Times the check alone on nets that are hard for it, tables reused and touched before. */
-#include <stdint.h>
+/* Times the check alone on nets that are hard for it. The work table is touched before and reused. */
+#include "clock.h"
+#include "nets.h"
+#include "product.h"
+
 #include <stdio.h>
-#include <stdlib.h>
-#include <string.h>
-#include <time.h>
 
-typedef struct { uint32_t reason; uint64_t place; } finding;
-finding gedrovit_check(uint32_t rounds, const int32_t *vertices, size_t, const uint32_t *faces, size_t, const uint8_t *marks, size_t,
-                       size_t out_vertices, size_t out_faces, size_t out_marks, uint32_t *work, size_t);
-
-enum { FACES = 4096, VERTICES = 8192, WORK = 16 * 262144 };
-static int32_t vertices[3 * VERTICES];
-static uint32_t faces[4 * FACES], work[WORK];
-static uint8_t marks[VERTICES];
-static size_t nv, nf;
-
-static void face(uint32_t a, uint32_t b, uint32_t c, uint32_t d)
-{
-    uint32_t *f = faces + 4 * nf++;
-    f[0] = a, f[1] = b, f[2] = c, f[3] = d;
-}
-
-static void grid(uint32_t side)
-{
-    for (uint32_t y = 0; y < side; y++)
-        for (uint32_t x = 0; x < side; x++) {
-            uint32_t i = y * (side + 1) + x;
-            face(i, i + 1, i + side + 2, i + side + 1);
-        }
-    nv = (size_t)(side + 1) * (side + 1);
-}
+enum { WORK = 16 * MOST_REFINED, RUNS = 20 };
+static struct bench_net net;
+static uint32_t work[WORK];
 
 /* one vertex in 4,095 faces, as an open fan */
-static void fan(void)
+static void make_fan(void)
 {
-    for (uint32_t i = 0; i < FACES - 1; i++)
-        face(0, 2 * i + 1, 2 * i + 2, 2 * i + 3);
-    nv = 2 * (FACES - 1) + 2;
+    start_net(&net, "fan of 4,095 at one vertex", 0);
+    for (uint32_t i = 0; i < MOST_FACES - 1; i++)
+        add_face(&net, 0, 2 * i + 1, 2 * i + 2, 2 * i + 3);
+    net.vertex_count = 2 * (MOST_FACES - 1) + 2;
 }
 
 /* two vertices in all of 4,090 faces */
-static void hubs(void)
+static void make_hubs(void)
 {
+    start_net(&net, "two vertices in all faces", 0);
     for (uint32_t i = 0; i < 4090; i++)
-        face(0, 2 * i + 2, 1, 2 * i + 3);
-    nv = 2 * 4090 + 2;
+        add_face(&net, 0, 2 * i + 2, 1, 2 * i + 3);
+    net.vertex_count = 2 * 4090 + 2;
 }
 
-/* corners at random, mostly distinct in a face */
-static void noise(void)
+/* corners at random, distinct in a face */
+static void make_noise(void)
 {
     uint32_t s = 1;
-    nf = FACES, nv = 64;
-    for (size_t i = 0; i < 4 * nf; i++)
-        s = s * 1664525u + 1013904223u, faces[i] = (s >> 16) % 16 + 16 * (i % 4);
+    start_net(&net, "random corners", 0);
+    net.face_count = MOST_FACES, net.vertex_count = 64;
+    for (uint32_t i = 0; i < 4 * MOST_FACES; i++)
+        s = s * 1664525u + 1013904223u, net.faces[i] = (s >> 16) % 16 + 16 * (i % 4);
 }
 
-static double seconds(void)
+static void make_grid(uint32_t rounds)
 {
-    struct timespec t;
-    clock_gettime(CLOCK_MONOTONIC, &t);
-    return t.tv_sec + 1e-9 * t.tv_nsec;
+    start_net(&net, "64 x 64 open grid", rounds);
+    add_grid(&net, 64);
 }
 
-static void run(const char *name, uint32_t rounds, void (*make)(void))
+static void measure(void)
 {
-    nv = nf = 0;
-    make();
-    size_t g = nf << 2 * rounds;
-    finding r = {0, 0};
+    size_t refined = net.face_count << 2 * net.rounds;
+    gedrovit_finding found = {0, 0};
     double best = 1e9;
-    for (int i = 0; i < 5; i++) {
-        double t = seconds();
-        r = gedrovit_check(rounds, vertices, 3 * nv, faces, 4 * nf, marks, nv, 12 * g, 4 * g, 4 * g, work, WORK);
-        t = seconds() - t;
-        if (t < best)
-            best = t;
+    for (int run = 0; run <= RUNS; run++) {
+        double taken = seconds();
+        found = gedrovit_check(net.rounds, net.vertices, 3 * net.vertex_count, net.faces, 4 * net.face_count, net.marks, net.vertex_count,
+                               12 * refined, 4 * refined, 4 * refined, work, WORK);
+        taken = seconds() - taken;
+        if (run > 0 && taken < best)
+            best = taken;
     }
-    printf("%-28s %6zu faces  %u rounds  reason %2u place %5llu  %9.3f ms  %8.1f ns/face\n", name, nf, rounds, r.reason, (unsigned long long)r.place,
-           1e3 * best, 1e9 * best / (nf ? nf : 1));
+    printf("%-30s %7u %7zu %8u %8llu %10.3f %10.1f\n", net.name, net.rounds, net.face_count, found.reason, (unsigned long long)found.place, 1e3 * best,
+           1e9 * best / (double)net.face_count);
 }
-
-static void grid64(void) { grid(64); }
-static void grid8(void) { grid(8); }
 
 int main(void)
 {
     memset(work, 1, sizeof work);
-    run("grid 64 x 64", 0, grid64);
-    run("grid 64 x 64", 3, grid64);
-    run("grid 8 x 8", 6, grid8);
-    run("fan of 4,095 at one vertex", 0, fan);
-    run("two vertices in all faces", 0, hubs);
-    run("random corners", 0, noise);
+    printf("%-30s %7s %7s %8s %8s %10s %10s\n", "net", "rounds", "faces", "refusal", "place", "ms", "ns/face");
+    make_grid(0), measure();
+    make_net(&net, 1), measure();
+    make_net(&net, 0), measure();
+    make_fan(), measure();
+    make_hubs(), measure();
+    make_noise(), measure();
     return 0;
 }

@@ -1,0 +1,79 @@
+// Compares the proved call with both forms of the straightforward one: the three nets of the benchmark and small nets of every kind. The exit status is 1
+// on the first difference.
+#include "implementations.hpp"
+#include "samples.hpp"
+
+#include <cstdio>
+#include <cstdlib>
+#include <string>
+
+namespace {
+
+constexpr int SAMPLES = 1000;
+
+// The reason that all implementations give; ends the program if they differ.
+uint32_t agreed(Implementations &implementations, const Net &net, uint32_t rounds, const std::string &name)
+{
+    auto number = [](uint64_t n) { return static_cast<unsigned long long>(n); };
+    Straight &rebuilt = implementations.rebuilt;
+    Verdict expected = rebuilt.refine(net, rounds);
+    for (Implementation *one : implementations.all) {
+        Verdict verdict = one->refine(net, rounds);
+        if (verdict.reason == expected.reason && verdict.place == expected.place && (verdict.reason != 0 || one->gave(rebuilt.refined)))
+            continue;
+        std::fprintf(stderr, "%s, %u rounds: %s (reason %u, place %llu) and %s (reason %u, place %llu) differ\n", name.c_str(), rounds, one->name,
+                     verdict.reason, number(verdict.place), rebuilt.name, expected.reason, number(expected.place));
+        std::exit(1);
+    }
+    return expected.reason;
+}
+
+// What the samples have shown.
+struct Coverage {
+    using Counts = std::array<int, 13>;
+    Counts reasons = {}, rings = {}, fans = {};
+    int marked = 0;
+
+    void add(const Net &net, uint32_t reason)
+    {
+        reasons[reason]++;
+        if (reason != 0)
+            return;
+        straight::Adjacency adjacency;
+        adjacency.build(net);
+        for (uint32_t v = 0; v < net.points.size(); v++)
+            (adjacency.is_boundary(v) ? fans : rings)[adjacency.face_count(v)]++;
+        marked += std::count(net.marks.begin(), net.marks.end(), 1) > 0;
+    }
+
+    bool is_whole() const
+    {
+        auto seen = [](const Counts &counts, int low, int high) {
+            return std::all_of(counts.begin() + low, counts.begin() + high + 1, [](int count) { return count > 0; });
+        };
+        return seen(reasons, 5, 12) && seen(rings, 3, 8) && seen(fans, 1, 6) && marked > 0;
+    }
+};
+
+}
+
+int main()
+{
+    Implementations implementations;
+    for (int which = 0; which < NET_COUNT; which++) {
+        BenchmarkNet made(which);
+        for (uint32_t k = 0; k <= made.rounds; k++)
+            if (agreed(implementations, made.net, k, "net " + std::to_string(which)) != 0)
+                return std::fprintf(stderr, "net %d is refused\n", which), 1;
+    }
+    Coverage coverage;
+    samples::Generator generator(1);
+    for (int i = 0; i < SAMPLES; i++) {
+        samples::Sample sample = generator.draw();
+        coverage.add(sample.net, agreed(implementations, sample.net, sample.rounds, "sample " + std::to_string(i)));
+    }
+    if (!coverage.is_whole())
+        return std::fprintf(stderr, "the samples do not show every refusal, ring and fan\n"), 1;
+    std::printf("the three nets after every round, and %d small nets: %d refined (%d with marks; rings of 3 to 8, fans of 1 to 6), %d refused (5 to 12)\n",
+                SAMPLES, coverage.reasons[0], coverage.marked, SAMPLES - coverage.reasons[0]);
+}

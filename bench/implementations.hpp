@@ -1,0 +1,96 @@
+// The implementations that are compared and measured, behind one interface.
+#pragma once
+
+#include "nets.h"
+#include "product.h"
+#include "straight.hpp"
+
+#include <algorithm>
+
+using straight::Net;
+using straight::Verdict;
+
+class Implementation {
+public:
+    explicit Implementation(const char *n) : name(n) {}
+    virtual ~Implementation() = default;
+    virtual Verdict refine(const Net &net, uint32_t rounds) = 0;
+    // Whether the last call gave this net.
+    virtual bool gave(const Net &net) const = 0;
+    const char *const name;
+};
+
+// The proved call, with tables lent for the largest net and touched.
+class Product : public Implementation {
+public:
+    Product() : Implementation("gedrovit") {}
+
+    Verdict refine(const Net &net, uint32_t rounds) override
+    {
+        last = gedrovit_refine(rounds, &net.points.data()->x, 3 * net.points.size(), net.faces.data()->data(), 4 * net.faces.size(), net.marks.data(),
+                               net.marks.size(), vertices.data(), vertices.size(), faces.data(), faces.size(), marks.data(), marks.size(), work.data(), work.size());
+        return {last.reason, last.place};
+    }
+
+    bool gave(const Net &net) const override
+    {
+        return last.vertices == net.points.size() && last.faces == net.faces.size() &&
+               std::equal(net.marks.begin(), net.marks.end(), marks.begin()) &&
+               std::equal(vertices.data(), vertices.data() + 3 * last.vertices, &net.points.data()->x) &&
+               std::equal(faces.data(), faces.data() + 4 * last.faces, net.faces.data()->data());
+    }
+
+private:
+    gedrovit_report last = {};
+    std::vector<int32_t> vertices = std::vector<int32_t>(12 * MOST_REFINED, 1);
+    std::vector<uint32_t> faces = std::vector<uint32_t>(4 * MOST_REFINED, 1), work = std::vector<uint32_t>(16 * MOST_REFINED, 1);
+    std::vector<uint8_t> marks = std::vector<uint8_t>(4 * MOST_REFINED, 1);
+};
+
+// Straightforward C++; its vectors keep their memory from call to call.
+class Straight : public Implementation {
+public:
+    Straight(const char *n, bool carries) : Implementation(n), refiner(carries) {}
+
+    Verdict refine(const Net &net, uint32_t rounds) override { return refiner.refine(net, rounds, refined); }
+
+    bool gave(const Net &net) const override
+    {
+        auto same = [](const straight::Point &a, const straight::Point &b) { return a.x == b.x && a.y == b.y && a.z == b.z; };
+        return refined.faces == net.faces && refined.marks == net.marks &&
+               std::equal(refined.points.begin(), refined.points.end(), net.points.begin(), net.points.end(), same);
+    }
+
+    Net refined;
+
+private:
+    straight::Refiner refiner;
+};
+
+struct Implementations {
+    Product product;
+    Straight rebuilt{"rebuilt", false}, carried{"carried", true};
+    std::array<Implementation *, 3> all = {&product, &rebuilt, &carried};
+};
+
+// One of the three nets whose refinement is measured.
+struct BenchmarkNet {
+    explicit BenchmarkNet(int which)
+    {
+        static bench_net made;
+        make_net(&made, which);
+        name = made.name;
+        rounds = made.rounds;
+        for (size_t v = 0; v < made.vertex_count; v++)
+            net.points.push_back({made.vertices[3 * v], made.vertices[3 * v + 1], made.vertices[3 * v + 2]});
+        for (size_t f = 0; f < made.face_count; f++)
+            net.faces.push_back({made.faces[4 * f], made.faces[4 * f + 1], made.faces[4 * f + 2], made.faces[4 * f + 3]});
+        net.marks.assign(made.marks, made.marks + made.vertex_count);
+    }
+
+    size_t refined_faces() const { return net.faces.size() << 2 * rounds; }
+
+    const char *name;
+    uint32_t rounds;
+    Net net;
+};

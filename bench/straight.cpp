@@ -1,0 +1,260 @@
+#include "straight.hpp"
+
+namespace straight {
+
+namespace {
+
+constexpr int64_t EXTRAPOLATED = 60;                  // divisible by 1 to 5, the inner edges of a fan
+constexpr int64_t VIRTUAL = EXTRAPOLATED * 9 * 840;   // 840 is divisible by 3 to 8, the sizes of a ring
+constexpr int64_t EDGE = 16 * VIRTUAL;
+constexpr int64_t FACE = 32 * EDGE;
+
+Exact operator+(Exact a, Exact b) { return {a.x + b.x, a.y + b.y, a.z + b.z}; }
+Exact operator-(Exact a, Exact b) { return {a.x - b.x, a.y - b.y, a.z - b.z}; }
+Exact operator*(int64_t n, Exact a) { return {n * a.x, n * a.y, n * a.z}; }
+
+// The three rules of a curve, over 16.
+Exact interior(Exact p, Exact q, Exact r, Exact s) { return 9 * (q + r) - p - s; }
+Exact end_edge(Exact p, Exact q, Exact r) { return 7 * p + 10 * q - r; }
+Exact midpoint(Exact p, Exact q) { return 8 * (p + q); }
+
+// Halves away from zero.
+template <int64_t Denominator> int32_t rounded(int64_t n)
+{
+    constexpr int64_t half = Denominator / 2;
+    return static_cast<int32_t>((n < 0 ? n - half : n + half) / Denominator);
+}
+
+template <int64_t Denominator> Point rounded(Exact e)
+{
+    return {rounded<Denominator>(e.x), rounded<Denominator>(e.y), rounded<Denominator>(e.z)};
+}
+
+// The rules on one net.
+class Rules {
+public:
+    Rules(const Net &n, const Adjacency &a) : net(n), adjacency(a) {}
+
+    Exact edge_point(uint32_t h) const;
+    Exact face_point(const std::vector<Exact> &edge_points, uint32_t f) const;
+
+private:
+    // Neighbours and opposite corners round a vertex, over 60.
+    struct Ring {
+        int size;
+        std::array<Exact, 8> neighbours, opposites;
+    };
+
+    struct Direction {
+        Exact point;
+        bool four_inner;
+    };
+
+    Exact at(uint32_t v) const
+    {
+        const Point &p = net.points[v];
+        return {p.x, p.y, p.z};
+    }
+
+    Exact boundary_point(uint32_t h) const;
+    Exact inner_point(uint32_t h) const;
+    uint32_t straight_across(uint32_t h) const { return adjacency.end(adjacency.turn(adjacency.turn(h))); }
+    Exact extrapolated(uint32_t v) const;
+    Exact virtual_point(uint32_t h) const;
+    Ring gather(uint32_t h) const;
+    int close_fan(uint32_t v, Ring &ring) const;
+    static Exact weigh(const Ring &ring, int j);
+    Direction direction(const std::vector<Exact> &edge_points, uint32_t h) const;
+    uint32_t beyond(uint32_t h) const;
+
+    const Net &net;
+    const Adjacency &adjacency;
+};
+
+Exact Rules::edge_point(uint32_t h) const
+{
+    return adjacency.mate(h) == NONE ? VIRTUAL * boundary_point(h) : inner_point(h);
+}
+
+Exact Rules::boundary_point(uint32_t h) const
+{
+    uint32_t v = adjacency.start(h), w = adjacency.end(h);
+    Exact p = at(v), q = at(w);
+    auto before = [&] {
+        uint32_t g = h;
+        while (adjacency.turn(g) != NONE)
+            g = adjacency.turn(g);
+        return at(adjacency.start(Adjacency::prev(g)));
+    };
+    auto after = [&] { return at(adjacency.end(adjacency.fan_start(w))); };
+    if (net.marks[v])
+        return net.marks[w] ? midpoint(p, q) : end_edge(p, q, after());
+    return net.marks[w] ? end_edge(q, p, before()) : interior(before(), p, q, after());
+}
+
+Exact Rules::inner_point(uint32_t h) const
+{
+    uint32_t g = adjacency.mate(h);
+    uint32_t v = adjacency.start(h), w = adjacency.start(g);
+    if (adjacency.is_regular(v) && adjacency.is_regular(w))
+        return VIRTUAL * interior(at(straight_across(h)), at(v), at(w), at(straight_across(g)));
+    return interior(virtual_point(h), VIRTUAL * at(v), VIRTUAL * at(w), virtual_point(g));
+}
+
+// Over 60: twice the boundary vertex minus the mean of the far ends of its inner edges, or minus the opposite corner of its only face.
+Exact Rules::extrapolated(uint32_t v) const
+{
+    uint32_t h = adjacency.fan_start(v);
+    int64_t inner = adjacency.face_count(v) - 1;
+    Exact twice = 2 * EXTRAPOLATED * at(v);
+    if (inner == 0)
+        return twice - EXTRAPOLATED * at(adjacency.opposite(h));
+    Exact sum = {0, 0, 0};
+    for (h = adjacency.turn(h); h != NONE; h = adjacency.turn(h))
+        sum = sum + at(adjacency.end(h));
+    return twice - EXTRAPOLATED / inner * sum;
+}
+
+Rules::Ring Rules::gather(uint32_t h) const
+{
+    Ring ring;
+    ring.size = 0;
+    uint32_t g = h;
+    do {
+        ring.neighbours[ring.size] = EXTRAPOLATED * at(adjacency.end(g));
+        ring.opposites[ring.size++] = EXTRAPOLATED * at(adjacency.opposite(g));
+        g = adjacency.turn(g);
+    } while (g != NONE && g != h);
+    return ring;
+}
+
+// Closes the fan of v: its last neighbour, then the extrapolated points.
+int Rules::close_fan(uint32_t v, Ring &ring) const
+{
+    uint32_t first = adjacency.fan_start(v), last = first;
+    while (adjacency.turn(last) != NONE)
+        last = adjacency.turn(last);
+    uint32_t b = adjacency.end(first), c = adjacency.start(Adjacency::prev(last));
+    int m = ring.size;
+    ring.neighbours[m] = EXTRAPOLATED * at(c);
+    ring.opposites[m] = extrapolated(c);
+    ring.neighbours[m + 1] = extrapolated(v);
+    ring.opposites[m + 1] = extrapolated(b);
+    return ring.size = m + 2;
+}
+
+// The virtual point, over 453,600, on edge j of a ring.
+Exact Rules::weigh(const Ring &ring, int j)
+{
+    int n = ring.size;
+    Exact sum = {0, 0, 0};
+    for (int i = 0; i < n; i++) {
+        int d = (i - j + n) % n;
+        int64_t near = d == 0 || d == 1 || d == n - 1;
+        int64_t beside = (d == n - 2) + (d == n - 1) + (d == 0) + (d == 1);
+        sum = sum + (36 - 9 * n * near) * ring.neighbours[i] + (n * beside - 4) * ring.opposites[i];
+    }
+    return 840 / n * sum;
+}
+
+// The virtual point, over 453,600, at the vertex that h leaves.
+Exact Rules::virtual_point(uint32_t h) const
+{
+    uint32_t v = adjacency.start(h);
+    if (adjacency.is_regular(v))
+        return VIRTUAL * at(straight_across(h));
+    if (!adjacency.is_boundary(v))
+        return weigh(gather(h), 0);
+    int j = 0;
+    for (uint32_t g = adjacency.fan_start(v); g != h; g = adjacency.turn(g))
+        j++;
+    Ring ring = gather(adjacency.fan_start(v));
+    close_fan(v, ring);
+    return weigh(ring, j);
+}
+
+// The side opposite the mate of h, or NONE.
+uint32_t Rules::beyond(uint32_t h) const
+{
+    uint32_t g = adjacency.mate(h);
+    return g == NONE ? NONE : Adjacency::across(g);
+}
+
+// The direction of side h of a face, over 16 times the denominator of edge points.
+Rules::Direction Rules::direction(const std::vector<Exact> &edge_points, uint32_t h) const
+{
+    uint32_t g = Adjacency::across(h);
+    uint32_t before = beyond(h), after = beyond(g);
+    auto on = [&](uint32_t side) { return edge_points[adjacency.edge(side)]; };
+    if (before != NONE && after != NONE) {
+        bool inner = adjacency.mate(before) != NONE && adjacency.mate(after) != NONE;
+        return {interior(on(before), on(h), on(g), on(after)), inner};
+    }
+    if (before != NONE)
+        return {end_edge(on(g), on(h), on(before)), false};
+    if (after != NONE)
+        return {end_edge(on(h), on(g), on(after)), false};
+    return {midpoint(on(h), on(g)), false};
+}
+
+Exact Rules::face_point(const std::vector<Exact> &edge_points, uint32_t f) const
+{
+    Direction first = direction(edge_points, 4 * f), second = direction(edge_points, 4 * f + 1);
+    if (first.four_inner == second.four_inner)
+        return first.point + second.point;
+    return 2 * (first.four_inner ? first : second).point;
+}
+
+// From the last face to the first, so that the table serves both.
+void split_faces(std::vector<Face> &faces, const Adjacency &adjacency, uint32_t vertices)
+{
+    uint32_t count = static_cast<uint32_t>(faces.size());
+    faces.resize(4 * faces.size());
+    for (uint32_t f = count; f-- > 0;) {
+        Face face = faces[f];
+        uint32_t centre = vertices + adjacency.edge_count() + f;
+        for (uint32_t i = 0; i < 4; i++) {
+            uint32_t side = vertices + adjacency.edge(4 * f + i), before = vertices + adjacency.edge(4 * f + (i + 3) % 4);
+            faces[4 * f + i] = {face[i], side, centre, before};
+        }
+    }
+}
+
+}
+
+void Refiner::step(Net &net)
+{
+    uint32_t vertices = static_cast<uint32_t>(net.points.size()), faces = static_cast<uint32_t>(net.faces.size());
+    Rules rules(net, adjacency);
+    net.points.resize(vertices + adjacency.edge_count() + faces);
+    if (edge_points.size() < adjacency.edge_count())
+        edge_points.resize(adjacency.edge_count());
+    uint32_t edge = 0;
+    for (uint32_t h = 0; h < adjacency.size(); h++)
+        if (adjacency.is_first(h)) {
+            Exact e = rules.edge_point(h);
+            edge_points[edge] = e;
+            net.points[vertices + edge++] = rounded<EDGE>(e);
+        }
+    for (uint32_t f = 0; f < faces; f++)
+        net.points[vertices + edge + f] = rounded<FACE>(rules.face_point(edge_points, f));
+    split_faces(net.faces, adjacency, vertices);
+    net.marks.resize(net.points.size());
+}
+
+// The check builds the adjacency for the first round.
+Verdict Refiner::refine(const Net &net, uint32_t rounds, Net &refined)
+{
+    Verdict verdict = check(net);
+    if (verdict.reason != 0)
+        return verdict;
+    refined = net;
+    for (uint32_t k = 0; k < rounds; k++) {
+        step(refined);
+        if (k + 1 < rounds)
+            carries ? adjacency.carry(refined) : adjacency.build(refined);
+    }
+    return verdict;
+}
+
+}
