@@ -37,11 +37,13 @@ run() {
 }
 
 run "documents agree with the tree" python3 tests/documents.py
-if [ -f tests/Cargo.toml ]; then
-    run "reference implementation" cargo test --offline --quiet --manifest-path tests/Cargo.toml
-fi
+run "reference implementation" cargo test --offline --quiet --manifest-path tests/Cargo.toml
+run "program against the reference" python3 tests/program.py
+run "examples and pictures" python3 tests/pictures.py
 run "archive for C" rt staticlib capi
 run "against the reference through the C interface" cargo run --release --offline --quiet --manifest-path tests/differential/Cargo.toml
+run "calls from C under sanitizers and valgrind" bash tests/sanitize.sh
+run "the package for makers" bash tests/package.sh
 
 if [ "$proved" -ne 0 ] || [ "$failed" -ne 0 ] || [ "$more" -ne 0 ]; then
     [ "$failed" -eq 0 ] && [ "$more" -eq 0 ] && more=1

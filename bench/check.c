@@ -1,7 +1,7 @@
 /* Times the check alone on nets that are hard for it. The work table is touched before and reused. */
 #include "clock.h"
 #include "nets.h"
-#include "product.h"
+#include "../package/include/gedrovit.h"
 
 #include <stdio.h>
 

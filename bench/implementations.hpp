@@ -2,7 +2,7 @@
 #pragma once
 
 #include "nets.h"
-#include "product.h"
+#include "../package/include/gedrovit.h"
 #include "straight.hpp"
 
 #include <algorithm>

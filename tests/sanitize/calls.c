@@ -7,12 +7,7 @@
 #include <stdlib.h>
 #include <string.h>
 
-typedef struct { uint32_t reason; uint64_t place; } finding;
-typedef struct { uint32_t reason; uint64_t place, vertices, faces; } report;
-finding gedrovit_check(uint32_t rounds, const int32_t *vertices, size_t, const uint32_t *faces, size_t, const uint8_t *marks, size_t,
-                       size_t out_vertices, size_t out_faces, size_t out_marks, uint32_t *work, size_t);
-report gedrovit_refine(uint32_t rounds, const int32_t *vertices, size_t, const uint32_t *faces, size_t, const uint8_t *marks, size_t,
-                       int32_t *out_vertices, size_t, uint32_t *out_faces, size_t, uint8_t *out_marks, size_t, uint32_t *work, size_t);
+#include "../../package/include/gedrovit.h"
 
 enum { VERTICES, FACES, MARKS, OUT_VERTICES, OUT_FACES, OUT_MARKS, WORK, TABLES };
 static const char *const names[] = {"vertices", "faces", "marks", "out vertices", "out faces", "out marks", "work"};
@@ -110,7 +105,7 @@ static report answer(const head *h, function which, void **lent)
     if (which == REFINE)
         return gedrovit_refine(rounds, lent[VERTICES], n[VERTICES], lent[FACES], n[FACES], lent[MARKS], n[MARKS], lent[OUT_VERTICES],
                                n[OUT_VERTICES], lent[OUT_FACES], n[OUT_FACES], lent[OUT_MARKS], n[OUT_MARKS], lent[WORK], n[WORK]);
-    finding f = gedrovit_check(rounds, lent[VERTICES], n[VERTICES], lent[FACES], n[FACES], lent[MARKS], n[MARKS], n[OUT_VERTICES],
+    gedrovit_finding f = gedrovit_check(rounds, lent[VERTICES], n[VERTICES], lent[FACES], n[FACES], lent[MARKS], n[MARKS], n[OUT_VERTICES],
                                n[OUT_FACES], n[OUT_MARKS], lent[WORK], n[WORK]);
     return (report){f.reason, f.place, h->vertices, h->faces};
 }
@@ -120,7 +115,7 @@ static int agrees(const call *c, manner how, function which)
     const head *h = &c->head;
     void *lent[TABLES];
     lend(c, how, lent);
-    report r = answer(h, which, lent);
+    gedrovit_report r = answer(h, which, lent);
     int same = r.reason == h->reason && r.place == h->place && r.vertices == h->vertices && r.faces == h->faces;
     same = how == SHORT_WORK || (same && tables_agree(c, how, which, lent));
     free_all(lent);
