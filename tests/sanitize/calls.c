@@ -98,7 +98,7 @@ static int tables_agree(const call *c, manner how, function which, void **lent)
     return 1;
 }
 
-static report answer(const head *h, function which, void **lent)
+static gedrovit_report answer(const head *h, function which, void **lent)
 {
     const uint64_t *n = h->length;
     uint32_t rounds = (uint32_t)h->rounds;
@@ -107,7 +107,7 @@ static report answer(const head *h, function which, void **lent)
                                n[OUT_VERTICES], lent[OUT_FACES], n[OUT_FACES], lent[OUT_MARKS], n[OUT_MARKS], lent[WORK], n[WORK]);
     gedrovit_finding f = gedrovit_check(rounds, lent[VERTICES], n[VERTICES], lent[FACES], n[FACES], lent[MARKS], n[MARKS], n[OUT_VERTICES],
                                n[OUT_FACES], n[OUT_MARKS], lent[WORK], n[WORK]);
-    return (report){f.reason, f.place, h->vertices, h->faces};
+    return (gedrovit_report){f.reason, f.place, h->vertices, h->faces};
 }
 
 static int agrees(const call *c, manner how, function which)
