@@ -1,3 +1,4 @@
 pub mod Examples
 pub mod Refined
 pub mod Loaded
+pub mod RoundTrip

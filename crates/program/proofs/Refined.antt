@@ -31,7 +31,7 @@ use Rattle.printing.specs.Tables.{vertexAt, faceAt, verticesOf, facesOf}
 use Rattle.program.specs.Answer.{answerBy}
 
 -- vertices stay at most as many as half-edges
-few-vertices : (m : Net) → length (m .marks) ≤ length (m .faces) → (k : ℕ) → length (steps kobbelt k m .marks) ≤ length (steps kobbelt k m .faces)
+pub few-vertices : (m : Net) → length (m .marks) ≤ length (m .faces) → (k : ℕ) → length (steps kobbelt k m .marks) ≤ length (steps kobbelt k m .faces)
 unfolding steps
 few-vertices m h zero = h
 few-vertices m h (suc k) =

@@ -28,13 +28,17 @@ unfoldable pub texts : {A : Type 0} → (A → List ℕ) → List A → List ℕ
 texts f [] = []
 texts f (v ∷ vs) = f v ++ texts f vs
 
+-- the first two lines, and the lines of the vertices and faces. Paper 01: "The output always has the `corner` column"
+abbrev pub withBody : List ℕ → List Vertex → List Face → List ℕ
+withBody head vs fs = head ++ namesText marked ++ texts vertexText vs ++ namesText corners ++ texts faceText fs
+
 -- the text that writes a net for the program
 unfoldable pub netText : Net → List ℕ
-netText n = namesText input ++ countsText (n .counts) ++ namesText marked ++ texts vertexText (n .vertices) ++ namesText corners ++ texts faceText (n .faces)
+netText n = withBody (namesText input ++ countsText (n .counts)) (n .vertices) (n .faces)
 
--- Paper 01: "The output always has the `corner` column"
+-- the text of a refined net
 unfoldable pub answerText : List Vertex → List Face → List ℕ
-answerText vs fs = bytes "vertices faces\n" ++ pairText (length vs) (length fs) ++ namesText marked ++ texts vertexText vs ++ namesText corners ++ texts faceText fs
+answerText vs fs = withBody (bytes "vertices faces\n" ++ pairText (length vs) (length fs)) vs fs
 
 -- Paper 01: "A refusal prints the line `refusal place`, then a line with both numbers and one blank between"
 unfoldable pub refusalText : ℕ → ℕ → List ℕ

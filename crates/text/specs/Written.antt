@@ -6,12 +6,13 @@ use lib.Signed.{mag}
 use lib.ListN.{length}
 use Rattle.text.specs.Form.{Counts, Vertex, Face, Net}
 
--- Paper 01: no number is "beyond signed 32 bits": -2147483648 and 2147483647 have the magnitude 2147483647
+-- Paper 01: no number is "beyond signed 32 bits"
 pub record CountsFit (n : Counts) : Type 0 where
   pub vertices : n .vertices ≤ 2147483647
   pub faces : n .faces ≤ 2147483647
   pub rounds : n .rounds ≤ 2147483647
 
+-- `mag` is n of n and of -(n + 1), so this is the range of signed 32 bits
 pub record VertexFits (v : Vertex) : Type 0 where
   pub x : mag (v .x) ≤ 2147483647
   pub y : mag (v .y) ≤ 2147483647
