@@ -1,13 +1,15 @@
--- The cases that paper 01 marks P, in one table: what the definitions give, and what the paper states.
+-- The cases that paper 01 marks P, in one table: what the definitions give, and what the paper states. The last row is not one of them.
 use mathlib.Core.Path.{_≡_}
 use mathlib.Core.List.{List, [], _∷_, _++_}
 use Prim.Native.Nat.{ℕ, zero, suc, _<_}
-use lib.IntN.{ℤ, pos, negsuc}
+use lib.IntN.{ℤ, pos, negsuc, _*ℤ_}
 use lib.ListN.{length, getD}
 use Rattle.curve.specs.Weights.{kobbelt}
 use Rattle.tables.specs.Net.{Net}
 use Rattle.verdict.specs.Call.{Room}
 use Rattle.verdict.specs.Verdict.{Verdict, accepted, refused, limitsVerdict, netVerdict}
+use Rattle.fractions.specs.Fraction.{Fraction}
+use Rattle.scheme.specs.Points.{facePoint}
 use Rattle.scheme.specs.Step.{refinedCoordinate, axis}
 use Rattle.curve.specs.Curve.{Open, Closed, rounded, step, Point, curve}
 
@@ -114,7 +116,7 @@ raised =
       marks = 1 ∷ 0 ∷ 1 ∷ 0 ∷ 0 ∷ 0 ∷ 1 ∷ 0 ∷ 1 ∷ [];
     }
 
--- the square with one vertex a count higher: its edge points have z = -1/16, -1/16, 9/16, 9/16
+-- the square with one vertex one unit higher: its edge points have z = -1/16, -1/16, 9/16, 9/16
 abbrev pub tilted : Net
 tilted = record {
   vertices = pos 0 ∷ pos 0 ∷ pos 0 ∷ pos 16 ∷ pos 0 ∷ pos 0 ∷ pos 16 ∷ pos 16 ∷ pos 0 ∷ pos 0 ∷ pos 16 ∷ pos 1 ∷ [];
@@ -126,6 +128,16 @@ tilted = record {
 abbrev pub raisedZ : ℕ → ℤ
 raisedZ i = refinedCoordinate kobbelt 9 (raised .faces) (raised .marks) (axis (raised .vertices) 2) i
 
+-- the exact z of the point of face f; it is n / k if timesZ m f k is overZ m f n
+abbrev pub facePointZ : Net → ℕ → Fraction
+facePointZ m f = facePoint kobbelt (m .faces) (m .marks) (axis (m .vertices) 2) f
+
+abbrev pub timesZ : Net → ℕ → ℕ → ℤ
+timesZ m f k = facePointZ m f .num *ℤ pos k
+
+abbrev pub overZ : Net → ℕ → ℤ → ℤ
+overZ m f n = n *ℤ pos (facePointZ m f .den)
+
 abbrev pub netCases : List Case
 netCases =
     -- "this square without marks: edge points (8,-2), (18,8), (8,18), (-2,8), face point (8,8)."
@@ -135,10 +147,12 @@ netCases =
     }
     -- "cube with corners at ±540: edge point (0,-590,-590); the face at z = -540 gets (0,0,-738) from -737.5."
     ∷ record { computed = refinedPoint cube 11 ++ refinedPoint cube 20; stated = coordinates (at (pos 0) (negsuc 589) (negsuc 589) ∷ at (pos 0) (pos 0) (negsuc 737) ∷ []) }
+    ∷ record { computed = timesZ cube 0 2 ∷ []; stated = overZ cube 0 (negsuc 1474) ∷ [] }
     -- "two by two squares of side 16, four outer corners marked, centre raised to z = 16, rest 0: inner edge points have z = 10, face points z = 6 (100/16)."
     ∷ record { computed = raisedZ 10 ∷ raisedZ 11 ∷ raisedZ 15 ∷ raisedZ 16 ∷ []; stated = pos 10 ∷ pos 10 ∷ pos 10 ∷ pos 10 ∷ [] }
     ∷ record { computed = raisedZ 21 ∷ raisedZ 22 ∷ raisedZ 23 ∷ raisedZ 24 ∷ []; stated = pos 6 ∷ pos 6 ∷ pos 6 ∷ pos 6 ∷ [] }
-    -- "from unrounded edge points": the face point's z is 0, from 1/4; from rounded edge points it would be 1. From the second implementation.
+    ∷ record { computed = timesZ raised 0 16 ∷ timesZ raised 3 16 ∷ []; stated = overZ raised 0 (pos 100) ∷ overZ raised 3 (pos 100) ∷ [] }
+    -- "Face points use the unrounded edge points.": the face point's z is 0, from 1/4; from rounded edge points it would be 1. From the second implementation.
     ∷ record { computed = refinedPoint tilted 6 ++ refinedPoint tilted 8; stated = coordinates (at (pos 8) (pos 18) (pos 1) ∷ at (pos 8) (pos 8) (pos 0) ∷ []) }
     ∷ []
 

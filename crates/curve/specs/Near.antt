@@ -24,6 +24,6 @@ pub data All₂ {A B : Type 0} (R : A → B → Type 0) : List A → List B → 
 abbrev pub reach : ℕ → ℕ
 reach k = 2 * (20 ^ k - 16 ^ k)
 
--- "each coordinate lies within" it: the rounded curve of l after k rounds, times 16^k, against the exact one
+-- at each coordinate: the rounded curve of l after k rounds, times 16^k, lies within the seam distance of the exact one
 abbrev pub CloseToExact : Kind → ℕ → List Point → Type 0
 CloseToExact c k l = All₂ (Each (Near (16 ^ k) (reach k))) (curve kobbelt c k l) (exactCurve kobbelt c k l)

@@ -107,6 +107,8 @@ equals-reduced {x} k z d h i =
 pub same-of-equals : {x y : Fraction} {z : ℤ} {d : ℕ} → 0 < d → Equals x z d → Equals y z d → Same x y
 same-of-equals {x} {y} {z} {d} h i j =
     record {
+      left = i .some;
+      right = j .some;
       same = cancel d (x .num *ℤ pos (y .den)) (y .num *ℤ pos (x .den)) h
           (same (var 0 ⊠ (var 1 ⊠ var 2)) ((var 1 ⊠ var 0) ⊠ var 2) (pos d ∷ x .num ∷ pos (y .den) ∷ []) refl
           ∙ ap (λ (t : ℤ). t *ℤ pos (y .den)) (i .value)

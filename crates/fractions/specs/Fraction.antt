@@ -1,4 +1,4 @@
--- Exact fractions and their rounding. Every denominator that a rule makes is above 0.
+-- Exact fractions and their rounding. On an accepted net every denominator is above 0.
 use mathlib.Core.Path.{_≡_}
 use Prim.Native.Nat.{ℕ, zero, suc, _*_, _<_}
 use lib.IntN.{ℤ, pos, _+ℤ_, _-ℤ_, _*ℤ_}
@@ -45,4 +45,6 @@ pub record Equals (x : Fraction) (z : ℤ) (d : ℕ) : Type 0 where
 
 -- two fractions of one value
 pub record Same (x y : Fraction) : Type 0 where
+  pub left : 0 < x .den
+  pub right : 0 < y .den
   pub same : x .num *ℤ pos (y .den) ≡ y .num *ℤ pos (x .den)

@@ -1,0 +1,8 @@
+-- The range of refined coordinates, over what calls give.
+use Prim.Native.Nat.{ℕ, _≤_}
+use Rattle.schemelaws.specs.Nets.{Within}
+use Rattle.outcome.specs.SharedSegment.{Request, AcceptedFor, netAfter}
+
+-- "Also proved: every coordinate stays within 268,435,456."
+pub record CoordinatesStay : Type 0 where
+  pub stay : (a : Request) → AcceptedFor a (a .rounds) → (k : ℕ) → k ≤ a .rounds → Within 268435456 (netAfter a k .vertices)
