@@ -45,20 +45,20 @@ module _ (n : Net) (vs : List ℤ) (fs ms : List ℕ) (e : length (n .vertices) 
   vertices-same : verticesOf (length (n .marks)) (filled (n .vertices) vs) (filled (n .marks) ms) ≡ verticesOf (length (n .marks)) (n .vertices) (n .marks)
   unfolding verticesOf
   vertices-same = tabulate-cong (length (n .marks)) (vertexAt (filled (n .vertices) vs) (filled (n .marks) ms)) (vertexAt (n .vertices) (n .marks)) (λ i h.
-    let x = filled-at (n .vertices) vs (pos 0) (3 * i) (omega arith) in
-    let y = filled-at (n .vertices) vs (pos 0) (3 * i + 1) (omega arith) in
-    let z = filled-at (n .vertices) vs (pos 0) (3 * i + 2) (omega arith) in
-    let m = filled-at (n .marks) ms 0 i h in
-    λ j. record { x = x j; y = y j; z = z j; mark = m j })
+      let x = filled-at (n .vertices) vs (pos 0) (3 * i) (omega arith) in
+      let y = filled-at (n .vertices) vs (pos 0) (3 * i + 1) (omega arith) in
+      let z = filled-at (n .vertices) vs (pos 0) (3 * i + 2) (omega arith) in
+      let m = filled-at (n .marks) ms 0 i h in
+      λ j. record { x = x j; y = y j; z = z j; mark = m j })
 
   faces-same : facesOf (length (n .faces) / 4) (filled (n .faces) fs) ≡ facesOf (length (n .faces) / 4) (n .faces)
   unfolding facesOf
   faces-same = tabulate-cong (length (n .faces) / 4) (faceAt (filled (n .faces) fs)) (faceAt (n .faces)) (λ i h.
-    let a = filled-at (n .faces) fs 0 (4 * i) (omega arith) in
-    let b = filled-at (n .faces) fs 0 (4 * i + 1) (omega arith) in
-    let c = filled-at (n .faces) fs 0 (4 * i + 2) (omega arith) in
-    let d = filled-at (n .faces) fs 0 (4 * i + 3) (omega arith) in
-    λ j. record { a = a j; b = b j; c = c j; d = d j })
+      let a = filled-at (n .faces) fs 0 (4 * i) (omega arith) in
+      let b = filled-at (n .faces) fs 0 (4 * i + 1) (omega arith) in
+      let c = filled-at (n .faces) fs 0 (4 * i + 2) (omega arith) in
+      let d = filled-at (n .faces) fs 0 (4 * i + 3) (omega arith) in
+      λ j. record { a = a j; b = b j; c = c j; d = d j })
 
 -- ---- what a result says
 abbrev vertexNumber : Result → ℕ

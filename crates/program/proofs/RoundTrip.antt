@@ -50,10 +50,10 @@ coordinates-back (x ∷ []) (m ∷ ms) e = absurd (omega arith)
 coordinates-back (x ∷ y ∷ []) (m ∷ ms) e = absurd (omega arith)
 coordinates-back (x ∷ y ∷ z ∷ vs) (m ∷ ms) e =
     let c = tabulate-cong (length ms) (λ (i : ℕ). vertexAt (x ∷ y ∷ z ∷ vs) (m ∷ ms) (suc i)) (vertexAt vs ms) (λ i h.
-      let a = same-at (x ∷ y ∷ z ∷ vs) (pos 0) (3 * suc i) (suc (suc (suc (3 * i)))) (omega arith) in
-      let b = same-at (x ∷ y ∷ z ∷ vs) (pos 0) (3 * suc i + 1) (suc (suc (suc (3 * i + 1)))) (omega arith) in
-      let c = same-at (x ∷ y ∷ z ∷ vs) (pos 0) (3 * suc i + 2) (suc (suc (suc (3 * i + 2)))) (omega arith) in
-      λ j. record { x = a j; y = b j; z = c j; mark = getD ms i 0 }) in
+    let a = same-at (x ∷ y ∷ z ∷ vs) (pos 0) (3 * suc i) (suc (suc (suc (3 * i)))) (omega arith) in
+    let b = same-at (x ∷ y ∷ z ∷ vs) (pos 0) (3 * suc i + 1) (suc (suc (suc (3 * i + 1)))) (omega arith) in
+    let c = same-at (x ∷ y ∷ z ∷ vs) (pos 0) (3 * suc i + 2) (suc (suc (suc (3 * i + 2)))) (omega arith) in
+    λ j. record { x = a j; y = b j; z = c j; mark = getD ms i 0 }) in
     ap (λ (t : List Vertex). x ∷ y ∷ z ∷ coordinates t) c ∙ ap (λ (t : List ℤ). x ∷ y ∷ z ∷ t) (coordinates-back vs ms (omega arith))
 
 marks-tabulate : (n : ℕ) (f : ℕ → Vertex) → marksOf (tabulate n f) ≡ tabulate n (λ (i : ℕ). f i .mark)
@@ -71,11 +71,11 @@ corners-back (suc n) (a ∷ b ∷ []) e = absurd (omega arith)
 corners-back (suc n) (a ∷ b ∷ c ∷ []) e = absurd (omega arith)
 corners-back (suc n) (a ∷ b ∷ c ∷ d ∷ fs) e =
     let g = tabulate-cong n (λ (i : ℕ). faceAt (a ∷ b ∷ c ∷ d ∷ fs) (suc i)) (faceAt fs) (λ i h.
-      let p = same-at (a ∷ b ∷ c ∷ d ∷ fs) 0 (4 * suc i) (suc (suc (suc (suc (4 * i))))) (omega arith) in
-      let q = same-at (a ∷ b ∷ c ∷ d ∷ fs) 0 (4 * suc i + 1) (suc (suc (suc (suc (4 * i + 1))))) (omega arith) in
-      let r = same-at (a ∷ b ∷ c ∷ d ∷ fs) 0 (4 * suc i + 2) (suc (suc (suc (suc (4 * i + 2))))) (omega arith) in
-      let s = same-at (a ∷ b ∷ c ∷ d ∷ fs) 0 (4 * suc i + 3) (suc (suc (suc (suc (4 * i + 3))))) (omega arith) in
-      λ j. record { a = p j; b = q j; c = r j; d = s j }) in
+    let p = same-at (a ∷ b ∷ c ∷ d ∷ fs) 0 (4 * suc i) (suc (suc (suc (suc (4 * i))))) (omega arith) in
+    let q = same-at (a ∷ b ∷ c ∷ d ∷ fs) 0 (4 * suc i + 1) (suc (suc (suc (suc (4 * i + 1))))) (omega arith) in
+    let r = same-at (a ∷ b ∷ c ∷ d ∷ fs) 0 (4 * suc i + 2) (suc (suc (suc (suc (4 * i + 2))))) (omega arith) in
+    let s = same-at (a ∷ b ∷ c ∷ d ∷ fs) 0 (4 * suc i + 3) (suc (suc (suc (suc (4 * i + 3))))) (omega arith) in
+    λ j. record { a = p j; b = q j; c = r j; d = s j }) in
     ap (λ (t : List Face). a ∷ b ∷ c ∷ d ∷ cornersOf t) g ∙ ap (λ (t : List ℕ). a ∷ b ∷ c ∷ d ∷ t) (corners-back n fs (omega arith))
 
 each-tabulate : {A : Type 0} (P : A → Type 0) (n : ℕ) (f : ℕ → A) → ((i : ℕ) → i < n → P (f i)) → Each P (tabulate n f)

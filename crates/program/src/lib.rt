@@ -13,13 +13,7 @@ ghost use Rattle.printing.specs.Lines.{Written};
 ghost use Rattle.program.specs.Answer.{answerBy, programText};
 
 // The answer to a net whose counts pass.
-fn refine_net(
-    rounds: u32,
-    vertices: &[i32],
-    faces: &[u32],
-    marks: &[u8],
-    out: &mut [u8],
-) -> usize
+fn refine_net(rounds: u32, vertices: &[i32], faces: &[u32], marks: &[u8], out: &mut [u8]) -> usize
     requires { ⌜ (limitsVerdict rounds (length (now vertices)) (length (now faces)) (length (now marks)) programRoom ≡ accepted) × (52302 ≤ length (now out)) ⌝ }
     ensures { λ r. ⌜ Written (now (out .entry)) (now (out .exit)) r (answerBy (netVerdict (record { vertices = now (vertices .entry); faces = now (faces .entry); marks = now (marks .entry) })) (steps kobbelt rounds (record { vertices = now (vertices .entry); faces = now (faces .entry); marks = now (marks .entry) }))) 52302 ⌝ }
 {
