@@ -32,24 +32,3 @@ tame = record { quarter = 4; some = omega arith; apart = refl; small = omega ari
 pub distance : (c : Kind) (k : ℕ) (l : List Point) → CloseToExact c k l
 unfolding tame
 distance c k l = distance-tame kobbelt tame c k l
-
--- the same by places: as many points, and each coordinate of each
-pub distance-length : (c : Kind) (k : ℕ) (l : List Point) → length (curve kobbelt c k l) ≡ length (exactCurve kobbelt c k l)
-distance-length c k l = all-length (distance c k l)
-
-pub distance-at : (c : Kind) (k : ℕ) (l : List Point) (i : ℕ) (o : Point) → i < length (curve kobbelt c k l)
-    → Each (Near (16 ^ k) (reach k)) (getD (curve kobbelt c k l) i o) (getD (exactCurve kobbelt c k l) i o)
-distance-at c k l i o h = all-at (distance c k l) i o o h
-
--- ---- the numerators of points in range
-pub interior-bound : (p q r s : ℤ) → InRange p × InRange q × InRange r × InRange s → natAbs (interior kobbelt p q r s) ≤ 20 * 268435456
-unfolding tame
-interior-bound p q r s h = interior-size kobbelt tame p q r s 268435456 (h .0) (h .1) (h .2) (h .3)
-
-pub end-bound : (p q r : ℤ) → InRange p × InRange q × InRange r → natAbs (endEdge kobbelt p q r) ≤ 20 * 268435456
-unfolding tame
-end-bound p q r h = end-size kobbelt tame p q r 268435456 (h .0) (h .1) (h .2)
-
-pub single-bound : (p q : ℤ) → InRange p × InRange q → natAbs (singleEdge kobbelt p q) ≤ 20 * 268435456
-unfolding tame
-single-bound p q h = single-size kobbelt tame p q 268435456 (h .0) (h .1)

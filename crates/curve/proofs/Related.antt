@@ -24,15 +24,6 @@ module _ {A B : Type 0} {R : A → B → Type 0} where
   all-last (cons r nil) = r
   all-last (cons r (cons s h)) = all-last (cons s h)
 
-  pub all-length : {l : List A} {m : List B} → All₂ R l m → length l ≡ length m
-  all-length nil = refl
-  all-length (cons r h) = ap suc (all-length h)
-
-  pub all-at : {l : List A} {m : List B} → All₂ R l m → (i : ℕ) (a : A) (b : B) → i < length l → R (getD l i a) (getD m i b)
-  all-at nil i a b h = absurd (not-suc-le-zero h)
-  all-at (cons r t) zero a b h = r
-  all-at (cons r t) (suc i) a b h = all-at t i a b (le-of-suc-le-suc h)
-
 -- the rules take R to S
 pub record Carries {A B : Type 0} (R S : A → B → Type 0) (ℛ : Rules A) (𝒮 : Rules B) : Type 0 where
   pub keep : (p : A) (p′ : B) → R p p′ → S (ℛ .keep p) (𝒮 .keep p′)

@@ -25,9 +25,6 @@ rounded-symmetric w = record {
   single = λ p q. ap (λ (t : ℤ). round t (scale w)) (single-symmetric w p q);
 }
 
-pub exact-symmetric : (w : Weights) → Symmetric (exact w)
-exact-symmetric w = record { inside = interior-symmetric w; single = single-symmetric w }
-
 same-point : {a b c a′ b′ c′ : ℤ} → a ≡ a′ → b ≡ b′ → c ≡ c′ → _≡_ {A = Point} (record { x = a; y = b; z = c }) (record { x = a′; y = b′; z = c′ })
 same-point e f g = λ i. record { x = e i; y = f i; z = g i }
 

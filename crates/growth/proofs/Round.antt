@@ -24,14 +24,6 @@ use Rattle.growth.proofs.Marks.{length-extended}
 
 -- ---- a table filled from the front
 module _ {A : Type 0} (s d : List A) where
-  pub length-filled : length s ≤ length d → length (filled s d) ≡ length d
-  unfolding filled
-  length-filled h = let a = length-append s (drop (length s) d) in let b = length-drop (length s) d in omega arith
-
-  pub filled-front : (n : ℕ) → length s ≡ n → take n (filled s d) ≡ s
-  unfolding filled
-  filled-front n e = take-at s (drop (length s) d) n e
-
   pub filled-rest : (n : ℕ) → length s ≡ n → drop n (filled s d) ≡ drop n d
   unfolding filled
   filled-rest n e = drop-at s (drop (length s) d) n e ∙ ap (λ (k : ℕ). drop k d) e
@@ -51,14 +43,6 @@ oriented-wider v u l h ok = record {
   once = ok .once;
 }
 
-pub by-fours : (n : ℕ) → Lawful quads n → n % 4 ≡ 0
-unfolding quads
-by-fours n ok = go (decLt (n - n % 4) n)
-  where
-    go : Dec (n - n % 4 < n) → n % 4 ≡ 0
-    go (yes b) = let a = ok .prev-lt (n - n % 4) b in omega arith
-    go (no b) = omega arith
-
 -- ---- edge numbers
 
 module _ (l w : List ℕ) where
@@ -75,14 +59,6 @@ module _ (l w : List ℕ) where
 pub numbered-cong : (l w w′ : List ℕ) → ((i : ℕ) → length l ≤ i → i < 2 * length l → getD w′ i 0 ≡ getD w i 0) → Numbered l w (length l) → Numbered l w′ (length l)
 numbered-cong l w w′ f x = record { numbers = λ g b. f (length l + g) (omega arith) (omega arith) ∙ x .numbers g b }
 
--- ---- faces
-
-pub faces-front : (v : ℕ) (l c : List ℕ) → take (4 * length l) (filled (refined quads v l) c) ≡ refined quads v l
-faces-front v l c = filled-front (refined quads v l) c (4 * length l) (length-refined quads v l)
-
-pub faces-rest : (v : ℕ) (l c : List ℕ) → drop (4 * length l) (filled (refined quads v l) c) ≡ drop (4 * length l) c
-faces-rest v l c = filled-rest (refined quads v l) c (4 * length l) (length-refined quads v l)
-
 -- ---- marks
 
 -- there are at most four times as many refined vertices as half-edges
@@ -93,12 +69,6 @@ vertices-refined v l h = let e = edges-le quads l in omega arith
 pub marks-refined : (S : Shape) (v : ℕ) (l marks : List ℕ) → extended v (refinedVertices S v l) marks ≡ refinedMarks S v l marks
 unfolding extended refinedMarks
 marks-refined S v l marks = refl
-
-pub marks-front : (v count : ℕ) (marks : List ℕ) → take count (filled (extended v count marks) marks) ≡ extended v count marks
-marks-front v count marks = filled-front (extended v count marks) marks count (length-extended v count marks)
-
-pub marks-rest : (v count : ℕ) (marks : List ℕ) → drop count (filled (extended v count marks) marks) ≡ drop count marks
-marks-rest v count marks = filled-rest (extended v count marks) marks count (length-extended v count marks)
 
 -- only the first v marks count
 pub marks-cong : (S : Shape) (v : ℕ) (l m m′ : List ℕ) → ((p : ℕ) → p < v → getD m p 0 ≡ getD m′ p 0) → refinedMarks S v l m ≡ refinedMarks S v l m′

@@ -42,10 +42,6 @@ pub abs-quot : (z : ℤ) (d : ℕ) → natAbs (quotZ z (pos d)) ≡ natAbs z / d
 abs-quot (pos a) d = refl
 abs-quot (negsuc a) d = abs-neg (pos (suc a / d))
 
-pub abs-rem : (z : ℤ) (d : ℕ) → natAbs (remZ z (pos d)) ≡ natAbs z % d
-abs-rem (pos a) d = refl
-abs-rem (negsuc a) d = abs-neg (pos (suc a % d))
-
 -- ---- the tests z < -(m + 1), m < z, and neither
 pub below-abs : (z : ℤ) (m : ℕ) → ltZ z (negsuc m) ≡ true → suc m < natAbs z
 below-abs (pos a) m h = let z : _≡_ {A = ℕ} 0 1 = cc in absurd (omega arith)

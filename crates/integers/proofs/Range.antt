@@ -18,18 +18,3 @@ fits-abs w z h = let k = mag-le z in record { sfits = omega arith }
 
 pub abs-fits : {w : Width} {z : ℤ} → SFits w z → natAbs z ≤ 2 ^ hbits w
 abs-fits {w} {z} f = natAbs-le z (f .sfits)
-
--- a quotient by a natural and a remainder are in the range of the dividend's width
-mag-neg : (r a : ℕ) → r ≤ suc a → mag (negℤ (pos r)) ≤ a
-mag-neg zero a h = omega arith
-mag-neg (suc r) a h = omega arith
-
-mag-quot : (z : ℤ) (d : ℕ) → mag (quotZ z (pos d)) ≤ mag z
-mag-quot (pos a) d = div-le-self a d
-mag-quot (negsuc a) d = mag-neg (suc a / d) a (div-le-self (suc a) d)
-
-pub fits-quot : {w : Width} {z : ℤ} (d : ℕ) → SFits w z → SFits w (quotZ z (pos d))
-fits-quot {w} {z} d f = sfits-le (mag-quot z d) f
-
-pub fits-rem : {w : Width} {z : ℤ} (d : ℕ) → SFits w z → SFits w (remZ z (pos d))
-fits-rem {w} {z} d f = sfits-le (mag-rem z (pos d)) f

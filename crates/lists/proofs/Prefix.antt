@@ -18,14 +18,3 @@ module _ {ℓ} {A : Type ℓ} where
   -- one store
   pub copy-one : (f o : List A) (i : ℕ) (d : A) → i < length f → i < length o → set (take i f ++ drop i o) i (getD f i d) ≡ take (i + 1) f ++ drop (i + 1) o
   copy-one f o i d h k = rw (add-one i) (copy-suc f o i d h k)
-
-  -- all of f is copied
-  pub copy-all : (f o : List A) (i : ℕ) → length f ≤ i → take i f ++ drop i o ≡ f ++ drop i o
-  copy-all f o i h = ap (λ (t : List A). t ++ drop i o) (take-all i f h)
-
-  pub length-copied : (f o : List A) (i : ℕ) → i ≤ length f → i ≤ length o → length (take i f ++ drop i o) ≡ length o
-  length-copied f o i h k =
-      let a = length-append (take i f) (drop i o) in
-      let b = length-take-le i f h in
-      let c = length-drop i o in
-      omega arith

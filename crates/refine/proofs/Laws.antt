@@ -90,9 +90,6 @@ module _ (k last : ℕ) (m : Net) (o : Lent) (ok : Admitted k m o last) where
   last-le = let w = limits in let a = w .final in let e = ok .final in omega arith
 
   module _ (vs : List ℤ) (fs ms : List ℕ) (ev : vs ≡ filled (m .vertices) (o .vertices)) (ef : fs ≡ filled (m .faces) (o .faces)) (em : ms ≡ filled (m .marks) (o .marks)) where
-    abbrev front : Net
-    front = frontNet (length (m .marks)) (length (m .faces)) vs fs ms
-
     front-is : frontNet (length (m .marks)) (length (m .faces)) vs fs ms ≡ m
     front-is =
         let t = refinable .threes in

@@ -79,18 +79,9 @@ unrefused-refined S v l w u = unrefused-if quads (refinedVertices S v l) (refine
 
 -- ---- counts
 
--- one refined face for each half-edge; so four for each face with four sides
-pub faces-refined : (S : Shape) (v : ℕ) (l : List ℕ) → quads .faces (length (refined S v l)) ≡ length l
-unfolding quads
-faces-refined S v l = let n = length-refined S v l in omega arith
-
 pub quads-refined : (v : ℕ) (l : List ℕ) → length l % 4 ≡ 0 → quads .faces (length (refined quads v l)) ≡ 4 * quads .faces (length l)
 unfolding quads
 quads-refined v l w = let n = length-refined quads v l in omega arith
-
--- room for the refined vertices
-pub refined-vertices-le : (S : Shape) (v : ℕ) (l : List ℕ) → Manifold S v l → refinedVertices S v l ≤ 4 * length l
-refined-vertices-le S v l ok = let a = vertices-le quads (refinedVertices S v l) (refined S v l) (manifold-refined S v l ok) in let n = length-refined S v l in omega arith
 
 -- ---- any number of rounds
 
@@ -126,9 +117,6 @@ module _ (v : ℕ) (l : List ℕ) where
 
   pub unrefused-after : length l % 4 ≡ 0 → Unrefused quads v l → (k : ℕ) → Unrefused quads (verticesAfter k v l) (cornersAfter k v l)
   unrefused-after w u k = unrefused-if quads (verticesAfter k v l) (cornersAfter k v l) (manifold-after (manifold-if quads v l (quads-lawful (length l) w) u) k)
-
-  pub vertices-after-le : Manifold quads v l → (k : ℕ) → verticesAfter k v l ≤ 4 ^ k * length l
-  vertices-after-le ok k = let a = vertices-le quads (verticesAfter k v l) (cornersAfter k v l) (manifold-after ok k) in let b = length-after k in omega arith
 
   -- old vertices keep their numbers
   pub vertices-after-ge : (k : ℕ) → v ≤ verticesAfter k v l

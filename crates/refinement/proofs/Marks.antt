@@ -63,21 +63,3 @@ module _ (S : Shape) (v : ℕ) (l marks : List ℕ) where
           let n = length-refined S v l in
           omega arith
       at p m r (no c) = let x = mark-new p (omega arith) in omega arith
-
--- ---- any number of rounds
-
-module _ (v : ℕ) (l marks : List ℕ) where
-  pub no-6-after : first (badMark marks) v ≡ v → (k : ℕ) → first (badMark (marksAfter k v l marks)) (verticesAfter k v l) ≡ verticesAfter k v l
-  unfolding marksAfter verticesAfter
-  no-6-after e zero = e
-  no-6-after e (suc k) = no-6-refined quads (verticesAfter k v l) (cornersAfter k v l) (marksAfter k v l marks) (no-6-after e k)
-
-  pub no-12-after : Manifold quads v l → first (markedRing quads l marks) v ≡ v → (k : ℕ) → first (markedRing quads (cornersAfter k v l) (marksAfter k v l marks)) (verticesAfter k v l) ≡ verticesAfter k v l
-  unfolding marksAfter verticesAfter cornersAfter
-  no-12-after ok e zero = e
-  no-12-after ok e (suc k) = no-12-refined quads (verticesAfter k v l) (cornersAfter k v l) (marksAfter k v l marks) (manifold-after v l ok k) (no-12-after ok e k)
-
-  pub length-marks-after : length marks ≡ v → (k : ℕ) → length (marksAfter k v l marks) ≡ verticesAfter k v l
-  unfolding marksAfter verticesAfter
-  length-marks-after e zero = e
-  length-marks-after e (suc k) = length-marks quads (verticesAfter k v l) (cornersAfter k v l) (marksAfter k v l marks)

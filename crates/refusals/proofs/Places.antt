@@ -31,18 +31,6 @@ not-isolated l p e =
     let y = first-reach (leaves l p) (length l) (x .0) (x .1) (x .2) in
     omega (arith, x .1)
 
--- 8 holds at p exactly if its valence is 0
-pub isolated-zero : (l : List ℕ) (p : ℕ) → isolated l p ≡ true → valence l p ≡ 0
-unfolding isolated valence
-isolated-zero l p t = count-none (leaves l p) (length l) (λ k b. any-off (leaves l p) (length l) k (not-true (any (leaves l p) (length l)) t) b)
-
-pub zero-isolated : (l : List ℕ) (p : ℕ) → valence l p ≡ 0 → isolated l p ≡ true
-unfolding isolated valence
-zero-isolated l p e = ap not (refuted (any (leaves l p) (length l)) (λ t.
-    let x = any-which (leaves l p) (length l) t in
-    let y = count-under (leaves l p) (x .0) (length l) (x .1) (x .2) in
-    omega arith))
-
 -- with more vertices than half-edges 8 holds, and its place is at most the number of half-edges
 pub isolated-soon : (l : List ℕ) (v : ℕ) → length l < v → first (isolated l) v ≤ length l
 isolated-soon l v b = go (decLt (length l) (first (isolated l) v))

@@ -47,11 +47,6 @@ module _ (v : ℕ) (l marks : List ℕ) (ok : Oriented quads v l) (p : ℕ → �
       rw (c, inner-rule l marks h m, b, r .start, r .end)
       (same (lit (pos 4082400) ⊠ (var 1 ⊞ var 0) ⊟ (var 3 ⊞ var 2)) (lit (pos 4082400) ⊠ (var 0 ⊞ var 1) ⊟ (var 2 ⊞ var 3)) (p (from l h) ∷ p (to quads l h) ∷ x ∷ y ∷ []) refl)
 
-pub point-either : (v : ℕ) (l marks : List ℕ) → Manifold quads v l → (p : ℕ → ℤ) (h : ℕ) → h < length l → mate quads l h < length l
-    → Same (edgePoint kobbelt l marks p (mate quads l h)) (edgePoint kobbelt l marks p h)
-point-either v l marks ok p h k m =
-    same-of-equals (omega arith) (equals-cong (edge-either v l marks (ok .oriented) p h k m) refl (equals-edge v l marks ok p (mate quads l h) m)) (equals-edge v l marks ok p h k)
-
 -- ---- the half-edge at which an edge is first met
 module _ (v : ℕ) (l : List ℕ) (ok : Oriented quads v l) where
   pub edgeAt-edge : (h : ℕ) → h < length l → edgeAt l (edge quads l h) ≡ min h (mate quads l h)

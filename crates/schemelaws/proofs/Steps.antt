@@ -94,19 +94,6 @@ module _ (w : Weights) (m : Net) where
     steps-faces zero = refl
     steps-faces (suc k) = step-faces w (steps w k m) ∙ ap₂ (refined quads) (steps-count k) (steps-faces k)
 
-  pub steps-marks : (k : ℕ) → steps w k m .marks ≡ marksAfter k (length (m .marks)) (m .faces) (m .marks)
-  unfolding steps marksAfter
-  steps-marks zero = refl
-  steps-marks (suc k) =
-      step-marks w (steps w k m)
-      ∙ ap₂ (λ (v : ℕ) (l : List ℕ). refinedMarks quads v l (steps w k m .marks)) (steps-count k) (steps-faces k)
-      ∙ ap (refinedMarks quads (verticesAfter k (length (m .marks)) (m .faces)) (cornersAfter k (length (m .marks)) (m .faces))) (steps-marks k)
-
-  pub steps-length : length (m .vertices) ≡ 3 * length (m .marks) → (k : ℕ) → length (steps w k m .vertices) ≡ 3 * verticesAfter k (length (m .marks)) (m .faces)
-  unfolding steps verticesAfter
-  steps-length e zero = e
-  steps-length e (suc k) = step-length w (steps w k m) ∙ ap (λ (n : ℕ). 3 * n) (ap₂ (refinedVertices quads) (steps-count k) (steps-faces k))
-
   -- the drawn points and marks stay, and later marks are 0
   pub steps-kept : (k i : ℕ) → i < 3 * length (m .marks) → getD (steps w k m .vertices) i (pos 0) ≡ getD (m .vertices) i (pos 0)
   unfolding steps

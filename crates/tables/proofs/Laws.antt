@@ -17,10 +17,6 @@ copy-turn s d₀ i z e h k = rw e (copy-one s d₀ i z h k)
 pub clear-turn : (w₀ : List ℕ) {w : List ℕ} (i : ℕ) → w ≡ replicate i 0 ++ drop i w₀ → i < length w₀ → set w i 0 ≡ replicate (i + 1) 0 ++ drop (i + 1) w₀
 clear-turn w₀ i e k = rw e (fill-more i 0 w₀ k)
 
-pub length-cleared : (n : ℕ) (w : List ℕ) → n ≤ length w → length (cleared n w) ≡ length w
-unfolding cleared
-length-cleared n w h = let a = length-append (replicate n 0) (drop n w) in let b = length-replicate {A = ℕ} n 0 in let c = length-drop n w in omega arith
-
 -- what lies past the cleared part is as found; so clearing again clears what was there before
 pub drop-cleared : (n : ℕ) (w : List ℕ) → drop n (cleared n w) ≡ drop n w
 unfolding cleared

@@ -36,18 +36,12 @@ pub if-false : (r : ℕ) (t : Bool) → refusedIf r t ≡ accepted → t ≡ fal
 if-false r true e = never r 0 e
 if-false r false e = refl
 
-pub false-if : (r : ℕ) (t : Bool) → t ≡ false → refusedIf r t ≡ accepted
-false-if r t e = rw e
-
 pub at-none : (r : ℕ) (t : ℕ → Bool) (n : ℕ) (place : ℕ → ℕ) → refusedAt r t n place ≡ accepted → first t n ≡ n
 at-none r t n place e = go (ltb (first t n) n) refl e
   where
     go : (b : Bool) → ltb (first t n) n ≡ b → cond b (refused r (place (first t n))) accepted ≡ accepted → first t n ≡ n
     go true f e = never r (place (first t n)) e
     go false f e = let a = ltb-false (first t n) n f in let b = first-le t n in omega arith
-
-pub none-at : (r : ℕ) (t : ℕ → Bool) (n : ℕ) (place : ℕ → ℕ) → first t n ≡ n → refusedAt r t n place ≡ accepted
-none-at r t n place e = let f : ltb (first t n) n ≡ false = le-ltb (first t n) n (omega arith) in rw f
 
 -- ---- 1 to 4 do not hold
 pub record WithinLimits (rounds coordinates corners marks : ℕ) (room : Room) : Type 0 where

@@ -12,9 +12,6 @@ use Rattle.packing.proofs.Packed.{joined-fits}
 use Rattle.packing.proofs.unpacked.Statement.{statement}
 use Rattle.packing.proofs.unpacked.Tie as tie
 
-whole : (c : tie.Start) → ℕ
-whole c = c .args .hi * 4294967296 + c .args .lo
-
 read : (c : tie.Start) → toZ w64 (c .args .hi * 4294967296 + c .args .lo) ≡ pos (c .args .hi * 4294967296 + c .args .lo)
 read c = let h = c .pre in let l = c .fits .lo .fits in toZ-pos w64 (omega arith)
 
