@@ -6,9 +6,9 @@ use Prim.Native.Nat.{ℕ, _+_, _-_, _*_, _≤_, _<_}
 use native.Mathlib.Nat.{le-refl, sub-zero}
 use native.Mathlib.Decide.{ℕ-discrete}
 use native.Mathlib.Omega.{arith}
-use lib.ListN.{length, getD, set, take, drop, length-set, length-take}
+use lib.ListN.{length, getD, set, take, drop, length-set}
 use lib.Dec.{leb}
-use lib.Seq.{getD-set-same, getD-set-other, getD-take, getD-drop, take-set-le, drop-set-lt, take-take, drop-drop}
+use lib.Seq.{getD-set-same, getD-set-other, getD-drop, take-set-le, drop-set-lt, take-take, drop-drop}
 use borrow.Author.Tests.{eq-eqb, eqb-true, leb-false}
 use Rattle.search.specs.Search.{first}
 use Rattle.search.proofs.Tests.{refuted, clash, or-left}
@@ -16,9 +16,8 @@ use Rattle.search.proofs.First.{from-le, from-ge, from-holds, from-before, from
 use Rattle.topology.specs.Shape.{Shape, quads}
 use Rattle.topology.specs.HalfEdge.{from, mate}
 use Rattle.topology.specs.Vertex.{leaves}
-use Rattle.topology.specs.Manifold.{Oriented}
 use Rattle.refusals.specs.Refusals.{badCorner}
-use Rattle.adjacency.specs.Chains.{chainFrom, InRange, Tables, Chained, MateTable, Adjacency, SameOutside}
+use Rattle.adjacency.specs.Chains.{chainFrom, InRange, Tables, Chained, MateTable, SameOutside}
 
 -- ---- the first half-edge from i on that leaves v
 

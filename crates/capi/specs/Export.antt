@@ -2,8 +2,6 @@
 use mathlib.Core.List.{List}
 use Prim.Native.Nat.{ℕ, _*_, _/_, _^_}
 use lib.IntN.{ℤ}
-use Rattle.validate.specs.declared.Answer.{Answer}
-use Rattle.validate.specs.declared.Answer.the-variants.{Accepted, Refused}
 use Rattle.validate.specs.Answer.{Checked}
 use Rattle.verdict.specs.Call.{Room}
 use Rattle.verdict.specs.Verdict.{Verdict, accepted, refused, limitsVerdict}

@@ -1,17 +1,14 @@
 -- The curve at paper 01's own weights. Assumes nothing.
 use mathlib.Core.Path.{_≡_, refl}
 use mathlib.Core.List.{List, [], _∷_}
-use Prim.Native.Nat.{ℕ, _*_, _^_, _≤_, _<_}
+use Prim.Native.Nat.{ℕ}
 use native.Mathlib.Omega.{arith}
-use lib.IntN.{ℤ, pos, natAbs, _+ℤ_, _-ℤ_, _*ℤ_}
-use lib.ListN.{length, getD}
+use lib.IntN.{ℤ, pos, _+ℤ_, _-ℤ_, _*ℤ_}
 use Rattle.integers.proofs.Polynomial.{var, lit, _⊞_, _⊟_, _⊠_, same}
 use Rattle.curve.specs.Weights.{kobbelt, interior, endEdge, singleEdge}
-use Rattle.curve.specs.Curve.{Kind, Point, curve, exactCurve}
-use Rattle.curve.specs.Near.{Near, Each, reach, CloseToExact}
-use Rattle.curve.specs.Range.{InRange}
-use Rattle.curve.proofs.Related.{all-at, all-length}
-use Rattle.curve.proofs.Distance.{Tame, interior-size, end-size, single-size, distance-tame}
+use Rattle.curve.specs.Curve.{Kind, Point}
+use Rattle.curve.specs.Near.{CloseToExact}
+use Rattle.curve.proofs.Distance.{Tame, distance-tame}
 
 -- ---- the three rules as 01 writes them, over 16
 pub interior-is : (p q r s : ℤ) → interior kobbelt p q r s ≡ pos 9 *ℤ (q +ℤ r) -ℤ p -ℤ s

@@ -1,8 +1,8 @@
 -- Laws of the pass over the edges.
-use mathlib.Core.Path.{_≡_, refl, sym, ap, ap₂, _∙_, subst}
-use mathlib.Core.Logic.{_⊎_, inl, inr, ⊎-elim}
+use mathlib.Core.Path.{_≡_, refl, sym, ap, _∙_, subst}
+use mathlib.Core.Logic.{inl, inr, ⊎-elim}
 use mathlib.Core.List.{List, [], _∷_, _++_}
-use Prim.Native.Nat.{ℕ, zero, suc, _+_, _-_, _*_, _/_, _%_, _^_, _≤_, _<_}
+use Prim.Native.Nat.{ℕ, zero, suc, _+_, _*_, _/_, _%_, _≤_, _<_}
 use native.Mathlib.Nat.{eq-of-mul-eq-mul-left}
 use native.Mathlib.Decide.{decLt}
 use native.Mathlib.Omega.{arith}
@@ -24,25 +24,21 @@ use Rattle.curve.specs.Weights.{kobbelt}
 use Rattle.fractions.specs.Fraction.{Fraction, Equals}
 use Rattle.search.specs.Search.{count}
 use Rattle.topology.specs.Shape.{quads}
-use Rattle.topology.specs.HalfEdge.{from, mate, firstMet, edge, edgeCount}
-use Rattle.topology.specs.Manifold.{Manifold}
+use Rattle.topology.specs.HalfEdge.{mate, firstMet, edge, edgeCount}
 use Rattle.topology.proofs.Mates.{edge-lt, edges-le, edge-new, edge-same}
-use Rattle.refinement.specs.Refined.{refinedVertices}
 use Rattle.scheme.specs.Points.{edgePoint}
 use Rattle.scheme.specs.Step.{axis, refinedCoordinate}
 use Rattle.schemelaws.specs.Numerators.{edgeZ}
 use Rattle.schemelaws.proofs.Ties.{equals-edge}
 use Rattle.schemelaws.proofs.Coordinates.{edge-either, refined-old, refined-edge}
 use Rattle.schemelaws.proofs.Sizes.{edge-size}
-use Rattle.adjacency.specs.Chains.{MateTable}
 use Rattle.walks.specs.Ready.{Ready}
-use Rattle.growth.specs.Growth.{Numbered}
-use Rattle.curvepoints.specs.Exact.{InTable, Points, Marks, ExactEdge, ExactPoint}
-use Rattle.packing.specs.Packed.{packedAt, putThree, Holds}
+use Rattle.curvepoints.specs.Exact.{Points, Marks, ExactEdge, ExactPoint}
+use Rattle.packing.specs.Packed.{putThree, Holds}
 use Rattle.packing.proofs.Packed.{holds-value, holds-high, length-put-three, put-three-other, put-three-kept, put-three-first, put-three-second, put-three-third}
 use Rattle.stencils.specs.Stencils.{Indexed, place}
 use Rattle.stencils.proofs.Stencils.{place-end}
-use Rattle.facepoints.specs.Stored.{storedAt, Readable}
+use Rattle.facepoints.specs.Stored.{storedAt}
 use Rattle.facetable.specs.FaceTable.{Loaded, putPoint, Written}
 use Rattle.facetable.proofs.FaceTable.{written-next}
 use Rattle.edgetable.specs.EdgeTable.{Round, oldAxis, refinedAxis, Edges}

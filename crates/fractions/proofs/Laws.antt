@@ -1,7 +1,7 @@
 -- Rules of `Equals`: each operation keeps the denominator d, so a rule written in fractions is tied to whole numbers over one denominator by following its
 -- own words. Rounding depends on the value alone. Assumes nothing.
 use mathlib.Core.Path.{_≡_, refl, sym, ap, ap₂, _∙_}
-use mathlib.Core.List.{List, [], _∷_}
+use mathlib.Core.List.{[], _∷_}
 use Prim.Native.Nat.{ℕ, zero, suc, _*_, _<_}
 use native.Mathlib.Nat.{mul-pos, eq-of-mul-eq-mul-left}
 use native.Mathlib.Omega.{arith}

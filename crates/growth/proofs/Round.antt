@@ -2,25 +2,23 @@
 use mathlib.Core.Path.{_≡_, refl, ap, _∙_}
 use mathlib.Core.Bool.{cond}
 use mathlib.Core.List.{List, _++_}
-use Prim.Native.Nat.{ℕ, _+_, _-_, _*_, _%_, _≤_, _<_}
+use Prim.Native.Nat.{ℕ, _+_, _*_, _≤_, _<_}
 use native.Mathlib.Decide.{decLt}
 use native.Mathlib.Omega.{arith}
-use lib.ListN.{length, getD, take, drop, length-append, length-drop, List·getD-append}
+use lib.ListN.{length, getD, drop, List·getD-append}
 use lib.Dec.{ltb}
 use borrow.Author.Tests.{le-ltb}
-use lib.Seq.{take-at, drop-at}
+use lib.Seq.{drop-at}
 use Rattle.lists.proofs.Tabulate.{tabulate-cong}
-use Rattle.topology.specs.Shape.{Shape, Lawful, quads}
+use Rattle.topology.specs.Shape.{Shape, quads}
 use Rattle.topology.specs.Manifold.{Oriented}
 use Rattle.topology.proofs.Mates.{edges-le}
-use Rattle.refinement.specs.Refined.{refinedVertices, refined, refinedMarks}
+use Rattle.refinement.specs.Refined.{refinedVertices, refinedMarks}
 use Rattle.refinement.specs.Mates.{mates}
-use Rattle.refinement.proofs.Corners.{length-refined}
 use Rattle.adjacency.specs.Chains.{MateTable}
 use Rattle.tables.specs.Tables.{filled}
 use Rattle.growth.specs.Growth.{edges, Numbered, extended}
 use Rattle.growth.proofs.Edges.{length-both, both-mate, both-edge}
-use Rattle.growth.proofs.Marks.{length-extended}
 
 -- ---- a table filled from the front
 module _ {A : Type 0} (s d : List A) where

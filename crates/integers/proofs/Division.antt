@@ -1,11 +1,9 @@
 -- Division of an integer by a natural, cut toward zero, turns with the sign. Assumes nothing.
-use mathlib.Core.Path.{_≡_, refl, sym, ap, _∙_}
-use Prim.Native.Nat.{ℕ, zero, suc, _+_, _*_, _/_, _%_, _<_}
-use native.Mathlib.Nat.{div-add-mod, mul-comm, mod-lt, zero-div, zero-mod}
-use lib.IntN.{ℤ, pos, negsuc, negℤ, natAbs, _+ℤ_, _*ℤ_, negℤ-+ℤ, negℤ-negℤ}
-use lib.Signed.{quotZ, remZ}
-use Rattle.integers.proofs.AbsoluteValue.{abs-rem}
-use Rattle.integers.proofs.Ring.{neg-*ℤ}
+use mathlib.Core.Path.{_≡_, refl, sym}
+use Prim.Native.Nat.{ℕ, zero, suc, _/_}
+use native.Mathlib.Nat.{zero-div}
+use lib.IntN.{ℤ, pos, negsuc, negℤ, negℤ-negℤ}
+use lib.Signed.{quotZ}
 
 -- -z / d is -(z / d)
 pub quot-neg : (z : ℤ) (d : ℕ) → quotZ (negℤ z) (pos d) ≡ negℤ (quotZ z (pos d))

@@ -6,14 +6,12 @@
 use mathlib.Core.Path.{_≡_, refl, sym, ap, _∙_, subst}
 use mathlib.Core.Bool.{Bool, true, false, not, cond}
 use mathlib.Core.List.{List, [], _∷_}
-use Prim.Native.Nat.{ℕ, zero, suc, _+_, _*_, _-_, _^_, _≤_, _<_}
+use Prim.Native.Nat.{ℕ, zero, suc, _+_, _*_, _-_, _≤_, _<_}
 use native.Mathlib.Nat.{mul-add, mul-zero}
 use native.Mathlib.Omega.{arith}
-use lib.Dec.{T, ltb, ltb→lt, nltb→le, lt→ltb, le→leb, leb→le}
+use lib.Dec.{T, ltb, ltb→lt, nltb→le, le→leb}
 use lib.IntN.{ℤ, pos, negsuc, negℤ, subℕ, _+ℤ_, _-ℤ_, _*ℤ_, natAbs}
-use lib.Signed.{_≤ℤ_, _<ℤ_, leZ, ltZ}
-use mir.Syntax.{Width}
-use mir.Val.{SFits, hbits}
+use lib.Signed.{_≤ℤ_, leZ}
 use Rattle.integers.proofs.Linear.{Linear, at, whole, _⊕_, _⊖_, _⊙_, value, nth}
 use Rattle.integers.proofs.Ring.{neg-*ℤ}
 

@@ -1,12 +1,11 @@
 -- The ranges of the signed machine widths. Assumes nothing.
-use Prim.Native.Nat.{ℕ, zero, suc, _/_, _^_, _≤_, _<_}
-use native.Mathlib.Nat.{le-refl, le-suc, div-le-self}
+use Prim.Native.Nat.{_^_, _≤_, _<_}
+use native.Mathlib.Nat.{le-refl, le-suc}
 use native.Mathlib.Omega.{arith}
-use lib.IntN.{ℤ, pos, negsuc, negℤ, natAbs}
-use lib.Signed.{mag, mag-rem, natAbs-le, quotZ, remZ}
+use lib.IntN.{ℤ, pos, negsuc, natAbs}
+use lib.Signed.{mag, natAbs-le}
 use mir.Syntax.{Width}
 use mir.Val.{SFits, hbits}
-use mir.ValLaws.{sfits-le}
 
 mag-le : (z : ℤ) → mag z ≤ natAbs z
 mag-le (pos n) = le-refl n

@@ -1,12 +1,10 @@
 -- The loop that copies a list f over the front of a list o, one store a turn: after i turns the list is `take i f ++ drop i o`. Assumes nothing.
 use mathlib.Core.Path.{_≡_, refl, ap}
 use mathlib.Core.List.{List, [], _∷_, _++_}
-use Prim.Native.Nat.{ℕ, zero, suc, _+_, _≤_, _<_}
+use Prim.Native.Nat.{ℕ, zero, suc, _+_, _<_}
 use native.Mathlib.Nat.{not-suc-le-zero, le-of-suc-le-suc}
 use native.Mathlib.Numerals.{add-one}
-use native.Mathlib.Omega.{arith}
-use lib.ListN.{length, getD, set, take, drop, length-append, length-drop}
-use lib.Seq.{length-take-le, take-all}
+use lib.ListN.{length, getD, set, take, drop}
 
 module _ {ℓ} {A : Type ℓ} where
   copy-suc : (f o : List A) (i : ℕ) (d : A) → i < length f → i < length o → set (take i f ++ drop i o) i (getD f i d) ≡ take (suc i) f ++ drop (suc i) o

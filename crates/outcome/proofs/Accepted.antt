@@ -1,24 +1,20 @@
 -- An accepted call: its verdict, and the net that it gives. Assumes nothing.
-use mathlib.Core.Path.{_≡_, refl, sym, ap, ap₂, _∙_, subst}
-use mathlib.Core.List.{List, _++_}
-use Prim.Native.Nat.{ℕ, _+_, _*_, _/_, _%_, _≤_, _<_}
+use mathlib.Core.Path.{_≡_, refl, ap, _∙_}
+use mathlib.Core.List.{List}
+use Prim.Native.Nat.{ℕ, _*_, _/_}
 use native.Mathlib.Omega.{arith}
-use lib.ListN.{length, take, drop}
-use lib.Seq.{take-at}
+use lib.ListN.{length}
 use Rattle.curve.specs.Weights.{kobbelt}
 use Rattle.tables.specs.Net.{Net}
-use Rattle.tables.specs.Tables.{filled}
 use Rattle.tables.proofs.Laws.{take-filled}
-use Rattle.topology.specs.Shape.{quads}
-use Rattle.topology.specs.Manifold.{Manifold}
 use Rattle.verdict.specs.Call.{Call}
 use Rattle.verdict.specs.Verdict.{Verdict, accepted, refused, verdict, workAfter}
-use Rattle.verdict.proofs.Accepted.{WithinLimits, accepted-limits, accepted-net, accepted-manifold, accepted-fewer}
+use Rattle.verdict.proofs.Accepted.{accepted-limits, accepted-net}
 use Rattle.scheme.specs.Step.{steps}
 use Rattle.schemelaws.specs.Nets.{Refinable}
 use Rattle.schemelaws.proofs.Steps.{refinable-steps}
-use Rattle.outcome.specs.Outcome.{Lent, Result, refinedTo, refusedWith, Outcome, callOf, outcomeBy, outcome}
-use Rattle.outcome.specs.SharedSegment.{Request, resultAfter, AcceptedFor, netBy, netAfter}
+use Rattle.outcome.specs.Outcome.{Lent, refinedTo, callOf, outcomeBy, outcome}
+use Rattle.outcome.specs.SharedSegment.{Request, AcceptedFor, netBy, netAfter}
 
 -- ---- the verdict behind the result
 pub by-result : (v : Verdict) (n : Net) (o : Lent) (w : List ℕ) (x y : ℕ) → outcomeBy v n o w .result ≡ refinedTo x y → v ≡ accepted

@@ -1,19 +1,17 @@
 -- Demand 3: two accepted calls whose nets share a boundary segment still share it after every round. Assumes nothing.
 use mathlib.Core.Path.{_≡_, sym, subst}
 use mathlib.Core.Logic.{_↔_}
-use mathlib.Core.List.{List}
 use Prim.Native.Nat.{ℕ, _≤_}
 use Rattle.curve.specs.Weights.{kobbelt}
-use Rattle.curve.specs.Curve.{Kind, Point, curve}
-use Rattle.topology.specs.Boundary.{Way}
+use Rattle.curve.specs.Curve.{curve}
 use Rattle.tables.specs.Net.{Net}
 use Rattle.verdict.specs.Verdict.{accepted, verdict}
 use Rattle.verdict.proofs.Accepted.{accepted-manifold, accepted-fewer}
 use Rattle.seam.specs.Reading.{Reads}
-use Rattle.seam.specs.Seam.{Admissible, Seam}
+use Rattle.seam.specs.Seam.{Admissible}
 use Rattle.seam.proofs.Seam.{seam}
 use Rattle.outcome.specs.Outcome.{callOf}
-use Rattle.outcome.specs.SharedSegment.{Request, AcceptedFor, netAfter, SharedAfter, SharedSegments}
+use Rattle.outcome.specs.SharedSegment.{Request, AcceptedFor, SharedSegments}
 use Rattle.outcome.proofs.Accepted.{accepted-verdict, accepted-result, accepted-after}
 
 -- the call for fewer rounds

@@ -1,7 +1,7 @@
 -- How the parts of the refining call fit together. Assumes nothing.
-use mathlib.Core.Path.{_≡_, refl, sym, ap, ap₂, _∙_, subst}
+use mathlib.Core.Path.{_≡_, refl, sym, ap, ap₂, _∙_}
 use mathlib.Core.List.{List}
-use Prim.Native.Nat.{ℕ, zero, suc, _+_, _*_, _/_, _%_, _^_, _≤_, _<_}
+use Prim.Native.Nat.{ℕ, zero, suc, _*_, _/_, _%_, _^_, _≤_}
 use native.Mathlib.Nat.{one-le-pow, mul-le-mul-left, mul-assoc, pow-suc}
 use native.Mathlib.Omega.{arith}
 use lib.Dec.{lit≤}
@@ -18,8 +18,8 @@ use Rattle.verdict.specs.Verdict.{accepted, refused, callVerdict, netVerdict, v
 use Rattle.limits.specs.Answer.{limitsOf}
 use borrow.Author.Tests.{ne-eqb}
 use Rattle.verdict.proofs.Accepted.{WithinLimits, accepted-limits, accepted-net, accepted-coordinate}
-use Rattle.scheme.specs.Step.{step, steps}
-use Rattle.schemelaws.specs.Nets.{Refinable, Within}
+use Rattle.scheme.specs.Step.{steps}
+use Rattle.schemelaws.specs.Nets.{Refinable}
 use Rattle.schemelaws.proofs.Steps.{step-faces, step-count, refinable-steps}
 use Rattle.refinement.proofs.Corners.{length-refined}
 use Rattle.adjacency.specs.Chains.{MateTable}

@@ -1,11 +1,9 @@
 -- The loops of a refined net: each step along the boundary, with the sides or against them, becomes two.
 use mathlib.Core.Path.{_≡_, refl, ap, _∙_}
-use mathlib.Core.Bool.{Bool, false}
 use mathlib.Core.List.{List}
-use Prim.Native.Nat.{ℕ, zero, suc, _+_, _*_, _≤_, _<_}
+use Prim.Native.Nat.{ℕ, zero, suc, _+_, _*_}
 use native.Mathlib.Omega.{arith}
 use Rattle.search.specs.Search.{iterate}
-use Rattle.search.proofs.Quarters.{parity}
 use Rattle.topology.specs.Shape.{Shape, quads}
 use Rattle.topology.specs.HalfEdge.{from, edge}
 use Rattle.topology.specs.Boundary.{OnBoundary, Way, step, passed}

@@ -13,7 +13,6 @@ use Rattle.topology.specs.Manifold.{Around, ring, fan, Manifold}
 use Rattle.topology.proofs.Mates.{mate-le, edge-onto}
 use Rattle.topology.proofs.Shape.{quads-lawful}
 use Rattle.topology.proofs.Rings.{ring-valence, fan-valence}
-use Rattle.topology.proofs.Vertices.{vertices-le}
 use Rattle.refusals.specs.Refusals.{Unrefused}
 use Rattle.refusals.proofs.Manifold.{manifold-if, unrefused-if}
 use Rattle.refinement.specs.Refined.{refinedVertices, refined, verticesAfter, cornersAfter}

@@ -2,7 +2,7 @@
 use mathlib.Core.Path.{_≡_, sym, _∙_}
 use mathlib.Core.Bool.{cond}
 use mathlib.Core.List.{List}
-use Prim.Native.Nat.{ℕ, zero, suc, _≤_, _<_}
+use Prim.Native.Nat.{ℕ, _≤_, _<_}
 use native.Mathlib.Decide.{decLt}
 use native.Mathlib.Omega.{arith}
 use lib.ListN.{length, getD, List·getD-eq-default}
@@ -17,9 +17,8 @@ use Rattle.topology.specs.Boundary.{boundaryFrom}
 use Rattle.topology.specs.Manifold.{Manifold}
 use Rattle.refusals.specs.Refusals.{badMark, markedRing}
 use Rattle.refusals.proofs.Places.{mark-le, marked-boundary}
-use Rattle.refinement.specs.Refined.{refinedVertices, refined, refinedMarks, verticesAfter, cornersAfter, marksAfter}
+use Rattle.refinement.specs.Refined.{refinedVertices, refined, refinedMarks}
 use Rattle.refinement.proofs.Corners.{length-refined}
-use Rattle.refinement.proofs.Manifold.{manifold-after}
 use Rattle.refinement.proofs.Boundary.{boundaryFrom-old}
 
 module _ (S : Shape) (v : ℕ) (l marks : List ℕ) where

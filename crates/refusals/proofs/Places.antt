@@ -1,19 +1,18 @@
 -- Where 6, 8 and 12 do not hold; and how far one must look for 8.
-use mathlib.Core.Path.{_≡_, ap}
-use mathlib.Core.Bool.{true, false, not}
+use mathlib.Core.Path.{_≡_}
+use mathlib.Core.Bool.{false}
 use mathlib.Core.List.{List}
 use Prim.Native.Nat.{ℕ, suc, _≤_, _<_}
 use native.Mathlib.Decide.{decLt}
 use native.Mathlib.Omega.{arith}
 use lib.ListN.{length, getD}
-use borrow.Author.Tests.{eq-eqb, ltb-false, not-true, not-false}
+use borrow.Author.Tests.{eq-eqb, ltb-false, not-false}
 use Rattle.search.specs.Search.{first, any}
-use Rattle.search.proofs.Tests.{clash, refuted, and-on}
-use Rattle.search.proofs.First.{first-before, first-reach, any-off, any-which}
-use Rattle.search.proofs.Count.{count-none, count-under}
+use Rattle.search.proofs.Tests.{clash, and-on}
+use Rattle.search.proofs.First.{first-before, first-reach, any-which}
 use Rattle.topology.specs.Shape.{Shape}
 use Rattle.topology.specs.Boundary.{boundaryFrom}
-use Rattle.topology.specs.Vertex.{leaves, valence}
+use Rattle.topology.specs.Vertex.{leaves}
 use Rattle.topology.proofs.Boundary.{boundaryFrom-le}
 use Rattle.topology.proofs.Vertices.{leavers-le}
 use Rattle.refusals.specs.Refusals.{badMark, isolated, markedRing}

@@ -1,21 +1,21 @@
 -- The virtual point in fractions is the one in whole numbers, over one denominator. Assumes nothing.
 use mathlib.Core.Path.{_≡_, refl, sym, ap, subst, _∙_}
 use mathlib.Core.Bool.{Bool}
-use mathlib.Core.List.{List, [], _∷_}
+use mathlib.Core.List.{[], _∷_}
 use Prim.Native.Nat.{ℕ, _+_, _-_, _*_, _/_, _≤_, _<_}
 use native.Mathlib.Nat.{mul-assoc, mul-pos}
 use native.Mathlib.Omega.{arith}
 use lib.Dec.{eqb, eqb→eq}
-use lib.IntN.{ℤ, pos, _+ℤ_, _-ℤ_, _*ℤ_}
+use lib.IntN.{ℤ, pos, _+ℤ_, _*ℤ_}
 use Rattle.lists.proofs.Table.{below-at}
 use Rattle.integers.specs.Sum.{sum}
 use Rattle.integers.proofs.Polynomial.{var, lit, _⊞_, _⊟_, _⊠_, same}
 use Rattle.curve.specs.Weights.{Weights, kobbelt}
-use Rattle.fractions.specs.Fraction.{Fraction, _+ᶠ_, _-ᶠ_, _×ᶠ_, _/ᶠ_, Equals, Same}
-use Rattle.fractions.proofs.Laws.{equals-cong, equals-scaled, equals-add, equals-sub, equals-times, equals-over, equals-sum, equals-reduced, same-of-equals}
+use Rattle.fractions.specs.Fraction.{Fraction, Equals}
+use Rattle.fractions.proofs.Laws.{equals-cong, equals-scaled, equals-add, equals-sub, equals-times, equals-over, equals-sum, equals-reduced}
 use Rattle.rings.specs.Ring.{Periodic, virtual}
 use Rattle.rings.specs.RingWeights.{virtualZ, virtualNumerator}
-use Rattle.rings.proofs.Virtual.{virtual-next, virtual-constant, virtual-across}
+use Rattle.rings.proofs.Virtual.{virtual-constant, virtual-across}
 
 -- ---- at any valence and any weights, the ring being given over e
 module _ (w : Weights) (some : 0 < w .near) (n : ℕ) (l k : ℕ → Fraction) (L K : ℕ → ℤ) (e : ℕ) (h : 0 < n)

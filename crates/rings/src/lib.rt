@@ -1,8 +1,7 @@
 // The ring of a vertex and its virtual points: definitions in specs/, laws in proofs/; and the virtual point as a function.
 ghost use mathlib.Core.Path.{_≡_};
-ghost use Prim.Native.Nat.{_+_, _*_, _%_, _<_, _≤_, _^_};
-ghost use lib.IntN.{pos, natAbs, _+ℤ_, _*ℤ_};
-ghost use lib.ListN.{getD};
+ghost use Prim.Native.Nat.{_+_, _*_, _<_, _≤_, _^_};
+ghost use lib.IntN.{natAbs, _+ℤ_, _*ℤ_};
 ghost use Rattle.curve.specs.Weights.{kobbelt};
 ghost use Rattle.rings.specs.RingWeights.{virtualZ, weightL, weightK, entry, ringOf, BoundedFirst};
 

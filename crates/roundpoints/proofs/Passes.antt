@@ -1,5 +1,5 @@
 -- Laws of the passes over edges and faces.
-use mathlib.Core.Path.{_≡_, refl, sym, ap, ap₂, _∙_, subst}
+use mathlib.Core.Path.{_≡_, sym, ap, ap₂, _∙_, subst}
 use mathlib.Core.List.{List, _++_, append-assoc}
 use Prim.Native.Nat.{ℕ, _+_, _-_, _*_, _/_, _%_, _≤_, _<_}
 use native.Mathlib.Decide.{decLt}
@@ -22,14 +22,13 @@ use Rattle.topology.specs.Shape.{quads}
 use Rattle.topology.specs.HalfEdge.{mate, firstMet, edgeCount}
 use Rattle.topology.proofs.Mates.{count-new, count-old}
 use Rattle.refinement.specs.Refined.{refinedVertices}
-use Rattle.scheme.specs.Step.{axis, step, refinedCoordinate}
-use Rattle.schemelaws.specs.Numerators.{edgeZ, faceZ}
+use Rattle.scheme.specs.Step.{step}
+use Rattle.schemelaws.specs.Numerators.{edgeZ}
 use Rattle.schemelaws.proofs.Coordinates.{refined-face}
 use Rattle.curvepoints.specs.Exact.{ExactPoint}
-use Rattle.stencils.specs.Stencils.{faceStencilOf, faceStencilZ}
 use Rattle.stencils.proofs.Stencils.{face-stencil-value}
 use Rattle.facepoints.specs.Stored.{storedAt}
-use Rattle.facetable.specs.FaceTable.{faceCoordinate, faceCoordinates, Written}
+use Rattle.facetable.specs.FaceTable.{faceCoordinate, faceCoordinates}
 use Rattle.edgetable.specs.EdgeTable.{Small, Round, oldAxis, refinedAxis, Edges}
 use Rattle.edgetable.proofs.EdgeTable.{ready-now, points-now, marks-now, points-room, exact-room, edges-next, stored-is}
 use Rattle.roundpoints.specs.Passes.{Turn, Turned, met, passed, lent, Scratch}

@@ -6,10 +6,9 @@ use lib.IntN.{ℤ}
 use lib.ListN.{length, getD, take}
 use Rattle.rounding.specs.Rounding.{round}
 use Rattle.curve.specs.Weights.{kobbelt}
-use Rattle.search.specs.Search.{count}
 use Rattle.tables.specs.Net.{Net}
 use Rattle.topology.specs.Shape.{quads}
-use Rattle.topology.specs.HalfEdge.{mate, firstMet}
+use Rattle.topology.specs.HalfEdge.{mate}
 use Rattle.scheme.specs.Points.{edgePoint}
 use Rattle.scheme.specs.Step.{axis}
 use Rattle.walks.specs.Ready.{Ready}

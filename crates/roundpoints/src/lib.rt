@@ -1,7 +1,5 @@
 // The new points of a round on lent tables: one for each edge, then one for each face.
 ghost use mathlib.Core.Path.{_≡_};
-ghost use Prim.Native.Nat.{_*_};
-ghost use lib.ListN.{length};
 ghost use Rattle.curve.specs.Weights.{kobbelt};
 ghost use Rattle.topology.specs.Shape.{quads};
 ghost use Rattle.topology.specs.HalfEdge.{edgeCount};

@@ -16,8 +16,8 @@ use Rattle.rounding.specs.Rounding.{round}
 use Rattle.search.specs.Search.{first}
 use Rattle.search.proofs.First.{first-is}
 use Rattle.curve.specs.Weights.{Weights, kobbelt}
-use Rattle.fractions.specs.Fraction.{toWhole, Same}
-use Rattle.fractions.proofs.Laws.{toWhole-equals, equals-cong, same-of-equals}
+use Rattle.fractions.specs.Fraction.{toWhole}
+use Rattle.fractions.proofs.Laws.{toWhole-equals}
 use Rattle.rules.specs.Numerators.{innerEdgeZ}
 use Rattle.topology.specs.Shape.{quads}
 use Rattle.topology.specs.HalfEdge.{from, to, mate, edgeCount, edge}

@@ -1,15 +1,9 @@
 -- How far coordinates grow, rounded: one round and six. Paper 01: "every coordinate stays within 268,435,456".
-use mathlib.Core.Path.{refl, ap}
-use mathlib.Core.List.{List, [], _∷_}
+use mathlib.Core.List.{List}
 use Prim.Native.Nat.{ℕ, zero, suc, _+_, _*_, _/_, _%_, _≤_, _<_}
-use native.Mathlib.Nat.{mul-add, mul-left-comm, le-of-mul-le-mul-left}
 use native.Mathlib.Omega.{arith}
-use lib.IntN.{ℤ, pos, natAbs, _-ℤ_, _*ℤ_}
+use lib.IntN.{ℤ, natAbs}
 use lib.ListN.{length}
-use Rattle.integers.proofs.AbsoluteValue.{abs-mul, abs-add, abs-sub}
-use Rattle.integers.proofs.Polynomial.{var, _⊞_, _⊟_, _⊠_, same}
-use Rattle.rounding.specs.Rounding.{round}
-use Rattle.rounding.proofs.Laws.{round-near}
 use Rattle.curve.specs.Weights.{kobbelt}
 use Rattle.rules.proofs.Growth.{grown, rounded-grown, grown-kept, limit, limit-input, limit-output}
 use Rattle.tables.specs.Net.{Net}
@@ -20,7 +14,6 @@ use Rattle.scheme.specs.Step.{refinedCoordinate, axis, step, steps}
 use Rattle.schemelaws.specs.Numerators.{edgeZ, faceZ}
 use Rattle.schemelaws.specs.Nets.{Within, Refinable}
 use Rattle.schemelaws.proofs.Coordinates.{refined-cases, refined-old, refined-edge, refined-face}
-use Rattle.schemelaws.proofs.Norm.{edge-near, face-near}
 use Rattle.schemelaws.proofs.Sizes.{edge-size, face-size}
 use Rattle.schemelaws.proofs.Steps.{refinable-manifold, refinable-steps, step-length, step-coordinate}
 

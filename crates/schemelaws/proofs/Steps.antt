@@ -13,7 +13,7 @@ use Rattle.topology.specs.Shape.{quads}
 use Rattle.topology.specs.Manifold.{Manifold}
 use Rattle.topology.proofs.Shape.{quads-lawful}
 use Rattle.refusals.proofs.Manifold.{manifold-if}
-use Rattle.refinement.specs.Refined.{refinedVertices, refined, refinedMarks, verticesAfter, cornersAfter, marksAfter}
+use Rattle.refinement.specs.Refined.{refinedVertices, refined, refinedMarks, verticesAfter, cornersAfter}
 use Rattle.refinement.proofs.Corners.{length-refined}
 use Rattle.refinement.proofs.Manifold.{unrefused-refined, vertices-after-ge}
 use Rattle.refinement.proofs.Marks.{length-marks, mark-old, mark-new, no-6-refined, no-12-refined}

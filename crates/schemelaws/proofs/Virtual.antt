@@ -1,22 +1,17 @@
 -- The virtual point at the start of h at an inner vertex is made from its ring.
-use mathlib.Core.Path.{_≡_, sym, ap₂, _∙_}
+use mathlib.Core.Path.{_≡_}
 use mathlib.Core.List.{List}
-use Prim.Native.Nat.{ℕ, _+_, _<_}
+use Prim.Native.Nat.{ℕ}
 use native.Mathlib.Omega.{arith}
 use lib.IntN.{ℤ}
 use lib.ListN.{length}
-use borrow.Author.Tests.{lt-ltb, le-ltb}
-use Rattle.rings.specs.Ring.{wrap}
+use borrow.Author.Tests.{le-ltb}
 use Rattle.rings.specs.RingWeights.{virtualNumerator}
-use Rattle.rings.proofs.Periodic.{wrap-same}
 use Rattle.topology.specs.Shape.{quads}
 use Rattle.topology.specs.HalfEdge.{from}
 use Rattle.topology.specs.Boundary.{boundaryFrom}
-use Rattle.topology.specs.Vertex.{valence, Ring}
-use Rattle.topology.specs.Manifold.{Manifold}
-use Rattle.scheme.specs.Rings.{fanPlace}
-use Rattle.schemelaws.specs.Numerators.{fanNeighbourZ, fanCornerZ, ringNeighbourZ, ringCornerZ, ringVirtualZ, fanVirtualZ, virtualAtZ}
-use Rattle.schemelaws.proofs.Vertices.{ring-of, neighbours-periodic, corners-periodic}
+use Rattle.topology.specs.Vertex.{valence}
+use Rattle.schemelaws.specs.Numerators.{ringNeighbourZ, ringCornerZ, ringVirtualZ, virtualAtZ}
 
 module _ (l : List ℕ) (p : ℕ → ℤ) (h : ℕ) where
   pub virtual-inside : boundaryFrom quads l (from l h) ≡ length l → virtualAtZ l p h ≡ virtualNumerator (valence l (from l h)) (ringNeighbourZ l p h) (ringCornerZ l p h) 0

@@ -2,7 +2,7 @@
 use mathlib.Core.Path.{_≡_, refl, sym, ap, _∙_}
 use mathlib.Core.Bool.{Bool, true}
 use mathlib.Core.List.{List}
-use Prim.Native.Nat.{ℕ, zero, suc, _+_, _-_, _≤_, _<_}
+use Prim.Native.Nat.{ℕ, zero, suc, _+_, _≤_, _<_}
 use native.Mathlib.Omega.{arith}
 use lib.ListN.{length}
 use lib.Dec.{eqb}
@@ -10,11 +10,11 @@ use borrow.Author.Tests.{eq-eqb}
 use Rattle.search.specs.Search.{first, iterate}
 use Rattle.search.proofs.Iterate.{iterate-add, iterate-meets}
 use Rattle.topology.specs.Shape.{Shape}
-use Rattle.topology.specs.HalfEdge.{from, to}
+use Rattle.topology.specs.HalfEdge.{from}
 use Rattle.topology.specs.Boundary.{OnBoundary, along, back, Way, withSides, againstSides, other, step, passed}
 use Rattle.topology.specs.Manifold.{Manifold}
 use Rattle.topology.proofs.Mates.{mate-only, ends-differ}
-use Rattle.topology.proofs.Boundary.{along-on, along-from, back-on, back-to, back-along, along-back}
+use Rattle.topology.proofs.Boundary.{along-on, along-from, back-on, back-along, along-back}
 
 module _ (S : Shape) (v : ℕ) (l : List ℕ) (ok : Manifold S v l) where
   pub step-on : (w : Way) (h : ℕ) → OnBoundary S l h → OnBoundary S l (step S l w h)

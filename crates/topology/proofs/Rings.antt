@@ -20,7 +20,7 @@ use Rattle.topology.specs.Shape.{Shape}
 use Rattle.topology.specs.HalfEdge.{from, to, mate}
 use Rattle.topology.specs.Vertex.{leaves, valence, turn, turns, unturn, stops, facesMet, Walk, Ring, Fan}
 use Rattle.topology.specs.Manifold.{Oriented}
-use Rattle.topology.proofs.Mates.{mate-is, mate-only, to-prev}
+use Rattle.topology.proofs.Mates.{mate-is}
 use Rattle.topology.proofs.Turn.{turn-le, turn-inj, turn-unturn, turned-mate, turns-from, turns-listed}
 
 module _ (S : Shape) (v : ℕ) (l : List ℕ) (ok : Oriented S v l) where

@@ -5,15 +5,13 @@ use mathlib.Core.List.{List}
 use Prim.Native.Nat.{ℕ, _≤_, _<_}
 use native.Mathlib.Omega.{arith}
 use lib.ListN.{length}
-use Rattle.search.specs.Search.{first, iterate}
-use Rattle.search.proofs.First.{first-holds, first-reach}
+use Rattle.search.specs.Search.{first}
+use Rattle.search.proofs.First.{first-holds}
 use Rattle.search.proofs.Count.{count-le}
 use Rattle.search.proofs.Pigeonhole.{listed-le}
-use borrow.Author.Tests.{eq-eqb, eqb-true}
-use Rattle.topology.specs.Shape.{Shape}
+use borrow.Author.Tests.{eqb-true}
 use Rattle.topology.specs.HalfEdge.{from}
 use Rattle.topology.specs.Vertex.{leaves}
-use Rattle.topology.specs.Manifold.{Around, ring, fan, Manifold}
 
 -- where a half-edge leaves each of v vertices, there are v half-edges or more
 pub leavers-le : (v : ℕ) (l : List ℕ) → ((p : ℕ) → p < v → first (leaves l p) (length l) < length l) → v ≤ length l

@@ -1,18 +1,15 @@
 -- The half-edge before a boundary half-edge, found by turning round its start.
-use mathlib.Core.Path.{_≡_, refl, sym, ap, _∙_, subst}
+use mathlib.Core.Path.{_≡_, refl, _∙_, subst}
 use mathlib.Core.List.{List}
-use Prim.Native.Nat.{ℕ, suc, _+_, _-_, _≤_, _<_}
+use Prim.Native.Nat.{ℕ, _-_, _≤_, _<_}
 use native.Mathlib.Omega.{arith}
 use lib.ListN.{length}
-use Rattle.search.specs.Search.{iterate}
 use Rattle.topology.specs.Shape.{Shape}
-use Rattle.topology.specs.HalfEdge.{from, to, mate}
-use Rattle.topology.specs.Boundary.{OnBoundary, boundaryFrom, along, back}
-use Rattle.topology.specs.Vertex.{valence, turn, turns, unturn, Fan}
+use Rattle.topology.specs.HalfEdge.{from}
+use Rattle.topology.specs.Boundary.{OnBoundary, boundaryFrom, back}
+use Rattle.topology.specs.Vertex.{valence, turns, Fan}
 use Rattle.topology.specs.Manifold.{Manifold}
-use Rattle.topology.proofs.Turn.{unturns-turns, turned-mate}
-use Rattle.topology.proofs.Rings.{fan-last}
-use Rattle.topology.proofs.Boundary.{start-open, fan-start, fan-range, fan-boundaryInto, boundaryFrom-is, along-on, along-from}
+use Rattle.topology.proofs.Boundary.{start-open, fan-start, fan-range, fan-boundaryInto, boundaryFrom-is}
 
 module _ (S : Shape) (v : ℕ) (l : List ℕ) (ok : Manifold S v l) (h : ℕ) (o : OnBoundary S l h) where
   starts : boundaryFrom S l (from l h) ≡ h

@@ -1,12 +1,12 @@
 -- How the parts of the check fit together. Assumes nothing.
-use mathlib.Core.Path.{_≡_, refl, sym, ap, ap₂, _∙_}
-use mathlib.Core.Bool.{Bool, cond}
+use mathlib.Core.Path.{_≡_, refl, _∙_}
+use mathlib.Core.Bool.{Bool}
 use mathlib.Core.List.{List}
-use Prim.Native.Nat.{ℕ, _+_, _*_, _/_, _%_, _^_, _≤_, _<_}
+use Prim.Native.Nat.{ℕ, _*_, _/_, _%_, _^_, _≤_, _<_}
 use native.Mathlib.Nat.{one-le-pow, mul-le-mul-left}
 use native.Mathlib.Omega.{arith}
 use native.Mathlib.Decide.{decLt}
-use lib.Dec.{eqb, ltb, lit≤}
+use lib.Dec.{lit≤}
 use borrow.Author.Tests.{eq-eqb, ne-eqb}
 use lib.ListN.{length, drop}
 use Rattle.search.specs.Search.{first}
@@ -19,14 +19,13 @@ use Rattle.tables.specs.Tables.{cleared}
 use Rattle.tables.proofs.Laws.{cleared-over}
 use Rattle.lists.proofs.Parts.{drop-later}
 use Rattle.verdict.specs.Call.{Room, Call, finalFaces}
-use Rattle.verdict.specs.Verdict.{Verdict, accepted, refused, orElse, afterCall, limitsVerdict, callVerdict, vertexVerdict, adjacencyVerdict, facesVerdict, netVerdict, verdict, workAfter}
+use Rattle.verdict.specs.Verdict.{Verdict, accepted, refused, limitsVerdict, callVerdict, vertexVerdict, adjacencyVerdict, facesVerdict, netVerdict, verdict}
 use Rattle.verdict.proofs.Accepted.{WithinLimits, at-hit, at-pass, last-pass}
 use Rattle.limits.specs.Answer.{limitsOf}
-use Rattle.adjacency.specs.Chains.{InRange, Tables, MateTable}
+use Rattle.adjacency.specs.Chains.{InRange, Tables}
 use Rattle.adjacency.proofs.Chains.{in-range-le}
-use Rattle.validate.specs.declared.Answer.{Answer}
 use Rattle.validate.specs.declared.Answer.the-variants.{Accepted, Refused}
-use Rattle.validate.specs.Answer.{verdictOf, Checked, found, checked}
+use Rattle.validate.specs.Answer.{found, checked}
 use Rattle.validate.specs.Examine.{Lent, Joined, Examined}
 
 -- no vertex is isolated, so there are no more than corners

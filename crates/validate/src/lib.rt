@@ -1,5 +1,4 @@
 // The check that finds the first refusal of a call, or none.
-ghost use Prim.Native.Nat.{ℕ};
 ghost use mathlib.Core.Path.{_≡_};
 ghost use lib.ListN.{length};
 ghost use Rattle.tables.specs.Net.{Net};

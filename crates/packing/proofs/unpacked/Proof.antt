@@ -1,6 +1,6 @@
 -- `unpacked` meets its contract: no step leaves its range. Assumes nothing.
 use mathlib.Core.Path.{_≡_, refl, subst⁻¹}
-use Prim.Native.Nat.{ℕ, _+_, _*_}
+use Prim.Native.Nat.{_+_, _*_}
 use native.Mathlib.Omega.{arith}
 use lib.IntN.{ℤ, pos, _-ℤ_}
 use mir.Syntax.{w64}

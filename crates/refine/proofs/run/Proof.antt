@@ -1,5 +1,4 @@
 -- `refine::run` meets its contract: copies, rounds, clearing. Assumes nothing.
-use mathlib.Core.Path.{_≡_}
 use native.Mathlib.Omega.{arith}
 use Rattle.tables.specs.Net.{Net}
 use Rattle.outcome.specs.Outcome.{Lent}

@@ -1,8 +1,8 @@
 -- `validate::check` meets its contract: the limits, the net, and one clearing at the end. Assumes nothing.
-use mathlib.Core.Path.{_≡_, refl, sym, ap, _∙_}
-use Prim.Native.Nat.{ℕ, _*_, _/_, _≤_, _<_}
+use mathlib.Core.Path.{_≡_, refl, ap, _∙_}
+use Prim.Native.Nat.{ℕ, _*_, _/_}
 use native.Mathlib.Omega.{arith}
-use lib.ListN.{length, drop}
+use lib.ListN.{length}
 use Rattle.tables.specs.Tables.{cleared}
 use Rattle.tables.specs.Net.{Net}
 use Rattle.verdict.specs.Call.{Room}

@@ -1,10 +1,10 @@
 -- `validate::examine_net` meets its contract: the tests in their order. Assumes nothing.
-use mathlib.Core.Path.{_≡_, refl, sym, ap, _∙_}
-use Prim.Native.Nat.{ℕ, _*_, _/_, _≤_, _<_}
+use mathlib.Core.Path.{refl, ap, _∙_}
+use Prim.Native.Nat.{_/_}
 use native.Mathlib.Omega.{arith}
-use lib.ListN.{length, drop}
-use Rattle.verdict.specs.Verdict.{Verdict, accepted, refused, orElse, refusedAt, vertexVerdict, adjacencyVerdict, facesVerdict, netVerdict}
-use Rattle.refusals.specs.Refusals.{badMark, badCorner, isolated, repeatedSide}
+use lib.ListN.{length}
+use Rattle.verdict.specs.Verdict.{refused, netVerdict}
+use Rattle.refusals.specs.Refusals.{badMark, badCorner}
 use Rattle.topology.specs.Shape.{quads}
 use Rattle.verdict.proofs.Accepted.{at-hit, at-pass}
 use Rattle.adjacency.proofs.Chains.{in-range-if}
