@@ -17,7 +17,7 @@ use Rattle.topology.specs.Shape.{Shape, quads}
 use Rattle.topology.specs.HalfEdge.{from, mate}
 use Rattle.topology.specs.Vertex.{leaves}
 use Rattle.refusals.specs.Refusals.{badCorner}
-use Rattle.adjacency.specs.Chains.{chainFrom, InRange, Tables, Chained, MateTable, SameOutside}
+use Rattle.adjacency.specs.Chains.{chainFrom, CornersBelow, Tables, Chained, MateTable, SameOutside}
 
 -- ---- the first half-edge from i on that leaves v
 
@@ -144,13 +144,13 @@ tables-length l w w′ e t = record { fours = t .fours; small = t .small; corner
 
 -- ---- corners in range
 
-pub in-range-le : (u v : ℕ) (l : List ℕ) → u ≤ v → InRange u l → InRange v l
-in-range-le u v l h r = record { below = λ g a. omega (arith, r .below g a) }
+pub corners-below-le : (u v : ℕ) (l : List ℕ) → u ≤ v → CornersBelow u l → CornersBelow v l
+corners-below-le u v l h r = record { below = λ g a. omega (arith, r .below g a) }
 
 -- 7 holds nowhere
-pub in-range-if : (S : Shape) (v : ℕ) (l : List ℕ) → first (badCorner S v l) (length l) ≡ length l → InRange v l
+pub corners-below-if : (S : Shape) (v : ℕ) (l : List ℕ) → first (badCorner S v l) (length l) ≡ length l → CornersBelow v l
 unfolding badCorner from
-in-range-if S v l e = record { below = λ g h. leb-false v (getD l g 0) (or-left (leb v (getD l g 0)) _ (first-before (badCorner S v l) (length l) g (omega arith))) }
+corners-below-if S v l e = record { below = λ g h. leb-false v (getD l g 0) (or-left (leb v (getD l g 0)) _ (first-before (badCorner S v l) (length l) g (omega arith))) }
 
 -- ---- stores from a up to e
 

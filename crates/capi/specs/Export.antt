@@ -31,7 +31,7 @@ abbrev pub report : Result → Report
 report (refinedTo v f) = record { reason = 0; place = 0; vertices = v; faces = f }
 report (refusedWith r p) = record { reason = r; place = p; vertices = 0; faces = 0 }
 
--- the numbers handed out, and every lent table as the function returns
+-- the numbers handed out, and the caller's tables as the function returns
 pub record Delivered : Type 0 where
   pub report : Report
   pub vertices : List ℤ

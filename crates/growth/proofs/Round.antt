@@ -1,14 +1,13 @@
 -- What callers need of a round: that its tables meet what the functions require, and what the tables hold afterwards.
-use mathlib.Core.Path.{_≡_, refl, ap, _∙_}
+use mathlib.Core.Path.{_≡_, refl, _∙_}
 use mathlib.Core.Bool.{cond}
 use mathlib.Core.List.{List, _++_}
 use Prim.Native.Nat.{ℕ, _+_, _*_, _≤_, _<_}
 use native.Mathlib.Decide.{decLt}
 use native.Mathlib.Omega.{arith}
-use lib.ListN.{length, getD, drop, List·getD-append}
+use lib.ListN.{length, getD, drop}
 use lib.Dec.{ltb}
 use borrow.Author.Tests.{le-ltb}
-use lib.Seq.{drop-at}
 use Rattle.lists.proofs.Tabulate.{tabulate-cong}
 use Rattle.topology.specs.Shape.{Shape, quads}
 use Rattle.topology.specs.Manifold.{Oriented}
@@ -17,18 +16,9 @@ use Rattle.refinement.specs.Refined.{refinedVertices, refinedMarks}
 use Rattle.refinement.specs.Mates.{mates}
 use Rattle.adjacency.specs.Chains.{MateTable}
 use Rattle.tables.specs.Tables.{filled}
+use Rattle.tables.proofs.Laws.{filled-at, drop-filled}
 use Rattle.growth.specs.Growth.{edges, Numbered, extended}
 use Rattle.growth.proofs.Edges.{length-both, both-mate, both-edge}
-
--- ---- a table filled from the front
-module _ {A : Type 0} (s d : List A) where
-  pub filled-rest : (n : ℕ) → length s ≡ n → drop n (filled s d) ≡ drop n d
-  unfolding filled
-  filled-rest n e = drop-at s (drop (length s) d) n e ∙ ap (λ (k : ℕ). drop k d) e
-
-  pub filled-at : (z : A) (k : ℕ) → k < length s → getD (filled s d) k z ≡ getD s k z
-  unfolding filled
-  filled-at z k h = List·getD-append s (drop (length s) d) z k h
 
 -- ---- before the round
 
@@ -51,7 +41,7 @@ module _ (l w : List ℕ) where
   numbered-edges = record { numbers = λ g b. let e = length-both l in filled-at (mates quads l ++ edges quads l) w 0 (length l + g) (omega arith) ∙ both-edge l g b }
 
   pub numbered-rest : drop (2 * length l) (filled (mates quads l ++ edges quads l) w) ≡ drop (2 * length l) w
-  numbered-rest = filled-rest (mates quads l ++ edges quads l) w (2 * length l) (length-both l)
+  numbered-rest = drop-filled (mates quads l ++ edges quads l) w (2 * length l) (omega (arith, length-both l))
 
 -- only the numbers from n up to 2n count
 pub numbered-cong : (l w w′ : List ℕ) → ((i : ℕ) → length l ≤ i → i < 2 * length l → getD w′ i 0 ≡ getD w i 0) → Numbered l w (length l) → Numbered l w′ (length l)

@@ -15,11 +15,11 @@ use Rattle.outcome.specs.SharedSegment.{Request, AcceptedFor, SharedSegm
 use Rattle.outcome.proofs.Accepted.{accepted-verdict, accepted-result, accepted-after}
 
 -- the call for fewer rounds
-fewer : (a : Request) → AcceptedFor a (a .rounds) → (k : ℕ) → k ≤ a .rounds → verdict (callOf k (a .net) (a .lent)) ≡ accepted
-fewer a h k l = accepted-fewer (callOf (a .rounds) (a .net) (a .lent)) k l (accepted-verdict a (a .rounds) h)
+fewer : (a : Request) → AcceptedFor a (a .rounds) → (k : ℕ) → k ≤ a .rounds → verdict (callOf k (a .net) (a .buffers)) ≡ accepted
+fewer a h k l = accepted-fewer (callOf (a .rounds) (a .net) (a .buffers)) k l (accepted-verdict a (a .rounds) h)
 
 admissible : (a : Request) → AcceptedFor a (a .rounds) → Admissible (a .net)
-admissible a h = accepted-manifold (callOf (a .rounds) (a .net) (a .lent)) (accepted-verdict a (a .rounds) h)
+admissible a h = accepted-manifold (callOf (a .rounds) (a .net) (a .buffers)) (accepted-verdict a (a .rounds) h)
 
 pub shared-segments : SharedSegments
 shared-segments = record {

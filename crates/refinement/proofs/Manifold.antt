@@ -78,6 +78,7 @@ unrefused-refined S v l w u = unrefused-if quads (refinedVertices S v l) (refine
 
 -- ---- counts
 
+-- four refined faces for each face
 pub quads-refined : (v : ℕ) (l : List ℕ) → length l % 4 ≡ 0 → quads .faces (length (refined quads v l)) ≡ 4 * quads .faces (length l)
 unfolding quads
 quads-refined v l w = let n = length-refined quads v l in omega arith
@@ -94,12 +95,12 @@ module _ (v : ℕ) (l : List ℕ) where
       let p : 4 ^ suc k ≡ 4 * 4 ^ k = omega arith in
       rw p (omega arith)
 
-  -- "After k rounds there are F × 4^k faces"
   pub whole-after : length l % 4 ≡ 0 → (k : ℕ) → length (cornersAfter k v l) % 4 ≡ 0
   unfolding cornersAfter
   whole-after w zero = w
   whole-after w (suc k) = let e = length-refined quads (verticesAfter k v l) (cornersAfter k v l) in omega arith
 
+  -- "After k rounds there are F × 4^k faces"
   pub faces-after : length l % 4 ≡ 0 → (k : ℕ) → quads .faces (length (cornersAfter k v l)) ≡ 4 ^ k * quads .faces (length l)
   unfolding cornersAfter
   faces-after w zero = omega arith

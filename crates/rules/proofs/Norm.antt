@@ -48,10 +48,6 @@ module _ (w : Weights) where
     pub single-near : (p q p′ q′ : ℤ) → natAbs (p -ℤ p′) ≤ d → natAbs (q -ℤ q′) ≤ d → natAbs (singleEdge w p q -ℤ singleEdge w p′ q′) ≤ (5 * tame .quarter) * d
     single-near p q p′ q′ a b = subst (λ (z : ℤ). natAbs z ≤ (5 * tame .quarter) * d) (single-sub p q p′ q′) (single-size w tame (p -ℤ p′) (q -ℤ q′) d a b)
 
--- paper 01's weights: 20 d over 16
-abbrev pub tame : Tame kobbelt
-tame = record { quarter = 4; some = omega arith; apart = refl; small = omega arith }
-
 pub interior-constant : (c : ℤ) → interior kobbelt c c c c ≡ pos 16 *ℤ c
 interior-constant c = same (lit (pos 9) ⊠ (var 0 ⊞ var 0) ⊟ lit (pos 1) ⊠ (var 0 ⊞ var 0)) (lit (pos 16) ⊠ var 0) (c ∷ []) refl
 

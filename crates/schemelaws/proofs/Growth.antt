@@ -40,7 +40,7 @@ step-within m ok B t = record {
 }
 
 module _ (m : Net) where
-  -- from drawn coordinates
+  -- from input coordinates
   steps-limit : Refinable m → Within 1048576 (m .vertices) → (k : ℕ) → Within (limit k) (steps kobbelt k m .vertices)
   unfolding steps limit
   steps-limit ok t zero = t

@@ -1,4 +1,4 @@
--- The net after a round and after k rounds: its tables and their lengths, that drawn points and marks stay, and that it is refinable again.
+-- The net after a round and after k rounds: its tables and their lengths, that input points and marks stay, and that it is refinable again.
 use mathlib.Core.Path.{_≡_, refl, sym, ap, ap₂, _∙_}
 use mathlib.Core.List.{List}
 use Prim.Native.Nat.{ℕ, zero, suc, _+_, _*_, _/_, _%_, _≤_, _<_}
@@ -94,7 +94,7 @@ module _ (w : Weights) (m : Net) where
     steps-faces zero = refl
     steps-faces (suc k) = step-faces w (steps w k m) ∙ ap₂ (refined quads) (steps-count k) (steps-faces k)
 
-  -- the drawn points and marks stay, and later marks are 0
+  -- the input points and marks stay, and later marks are 0
   pub steps-kept : (k i : ℕ) → i < 3 * length (m .marks) → getD (steps w k m .vertices) i (pos 0) ≡ getD (m .vertices) i (pos 0)
   unfolding steps
   steps-kept zero i b = refl

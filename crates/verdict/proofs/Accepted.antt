@@ -21,7 +21,9 @@ use Rattle.verdict.specs.Verdict.{Verdict, accepted, refused, orElse, re
 use Rattle.verdict.proofs.Examples
 
 -- ---- the chain
-never : {A : Type 0} (r p : ℕ) → refused r p ≡ accepted → A
+
+-- a refusal is no acceptance
+pub never : {A : Type 0} (r p : ℕ) → refused r p ≡ accepted → A
 never r p e = let z : _≡_ {A = ℕ} 0 1 = cc in absurd (omega arith)
 
 pub or-both : (u v : Verdict) → orElse u v ≡ accepted → (u ≡ accepted) × (v ≡ accepted)

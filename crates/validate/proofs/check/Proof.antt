@@ -8,7 +8,7 @@ use Rattle.tables.specs.Net.{Net}
 use Rattle.verdict.specs.Call.{Room}
 use Rattle.verdict.specs.Verdict.{accepted, limitsVerdict}
 use Rattle.verdict.proofs.Accepted.{WithinLimits, within-if}
-use Rattle.validate.proofs.Laws.{refused-call, passed, examined-call, lent}
+use Rattle.validate.proofs.Laws.{refused-call, passed, examined-call, check-tables}
 use borrow.Author.Needs.{needs}
 use Rattle.validate.proofs.check.Statement.{statement}
 use Rattle.validate.proofs.check.Tie as tie
@@ -38,7 +38,7 @@ returns c = let s = c .before .before .before .before .before in refused-call (s
 
 examine-net-requires : tie.Need-examine-net-requires
 unfolding room
-examine-net-requires c κs = let s = c .before .before .before .before .before .before in lent (s .args .rounds) _ _ (s .args .faces .now) (s .args .work .now) (within (c .before)) refl
+examine-net-requires c κs = let s = c .before .before .before .before .before .before in check-tables (s .args .rounds) _ _ (s .args .faces .now) (s .args .work .now) (within (c .before)) refl
 
 pow4-requires : tie.Need-pow4-requires
 pow4-requires c κs = within (c .before .before .before .before) .few

@@ -7,9 +7,8 @@ use Rattle.verdict.specs.Verdict.{refused, adjacencyVerdict}
 use Rattle.refusals.specs.Refusals.{repeatedSide}
 use Rattle.topology.specs.Shape.{quads}
 use Rattle.lists.proofs.Parts.{drop-later}
-use Rattle.verdict.proofs.Accepted.{at-hit, at-pass}
+use Rattle.verdict.proofs.Accepted.{never, at-hit, at-pass}
 use Rattle.adjacency.proofs.Chains.{tables-length}
-use Rattle.validate.proofs.Laws.{never}
 use borrow.Author.Needs.{needs}
 use Rattle.validate.proofs.examine_adjacency.Statement.{statement}
 use Rattle.validate.proofs.examine_adjacency.Tie as tie

@@ -4,8 +4,8 @@ use native.Mathlib.Omega.{arith}
 use lib.ListN.{length}
 use Rattle.verdict.specs.Verdict.{facesVerdict}
 use Rattle.refusals.specs.Refusals.{isolated}
-use Rattle.verdict.proofs.Accepted.{at-hit, at-pass}
-use Rattle.validate.proofs.Laws.{never, all, joined, tables, empty-faces, lonely-vertex}
+use Rattle.verdict.proofs.Accepted.{never, at-hit, at-pass}
+use Rattle.validate.proofs.Laws.{all, joined, tables, empty-faces, lonely-vertex}
 use borrow.Author.Needs.{needs}
 use Rattle.validate.proofs.examine_faces.Statement.{statement}
 use Rattle.validate.proofs.examine_faces.Tie as tie
