@@ -157,7 +157,14 @@ pub extern "C" fn gedrovit_sizes_for(
     let corners = 4 * g;
     let work = 16 * g;
     let reason = limits::limits(
-        rounds, vertices, faces, marks, points, corners, corners, work,
+        rounds,
+        vertices,
+        faces,
+        marks,
+        points,
+        corners,
+        corners,
+        work,
     );
     if reason != 0 {
         return Sizes {
