@@ -6,9 +6,9 @@ use Prim.Native.Nat.{ℕ, _+_, _-_, _*_, _≤_, _<_}
 use native.Mathlib.Nat.{le-refl, sub-zero}
 use native.Mathlib.Decide.{ℕ-discrete}
 use native.Mathlib.Omega.{arith}
-use lib.ListN.{length, getD, set, take, drop, length-set, length-take}
+use lib.ListN.{length, getD, set, take, drop, length-set}
 use lib.Dec.{leb}
-use lib.Seq.{getD-set-same, getD-set-other, getD-take, getD-drop, take-set-le, drop-set-lt, take-take, drop-drop}
+use lib.Seq.{getD-set-same, getD-set-other, getD-drop, take-set-le, drop-set-lt, take-take, drop-drop}
 use borrow.Author.Tests.{eq-eqb, eqb-true, leb-false}
 use Rattle.search.specs.Search.{first}
 use Rattle.search.proofs.Tests.{refuted, clash, or-left}
@@ -16,9 +16,8 @@ use Rattle.search.proofs.First.{from-le, from-ge, from-holds, from-before, from
 use Rattle.topology.specs.Shape.{Shape, quads}
 use Rattle.topology.specs.HalfEdge.{from, mate}
 use Rattle.topology.specs.Vertex.{leaves}
-use Rattle.topology.specs.Manifold.{Oriented}
 use Rattle.refusals.specs.Refusals.{badCorner}
-use Rattle.adjacency.specs.Chains.{chainFrom, InRange, Tables, Chained, MateTable, Adjacency, SameOutside}
+use Rattle.adjacency.specs.Chains.{chainFrom, CornersBelow, Tables, Chained, MateTable, SameOutside}
 
 -- ---- the first half-edge from i on that leaves v
 
@@ -131,54 +130,27 @@ chained-cong l w w′ h f c = record {
 pub mates-cong : (l w w′ : List ℕ) → ((i : ℕ) → i < length l → getD w′ i 0 ≡ getD w i 0) → MateTable l w → MateTable l w′
 mates-cong l w w′ f m = record { mates = λ g a. f g a ∙ m .mates g a }
 
-same-front : (m : ℕ) (w w′ : List ℕ) → take m w′ ≡ take m w → (i : ℕ) → i < m → getD w′ i 0 ≡ getD w i 0
-same-front m w w′ e i h = sym (getD-take m w′ i 0 h) ∙ ap (λ (t : List ℕ). getD t i 0) e ∙ getD-take m w i 0 h
-
 same-rest : (m : ℕ) (w w′ : List ℕ) → drop m w′ ≡ drop m w → (i : ℕ) → m ≤ i → getD w′ i 0 ≡ getD w i 0
 same-rest m w w′ e i h =
     let d : m + (i - m) ≡ i = omega arith in
     subst (λ (k : ℕ). getD w′ k 0 ≡ getD w k 0) d (sym (getD-drop m w′ (i - m) 0) ∙ ap (λ (t : List ℕ). getD t (i - m) 0) e ∙ getD-drop m w (i - m) 0)
 
--- only the first three numbers per half-edge count
-pub chained-take : (l w w′ : List ℕ) (h : ℕ) → take (3 * length l) w′ ≡ take (3 * length l) w → Chained l w h → Chained l w′ h
-chained-take l w w′ h e c = chained-cong l w w′ h (λ i a b. same-front (3 * length l) w w′ e i b) c
-
-pub mates-take : (l w w′ : List ℕ) → take (3 * length l) w′ ≡ take (3 * length l) w → MateTable l w → MateTable l w′
-mates-take l w w′ e m = mates-cong l w w′ (λ i a. same-front (3 * length l) w w′ e i (omega arith)) m
-
 -- the first n do not count for the chains
 pub chained-drop : (l w w′ : List ℕ) (h : ℕ) → drop (length l) w′ ≡ drop (length l) w → Chained l w h → Chained l w′ h
 chained-drop l w w′ h e c = chained-cong l w w′ h (λ i a b. same-rest (length l) w w′ e i a) c
 
-pub chained-set : (l w : List ℕ) (h g x : ℕ) → g < length l → Chained l w h → Chained l (set w g x) h
-chained-set l w h g x b c = chained-drop l w (set w g x) h (drop-set-lt (length l) w g x b) c
-
 pub tables-length : (l w w′ : List ℕ) → length w′ ≡ length w → Tables l w → Tables l w′
 tables-length l w w′ e t = record { fours = t .fours; small = t .small; corners = t .corners; room = omega (arith, t .room) }
 
-pub tables-take : (l w w′ : List ℕ) → take (3 * length l) w′ ≡ take (3 * length l) w → Tables l w → Tables l w′
-tables-take l w w′ e t = record { fours = t .fours; small = t .small; corners = t .corners; room = omega (arith, t .room, simp length-take at (ap length e)) }
-
-pub adjacency-take : (l w w′ : List ℕ) → take (3 * length l) w′ ≡ take (3 * length l) w → Adjacency l w → Adjacency l w′
-adjacency-take l w w′ e a = record {
-  tables = tables-take l w w′ e (a .tables);
-  chains = chained-take l w w′ 0 e (a .chains);
-  mated = mates-take l w w′ e (a .mated);
-}
-
 -- ---- corners in range
 
-pub in-range-le : (u v : ℕ) (l : List ℕ) → u ≤ v → InRange u l → InRange v l
-in-range-le u v l h r = record { below = λ g a. omega (arith, r .below g a) }
+pub corners-below-le : (u v : ℕ) (l : List ℕ) → u ≤ v → CornersBelow u l → CornersBelow v l
+corners-below-le u v l h r = record { below = λ g a. omega (arith, r .below g a) }
 
 -- 7 holds nowhere
-pub in-range-if : (S : Shape) (v : ℕ) (l : List ℕ) → first (badCorner S v l) (length l) ≡ length l → InRange v l
+pub corners-below-if : (S : Shape) (v : ℕ) (l : List ℕ) → first (badCorner S v l) (length l) ≡ length l → CornersBelow v l
 unfolding badCorner from
-in-range-if S v l e = record { below = λ g h. leb-false v (getD l g 0) (or-left (leb v (getD l g 0)) _ (first-before (badCorner S v l) (length l) g (omega arith))) }
-
-pub in-range-oriented : (S : Shape) (v : ℕ) (l : List ℕ) → Oriented S v l → InRange v l
-unfolding from
-in-range-oriented S v l ok = record { below = ok .below }
+corners-below-if S v l e = record { below = λ g h. leb-false v (getD l g 0) (or-left (leb v (getD l g 0)) _ (first-before (badCorner S v l) (length l) g (omega arith))) }
 
 -- ---- stores from a up to e
 

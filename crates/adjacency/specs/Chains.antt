@@ -1,4 +1,4 @@
--- The half-edges that leave each vertex, chained in the order of their numbers, and the mates, in a table w that is lent. With n half-edges the mate of g
+-- The half-edges that leave each vertex, chained in the order of their numbers, and the mates, in the caller's table w. With n half-edges the mate of g
 -- is at g, the head of the chain of v at n + v, and the half-edge after g in its chain at 2n + g; n stands for 'none'.
 use mathlib.Core.Path.{_≡_}
 use mathlib.Core.Bool.{Bool, _&&_}
@@ -20,14 +20,14 @@ unfoldable pub chainFrom : List ℕ → ℕ → ℕ → ℕ
 chainFrom l v i = firstFrom (leaves l v) (length l - i) i
 
 -- every corner is below v
-pub record InRange (v : ℕ) (l : List ℕ) : Type 0 where
+pub record CornersBelow (v : ℕ) (l : List ℕ) : Type 0 where
   pub below : (g : ℕ) → g < length l → getD l g 0 < v
 
 -- corners l by fours, each below their number, and a table w with room for three numbers per half-edge
 pub record Tables (l w : List ℕ) : Type 0 where
   pub fours : length l % 4 ≡ 0
   pub small : length l < 2 ^ 24
-  pub corners : InRange (length l) l
+  pub corners : CornersBelow (length l) l
   pub room : 3 * length l ≤ length w
 
 -- the chains of the half-edges from h on

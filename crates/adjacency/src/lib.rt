@@ -1,6 +1,6 @@
-// The chains of the half-edges that leave each vertex, and the mates, built in a work table that is lent; searches along the chains.
+// The chains of the half-edges that leave each vertex, and the mates, built in the caller's work table; searches along the chains.
 ghost use mathlib.Core.Path.{_≡_};
-ghost use Prim.Native.Nat.{_+_, _*_, _^_, _<_};
+ghost use Prim.Native.Nat.{_*_, _^_, _<_};
 ghost use lib.ListN.{length, drop};
 ghost use Rattle.search.specs.Search.{first};
 ghost use Rattle.topology.specs.Shape.{quads};

@@ -1,4 +1,4 @@
-// Exact points at the boundary on lent tables: points on boundary edges, over 7,257,600.
+// Exact points at the boundary on the caller's tables: points on boundary edges, over 7,257,600.
 ghost use mathlib.Core.Path.{_≡_};
 ghost use Prim.Native.Nat.{ℕ, _<_};
 ghost use lib.ListN.{length};

@@ -6,10 +6,9 @@ use native.Mathlib.Decide.{decLt}
 use native.Mathlib.Omega.{arith}
 use borrow.Author.Tests.{lt-ltb, eq-eqb, ne-eqb}
 use Rattle.verdict.specs.Call.{Room}
-use Rattle.verdict.specs.Verdict.{Verdict, accepted, refused, limitsVerdict, roomVerdict}
+use Rattle.verdict.specs.Verdict.{accepted, refused, limitsVerdict, roomVerdict}
 use Rattle.verdict.proofs.Accepted.{within-if}
 use Rattle.limits.specs.Answer.{limitsOf}
-use Rattle.capi.specs.declared.Sizes.{Sizes}
 use Rattle.capi.specs.Export.{needed, sizesBy, sizes}
 
 -- 64 faces can be refined six times, 65 cannot; the empty net needs no tables; marks too few

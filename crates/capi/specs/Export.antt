@@ -2,8 +2,6 @@
 use mathlib.Core.List.{List}
 use Prim.Native.Nat.{ℕ, _*_, _/_, _^_}
 use lib.IntN.{ℤ}
-use Rattle.validate.specs.declared.Answer.{Answer}
-use Rattle.validate.specs.declared.Answer.the-variants.{Accepted, Refused}
 use Rattle.validate.specs.Answer.{Checked}
 use Rattle.verdict.specs.Call.{Room}
 use Rattle.verdict.specs.Verdict.{Verdict, accepted, refused, limitsVerdict}
@@ -33,7 +31,7 @@ abbrev pub report : Result → Report
 report (refinedTo v f) = record { reason = 0; place = 0; vertices = v; faces = f }
 report (refusedWith r p) = record { reason = r; place = p; vertices = 0; faces = 0 }
 
--- the numbers handed out, and every lent table as the function returns
+-- the numbers handed out, and the caller's tables as the function returns
 pub record Delivered : Type 0 where
   pub report : Report
   pub vertices : List ℤ

@@ -5,7 +5,7 @@ ghost use lib.ListN.{length};
 ghost use Rattle.tables.specs.Net.{Net};
 ghost use Rattle.verdict.specs.Call.{Call};
 ghost use Rattle.validate.specs.Answer.{verdictOf, checked};
-ghost use Rattle.outcome.specs.Outcome.{Lent, outcome};
+ghost use Rattle.outcome.specs.Outcome.{outcome};
 ghost use Rattle.refine.specs.Answer.{resultOf};
 ghost use Rattle.capi.specs.Export.{finding, handed, exported, report, delivered, exportedOutcome, sizes};
 use validate::Answer;

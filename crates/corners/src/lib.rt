@@ -1,4 +1,4 @@
-// The vertices that a half-edge meets in its face, read from a lent table of corners.
+// The vertices that a half-edge meets in its face, read from the caller's table of corners.
 ghost use mathlib.Core.Path.{_≡_};
 ghost use Prim.Native.Nat.{_^_, _<_};
 ghost use lib.ListN.{length};

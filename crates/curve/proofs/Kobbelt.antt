@@ -1,17 +1,14 @@
 -- The curve at paper 01's own weights. Assumes nothing.
 use mathlib.Core.Path.{_≡_, refl}
 use mathlib.Core.List.{List, [], _∷_}
-use Prim.Native.Nat.{ℕ, _*_, _^_, _≤_, _<_}
+use Prim.Native.Nat.{ℕ}
 use native.Mathlib.Omega.{arith}
-use lib.IntN.{ℤ, pos, natAbs, _+ℤ_, _-ℤ_, _*ℤ_}
-use lib.ListN.{length, getD}
+use lib.IntN.{ℤ, pos, _+ℤ_, _-ℤ_, _*ℤ_}
 use Rattle.integers.proofs.Polynomial.{var, lit, _⊞_, _⊟_, _⊠_, same}
 use Rattle.curve.specs.Weights.{kobbelt, interior, endEdge, singleEdge}
-use Rattle.curve.specs.Curve.{Kind, Point, curve, exactCurve}
-use Rattle.curve.specs.Near.{Near, Each, reach, CloseToExact}
-use Rattle.curve.specs.Range.{InRange}
-use Rattle.curve.proofs.Related.{all-at, all-length}
-use Rattle.curve.proofs.Distance.{Tame, interior-size, end-size, single-size, distance-tame}
+use Rattle.curve.specs.Curve.{Kind, Point}
+use Rattle.curve.specs.Near.{CloseToExact}
+use Rattle.curve.proofs.Distance.{Tame, distance-tame}
 
 -- ---- the three rules as 01 writes them, over 16
 pub interior-is : (p q r s : ℤ) → interior kobbelt p q r s ≡ pos 9 *ℤ (q +ℤ r) -ℤ p -ℤ s
@@ -26,30 +23,18 @@ pub single-is : (p q : ℤ) → singleEdge kobbelt p q ≡ pos 8 *ℤ (p +ℤ q)
 single-is p q = refl
 
 -- ---- the distance
-tame : Tame kobbelt
+abbrev pub tame : Tame kobbelt
 tame = record { quarter = 4; some = omega arith; apart = refl; small = omega arith }
 
 pub distance : (c : Kind) (k : ℕ) (l : List Point) → CloseToExact c k l
-unfolding tame
 distance c k l = distance-tame kobbelt tame c k l
 
--- the same by places: as many points, and each coordinate of each
-pub distance-length : (c : Kind) (k : ℕ) (l : List Point) → length (curve kobbelt c k l) ≡ length (exactCurve kobbelt c k l)
-distance-length c k l = all-length (distance c k l)
+-- ---- a rule on equal numbers
+pub interior-read : (n x y z u x′ y′ z′ u′ : ℤ) → n ≡ interior kobbelt x y z u → x ≡ x′ → y ≡ y′ → z ≡ z′ → u ≡ u′ → n ≡ interior kobbelt x′ y′ z′ u′
+interior-read n x y z u x′ y′ z′ u′ e a b c d = cc
 
-pub distance-at : (c : Kind) (k : ℕ) (l : List Point) (i : ℕ) (o : Point) → i < length (curve kobbelt c k l)
-    → Each (Near (16 ^ k) (reach k)) (getD (curve kobbelt c k l) i o) (getD (exactCurve kobbelt c k l) i o)
-distance-at c k l i o h = all-at (distance c k l) i o o h
+pub end-read : (n x y z x′ y′ z′ : ℤ) → n ≡ endEdge kobbelt x y z → x ≡ x′ → y ≡ y′ → z ≡ z′ → n ≡ endEdge kobbelt x′ y′ z′
+end-read n x y z x′ y′ z′ e a b c = cc
 
--- ---- the numerators of points in range
-pub interior-bound : (p q r s : ℤ) → InRange p × InRange q × InRange r × InRange s → natAbs (interior kobbelt p q r s) ≤ 20 * 268435456
-unfolding tame
-interior-bound p q r s h = interior-size kobbelt tame p q r s 268435456 (h .0) (h .1) (h .2) (h .3)
-
-pub end-bound : (p q r : ℤ) → InRange p × InRange q × InRange r → natAbs (endEdge kobbelt p q r) ≤ 20 * 268435456
-unfolding tame
-end-bound p q r h = end-size kobbelt tame p q r 268435456 (h .0) (h .1) (h .2)
-
-pub single-bound : (p q : ℤ) → InRange p × InRange q → natAbs (singleEdge kobbelt p q) ≤ 20 * 268435456
-unfolding tame
-single-bound p q h = single-size kobbelt tame p q 268435456 (h .0) (h .1)
+pub single-read : (n x y x′ y′ : ℤ) → n ≡ singleEdge kobbelt x y → x ≡ x′ → y ≡ y′ → n ≡ singleEdge kobbelt x′ y′
+single-read n x y x′ y′ e a b = cc

@@ -21,9 +21,9 @@ pub data All₂ {A B : Type 0} (R : A → B → Type 0) : List A → List B → 
   cons : {a : A} {b : B} {l : List A} {m : List B} → R a b → All₂ R l m → All₂ R (a ∷ l) (b ∷ m)
 
 -- Paper 01: "at that scale the seam distance reads 2 × (20^k - 16^k)"
-abbrev pub reach : ℕ → ℕ
-reach k = 2 * (20 ^ k - 16 ^ k)
+abbrev pub seamDistance : ℕ → ℕ
+seamDistance k = 2 * (20 ^ k - 16 ^ k)
 
 -- at each coordinate: the rounded curve of l after k rounds, times 16^k, lies within the seam distance of the exact one
 abbrev pub CloseToExact : Kind → ℕ → List Point → Type 0
-CloseToExact c k l = All₂ (Each (Near (16 ^ k) (reach k))) (curve kobbelt c k l) (exactCurve kobbelt c k l)
+CloseToExact c k l = All₂ (Each (Near (16 ^ k) (seamDistance k))) (curve kobbelt c k l) (exactCurve kobbelt c k l)

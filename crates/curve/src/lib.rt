@@ -1,10 +1,6 @@
 // The four-point curve: definitions in specs/, laws in proofs/; and its three rules as functions.
-ghost use Prim.Native.Nat.{_*_, _≤_};
 ghost use mathlib.Core.Path.{_≡_};
-ghost use lib.IntN.{natAbs};
-ghost use Rattle.rounding.specs.Rounding.{round};
 ghost use Rattle.curve.specs.Weights.{kobbelt, interior, endEdge, singleEdge};
-ghost use Rattle.curve.specs.Curve.{rounded};
 ghost use Rattle.curve.specs.Range.{InRange};
 
 // The exact point between q and r of consecutive p, q, r, s, times 16.
@@ -29,33 +25,4 @@ pub fn single_numerator(p: i32, q: i32) -> i64
     ensures { λ n. ⌜ n ≡ singleEdge kobbelt p q ⌝ }
 {
     8 * (p as i64 + q as i64)
-}
-
-// The whole coordinate of such a point, rounded once.
-pub fn rounded_point(n: i64) -> i32
-    requires { ⌜ natAbs n ≤ 20 * 268435456 ⌝ }
-    ensures { λ z. ⌜ z ≡ round n 16 ⌝ }
-{
-    rounding::round_div(n, 16) as i32
-}
-
-pub fn interior_point(p: i32, q: i32, r: i32, s: i32) -> i32
-    requires { ⌜ InRange p × InRange q × InRange r × InRange s ⌝ }
-    ensures { λ z. ⌜ z ≡ rounded kobbelt .inside p q r s ⌝ }
-{
-    rounded_point(interior_numerator(p, q, r, s))
-}
-
-pub fn end_point(p: i32, q: i32, r: i32) -> i32
-    requires { ⌜ InRange p × InRange q × InRange r ⌝ }
-    ensures { λ z. ⌜ z ≡ rounded kobbelt .end p q r ⌝ }
-{
-    rounded_point(end_numerator(p, q, r))
-}
-
-pub fn single_point(p: i32, q: i32) -> i32
-    requires { ⌜ InRange p × InRange q ⌝ }
-    ensures { λ z. ⌜ z ≡ rounded kobbelt .single p q ⌝ }
-{
-    rounded_point(single_numerator(p, q))
 }

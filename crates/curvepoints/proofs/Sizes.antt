@@ -12,10 +12,10 @@ use Rattle.integers.proofs.Range.{fits-abs}
 use Rattle.curve.specs.Weights.{kobbelt, interior, endEdge, singleEdge}
 use Rattle.curve.specs.Range.{InRange}
 use Rattle.curve.proofs.Distance.{interior-size, end-size, single-size}
+use Rattle.curve.proofs.Kobbelt.{tame}
 use Rattle.fractions.specs.Fraction.{Fraction, whole}
 use Rattle.rules.specs.Rules.{interiorPoint, endPoint, midpoint}
 use Rattle.rules.proofs.Ties.{equals-boundary-interior, equals-boundary-end, equals-boundary-single}
-use Rattle.rules.proofs.Norm.{tame}
 use Rattle.scheme.specs.Step.{axis}
 use Rattle.curvepoints.specs.Exact.{OnAxes, ExactEdge, ExactPoint}
 
@@ -63,16 +63,6 @@ module _ (t : List ℤ) (b : Bounded 67108864 t) (a : ℕ) where
     value = equals-boundary-single (axis t a p) (axis t a q);
     small = scaled-bound (singleEdge kobbelt (axis t a p) (axis t a q)) (single-bound p q);
   }
-
--- a rule on what was read
-pub interior-read : (n x y z u x′ y′ z′ u′ : ℤ) → n ≡ interior kobbelt x y z u → x ≡ x′ → y ≡ y′ → z ≡ z′ → u ≡ u′ → n ≡ interior kobbelt x′ y′ z′ u′
-interior-read n x y z u x′ y′ z′ u′ e a b c d = cc
-
-pub end-read : (n x y z x′ y′ z′ : ℤ) → n ≡ endEdge kobbelt x y z → x ≡ x′ → y ≡ y′ → z ≡ z′ → n ≡ endEdge kobbelt x′ y′ z′
-end-read n x y z x′ y′ z′ e a b c = cc
-
-pub single-read : (n x y x′ y′ : ℤ) → n ≡ singleEdge kobbelt x y → x ≡ x′ → y ≡ y′ → n ≡ singleEdge kobbelt x′ y′
-single-read n x y x′ y′ e a b = cc
 
 -- an exact point from its axes
 pub on-axes : (f : ℕ → ℤ) (g : ℕ → Fraction) (x y z : ℤ) → OnAxes f x y z → ((a : ℕ) → ExactEdge (g a) (f a)) → ExactPoint g x y z

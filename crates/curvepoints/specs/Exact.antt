@@ -1,4 +1,4 @@
--- The lent tables of points and marks during a round, and exact points in whole numbers over the fixed denominators.
+-- The caller's tables of points and marks during a round, and exact points in whole numbers over the fixed denominators.
 use mathlib.Core.Path.{_≡_}
 use mathlib.Core.List.{List}
 use Prim.Native.Nat.{ℕ, _+_, _*_, _≤_, _<_}

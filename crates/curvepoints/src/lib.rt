@@ -1,4 +1,4 @@
-// Exact points by the three rules of the curve, over 7,257,600, on lent tables of points.
+// Exact points by the three rules of the curve, over 7,257,600, on the caller's table of points.
 ghost use mathlib.Core.Path.{_≡_};
 ghost use Prim.Native.Nat.{ℕ, _<_};
 ghost use lib.IntN.{pos, _*ℤ_};

@@ -1,19 +1,16 @@
 -- Laws of the pass over the edges.
-use mathlib.Core.Path.{_≡_, refl, sym, ap, ap₂, _∙_, subst}
-use mathlib.Core.Logic.{_⊎_, inl, inr, ⊎-elim}
-use mathlib.Core.List.{List, [], _∷_, _++_}
-use Prim.Native.Nat.{ℕ, zero, suc, _+_, _-_, _*_, _/_, _%_, _^_, _≤_, _<_}
-use native.Mathlib.Nat.{eq-of-mul-eq-mul-left}
+use mathlib.Core.Path.{_≡_, refl, sym, ap, _∙_, subst}
+use mathlib.Core.Logic.{inl, inr, ⊎-elim}
+use mathlib.Core.List.{List, _++_}
+use Prim.Native.Nat.{ℕ, zero, suc, _+_, _*_, _/_, _%_, _≤_, _<_}
 use native.Mathlib.Decide.{decLt}
 use native.Mathlib.Omega.{arith}
-use lib.IntN.{ℤ, pos, natAbs, _*ℤ_, *ℤ-comm}
+use lib.IntN.{ℤ, pos, natAbs, *ℤ-comm}
 use lib.ListN.{length, getD, set, take, drop}
 use lib.Seq.{take-set-le, getD-take, length-take-le}
 use mir.Syntax.{w32}
 use mir.Val.{SFits}
 use Rattle.integers.specs.Bounded.{Bounded}
-use Rattle.integers.proofs.Linear.{at}
-use Rattle.integers.proofs.Order.{up, dn, up-mul, dn-mul, eq-by}
 use Rattle.integers.proofs.Range.{fits-abs}
 use Rattle.lists.specs.Tabulate.{tabulate}
 use Rattle.lists.proofs.Tabulate.{length-tabulate, getD-tabulate}
@@ -22,27 +19,24 @@ use Rattle.rounding.specs.Rounding.{round}
 use Rattle.rounding.proofs.Laws.{round-size}
 use Rattle.curve.specs.Weights.{kobbelt}
 use Rattle.fractions.specs.Fraction.{Fraction, Equals}
+use Rattle.fractions.proofs.Laws.{cancel}
 use Rattle.search.specs.Search.{count}
 use Rattle.topology.specs.Shape.{quads}
-use Rattle.topology.specs.HalfEdge.{from, mate, firstMet, edge, edgeCount}
-use Rattle.topology.specs.Manifold.{Manifold}
+use Rattle.topology.specs.HalfEdge.{mate, firstMet, edge, edgeCount}
 use Rattle.topology.proofs.Mates.{edge-lt, edges-le, edge-new, edge-same}
-use Rattle.refinement.specs.Refined.{refinedVertices}
 use Rattle.scheme.specs.Points.{edgePoint}
 use Rattle.scheme.specs.Step.{axis, refinedCoordinate}
 use Rattle.schemelaws.specs.Numerators.{edgeZ}
 use Rattle.schemelaws.proofs.Ties.{equals-edge}
 use Rattle.schemelaws.proofs.Coordinates.{edge-either, refined-old, refined-edge}
 use Rattle.schemelaws.proofs.Sizes.{edge-size}
-use Rattle.adjacency.specs.Chains.{MateTable}
 use Rattle.walks.specs.Ready.{Ready}
-use Rattle.growth.specs.Growth.{Numbered}
-use Rattle.curvepoints.specs.Exact.{InTable, Points, Marks, ExactEdge, ExactPoint}
-use Rattle.packing.specs.Packed.{packedAt, putThree, Holds}
+use Rattle.curvepoints.specs.Exact.{Points, Marks, ExactEdge, ExactPoint}
+use Rattle.packing.specs.Packed.{putThree, Holds}
 use Rattle.packing.proofs.Packed.{holds-value, holds-high, length-put-three, put-three-other, put-three-kept, put-three-first, put-three-second, put-three-third}
 use Rattle.stencils.specs.Stencils.{Indexed, place}
 use Rattle.stencils.proofs.Stencils.{place-end}
-use Rattle.facepoints.specs.Stored.{storedAt, Readable}
+use Rattle.facepoints.specs.Stored.{storedAt}
 use Rattle.facetable.specs.FaceTable.{Loaded, putPoint, Written}
 use Rattle.facetable.proofs.FaceTable.{written-next}
 use Rattle.edgetable.specs.EdgeTable.{Round, oldAxis, refinedAxis, Edges}
@@ -55,11 +49,7 @@ put-point-is t t′ i x y z x′ y′ z′ e a b c = cc
 
 -- ---- a fraction has one numerator over a denominator
 numerator-one : (x : Fraction) (y z : ℤ) (d : ℕ) → Equals x y d → Equals x z d → y ≡ z
-numerator-one x y z d a b =
-    let e : pos (x .den) *ℤ y ≡ pos (x .den) *ℤ z = *ℤ-comm (pos (x .den)) y ∙ sym (a .value) ∙ b .value ∙ *ℤ-comm z (pos (x .den)) in
-    let p : up y ≡ up z = eq-of-mul-eq-mul-left (x .den) (a .some) (up y) (up z) (sym (up-mul (x .den) y) ∙ ap up e ∙ up-mul (x .den) z) in
-    let q : dn y ≡ dn z = eq-of-mul-eq-mul-left (x .den) (a .some) (dn y) (dn z) (sym (dn-mul (x .den) y) ∙ ap dn e ∙ dn-mul (x .den) z) in
-    eq-by (at 0) (at 1) (y ∷ z ∷ []) (omega arith)
+numerator-one x y z d a b = cancel (x .den) y z (a .some) (*ℤ-comm (pos (x .den)) y ∙ sym (a .value) ∙ b .value ∙ *ℤ-comm z (pos (x .den)))
 
 -- ---- stores behind the old points
 take-point : (v i : ℕ) (t : List ℤ) (x y z : ℤ) → v ≤ i → take (3 * v) (putPoint t i x y z) ≡ take (3 * v) t

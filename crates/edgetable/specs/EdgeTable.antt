@@ -7,7 +7,7 @@ use lib.ListN.{length, getD, take}
 use Rattle.integers.specs.Bounded.{Bounded}
 use Rattle.curve.specs.Weights.{kobbelt}
 use Rattle.topology.specs.Shape.{quads}
-use Rattle.topology.specs.HalfEdge.{edge, edgeCount}
+use Rattle.topology.specs.HalfEdge.{edge}
 use Rattle.topology.specs.Manifold.{Manifold}
 use Rattle.refinement.specs.Refined.{refinedVertices}
 use Rattle.scheme.specs.Step.{axis, refinedCoordinate}

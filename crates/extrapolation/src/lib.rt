@@ -1,4 +1,4 @@
-// Extrapolated points of boundary vertices, over 60, on lent tables.
+// Extrapolated points of boundary vertices, over 60, on the caller's tables.
 ghost use mathlib.Core.Path.{_≡_};
 ghost use Prim.Native.Nat.{_*_, _≤_, _<_};
 ghost use lib.IntN.{pos, natAbs, _-ℤ_, _*ℤ_};

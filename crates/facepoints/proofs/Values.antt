@@ -1,7 +1,7 @@
 -- Sizes of the values of stencils, and stencils by cases.
 use mathlib.Core.Path.{_≡_, sym, ap, ap₂, _∙_, subst}
 use mathlib.Core.List.{List}
-use Prim.Native.Nat.{ℕ, _+_, _*_, _^_, _≤_, _<_}
+use Prim.Native.Nat.{ℕ, _*_, _^_, _≤_, _<_}
 use native.Mathlib.Omega.{arith}
 use lib.IntN.{ℤ, pos, natAbs, _+ℤ_, _*ℤ_}
 use mir.Syntax.{w32, w64}
@@ -12,7 +12,7 @@ use Rattle.rounding.specs.Rounding.{round}
 use Rattle.rounding.proofs.Laws.{round-size}
 use Rattle.curve.specs.Weights.{kobbelt, interior, endEdge, singleEdge}
 use Rattle.curve.proofs.Distance.{interior-size, end-size, single-size}
-use Rattle.rules.proofs.Norm.{tame}
+use Rattle.curve.proofs.Kobbelt.{tame}
 use Rattle.stencils.specs.declared.Stencil.{Stencil}
 use Rattle.stencils.specs.declared.Stencil.the-variants.{Interior, End, Single}
 use Rattle.stencils.specs.declared.FaceStencil.{FaceStencil}
@@ -23,16 +23,6 @@ use Rattle.facepoints.specs.Stored.{storedAt, Readable}
 -- what was read is below 2^58
 pub read-lt : (w : List ℕ) (a i : ℕ) → Readable w a i → (r : ℤ) → r ≡ storedAt w a i → natAbs r < 2 ^ 58
 read-lt w a i k r e = let s = k .small in let d = ap natAbs e in omega arith
-
--- a rule on what was read
-pub interior-read : (n x y z u x′ y′ z′ u′ : ℤ) → n ≡ interior kobbelt x y z u → x ≡ x′ → y ≡ y′ → z ≡ z′ → u ≡ u′ → n ≡ interior kobbelt x′ y′ z′ u′
-interior-read n x y z u x′ y′ z′ u′ e a b c d = cc
-
-pub end-read : (n x y z x′ y′ z′ : ℤ) → n ≡ endEdge kobbelt x y z → x ≡ x′ → y ≡ y′ → z ≡ z′ → n ≡ endEdge kobbelt x′ y′ z′
-end-read n x y z x′ y′ z′ e a b c = cc
-
-pub single-read : (n x y x′ y′ : ℤ) → n ≡ singleEdge kobbelt x y → x ≡ x′ → y ≡ y′ → n ≡ singleEdge kobbelt x′ y′
-single-read n x y x′ y′ e a b = cc
 
 -- ---- by cases
 module _ (P : ℕ → Type 0) where

@@ -11,7 +11,7 @@ use Rattle.rounding.specs.Rounding.{round}
 use Rattle.topology.specs.Shape.{quads}
 use Rattle.tables.specs.Tables.{filled}
 use Rattle.stencils.specs.declared.FaceStencil.{FaceStencil}
-use Rattle.stencils.specs.Stencils.{place, faceStencilOf, faceStencilZ, OnFaceStencil}
+use Rattle.stencils.specs.Stencils.{faceStencilOf, faceStencilZ, OnFaceStencil}
 use Rattle.stencils.proofs.Stencils.{on-face-stencil}
 use Rattle.facepoints.specs.Stored.{storedAt, Readable}
 use Rattle.facetable.specs.FaceTable.{Loaded, faceCoordinate, faceCoordinates, putPoint, Written}

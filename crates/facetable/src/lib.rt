@@ -1,4 +1,4 @@
-// The coordinates of all face points of a round, written to a lent table.
+// The coordinates of all face points of a round, written to the caller's table.
 ghost use mathlib.Core.Path.{_≡_};
 ghost use Prim.Native.Nat.{_+_, _*_, _≤_, _<_};
 ghost use lib.ListN.{length};

@@ -1,7 +1,7 @@
 -- Rules of `Equals`: each operation keeps the denominator d, so a rule written in fractions is tied to whole numbers over one denominator by following its
 -- own words. Rounding depends on the value alone. Assumes nothing.
 use mathlib.Core.Path.{_≡_, refl, sym, ap, ap₂, _∙_}
-use mathlib.Core.List.{List, [], _∷_}
+use mathlib.Core.List.{[], _∷_}
 use Prim.Native.Nat.{ℕ, zero, suc, _*_, _<_}
 use native.Mathlib.Nat.{mul-pos, eq-of-mul-eq-mul-left}
 use native.Mathlib.Omega.{arith}
@@ -88,7 +88,7 @@ equals-sum zero f g d h = record { some = omega arith; value = zero-*ℤ (pos d)
 equals-sum (suc n) f g d h = equals-add (equals-sum n f g d (λ i k. h i (omega arith))) (h n (omega arith))
 
 -- ---- a common factor goes out
-cancel : (d : ℕ) (a b : ℤ) → 0 < d → pos d *ℤ a ≡ pos d *ℤ b → a ≡ b
+pub cancel : (d : ℕ) (a b : ℤ) → 0 < d → pos d *ℤ a ≡ pos d *ℤ b → a ≡ b
 cancel d a b h e =
     let p : up a ≡ up b = eq-of-mul-eq-mul-left d h (up a) (up b) (sym (up-mul d a) ∙ ap up e ∙ up-mul d b) in
     let q : dn a ≡ dn b = eq-of-mul-eq-mul-left d h (dn a) (dn b) (sym (dn-mul d a) ∙ ap dn e ∙ dn-mul d b) in

@@ -1,44 +1,24 @@
 -- What callers need of a round: that its tables meet what the functions require, and what the tables hold afterwards.
-use mathlib.Core.Path.{_≡_, refl, ap, _∙_}
+use mathlib.Core.Path.{_≡_, refl, _∙_}
 use mathlib.Core.Bool.{cond}
 use mathlib.Core.List.{List, _++_}
-use Prim.Native.Nat.{ℕ, _+_, _-_, _*_, _%_, _≤_, _<_}
+use Prim.Native.Nat.{ℕ, _+_, _*_, _≤_, _<_}
 use native.Mathlib.Decide.{decLt}
 use native.Mathlib.Omega.{arith}
-use lib.ListN.{length, getD, take, drop, length-append, length-drop, List·getD-append}
+use lib.ListN.{length, getD, drop}
 use lib.Dec.{ltb}
 use borrow.Author.Tests.{le-ltb}
-use lib.Seq.{take-at, drop-at}
 use Rattle.lists.proofs.Tabulate.{tabulate-cong}
-use Rattle.topology.specs.Shape.{Shape, Lawful, quads}
+use Rattle.topology.specs.Shape.{Shape, quads}
 use Rattle.topology.specs.Manifold.{Oriented}
 use Rattle.topology.proofs.Mates.{edges-le}
-use Rattle.refinement.specs.Refined.{refinedVertices, refined, refinedMarks}
+use Rattle.refinement.specs.Refined.{refinedVertices, refinedMarks}
 use Rattle.refinement.specs.Mates.{mates}
-use Rattle.refinement.proofs.Corners.{length-refined}
 use Rattle.adjacency.specs.Chains.{MateTable}
 use Rattle.tables.specs.Tables.{filled}
+use Rattle.tables.proofs.Laws.{filled-at, drop-filled}
 use Rattle.growth.specs.Growth.{edges, Numbered, extended}
 use Rattle.growth.proofs.Edges.{length-both, both-mate, both-edge}
-use Rattle.growth.proofs.Marks.{length-extended}
-
--- ---- a table filled from the front
-module _ {A : Type 0} (s d : List A) where
-  pub length-filled : length s ≤ length d → length (filled s d) ≡ length d
-  unfolding filled
-  length-filled h = let a = length-append s (drop (length s) d) in let b = length-drop (length s) d in omega arith
-
-  pub filled-front : (n : ℕ) → length s ≡ n → take n (filled s d) ≡ s
-  unfolding filled
-  filled-front n e = take-at s (drop (length s) d) n e
-
-  pub filled-rest : (n : ℕ) → length s ≡ n → drop n (filled s d) ≡ drop n d
-  unfolding filled
-  filled-rest n e = drop-at s (drop (length s) d) n e ∙ ap (λ (k : ℕ). drop k d) e
-
-  pub filled-at : (z : A) (k : ℕ) → k < length s → getD (filled s d) k z ≡ getD s k z
-  unfolding filled
-  filled-at z k h = List·getD-append s (drop (length s) d) z k h
 
 -- ---- before the round
 
@@ -51,14 +31,6 @@ oriented-wider v u l h ok = record {
   once = ok .once;
 }
 
-pub by-fours : (n : ℕ) → Lawful quads n → n % 4 ≡ 0
-unfolding quads
-by-fours n ok = go (decLt (n - n % 4) n)
-  where
-    go : Dec (n - n % 4 < n) → n % 4 ≡ 0
-    go (yes b) = let a = ok .prev-lt (n - n % 4) b in omega arith
-    go (no b) = omega arith
-
 -- ---- edge numbers
 
 module _ (l w : List ℕ) where
@@ -69,19 +41,11 @@ module _ (l w : List ℕ) where
   numbered-edges = record { numbers = λ g b. let e = length-both l in filled-at (mates quads l ++ edges quads l) w 0 (length l + g) (omega arith) ∙ both-edge l g b }
 
   pub numbered-rest : drop (2 * length l) (filled (mates quads l ++ edges quads l) w) ≡ drop (2 * length l) w
-  numbered-rest = filled-rest (mates quads l ++ edges quads l) w (2 * length l) (length-both l)
+  numbered-rest = drop-filled (mates quads l ++ edges quads l) w (2 * length l) (omega (arith, length-both l))
 
 -- only the numbers from n up to 2n count
 pub numbered-cong : (l w w′ : List ℕ) → ((i : ℕ) → length l ≤ i → i < 2 * length l → getD w′ i 0 ≡ getD w i 0) → Numbered l w (length l) → Numbered l w′ (length l)
 numbered-cong l w w′ f x = record { numbers = λ g b. f (length l + g) (omega arith) (omega arith) ∙ x .numbers g b }
-
--- ---- faces
-
-pub faces-front : (v : ℕ) (l c : List ℕ) → take (4 * length l) (filled (refined quads v l) c) ≡ refined quads v l
-faces-front v l c = filled-front (refined quads v l) c (4 * length l) (length-refined quads v l)
-
-pub faces-rest : (v : ℕ) (l c : List ℕ) → drop (4 * length l) (filled (refined quads v l) c) ≡ drop (4 * length l) c
-faces-rest v l c = filled-rest (refined quads v l) c (4 * length l) (length-refined quads v l)
 
 -- ---- marks
 
@@ -93,12 +57,6 @@ vertices-refined v l h = let e = edges-le quads l in omega arith
 pub marks-refined : (S : Shape) (v : ℕ) (l marks : List ℕ) → extended v (refinedVertices S v l) marks ≡ refinedMarks S v l marks
 unfolding extended refinedMarks
 marks-refined S v l marks = refl
-
-pub marks-front : (v count : ℕ) (marks : List ℕ) → take count (filled (extended v count marks) marks) ≡ extended v count marks
-marks-front v count marks = filled-front (extended v count marks) marks count (length-extended v count marks)
-
-pub marks-rest : (v count : ℕ) (marks : List ℕ) → drop count (filled (extended v count marks) marks) ≡ drop count marks
-marks-rest v count marks = filled-rest (extended v count marks) marks count (length-extended v count marks)
 
 -- only the first v marks count
 pub marks-cong : (S : Shape) (v : ℕ) (l m m′ : List ℕ) → ((p : ℕ) → p < v → getD m p 0 ≡ getD m′ p 0) → refinedMarks S v l m ≡ refinedMarks S v l m′

@@ -1,4 +1,4 @@
--- One round's topology in lent tables. A net of n half-edges has its corners at the front of one table; another table w has the mate of h at h and
+-- One round's topology in the caller's tables. A net of n half-edges has its corners at the front of one table; another table w has the mate of h at h and
 -- the number of its edge at n + h. The refined corners take the place of the old ones.
 use mathlib.Core.Path.{_≡_}
 use mathlib.Core.Bool.{cond}

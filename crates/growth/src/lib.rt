@@ -1,4 +1,4 @@
-// One round's topology on lent tables, in place: edge numbers, refined faces and refined marks.
+// One round's topology on the caller's tables, in place: edge numbers, refined faces and refined marks.
 ghost use mathlib.Core.Path.{_≡_};
 ghost use Prim.Native.Nat.{ℕ, _+_, _*_, _/_, _%_, _≤_, _<_};
 ghost use mathlib.Core.List.{_++_};

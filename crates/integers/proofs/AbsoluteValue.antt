@@ -2,12 +2,12 @@
 -- and what a signed test tells of it. Assumes nothing.
 use mathlib.Core.Path.{_≡_, refl}
 use mathlib.Core.Bool.{Bool, true, false, cond}
-use Prim.Native.Nat.{ℕ, zero, suc, _+_, _*_, _-_, _/_, _%_, _≤_, _<_}
+use Prim.Native.Nat.{ℕ, zero, suc, _+_, _*_, _-_, _/_, _≤_, _<_}
 use native.Mathlib.Nat.{le-refl}
 use native.Mathlib.Omega.{arith}
 use lib.Dec.{T, ltb, ltb→lt}
 use lib.IntN.{ℤ, pos, negsuc, negℤ, subℕ, _+ℤ_, _-ℤ_, _*ℤ_, natAbs}
-use lib.Signed.{quotZ, remZ, ltZ}
+use lib.Signed.{quotZ, ltZ}
 use borrow.Author.Tests.{ltb-true, ltb-false}
 
 pub abs-neg : (z : ℤ) → natAbs (negℤ z) ≡ natAbs z
@@ -41,10 +41,6 @@ abs-mul (negsuc a) (negsuc b) = refl
 pub abs-quot : (z : ℤ) (d : ℕ) → natAbs (quotZ z (pos d)) ≡ natAbs z / d
 abs-quot (pos a) d = refl
 abs-quot (negsuc a) d = abs-neg (pos (suc a / d))
-
-pub abs-rem : (z : ℤ) (d : ℕ) → natAbs (remZ z (pos d)) ≡ natAbs z % d
-abs-rem (pos a) d = refl
-abs-rem (negsuc a) d = abs-neg (pos (suc a % d))
 
 -- ---- the tests z < -(m + 1), m < z, and neither
 pub below-abs : (z : ℤ) (m : ℕ) → ltZ z (negsuc m) ≡ true → suc m < natAbs z

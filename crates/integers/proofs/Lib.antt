@@ -6,4 +6,3 @@ pub mod Linear
 pub mod Polynomial
 pub mod Order
 pub mod Sum
-pub mod Bounded

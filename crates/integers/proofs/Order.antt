@@ -1,19 +1,17 @@
 -- `omega` for the integers. An integer is `up z - dn z`, two naturals that `omega` takes as unknowns. The value of a linear expression is `hi - lo` of it,
 -- two sums of naturals that compute. So an equation, an order or a bound of linear expressions over ℤ is one over ℕ:
---     eq-by, le-by, lt-by, abs-by, fits-by     the statement over ℤ from the one over ℕ, which is `omega`'s
---     of-eq, of-le, of-lt, of-abs, of-fits     a hypothesis over ℤ as one over ℕ, for `omega`'s list
+--     eq-by, le-by, abs-by     the statement over ℤ from the one over ℕ, which is `omega`'s
+--     of-abs                   a hypothesis over ℤ as one over ℕ, for `omega`'s list
 -- Assumes nothing.
 use mathlib.Core.Path.{_≡_, refl, sym, ap, _∙_, subst}
 use mathlib.Core.Bool.{Bool, true, false, not, cond}
 use mathlib.Core.List.{List, [], _∷_}
-use Prim.Native.Nat.{ℕ, zero, suc, _+_, _*_, _-_, _^_, _≤_, _<_}
+use Prim.Native.Nat.{ℕ, zero, suc, _+_, _*_, _-_, _≤_, _<_}
 use native.Mathlib.Nat.{mul-add, mul-zero}
 use native.Mathlib.Omega.{arith}
-use lib.Dec.{T, ltb, ltb→lt, nltb→le, lt→ltb, le→leb, leb→le}
+use lib.Dec.{T, ltb, ltb→lt, nltb→le, le→leb}
 use lib.IntN.{ℤ, pos, negsuc, negℤ, subℕ, _+ℤ_, _-ℤ_, _*ℤ_, natAbs}
-use lib.Signed.{_≤ℤ_, _<ℤ_, leZ, ltZ}
-use mir.Syntax.{Width}
-use mir.Val.{SFits, hbits}
+use lib.Signed.{_≤ℤ_, leZ}
 use Rattle.integers.proofs.Linear.{Linear, at, whole, _⊕_, _⊖_, _⊙_, value, nth}
 use Rattle.integers.proofs.Ring.{neg-*ℤ}
 
@@ -124,27 +122,6 @@ le-core (pos a) (negsuc b) h = absurd (omega arith)
 le-core (negsuc a) (pos b) h = tt
 le-core (negsuc a) (negsuc b) h = le→leb b a (omega arith)
 
-le-back : (x y : ℤ) → T (leZ x y) → up x + dn y ≤ up y + dn x
-unfolding up dn
-le-back (pos a) (pos b) h = let k = leb→le a b h in omega arith
-le-back (pos a) (negsuc b) h = absurd h
-le-back (negsuc a) (pos b) h = omega arith
-le-back (negsuc a) (negsuc b) h = let k = leb→le b a h in omega arith
-
-lt-core : (x y : ℤ) → up x + dn y < up y + dn x → T (ltZ x y)
-unfolding up dn
-lt-core (pos a) (pos b) h = lt→ltb a b (omega arith)
-lt-core (pos a) (negsuc b) h = absurd (omega arith)
-lt-core (negsuc a) (pos b) h = tt
-lt-core (negsuc a) (negsuc b) h = lt→ltb b a (omega arith)
-
-lt-back : (x y : ℤ) → T (ltZ x y) → up x + dn y < up y + dn x
-unfolding up dn
-lt-back (pos a) (pos b) h = let k = ltb→lt a b h in omega arith
-lt-back (pos a) (negsuc b) h = absurd h
-lt-back (negsuc a) (pos b) h = omega arith
-lt-back (negsuc a) (negsuc b) h = let k = ltb→lt b a h in omega arith
-
 abs-core : (z : ℤ) (B : ℕ) → up z ≤ dn z + B → dn z ≤ up z + B → natAbs z ≤ B
 unfolding up dn
 abs-core (pos n) B h k = omega arith
@@ -159,38 +136,11 @@ of-abs (negsuc n) = omega arith
 pub eq-by : (e f : Linear) (ρ : List ℤ) → hi e ρ + lo f ρ ≡ hi f ρ + lo e ρ → value e ρ ≡ value f ρ
 eq-by e f ρ h = let p = diff e ρ in let q = diff f ρ in eq-core (value e ρ) (value f ρ) (omega arith)
 
-pub of-eq : (e f : Linear) (ρ : List ℤ) → value e ρ ≡ value f ρ → hi e ρ + lo f ρ ≡ hi f ρ + lo e ρ
-of-eq e f ρ h =
-    let p = diff e ρ in let q = diff f ρ in let a = ap up h in let b = ap dn h in omega arith
-
 pub le-by : (e f : Linear) (ρ : List ℤ) → hi e ρ + lo f ρ ≤ hi f ρ + lo e ρ → value e ρ ≤ℤ value f ρ
 le-by e f ρ h = let p = diff e ρ in let q = diff f ρ in record { le = le-core (value e ρ) (value f ρ) (omega arith) }
 
-pub of-le : (e f : Linear) (ρ : List ℤ) → value e ρ ≤ℤ value f ρ → hi e ρ + lo f ρ ≤ hi f ρ + lo e ρ
-of-le e f ρ h = let p = diff e ρ in let q = diff f ρ in let k = le-back (value e ρ) (value f ρ) (h .le) in omega arith
-
-pub lt-by : (e f : Linear) (ρ : List ℤ) → hi e ρ + lo f ρ < hi f ρ + lo e ρ → value e ρ <ℤ value f ρ
-lt-by e f ρ h = let p = diff e ρ in let q = diff f ρ in record { lt = lt-core (value e ρ) (value f ρ) (omega arith) }
-
-pub of-lt : (e f : Linear) (ρ : List ℤ) → value e ρ <ℤ value f ρ → hi e ρ + lo f ρ < hi f ρ + lo e ρ
-of-lt e f ρ h = let p = diff e ρ in let q = diff f ρ in let k = lt-back (value e ρ) (value f ρ) (h .lt) in omega arith
-
 pub abs-by : (e : Linear) (ρ : List ℤ) (B : ℕ) → hi e ρ ≤ lo e ρ + B → lo e ρ ≤ hi e ρ + B → natAbs (value e ρ) ≤ B
 abs-by e ρ B h k = let p = diff e ρ in abs-core (value e ρ) B (omega arith) (omega arith)
-
--- the exact range of a signed width, and what it tells
-fits-core : (w : Width) (z : ℤ) → up z < dn z + 2 ^ hbits w → dn z ≤ up z + 2 ^ hbits w → SFits w z
-unfolding up dn
-fits-core w (pos n) h k = record { sfits = omega arith }
-fits-core w (negsuc n) h k = record { sfits = omega arith }
-
-pub fits-by : (w : Width) (e : Linear) (ρ : List ℤ) → hi e ρ < lo e ρ + 2 ^ hbits w → lo e ρ ≤ hi e ρ + 2 ^ hbits w → SFits w (value e ρ)
-fits-by w e ρ h k = let p = diff e ρ in fits-core w (value e ρ) (omega arith) (omega arith)
-
-pub of-fits : (w : Width) (z : ℤ) → SFits w z → (up z < dn z + 2 ^ hbits w) × (dn z ≤ up z + 2 ^ hbits w)
-unfolding up dn
-of-fits w (pos n) f = let h = f .sfits in (omega arith, omega arith)
-of-fits w (negsuc n) f = let h = f .sfits in (omega arith, omega arith)
 
 -- two integers with no distance between them are one
 pub eq-of-abs : (x y : ℤ) → natAbs (x -ℤ y) ≡ 0 → x ≡ y

@@ -1,7 +1,7 @@
 -- The ring laws of ℤ that the library leaves out: the product distributes over the sum, and is associative. Assumes nothing.
 use mathlib.Core.Path.{_≡_, sym, ap, ap₂, _∙_, subst}
 use Prim.Native.Nat.{ℕ, zero, suc}
-use lib.IntN.{ℤ, pos, negℤ, sucℤ, predℤ, _+ℤ_, _-ℤ_, _*ℤ_, ℤ-ind, +ℤ-assoc, +ℤ-comm, +ℤ-idl, +ℤ-idr, +ℤ-one, -ℤ-one, sucℤ-*ℤ, predℤ-*ℤ, zero-*ℤ, *ℤ-comm, negℤ-+ℤ, +ℤ-invr, +ℤ-invl, one, *ℤ-one}
+use lib.IntN.{ℤ, pos, negℤ, sucℤ, predℤ, _+ℤ_, _*ℤ_, ℤ-ind, +ℤ-assoc, +ℤ-comm, +ℤ-idl, +ℤ-idr, +ℤ-one, -ℤ-one, sucℤ-*ℤ, predℤ-*ℤ, zero-*ℤ, *ℤ-comm, negℤ-+ℤ, +ℤ-invr, +ℤ-invl, one, *ℤ-one}
 
 pub +ℤ-left : (a b c : ℤ) → a +ℤ (b +ℤ c) ≡ b +ℤ (a +ℤ c)
 +ℤ-left a b c = sym (+ℤ-assoc a b c) ∙ ap (λ (t : ℤ). t +ℤ c) (+ℤ-comm a b) ∙ +ℤ-assoc b a c

@@ -1,4 +1,4 @@
--- A part of a list that was lent and came back with its front written over; and a list known by its elements. Assumes nothing.
+-- A list of which a part had its front written over; and a list known by its elements. Assumes nothing.
 use mathlib.Core.Path.{_≡_, sym, ap, _∙_}
 use mathlib.Core.List.{List, [], _++_, append-nil}
 use Prim.Native.Nat.{ℕ, _+_, _-_, _≤_, _<_}

@@ -1,12 +1,10 @@
 -- The loop that copies a list f over the front of a list o, one store a turn: after i turns the list is `take i f ++ drop i o`. Assumes nothing.
 use mathlib.Core.Path.{_≡_, refl, ap}
 use mathlib.Core.List.{List, [], _∷_, _++_}
-use Prim.Native.Nat.{ℕ, zero, suc, _+_, _≤_, _<_}
+use Prim.Native.Nat.{ℕ, zero, suc, _+_, _<_}
 use native.Mathlib.Nat.{not-suc-le-zero, le-of-suc-le-suc}
 use native.Mathlib.Numerals.{add-one}
-use native.Mathlib.Omega.{arith}
-use lib.ListN.{length, getD, set, take, drop, length-append, length-drop}
-use lib.Seq.{length-take-le, take-all}
+use lib.ListN.{length, getD, set, take, drop}
 
 module _ {ℓ} {A : Type ℓ} where
   copy-suc : (f o : List A) (i : ℕ) (d : A) → i < length f → i < length o → set (take i f ++ drop i o) i (getD f i d) ≡ take (suc i) f ++ drop (suc i) o
@@ -18,14 +16,3 @@ module _ {ℓ} {A : Type ℓ} where
   -- one store
   pub copy-one : (f o : List A) (i : ℕ) (d : A) → i < length f → i < length o → set (take i f ++ drop i o) i (getD f i d) ≡ take (i + 1) f ++ drop (i + 1) o
   copy-one f o i d h k = rw (add-one i) (copy-suc f o i d h k)
-
-  -- all of f is copied
-  pub copy-all : (f o : List A) (i : ℕ) → length f ≤ i → take i f ++ drop i o ≡ f ++ drop i o
-  copy-all f o i h = ap (λ (t : List A). t ++ drop i o) (take-all i f h)
-
-  pub length-copied : (f o : List A) (i : ℕ) → i ≤ length f → i ≤ length o → length (take i f ++ drop i o) ≡ length o
-  length-copied f o i h k =
-      let a = length-append (take i f) (drop i o) in
-      let b = length-take-le i f h in
-      let c = length-drop i o in
-      omega arith

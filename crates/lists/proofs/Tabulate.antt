@@ -2,11 +2,11 @@
 -- `tabulate i f ++ drop i o`. Assumes nothing.
 use mathlib.Core.Path.{_≡_, refl, ap, _∙_}
 use mathlib.Core.List.{List, [], _∷_, _++_}
-use Prim.Native.Nat.{ℕ, zero, suc, _+_, _≤_, _<_}
+use Prim.Native.Nat.{ℕ, zero, suc, _+_, _<_}
 use native.Mathlib.Nat.{not-suc-le-zero, le-of-suc-le-suc}
 use native.Mathlib.Numerals.{add-one}
 use native.Mathlib.Omega.{arith}
-use lib.ListN.{length, getD, set, drop, length-append, length-drop}
+use lib.ListN.{length, getD, set, drop}
 use Rattle.lists.specs.Tabulate.{tabulate}
 
 module _ {ℓ} {A : Type ℓ} where
@@ -26,12 +26,6 @@ module _ {ℓ} {A : Type ℓ} where
   unfolding tabulate
   tabulate-cong zero f g h = refl
   tabulate-cong (suc n) f g h = ap (λ (x : A). x ∷ tabulate n (λ (k : ℕ). f (suc k))) (h 0 (omega arith)) ∙ ap (λ (t : List A). g 0 ∷ t) (tabulate-cong n (λ (k : ℕ). f (suc k)) (λ (k : ℕ). g (suc k)) (λ k l. h (suc k) (omega arith)))
-
-  -- a list is the table of its elements
-  pub tabulate-getD : (l : List A) (d : A) → tabulate (length l) (λ (k : ℕ). getD l k d) ≡ l
-  unfolding tabulate
-  tabulate-getD [] d = refl
-  tabulate-getD (x ∷ l) d = ap (λ (t : List A). x ∷ t) (tabulate-getD l d)
 
   -- ---- the loop that writes it
   pub write-none : (f : ℕ → A) (o : List A) → o ≡ tabulate 0 f ++ drop 0 o
@@ -58,10 +52,3 @@ module _ {ℓ} {A : Type ℓ} where
       ∙ ap (λ (l : List A). set l (i + 2) (f (i + 2))) (write-one f o (i + 1) (omega arith) ∙ ap (λ (k : ℕ). tabulate k f ++ drop k o) e)
       ∙ write-one f o (i + 2) h
       ∙ ap (λ (k : ℕ). tabulate k f ++ drop k o) g
-
-  pub length-written : (f : ℕ → A) (o : List A) (i : ℕ) → i ≤ length o → length (tabulate i f ++ drop i o) ≡ length o
-  length-written f o i k =
-      let a = length-append (tabulate i f) (drop i o) in
-      let b = length-tabulate i f in
-      let c = length-drop i o in
-      omega arith

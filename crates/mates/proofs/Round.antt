@@ -14,7 +14,7 @@ use Rattle.refinement.specs.Mates.{mates, refinedMate, refinedMates}
 use Rattle.refinement.proofs.Tables.{length-mates, getD-mates, mates-refined}
 use Rattle.adjacency.specs.Chains.{MateTable}
 use Rattle.tables.specs.Tables.{filled}
-use Rattle.growth.proofs.Round.{filled-at, filled-rest}
+use Rattle.tables.proofs.Laws.{filled-at, drop-filled}
 use Rattle.mates.specs.Tables.{MatesIn}
 
 pub mates-in : (l w : List ℕ) → length l % 4 ≡ 0 → length l ≤ 262144 → 4 * length l ≤ length w → MateTable l w → MatesIn (length l) w
@@ -46,4 +46,4 @@ unfolding refinedMates
 mates-rest n w h =
     let a = length-tabulate (4 * length (take n w)) (λ (g : ℕ). refinedMate quads (length (take n w)) (λ (h : ℕ). getD (take n w) h 0) (g / 4) (g % 4)) in
     let b = length-take-le n w h in
-    filled-rest (refinedMates quads (take n w)) w (4 * n) (omega arith)
+    drop-filled (refinedMates quads (take n w)) w (4 * n) (omega arith)

@@ -1,34 +1,30 @@
 -- An accepted call: its verdict, and the net that it gives. Assumes nothing.
-use mathlib.Core.Path.{_≡_, refl, sym, ap, ap₂, _∙_, subst}
-use mathlib.Core.List.{List, _++_}
-use Prim.Native.Nat.{ℕ, _+_, _*_, _/_, _%_, _≤_, _<_}
+use mathlib.Core.Path.{_≡_, refl, ap, _∙_}
+use mathlib.Core.List.{List}
+use Prim.Native.Nat.{ℕ, _*_, _/_}
 use native.Mathlib.Omega.{arith}
-use lib.ListN.{length, take, drop}
-use lib.Seq.{take-at}
+use lib.ListN.{length}
 use Rattle.curve.specs.Weights.{kobbelt}
 use Rattle.tables.specs.Net.{Net}
-use Rattle.tables.specs.Tables.{filled}
-use Rattle.tables.proofs.Laws.{take-filled}
-use Rattle.topology.specs.Shape.{quads}
-use Rattle.topology.specs.Manifold.{Manifold}
+use Rattle.tables.proofs.Laws.{take-filled, same-net}
 use Rattle.verdict.specs.Call.{Call}
 use Rattle.verdict.specs.Verdict.{Verdict, accepted, refused, verdict, workAfter}
-use Rattle.verdict.proofs.Accepted.{WithinLimits, accepted-limits, accepted-net, accepted-manifold, accepted-fewer}
+use Rattle.verdict.proofs.Accepted.{accepted-limits, accepted-net}
 use Rattle.scheme.specs.Step.{steps}
 use Rattle.schemelaws.specs.Nets.{Refinable}
 use Rattle.schemelaws.proofs.Steps.{refinable-steps}
-use Rattle.outcome.specs.Outcome.{Lent, Result, refinedTo, refusedWith, Outcome, callOf, outcomeBy, outcome}
-use Rattle.outcome.specs.SharedSegment.{Request, resultAfter, AcceptedFor, netBy, netAfter}
+use Rattle.outcome.specs.Outcome.{Buffers, refinedTo, callOf, outcomeBy, outcome}
+use Rattle.outcome.specs.SharedSegment.{Request, AcceptedFor, netBy, netAfter}
 
 -- ---- the verdict behind the result
-pub by-result : (v : Verdict) (n : Net) (o : Lent) (w : List ℕ) (x y : ℕ) → outcomeBy v n o w .result ≡ refinedTo x y → v ≡ accepted
+pub by-result : (v : Verdict) (n : Net) (o : Buffers) (w : List ℕ) (x y : ℕ) → outcomeBy v n o w .result ≡ refinedTo x y → v ≡ accepted
 by-result accepted n o w x y e = refl
 by-result (refused r p) n o w x y e = let z : _≡_ {A = ℕ} 0 1 = cc in absurd (omega arith)
 
-pub accepted-verdict : (a : Request) (k : ℕ) → AcceptedFor a k → verdict (callOf k (a .net) (a .lent)) ≡ accepted
+pub accepted-verdict : (a : Request) (k : ℕ) → AcceptedFor a k → verdict (callOf k (a .net) (a .buffers)) ≡ accepted
 unfolding outcome
 accepted-verdict a k h =
-    by-result (verdict (callOf k (a .net) (a .lent))) (steps kobbelt k (a .net)) (a .lent) (workAfter (callOf k (a .net) (a .lent)) (a .lent .work)) (h .vertices) (h .faces) (h .result)
+    by-result (verdict (callOf k (a .net) (a .buffers))) (steps kobbelt k (a .net)) (a .buffers) (workAfter (callOf k (a .net) (a .buffers)) (a .buffers .work)) (h .vertices) (h .faces) (h .result)
 
 -- ---- what an accepted net has
 pub accepted-refinable : (c : Call) → verdict c ≡ accepted → Refinable (c .net)
@@ -46,27 +42,24 @@ accepted-refinable c e =
     }
 
 -- ---- the net at the front of the outputs
-module _ (a : Request) (k : ℕ) (e : verdict (callOf k (a .net) (a .lent)) ≡ accepted) where
+module _ (a : Request) (k : ℕ) (e : verdict (callOf k (a .net) (a .buffers)) ≡ accepted) where
   after : Refinable (steps kobbelt k (a .net))
-  after = refinable-steps kobbelt (a .net) (accepted-refinable (callOf k (a .net) (a .lent)) e) k
+  after = refinable-steps kobbelt (a .net) (accepted-refinable (callOf k (a .net) (a .buffers)) e) k
 
   pub accepted-result : AcceptedFor a k
   unfolding outcome
   accepted-result = record {
     vertices = length (steps kobbelt k (a .net) .marks);
     faces = length (steps kobbelt k (a .net) .faces) / 4;
-    result = ap (λ (v : Verdict). outcomeBy v (steps kobbelt k (a .net)) (a .lent) (workAfter (callOf k (a .net) (a .lent)) (a .lent .work)) .result) e;
+    result = ap (λ (v : Verdict). outcomeBy v (steps kobbelt k (a .net)) (a .buffers) (workAfter (callOf k (a .net) (a .buffers)) (a .buffers .work)) .result) e;
   }
 
   pub accepted-after : netAfter a k ≡ steps kobbelt k (a .net)
   unfolding outcome
   accepted-after =
       let n : Net = steps kobbelt k (a .net) in
-      let o = a .lent in
+      let o = a .buffers in
       let t = after .threes in
       let f = after .fours in
       ap (λ (v : Verdict). netBy (outcomeBy v n o (workAfter (callOf k (a .net) o) (o .work)) .result) (outcomeBy v n o (workAfter (callOf k (a .net) o) (o .work)))) e
       ∙ same-net (take-filled (n .vertices) (o .vertices) (3 * length (n .marks)) (omega arith)) (take-filled (n .faces) (o .faces) (4 * (length (n .faces) / 4)) (omega arith)) (take-filled (n .marks) (o .marks) (length (n .marks)) refl)
-    where
-      same-net : {v v′ : List _} {f f′ m m′ : List ℕ} → v ≡ v′ → f ≡ f′ → m ≡ m′ → _≡_ {A = Net} (record { vertices = v; faces = f; marks = m }) (record { vertices = v′; faces = f′; marks = m′ })
-      same-net p q r = λ i. record { vertices = p i; faces = q i; marks = r i }

@@ -13,7 +13,7 @@ use Rattle.outcome.proofs.Accepted.{accepted-verdict, accepted-refinabl
 
 stays : (a : Request) → AcceptedFor a (a .rounds) → (k : ℕ) → k ≤ a .rounds → Within 268435456 (netAfter a k .vertices)
 stays a h k b =
-    let c = callOf (a .rounds) (a .net) (a .lent) in
+    let c = callOf (a .rounds) (a .net) (a .buffers) in
     let e = accepted-verdict a (a .rounds) h in
     let f = accepted-limits c e .few in
     subst (λ (n : Net). Within 268435456 (n .vertices)) (sym (accepted-after a k (accepted-fewer c k b e)))

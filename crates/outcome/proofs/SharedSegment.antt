@@ -1,27 +1,25 @@
 -- Demand 3: two accepted calls whose nets share a boundary segment still share it after every round. Assumes nothing.
 use mathlib.Core.Path.{_≡_, sym, subst}
 use mathlib.Core.Logic.{_↔_}
-use mathlib.Core.List.{List}
 use Prim.Native.Nat.{ℕ, _≤_}
 use Rattle.curve.specs.Weights.{kobbelt}
-use Rattle.curve.specs.Curve.{Kind, Point, curve}
-use Rattle.topology.specs.Boundary.{Way}
+use Rattle.curve.specs.Curve.{curve}
 use Rattle.tables.specs.Net.{Net}
 use Rattle.verdict.specs.Verdict.{accepted, verdict}
 use Rattle.verdict.proofs.Accepted.{accepted-manifold, accepted-fewer}
 use Rattle.seam.specs.Reading.{Reads}
-use Rattle.seam.specs.Seam.{Admissible, Seam}
+use Rattle.seam.specs.Seam.{Admissible}
 use Rattle.seam.proofs.Seam.{seam}
 use Rattle.outcome.specs.Outcome.{callOf}
-use Rattle.outcome.specs.SharedSegment.{Request, AcceptedFor, netAfter, SharedAfter, SharedSegments}
+use Rattle.outcome.specs.SharedSegment.{Request, AcceptedFor, SharedSegments}
 use Rattle.outcome.proofs.Accepted.{accepted-verdict, accepted-result, accepted-after}
 
 -- the call for fewer rounds
-fewer : (a : Request) → AcceptedFor a (a .rounds) → (k : ℕ) → k ≤ a .rounds → verdict (callOf k (a .net) (a .lent)) ≡ accepted
-fewer a h k l = accepted-fewer (callOf (a .rounds) (a .net) (a .lent)) k l (accepted-verdict a (a .rounds) h)
+fewer : (a : Request) → AcceptedFor a (a .rounds) → (k : ℕ) → k ≤ a .rounds → verdict (callOf k (a .net) (a .buffers)) ≡ accepted
+fewer a h k l = accepted-fewer (callOf (a .rounds) (a .net) (a .buffers)) k l (accepted-verdict a (a .rounds) h)
 
 admissible : (a : Request) → AcceptedFor a (a .rounds) → Admissible (a .net)
-admissible a h = accepted-manifold (callOf (a .rounds) (a .net) (a .lent)) (accepted-verdict a (a .rounds) h)
+admissible a h = accepted-manifold (callOf (a .rounds) (a .net) (a .buffers)) (accepted-verdict a (a .rounds) h)
 
 pub shared-segments : SharedSegments
 shared-segments = record {

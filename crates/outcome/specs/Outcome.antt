@@ -1,4 +1,4 @@
--- What a refining call answers and leaves in every lent table, on every input.
+-- What a refining call answers and leaves in the caller's tables, on every input.
 use mathlib.Core.List.{List}
 use Prim.Native.Nat.{ℕ, _*_, _/_}
 use lib.IntN.{ℤ}
@@ -10,8 +10,8 @@ use Rattle.verdict.specs.Call.{Call}
 use Rattle.verdict.specs.Verdict.{Verdict, accepted, refused, verdict, workAfter}
 use Rattle.scheme.specs.Step.{steps}
 
--- the tables lent for the answer, as they are before the call
-pub record Lent : Type 0 where
+-- the caller's tables for the answer, as they are before the call
+pub record Buffers : Type 0 where
   pub vertices : List ℤ
   pub faces : List ℕ
   pub marks : List ℕ
@@ -22,7 +22,7 @@ pub data Result : Type 0 where
   refinedTo : (vertices faces : ℕ) → Result
   refusedWith : (number place : ℕ) → Result
 
--- the result, and every lent table as the call returns
+-- the result, and the caller's tables as the call returns
 pub record Outcome : Type 0 where
   pub result : Result
   pub vertices : List ℤ
@@ -31,12 +31,12 @@ pub record Outcome : Type 0 where
   pub work : List ℕ
 
 -- the call of k rounds on the net m with the tables o
-abbrev pub callOf : ℕ → Net → Lent → Call
+abbrev pub callOf : ℕ → Net → Buffers → Call
 callOf k m o = record { rounds = k; net = m; room = record { vertices = length (o .vertices); faces = length (o .faces); marks = length (o .marks); work = length (o .work) } }
 
 -- "An accepted call fills the refined vertices, faces and marks from the front, reports both counts, leaves the first 16G work numbers zero and the rest of
 -- every output as found."
-abbrev pub refinedOutcome : Net → Lent → List ℕ → Outcome
+abbrev pub refinedOutcome : Net → Buffers → List ℕ → Outcome
 refinedOutcome n o w = record {
   result = refinedTo (length (n .marks)) (length (n .faces) / 4);
   vertices = filled (n .vertices) (o .vertices);
@@ -46,12 +46,12 @@ refinedOutcome n o w = record {
 }
 
 -- "outputs untouched" on every refusal
-abbrev pub refusedOutcome : ℕ → ℕ → Lent → List ℕ → Outcome
+abbrev pub refusedOutcome : ℕ → ℕ → Buffers → List ℕ → Outcome
 refusedOutcome r p o w = record { result = refusedWith r p; vertices = o .vertices; faces = o .faces; marks = o .marks; work = w }
 
-abbrev pub outcomeBy : Verdict → Net → Lent → List ℕ → Outcome
+abbrev pub outcomeBy : Verdict → Net → Buffers → List ℕ → Outcome
 outcomeBy accepted n o w = refinedOutcome n o w
 outcomeBy (refused r p) n o w = refusedOutcome r p o w
 
-unfoldable pub outcome : ℕ → Net → Lent → Outcome
+unfoldable pub outcome : ℕ → Net → Buffers → Outcome
 outcome k m o = outcomeBy (verdict (callOf k m o)) (steps kobbelt k m) o (workAfter (callOf k m o) (o .work))

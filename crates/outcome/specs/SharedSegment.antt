@@ -3,24 +3,23 @@ use mathlib.Core.Path.{_≡_}
 use mathlib.Core.Logic.{_↔_}
 use mathlib.Core.List.{List, []}
 use Prim.Native.Nat.{ℕ, _*_, _≤_}
-use lib.ListN.{take}
 use Rattle.curve.specs.Weights.{kobbelt}
 use Rattle.curve.specs.Curve.{Kind, Point, curve}
 use Rattle.curve.specs.Near.{CloseToExact}
 use Rattle.topology.specs.Boundary.{Way}
-use Rattle.tables.specs.Net.{Net}
+use Rattle.tables.specs.Net.{Net, frontNet}
 use Rattle.seam.specs.Reading.{Reads}
-use Rattle.outcome.specs.Outcome.{Lent, Result, refinedTo, refusedWith, Outcome, outcome}
+use Rattle.outcome.specs.Outcome.{Buffers, Result, refinedTo, refusedWith, Outcome, outcome}
 
--- the rounds asked for, the net and the tables lent
+-- the rounds asked for, the net and the caller's tables
 pub record Request : Type 0 where
   pub rounds : ℕ
   pub net : Net
-  pub lent : Lent
+  pub buffers : Buffers
 
 -- "The net after round k of an accepted call is what the same call gives when asked for k rounds only."
 abbrev pub resultAfter : Request → ℕ → Outcome
-resultAfter a k = outcome k (a .net) (a .lent)
+resultAfter a k = outcome k (a .net) (a .buffers)
 
 -- the call for k rounds is accepted
 pub record AcceptedFor (a : Request) (k : ℕ) : Type 0 where
@@ -30,7 +29,7 @@ pub record AcceptedFor (a : Request) (k : ℕ) : Type 0 where
 
 -- the net at the front of the output tables, by the counts reported
 abbrev pub netBy : Result → Outcome → Net
-netBy (refinedTo v f) o = record { vertices = take (3 * v) (o .vertices); faces = take (4 * f) (o .faces); marks = take v (o .marks) }
+netBy (refinedTo v f) o = frontNet v (4 * f) (o .vertices) (o .faces) (o .marks)
 netBy (refusedWith r p) o = record { vertices = []; faces = []; marks = [] }
 
 abbrev pub netAfter : Request → ℕ → Net

@@ -11,7 +11,7 @@ use lib.ListN.{length, getD, set, length-set}
 use lib.Seq.{getD-set-same, getD-set-other}
 use mir.Syntax.{w64}
 use mir.Val.{SFits}
-use Rattle.integers.proofs.Linear.{Linear, at, whole, _⊕_, _⊖_}
+use Rattle.integers.proofs.Linear.{at, whole, _⊕_, _⊖_}
 use Rattle.integers.proofs.Order.{eq-by, le-by, abs-by, of-abs}
 use Rattle.integers.proofs.AbsoluteValue.{abs-add}
 use Rattle.integers.proofs.Range.{fits-abs}

@@ -1,9 +1,9 @@
 -- Integers within 2^62 of zero as pairs of 32-bit numbers in a table.
 use mathlib.Core.Path.{_≡_}
 use mathlib.Core.List.{List}
-use Prim.Native.Nat.{ℕ, _+_, _*_, _/_, _%_, _^_, _≤_, _<_}
+use Prim.Native.Nat.{ℕ, _+_, _*_, _/_, _%_, _^_, _<_}
 use lib.IntN.{ℤ, pos, natAbs, _+ℤ_, _-ℤ_}
-use lib.ListN.{length, getD, set}
+use lib.ListN.{getD, set}
 
 -- z + 2^62, which is natural
 unfoldable pub biased : ℤ → ℕ

@@ -1,4 +1,4 @@
-// Exact coordinates in a lent table of 32-bit numbers: each as two, its lower half first.
+// Exact coordinates in the caller's table of 32-bit numbers: each as two, its lower half first.
 ghost use mathlib.Core.Path.{_≡_};
 ghost use Prim.Native.Nat.{_+_, _^_, _≤_, _<_};
 ghost use lib.IntN.{natAbs};

@@ -16,9 +16,10 @@ use Rattle.refinement.proofs.Corners.{length-refined}
 use Rattle.scheme.specs.Step.{steps}
 use Rattle.schemelaws.specs.Nets.{Refinable}
 use Rattle.schemelaws.proofs.Steps.{step-faces, step-count, refinable-steps}
-use Rattle.growth.proofs.Round.{filled-at, vertices-refined}
+use Rattle.tables.proofs.Laws.{filled-at}
+use Rattle.growth.proofs.Round.{vertices-refined}
 use Rattle.validate.proofs.Laws.{joined}
-use Rattle.outcome.specs.Outcome.{Lent, Result, refinedTo, refusedWith, Outcome, callOf, outcomeBy, outcome}
+use Rattle.outcome.specs.Outcome.{Buffers, Result, refinedTo, refusedWith, Outcome, callOf, outcomeBy, outcome}
 use Rattle.outcome.proofs.Accepted.{by-result, accepted-refinable}
 use Rattle.refine.specs.declared.Answer.the-variants.{Refined, Refused}
 use Rattle.refine.specs.Answer.{answered}
@@ -69,7 +70,7 @@ abbrev faceNumber : Result → ℕ
 faceNumber (refinedTo v f) = f
 faceNumber (refusedWith r p) = p
 
-module _ (k : ℕ) (m : Net) (o : Lent) (lv : length (o .vertices) ≡ 3072) (lf : length (o .faces) ≡ 1024) (lm : length (o .marks) ≡ 1024) (lw : length (o .work) ≡ 4096)
+module _ (k : ℕ) (m : Net) (o : Buffers) (lv : length (o .vertices) ≡ 3072) (lf : length (o .faces) ≡ 1024) (lm : length (o .marks) ≡ 1024) (lw : length (o .work) ≡ 4096)
     (h : limitsVerdict k (length (m .vertices)) (length (m .faces)) (length (m .marks)) programRoom ≡ accepted) where
   by-net : verdict (callOf k m o) ≡ netVerdict m
   unfolding verdict

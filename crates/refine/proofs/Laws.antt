@@ -1,7 +1,7 @@
 -- How the parts of the refining call fit together. Assumes nothing.
-use mathlib.Core.Path.{_≡_, refl, sym, ap, ap₂, _∙_, subst}
+use mathlib.Core.Path.{_≡_, refl, sym, ap, ap₂, _∙_}
 use mathlib.Core.List.{List}
-use Prim.Native.Nat.{ℕ, zero, suc, _+_, _*_, _/_, _%_, _^_, _≤_, _<_}
+use Prim.Native.Nat.{ℕ, zero, suc, _*_, _/_, _%_, _^_, _≤_}
 use native.Mathlib.Nat.{one-le-pow, mul-le-mul-left, mul-assoc, pow-suc}
 use native.Mathlib.Omega.{arith}
 use lib.Dec.{lit≤}
@@ -9,31 +9,27 @@ use lib.IntN.{ℤ}
 use lib.ListN.{length, take, drop}
 use Rattle.lists.proofs.Parts.{drop-later}
 use Rattle.curve.specs.Weights.{kobbelt}
-use Rattle.tables.specs.Net.{Net}
+use Rattle.tables.specs.Net.{Net, frontNet}
 use Rattle.tables.specs.Tables.{filled, cleared}
-use Rattle.tables.proofs.Laws.{length-filled, take-filled, filled-over, cleared-over}
+use Rattle.tables.proofs.Laws.{length-filled, take-filled, filled-over, cleared-over, same-net}
 use Rattle.topology.specs.Shape.{quads}
 use Rattle.verdict.specs.Call.{Call, finalFaces}
 use Rattle.verdict.specs.Verdict.{accepted, refused, callVerdict, netVerdict, verdict}
 use Rattle.limits.specs.Answer.{limitsOf}
 use borrow.Author.Tests.{ne-eqb}
 use Rattle.verdict.proofs.Accepted.{WithinLimits, accepted-limits, accepted-net, accepted-coordinate}
-use Rattle.scheme.specs.Step.{step, steps}
-use Rattle.schemelaws.specs.Nets.{Refinable, Within}
+use Rattle.scheme.specs.Step.{steps}
+use Rattle.schemelaws.specs.Nets.{Refinable}
 use Rattle.schemelaws.proofs.Steps.{step-faces, step-count, refinable-steps}
 use Rattle.refinement.proofs.Corners.{length-refined}
 use Rattle.adjacency.specs.Chains.{MateTable}
 use Rattle.validate.proofs.Laws.{joined}
-use Rattle.outcome.specs.Outcome.{Lent, refinedTo, callOf, outcome}
+use Rattle.outcome.specs.Outcome.{Buffers, refinedTo, callOf, outcome}
 use Rattle.refine.specs.declared.Answer.the-variants.{Refined, Refused}
 use Rattle.refine.specs.Answer.{answered}
 use Rattle.outcome.proofs.Accepted.{accepted-refinable}
-use Rattle.rounds.specs.Round.{frontNet}
 use Rattle.rounds.specs.Rounds.{Prepared, After}
 use Rattle.refine.specs.Run.{Admitted, Ran}
-
-same-net : {p p′ : List ℤ} {f f′ m m′ : List ℕ} → p ≡ p′ → f ≡ f′ → m ≡ m′ → _≡_ {A = Net} (record { vertices = p; faces = f; marks = m }) (record { vertices = p′; faces = f′; marks = m′ })
-same-net p q r = λ i. record { vertices = p i; faces = q i; marks = r i }
 
 -- corners are four to a face
 pub by-faces : (n p : ℕ) → n % 4 ≡ 0 → n * p ≡ 4 * (n / 4 * p)
@@ -54,7 +50,7 @@ corners-grown m (suc k) =
     let c : length (m .faces) * 4 ^ suc k ≡ length (m .faces) * 4 ^ k * 4 = ap (λ (x : ℕ). length (m .faces) * x) (pow-suc 4 k) ∙ sym (mul-assoc (length (m .faces)) (4 ^ k) 4) in
     omega arith
 
-module _ (k last : ℕ) (m : Net) (o : Lent) (ok : Admitted k m o last) where
+module _ (k last : ℕ) (m : Net) (o : Buffers) (ok : Admitted k m o last) where
   limits : WithinLimits k (length (m .vertices)) (length (m .faces)) (length (m .marks)) (callOf k m o .room)
   limits = accepted-limits (callOf k m o) (ok .accepts)
 
@@ -90,9 +86,6 @@ module _ (k last : ℕ) (m : Net) (o : Lent) (ok : Admitted k m o last) where
   last-le = let w = limits in let a = w .final in let e = ok .final in omega arith
 
   module _ (vs : List ℤ) (fs ms : List ℕ) (ev : vs ≡ filled (m .vertices) (o .vertices)) (ef : fs ≡ filled (m .faces) (o .faces)) (em : ms ≡ filled (m .marks) (o .marks)) where
-    abbrev front : Net
-    front = frontNet (length (m .marks)) (length (m .faces)) vs fs ms
-
     front-is : frontNet (length (m .marks)) (length (m .faces)) vs fs ms ≡ m
     front-is =
         let t = refinable .threes in
@@ -144,7 +137,7 @@ module _ (k last : ℕ) (m : Net) (o : Lent) (ok : Admitted k m o last) where
           }
 
 -- ---- the whole call
-module _ (k : ℕ) (m : Net) (o : Lent) where
+module _ (k : ℕ) (m : Net) (o : Buffers) where
   abbrev call : Call
   call = callOf k m o
 

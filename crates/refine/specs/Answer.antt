@@ -11,6 +11,6 @@ abbrev pub resultOf : Answer → Result
 resultOf (Refined vertices faces) = refinedTo vertices faces
 resultOf (Refused number place) = refusedWith number place
 
--- the answer, and every lent table as the call returns
+-- the answer, and the caller's tables as the call returns
 abbrev pub answered : Answer → List ℤ → List ℕ → List ℕ → List ℕ → Outcome
 answered r vertices faces marks work = record { result = resultOf r; vertices = vertices; faces = faces; marks = marks; work = work }

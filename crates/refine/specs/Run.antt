@@ -1,8 +1,6 @@
 -- The rounds of an accepted call.
 use mathlib.Core.Path.{_≡_}
-use mathlib.Core.List.{List}
 use Prim.Native.Nat.{ℕ, _*_}
-use lib.IntN.{ℤ}
 use lib.ListN.{length}
 use Rattle.curve.specs.Weights.{kobbelt}
 use Rattle.tables.specs.Net.{Net}
@@ -11,16 +9,16 @@ use Rattle.verdict.specs.Call.{finalFaces}
 use Rattle.verdict.specs.Verdict.{accepted, verdict}
 use Rattle.scheme.specs.Step.{steps}
 use Rattle.adjacency.specs.Chains.{MateTable}
-use Rattle.outcome.specs.Outcome.{Lent, callOf}
+use Rattle.outcome.specs.Outcome.{Buffers, callOf}
 
 -- the call of k rounds is accepted, and its work table starts with the mates
-pub record Admitted (k : ℕ) (m : Net) (o : Lent) (last : ℕ) : Type 0 where
+pub record Admitted (k : ℕ) (m : Net) (o : Buffers) (last : ℕ) : Type 0 where
   pub accepts : verdict (callOf k m o) ≡ accepted
   pub final : last ≡ finalFaces (callOf k m o)
   pub mated : MateTable (m .faces) (o .work)
 
 -- the tables after the rounds, and the final number of vertices
-pub record Ran (k : ℕ) (m : Net) (o o′ : Lent) (last r : ℕ) : Type 0 where
+pub record Ran (k : ℕ) (m : Net) (o o′ : Buffers) (last r : ℕ) : Type 0 where
   pub count : r ≡ length (steps kobbelt k m .marks)
   pub vertices : o′ .vertices ≡ filled (steps kobbelt k m .vertices) (o .vertices)
   pub faces : o′ .faces ≡ filled (steps kobbelt k m .faces) (o .faces)

@@ -1,8 +1,7 @@
 // The refining call.
 ghost use mathlib.Core.Path.{_≡_};
-ghost use lib.ListN.{length};
 ghost use Rattle.tables.specs.Net.{Net};
-ghost use Rattle.outcome.specs.Outcome.{Lent, outcome};
+ghost use Rattle.outcome.specs.Outcome.{outcome};
 ghost use Rattle.refine.specs.Answer.{answered};
 ghost use Rattle.refine.specs.Run.{Admitted, Ran};
 

@@ -1,11 +1,9 @@
--- The loops of a refined net: each step along the boundary, with the sides or against them, becomes two; and what is marked stays.
+-- The loops of a refined net: each step along the boundary, with the sides or against them, becomes two.
 use mathlib.Core.Path.{_≡_, refl, ap, _∙_}
-use mathlib.Core.Bool.{Bool, false}
 use mathlib.Core.List.{List}
-use Prim.Native.Nat.{ℕ, zero, suc, _+_, _*_, _≤_, _<_}
+use Prim.Native.Nat.{ℕ, zero, suc, _+_, _*_}
 use native.Mathlib.Omega.{arith}
 use Rattle.search.specs.Search.{iterate}
-use Rattle.search.proofs.Quarters.{parity}
 use Rattle.topology.specs.Shape.{Shape, quads}
 use Rattle.topology.specs.HalfEdge.{from, edge}
 use Rattle.topology.specs.Boundary.{OnBoundary, Way, step, passed}
@@ -37,26 +35,3 @@ module _ (S : Shape) (v : ℕ) (l : List ℕ) (ok : Manifold S v l) (w : Way) wh
   steps-edge k h o =
       let g : ℕ = iterate (step S l w) k h in
       ap (from (refined S v l)) (steps-odd k h o) ∙ second-from S v l ok (passed S l w g) (passed-on S v l ok w g (steps-on S v l ok w k h o))
-
-  -- a loop of n half-edges becomes one of 2n
-  module _ (n h : ℕ) (o : OnBoundary S l h) where
-    pub loop-refined : iterate (step S l w) n h ≡ h → iterate (step quads (refined S v l) w) (2 * n) (4 * h) ≡ 4 * h
-    loop-refined e = steps-even n h o ∙ ap (λ (x : ℕ). 4 * x) e
-
-    pub loop-not-before : ((k : ℕ) → 0 < k → k < n → iterate (step S l w) k h ≡ h → ⊥) → (k : ℕ) → 0 < k → k < 2 * n → iterate (step quads (refined S v l) w) k (4 * h) ≡ 4 * h → ⊥
-    loop-not-before f k = parity k (λ k. 0 < k → k < 2 * n → iterate (step quads (refined S v l) w) k (4 * h) ≡ 4 * h → ⊥)
-        (λ j b c e. let x = steps-even j h o in f j (omega arith) (omega arith) (omega arith))
-        (λ j b c e. let x = steps-odd j h o in omega arith)
-
-    -- old marks stay and new ones are none: a stretch of n edges, from a marked vertex to the next, becomes one of 2n
-    module _ (mark mark′ : ℕ → Bool) (old : (p : ℕ) → p < v → mark′ p ≡ mark p) (new : (p : ℕ) → v ≤ p → mark′ p ≡ false) where
-      pub mark-even : (k : ℕ) → mark′ (from (refined S v l) (iterate (step quads (refined S v l) w) (2 * k) (4 * h))) ≡ mark (from l (iterate (step S l w) k h))
-      mark-even k = ap mark′ (steps-vertex k h o) ∙ old (from l (iterate (step S l w) k h)) (ok .oriented .below (iterate (step S l w) k h) (steps-on S v l ok w k h o .lt))
-
-      pub mark-odd : (k : ℕ) → mark′ (from (refined S v l) (iterate (step quads (refined S v l) w) (suc (2 * k)) (4 * h))) ≡ false
-      mark-odd k = ap mark′ (steps-edge k h o) ∙ new (v + edge S l (passed S l w (iterate (step S l w) k h))) (omega arith)
-
-      pub stretch-refined : ((k : ℕ) → 0 < k → k < n → mark (from l (iterate (step S l w) k h)) ≡ false)
-          → (k : ℕ) → 0 < k → k < 2 * n → mark′ (from (refined S v l) (iterate (step quads (refined S v l) w) k (4 * h))) ≡ false
-      stretch-refined f k = parity k (λ k. 0 < k → k < 2 * n → mark′ (from (refined S v l) (iterate (step quads (refined S v l) w) k (4 * h))) ≡ false)
-          (λ j b c. mark-even j ∙ f j (omega arith) (omega arith)) (λ j b c. mark-odd j)

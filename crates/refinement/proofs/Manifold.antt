@@ -13,7 +13,6 @@ use Rattle.topology.specs.Manifold.{Around, ring, fan, Manifold}
 use Rattle.topology.proofs.Mates.{mate-le, edge-onto}
 use Rattle.topology.proofs.Shape.{quads-lawful}
 use Rattle.topology.proofs.Rings.{ring-valence, fan-valence}
-use Rattle.topology.proofs.Vertices.{vertices-le}
 use Rattle.refusals.specs.Refusals.{Unrefused}
 use Rattle.refusals.proofs.Manifold.{manifold-if, unrefused-if}
 use Rattle.refinement.specs.Refined.{refinedVertices, refined, verticesAfter, cornersAfter}
@@ -79,18 +78,10 @@ unrefused-refined S v l w u = unrefused-if quads (refinedVertices S v l) (refine
 
 -- ---- counts
 
--- one refined face for each half-edge; so four for each face with four sides
-pub faces-refined : (S : Shape) (v : ℕ) (l : List ℕ) → quads .faces (length (refined S v l)) ≡ length l
-unfolding quads
-faces-refined S v l = let n = length-refined S v l in omega arith
-
+-- four refined faces for each face
 pub quads-refined : (v : ℕ) (l : List ℕ) → length l % 4 ≡ 0 → quads .faces (length (refined quads v l)) ≡ 4 * quads .faces (length l)
 unfolding quads
 quads-refined v l w = let n = length-refined quads v l in omega arith
-
--- room for the refined vertices
-pub refined-vertices-le : (S : Shape) (v : ℕ) (l : List ℕ) → Manifold S v l → refinedVertices S v l ≤ 4 * length l
-refined-vertices-le S v l ok = let a = vertices-le quads (refinedVertices S v l) (refined S v l) (manifold-refined S v l ok) in let n = length-refined S v l in omega arith
 
 -- ---- any number of rounds
 
@@ -104,12 +95,12 @@ module _ (v : ℕ) (l : List ℕ) where
       let p : 4 ^ suc k ≡ 4 * 4 ^ k = omega arith in
       rw p (omega arith)
 
-  -- "After k rounds there are F × 4^k faces"
   pub whole-after : length l % 4 ≡ 0 → (k : ℕ) → length (cornersAfter k v l) % 4 ≡ 0
   unfolding cornersAfter
   whole-after w zero = w
   whole-after w (suc k) = let e = length-refined quads (verticesAfter k v l) (cornersAfter k v l) in omega arith
 
+  -- "After k rounds there are F × 4^k faces"
   pub faces-after : length l % 4 ≡ 0 → (k : ℕ) → quads .faces (length (cornersAfter k v l)) ≡ 4 ^ k * quads .faces (length l)
   unfolding cornersAfter
   faces-after w zero = omega arith
@@ -126,9 +117,6 @@ module _ (v : ℕ) (l : List ℕ) where
 
   pub unrefused-after : length l % 4 ≡ 0 → Unrefused quads v l → (k : ℕ) → Unrefused quads (verticesAfter k v l) (cornersAfter k v l)
   unrefused-after w u k = unrefused-if quads (verticesAfter k v l) (cornersAfter k v l) (manifold-after (manifold-if quads v l (quads-lawful (length l) w) u) k)
-
-  pub vertices-after-le : Manifold quads v l → (k : ℕ) → verticesAfter k v l ≤ 4 ^ k * length l
-  vertices-after-le ok k = let a = vertices-le quads (verticesAfter k v l) (cornersAfter k v l) (manifold-after ok k) in let b = length-after k in omega arith
 
   -- old vertices keep their numbers
   pub vertices-after-ge : (k : ℕ) → v ≤ verticesAfter k v l

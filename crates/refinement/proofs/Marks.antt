@@ -2,7 +2,7 @@
 use mathlib.Core.Path.{_≡_, sym, _∙_}
 use mathlib.Core.Bool.{cond}
 use mathlib.Core.List.{List}
-use Prim.Native.Nat.{ℕ, zero, suc, _≤_, _<_}
+use Prim.Native.Nat.{ℕ, _≤_, _<_}
 use native.Mathlib.Decide.{decLt}
 use native.Mathlib.Omega.{arith}
 use lib.ListN.{length, getD, List·getD-eq-default}
@@ -17,9 +17,8 @@ use Rattle.topology.specs.Boundary.{boundaryFrom}
 use Rattle.topology.specs.Manifold.{Manifold}
 use Rattle.refusals.specs.Refusals.{badMark, markedRing}
 use Rattle.refusals.proofs.Places.{mark-le, marked-boundary}
-use Rattle.refinement.specs.Refined.{refinedVertices, refined, refinedMarks, verticesAfter, cornersAfter, marksAfter}
+use Rattle.refinement.specs.Refined.{refinedVertices, refined, refinedMarks}
 use Rattle.refinement.proofs.Corners.{length-refined}
-use Rattle.refinement.proofs.Manifold.{manifold-after}
 use Rattle.refinement.proofs.Boundary.{boundaryFrom-old}
 
 module _ (S : Shape) (v : ℕ) (l marks : List ℕ) where
@@ -63,21 +62,3 @@ module _ (S : Shape) (v : ℕ) (l marks : List ℕ) where
           let n = length-refined S v l in
           omega arith
       at p m r (no c) = let x = mark-new p (omega arith) in omega arith
-
--- ---- any number of rounds
-
-module _ (v : ℕ) (l marks : List ℕ) where
-  pub no-6-after : first (badMark marks) v ≡ v → (k : ℕ) → first (badMark (marksAfter k v l marks)) (verticesAfter k v l) ≡ verticesAfter k v l
-  unfolding marksAfter verticesAfter
-  no-6-after e zero = e
-  no-6-after e (suc k) = no-6-refined quads (verticesAfter k v l) (cornersAfter k v l) (marksAfter k v l marks) (no-6-after e k)
-
-  pub no-12-after : Manifold quads v l → first (markedRing quads l marks) v ≡ v → (k : ℕ) → first (markedRing quads (cornersAfter k v l) (marksAfter k v l marks)) (verticesAfter k v l) ≡ verticesAfter k v l
-  unfolding marksAfter verticesAfter cornersAfter
-  no-12-after ok e zero = e
-  no-12-after ok e (suc k) = no-12-refined quads (verticesAfter k v l) (cornersAfter k v l) (marksAfter k v l marks) (manifold-after v l ok k) (no-12-after ok e k)
-
-  pub length-marks-after : length marks ≡ v → (k : ℕ) → length (marksAfter k v l marks) ≡ verticesAfter k v l
-  unfolding marksAfter verticesAfter
-  length-marks-after e zero = e
-  length-marks-after e (suc k) = length-marks quads (verticesAfter k v l) (cornersAfter k v l) (marksAfter k v l marks)

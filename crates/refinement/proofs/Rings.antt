@@ -9,7 +9,6 @@ use Rattle.search.specs.Search.{iterate}
 use Rattle.search.proofs.Quarters.{quarters, below-four}
 use Rattle.topology.specs.Shape.{Shape, quads}
 use Rattle.topology.specs.HalfEdge.{from, mate, edgeCount, edge}
-use Rattle.topology.specs.Boundary.{back}
 use Rattle.topology.specs.Vertex.{turn, turns, Walk, Ring, Fan}
 use Rattle.topology.specs.Manifold.{Oriented}
 use Rattle.topology.proofs.Shape.{four-sides, nexts-lt}

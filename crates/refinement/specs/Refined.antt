@@ -37,8 +37,3 @@ unfoldable mutual
   pub cornersAfter : ℕ → ℕ → List ℕ → List ℕ
   cornersAfter zero v l = l
   cornersAfter (suc k) v l = refined quads (verticesAfter k v l) (cornersAfter k v l)
-
--- the marks after k rounds
-unfoldable pub marksAfter : ℕ → ℕ → List ℕ → List ℕ → List ℕ
-marksAfter zero v l marks = marks
-marksAfter (suc k) v l marks = refinedMarks quads (verticesAfter k v l) (cornersAfter k v l) (marksAfter k v l marks)

@@ -1,19 +1,18 @@
 -- Where 6, 8 and 12 do not hold; and how far one must look for 8.
-use mathlib.Core.Path.{_≡_, ap}
-use mathlib.Core.Bool.{true, false, not}
+use mathlib.Core.Path.{_≡_}
+use mathlib.Core.Bool.{false}
 use mathlib.Core.List.{List}
 use Prim.Native.Nat.{ℕ, suc, _≤_, _<_}
 use native.Mathlib.Decide.{decLt}
 use native.Mathlib.Omega.{arith}
 use lib.ListN.{length, getD}
-use borrow.Author.Tests.{eq-eqb, ltb-false, not-true, not-false}
+use borrow.Author.Tests.{eq-eqb, ltb-false, not-false}
 use Rattle.search.specs.Search.{first, any}
-use Rattle.search.proofs.Tests.{clash, refuted, and-on}
-use Rattle.search.proofs.First.{first-before, first-reach, any-off, any-which}
-use Rattle.search.proofs.Count.{count-none, count-under}
+use Rattle.search.proofs.Tests.{clash, and-on}
+use Rattle.search.proofs.First.{first-before, first-reach, any-which}
 use Rattle.topology.specs.Shape.{Shape}
 use Rattle.topology.specs.Boundary.{boundaryFrom}
-use Rattle.topology.specs.Vertex.{leaves, valence}
+use Rattle.topology.specs.Vertex.{leaves}
 use Rattle.topology.proofs.Boundary.{boundaryFrom-le}
 use Rattle.topology.proofs.Vertices.{leavers-le}
 use Rattle.refusals.specs.Refusals.{badMark, isolated, markedRing}
@@ -30,18 +29,6 @@ not-isolated l p e =
     let x = any-which (leaves l p) (length l) (not-false (any (leaves l p) (length l)) e) in
     let y = first-reach (leaves l p) (length l) (x .0) (x .1) (x .2) in
     omega (arith, x .1)
-
--- 8 holds at p exactly if its valence is 0
-pub isolated-zero : (l : List ℕ) (p : ℕ) → isolated l p ≡ true → valence l p ≡ 0
-unfolding isolated valence
-isolated-zero l p t = count-none (leaves l p) (length l) (λ k b. any-off (leaves l p) (length l) k (not-true (any (leaves l p) (length l)) t) b)
-
-pub zero-isolated : (l : List ℕ) (p : ℕ) → valence l p ≡ 0 → isolated l p ≡ true
-unfolding isolated valence
-zero-isolated l p e = ap not (refuted (any (leaves l p) (length l)) (λ t.
-    let x = any-which (leaves l p) (length l) t in
-    let y = count-under (leaves l p) (x .0) (length l) (x .1) (x .2) in
-    omega arith))
 
 -- with more vertices than half-edges 8 holds, and its place is at most the number of half-edges
 pub isolated-soon : (l : List ℕ) (v : ℕ) → length l < v → first (isolated l) v ≤ length l

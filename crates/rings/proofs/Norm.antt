@@ -2,7 +2,7 @@
 -- near one. The growth is the sum of the sizes of the weights, which two computed tests bound at the weights (9, 1). Assumes nothing.
 use mathlib.Core.Path.{_≡_, refl, sym, ap, ap₂, subst, _∙_}
 use mathlib.Core.Bool.{Bool, cond}
-use mathlib.Core.List.{List, [], _∷_}
+use mathlib.Core.List.{[], _∷_}
 use Prim.Native.Nat.{ℕ, zero, suc, _+_, _-_, _*_, _/_, _≤_, _<_}
 use native.Mathlib.Nat.{add-mul, mul-add, zero-add, suc-add, mul-assoc, mul-comm, mul-left-comm, one-mul, mul-le-mul, mul-le-mul-left, mul-le-mul-right, le-refl, le-of-eq}
 use native.Mathlib.Omega.{arith}

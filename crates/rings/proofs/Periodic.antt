@@ -1,7 +1,7 @@
 -- Sums round a ring of n places, and one place out of a ring. Assumes nothing.
 use mathlib.Core.Path.{_≡_, refl, sym, ap, ap₂, _∙_}
 use mathlib.Core.Bool.{Bool, cond}
-use mathlib.Core.List.{List, [], _∷_}
+use mathlib.Core.List.{[], _∷_}
 use Prim.Native.Nat.{ℕ, zero, suc, _+_, _*_, _/_, _%_, _≤_, _<_}
 use native.Mathlib.Nat.{zero-add, add-assoc, add-mod-right, suc-mul, mod-add-div'}
 use native.Mathlib.Decide.{ℕ-discrete}

@@ -1,21 +1,21 @@
 -- The virtual point in fractions is the one in whole numbers, over one denominator. Assumes nothing.
 use mathlib.Core.Path.{_≡_, refl, sym, ap, subst, _∙_}
 use mathlib.Core.Bool.{Bool}
-use mathlib.Core.List.{List, [], _∷_}
+use mathlib.Core.List.{[], _∷_}
 use Prim.Native.Nat.{ℕ, _+_, _-_, _*_, _/_, _≤_, _<_}
 use native.Mathlib.Nat.{mul-assoc, mul-pos}
 use native.Mathlib.Omega.{arith}
 use lib.Dec.{eqb, eqb→eq}
-use lib.IntN.{ℤ, pos, _+ℤ_, _-ℤ_, _*ℤ_}
+use lib.IntN.{ℤ, pos, _+ℤ_, _*ℤ_}
 use Rattle.lists.proofs.Table.{below-at}
 use Rattle.integers.specs.Sum.{sum}
 use Rattle.integers.proofs.Polynomial.{var, lit, _⊞_, _⊟_, _⊠_, same}
 use Rattle.curve.specs.Weights.{Weights, kobbelt}
-use Rattle.fractions.specs.Fraction.{Fraction, _+ᶠ_, _-ᶠ_, _×ᶠ_, _/ᶠ_, Equals, Same}
-use Rattle.fractions.proofs.Laws.{equals-cong, equals-scaled, equals-add, equals-sub, equals-times, equals-over, equals-sum, equals-reduced, same-of-equals}
+use Rattle.fractions.specs.Fraction.{Fraction, Equals}
+use Rattle.fractions.proofs.Laws.{equals-cong, equals-scaled, equals-add, equals-sub, equals-times, equals-over, equals-sum, equals-reduced}
 use Rattle.rings.specs.Ring.{Periodic, virtual}
 use Rattle.rings.specs.RingWeights.{virtualZ, virtualNumerator}
-use Rattle.rings.proofs.Virtual.{virtual-next, virtual-constant, virtual-across}
+use Rattle.rings.proofs.Virtual.{virtual-constant, virtual-across}
 
 -- ---- at any valence and any weights, the ring being given over e
 module _ (w : Weights) (some : 0 < w .near) (n : ℕ) (l k : ℕ → Fraction) (L K : ℕ → ℤ) (e : ℕ) (h : 0 < n)
@@ -41,30 +41,6 @@ module _ (w : Weights) (some : 0 < w .near) (n : ℕ) (l k : ℕ → Fraction) (
       (equals-times (w .far) (equals-scaled (w .near * n) (equals-add (equals-add (equals-add (ek (j + (n - 2))) (ek (j + (n - 1)))) (ek j)) (ek (j + 1)))))))
       (equals-over (w .near * n) (f *ℤ (pos 4 *ℤ sum n K)) (mul-pos some h) (same (lit (pos 4) ⊠ var 3 ⊠ (var 0 ⊠ var 1 ⊠ var 2)) (var 0 ⊠ var 1 ⊠ (var 3 ⊠ (lit (pos 4) ⊠ var 2))) (a ∷ N ∷ sum n K ∷ f ∷ []) refl)
       (equals-times (4 * w .far) (equals-scaled (w .near * n) (equals-sum n k K e (λ i z. ek i))))))
-
--- a constant ring gives the constant: the weights sum to one
-pub virtual-fixed : (w : Weights) → 0 < w .near → (n : ℕ) → 0 < n → (x : Fraction) (z : ℤ) (e : ℕ) → Equals x z e → (j : ℕ) → Equals (virtual w n (λ (i : ℕ). x) (λ (i : ℕ). x) j) z e
-virtual-fixed w some n h x z e i j =
-    equals-reduced (w .near * n) z e (mul-pos some h)
-    (equals-cong (virtual-constant w n z j) refl (equals-virtual w some n (λ (d : ℕ). x) (λ (d : ℕ). x) (λ (d : ℕ). z) (λ (d : ℕ). z) e h (λ d. i) (λ d. i) j))
-
--- the virtual point on the next edge: v_(j+1) - v_j is l_(j-1) - l_(j+2) + far/near (k_(j+2) - k_(j-2)), whatever n is
-module _ (w : Weights) (some : 0 < w .near) (n : ℕ) (l k : ℕ → Fraction) (L K : ℕ → ℤ) (e : ℕ) (h : 3 ≤ n) (g : 0 < e)
-    (el : (i : ℕ) → Equals (l i) (L i) e) (ek : (i : ℕ) → Equals (k i) (K i) e) (rl : Periodic n L) (rk : Periodic n K) (j : ℕ) where
-  pub next-edge : Same (virtual w n l k (j + 1) -ᶠ virtual w n l k j) (l (j + (n - 1)) -ᶠ l (j + 2) +ᶠ w .far ×ᶠ (k (j + 2) -ᶠ k (j + (n - 2))) /ᶠ w .near)
-  next-edge =
-      let N : ℤ = pos n in
-      let a : ℤ = pos (w .near) in
-      let f : ℤ = pos (w .far) in
-      let x : ℤ = L (j + (n - 1)) -ℤ L (j + 2) in
-      let y : ℤ = K (j + 2) -ℤ K (j + (n - 2)) in
-      let o : 0 < n = omega arith in
-      same-of-equals (mul-pos (mul-pos some o) g)
-      (equals-cong (virtual-next w n L K rl rk j h) refl (equals-sub (equals-virtual w some n l k L K e o el ek (j + 1)) (equals-virtual w some n l k L K e o el ek j)))
-      (equals-cong (same (var 0 ⊠ var 2 ⊠ var 3 ⊞ var 1 ⊠ (var 2 ⊠ var 4)) (var 2 ⊠ (var 0 ⊠ var 3 ⊞ var 1 ⊠ var 4)) (a ∷ f ∷ N ∷ x ∷ y ∷ []) refl) refl
-      (equals-add (equals-scaled (w .near * n) (equals-sub (el (j + (n - 1))) (el (j + 2))))
-      (equals-over (w .near) (f *ℤ (N *ℤ y)) some (same (var 1 ⊠ (var 0 ⊠ var 2 ⊠ var 3)) (var 0 ⊠ (var 1 ⊠ (var 2 ⊠ var 3))) (a ∷ f ∷ N ∷ y ∷ []) refl)
-      (equals-times (w .far) (equals-scaled (w .near * n) (equals-sub (ek (j + 2)) (ek (j + (n - 2)))))))))
 
 -- Paper 01: "For n = 4 inside, v is the neighbour straight across"
 pub straight-across : (w : Weights) → 0 < w .near → (l k : ℕ → Fraction) (L K : ℕ → ℤ) (e : ℕ) → Periodic 4 L → Periodic 4 K

@@ -1,10 +1,9 @@
 // The ring of a vertex and its virtual points: definitions in specs/, laws in proofs/; and the virtual point as a function.
 ghost use mathlib.Core.Path.{_≡_};
-ghost use Prim.Native.Nat.{_+_, _*_, _%_, _<_, _≤_, _^_};
-ghost use lib.IntN.{pos, natAbs, _+ℤ_, _*ℤ_};
-ghost use lib.ListN.{getD};
+ghost use Prim.Native.Nat.{_+_, _*_, _<_, _≤_, _^_};
+ghost use lib.IntN.{natAbs, _+ℤ_, _*ℤ_};
 ghost use Rattle.curve.specs.Weights.{kobbelt};
-ghost use Rattle.rings.specs.RingWeights.{virtualZ, virtualNumerator, weightL, weightK, entry, ringOf, BoundedFirst};
+ghost use Rattle.rings.specs.RingWeights.{virtualZ, weightL, weightK, entry, ringOf, BoundedFirst};
 
 // Numerators over 9n, for n from 3 to 8: a row has eight for the neighbours, from the edge on, then eight for the opposite corners.
 const WEIGHTS: [i32; 96] = [
@@ -154,14 +153,4 @@ pub fn virtual_from(l: &[i64; 8], k: &[i64; 8], n: usize, j: usize) -> i64
         d += 1;
     }
     acc
-}
-
-// The virtual point over 453,600, on edge j of a ring of n given over 60.
-pub fn virtual_numerator(l: &[i64; 8], k: &[i64; 8], n: usize, j: usize) -> i64
-    requires { ⌜ (3 ≤ n) × (n ≤ 8) × (j < n) × BoundedFirst n (2 ^ 40) (now l) × BoundedFirst n (2 ^ 40) (now k) ⌝ }
-    ensures { λ r. ⌜ (r ≡ virtualNumerator n (ringOf n (now (l .entry))) (ringOf n (now (k .entry))) j) × (natAbs r < 2 ^ 59) ⌝ }
-{
-    let v = virtual_from(l, k, n, j);
-    let q = 840 / n;
-    q as i64 * v
 }

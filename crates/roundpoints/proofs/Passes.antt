@@ -8,7 +8,7 @@ use native.Mathlib.Omega.{arith}
 use borrow.Rule.Slice.PartMut.{putMid}
 use lib.IntN.{ℤ, pos}
 use lib.ListN.{length, getD, take, drop, length-append, length-take, length-drop, List·getD-append}
-use lib.Seq.{take-at, drop-at, drop-drop, getD-append-add, ext-getD}
+use lib.Seq.{take-all, take-at, drop-at, drop-drop, getD-append-add, ext-getD}
 use Rattle.lists.specs.Tabulate.{tabulate}
 use Rattle.lists.proofs.Tabulate.{length-tabulate, getD-tabulate}
 use Rattle.lists.proofs.Parts.{part-written}
@@ -17,22 +17,23 @@ use Rattle.fractions.specs.Fraction.{Fraction}
 use Rattle.curve.specs.Weights.{kobbelt}
 use Rattle.search.specs.Search.{count}
 use Rattle.search.proofs.Count.{count-le}
+use Rattle.tables.specs.Net.{Net, frontNet}
 use Rattle.tables.specs.Tables.{filled}
+use Rattle.tables.proofs.Laws.{same-net}
 use Rattle.topology.specs.Shape.{quads}
 use Rattle.topology.specs.HalfEdge.{mate, firstMet, edgeCount}
 use Rattle.topology.proofs.Mates.{count-new, count-old}
 use Rattle.refinement.specs.Refined.{refinedVertices}
-use Rattle.scheme.specs.Step.{axis, step, refinedCoordinate}
-use Rattle.schemelaws.specs.Numerators.{edgeZ, faceZ}
+use Rattle.scheme.specs.Step.{step}
+use Rattle.schemelaws.specs.Numerators.{edgeZ}
 use Rattle.schemelaws.proofs.Coordinates.{refined-face}
 use Rattle.curvepoints.specs.Exact.{ExactPoint}
-use Rattle.stencils.specs.Stencils.{faceStencilOf, faceStencilZ}
 use Rattle.stencils.proofs.Stencils.{face-stencil-value}
 use Rattle.facepoints.specs.Stored.{storedAt}
-use Rattle.facetable.specs.FaceTable.{faceCoordinate, faceCoordinates, Written}
+use Rattle.facetable.specs.FaceTable.{faceCoordinate, faceCoordinates}
 use Rattle.edgetable.specs.EdgeTable.{Small, Round, oldAxis, refinedAxis, Edges}
 use Rattle.edgetable.proofs.EdgeTable.{ready-now, points-now, marks-now, points-room, exact-room, edges-next, stored-is}
-use Rattle.roundpoints.specs.Passes.{Turn, Turned, met, passed, lent, Scratch}
+use Rattle.roundpoints.specs.Passes.{Turn, Turned, met, passed, Scratch}
 
 -- ---- one half-edge
 pub small-of : (f : ℕ → Fraction) (x y z : ℤ) → ExactPoint f x y z → Small x y z
@@ -124,15 +125,22 @@ module _ (l marks : List ℕ) (p₀ : List ℤ) (w₀ : List ℕ) (ok : Round l 
       let r : (first + k) % 3 ≡ k % 3 = omega arith in
       face-refined (k % 3) (k / 3) (omega arith) (omega arith) ∙ sym (ap₂ (refinedAxis l marks p₀) r q)
 
-  all-points : tabulate first G ++ faceCoordinates l w ≡ step kobbelt (lent l marks p₀) .vertices
-  unfolding faceCoordinates step lent refinedAxis oldAxis
+  -- the net, its points at the front of the table
+  abbrev old : Net
+  old = record { vertices = take (3 * length marks) p₀; faces = l; marks = marks }
+
+  old-front : old ≡ frontNet (length marks) (length l) p₀ l marks
+  old-front = sym (same-net refl (take-all (length l) l (omega arith)) (take-all (length marks) marks (omega arith)))
+
+  all-points : tabulate first G ++ faceCoordinates l w ≡ step kobbelt old .vertices
+  unfolding faceCoordinates step refinedAxis oldAxis
   all-points =
       let m : ℕ = 3 * quads .faces (length l) in
       let n : first + m ≡ 3 * refinedVertices quads (length marks) l = omega arith in
       tabulate-join first m G (λ (k : ℕ). faceCoordinate l w (k % 3) (k / 3)) face-entry ∙ ap (λ (i : ℕ). tabulate i G) n
 
   points-all : (t y : List ℤ) → t ≡ putMid first (length p - first) p y → y ≡ filled (faceCoordinates l w) (take (length p - first) (drop first p))
-      → t ≡ filled (step kobbelt (lent l marks p₀) .vertices) p₀
+      → t ≡ filled (step kobbelt old .vertices) p₀
   unfolding filled
   points-all t y et ey =
       let F : List ℤ = faceCoordinates l w in
@@ -142,7 +150,7 @@ module _ (l marks : List ℕ) (p₀ : List ℤ) (w₀ : List ℕ) (ok : Round l 
       let la = length-tabulate a G in
       let r = ok .room in
       let k = done .points .kept in
-      let s : a + m ≡ length (step kobbelt (lent l marks p₀) .vertices) = ap (λ (i : ℕ). i + m) (sym la) ∙ sym (length-append (tabulate a G) F) ∙ ap length all-points in
+      let s : a + m ≡ length (step kobbelt old .vertices) = ap (λ (i : ℕ). i + m) (sym la) ∙ sym (length-append (tabulate a G) F) ∙ ap length all-points in
       let tk : take a p ≡ tabulate a G = ap (take a) e ∙ take-at (tabulate a G) (drop a p₀) a la in
       let dk : drop a p ≡ drop a p₀ = ap (drop a) e ∙ drop-at (tabulate a G) (drop a p₀) a la in
       let dm : drop (a + m) p ≡ drop (a + m) p₀ = sym (drop-drop m a p) ∙ ap (drop m) dk ∙ drop-drop m a p₀ in
@@ -162,8 +170,9 @@ module _ (l marks : List ℕ) (p₀ : List ℤ) (w₀ : List ℕ) (ok : Round l 
         omega (arith, length-take (length p - a) (drop a p), length-drop a p)
 
     pub points-made : (y : List ℤ) → y ≡ filled (faceCoordinates l w) (take (length p - 3 * (length marks + r)) (drop (3 * (length marks + r)) p))
-        → putMid (3 * (length marks + r)) (length p - 3 * (length marks + r)) p y ≡ filled (step kobbelt (lent l marks p₀) .vertices) p₀
+        → putMid (3 * (length marks + r)) (length p - 3 * (length marks + r)) p y ≡ filled (step kobbelt (frontNet (length marks) (length l) p₀ l marks) .vertices) p₀
     points-made y ey =
         points-all (putMid (3 * (length marks + r)) (length p - 3 * (length marks + r)) p y) y
         (ap (λ (i : ℕ). putMid (3 * (length marks + i)) (length p - 3 * (length marks + i)) p y) er)
         (ey ∙ ap (λ (i : ℕ). filled (faceCoordinates l w) (take (length p - 3 * (length marks + i)) (drop (3 * (length marks + i)) p))) er)
+        ∙ ap (λ (m : Net). filled (step kobbelt m .vertices) p₀) old-front

@@ -6,10 +6,8 @@ use lib.IntN.{ℤ}
 use lib.ListN.{length, getD, take}
 use Rattle.rounding.specs.Rounding.{round}
 use Rattle.curve.specs.Weights.{kobbelt}
-use Rattle.search.specs.Search.{count}
-use Rattle.tables.specs.Net.{Net}
 use Rattle.topology.specs.Shape.{quads}
-use Rattle.topology.specs.HalfEdge.{mate, firstMet}
+use Rattle.topology.specs.HalfEdge.{mate}
 use Rattle.scheme.specs.Points.{edgePoint}
 use Rattle.scheme.specs.Step.{axis}
 use Rattle.walks.specs.Ready.{Ready}
@@ -35,10 +33,6 @@ pub data Turned (l marks : List ℕ) (h e r : ℕ) (p : List ℤ) (w : List ℕ)
       → p′ ≡ putPoint p (length marks + e) (round x 7257600) (round y 7257600) (round z 7257600) → w′ ≡ putThree w (2 * length l + 6 * e) x y z
       → Turned l marks h e r p w p′ w′
   passed : mate quads l h ≤ h → r ≡ e → p′ ≡ p → w′ ≡ w → Turned l marks h e r p w p′ w′
-
--- the net whose vertices are the first points of p
-unfoldable pub lent : List ℕ → List ℕ → List ℤ → Net
-lent l marks p = record { vertices = take (3 * length marks) p; faces = l; marks = marks }
 
 -- what is left of the work table: mates and edge numbers, and all past 8 numbers for each half-edge
 pub record Scratch (l w w′ : List ℕ) : Type 0 where

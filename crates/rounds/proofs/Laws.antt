@@ -8,15 +8,15 @@ use native.Mathlib.Omega.{arith}
 use lib.Dec.{ltb, lit≤}
 use lib.IntN.{ℤ, pos, natAbs}
 use lib.ListN.{length, getD, take, drop, length-take, length-drop, List·getD-eq-default}
-use lib.Seq.{length-take-le, getD-take, getD-drop, ext-getD}
+use lib.Seq.{take-all, length-take-le, getD-take, getD-drop, ext-getD}
 use borrow.Author.Tests.{lt-ltb, le-ltb}
 use Rattle.lists.specs.Tabulate.{tabulate}
 use Rattle.lists.proofs.Tabulate.{tabulate-cong}
 use Rattle.lists.proofs.Parts.{drop-later}
 use Rattle.curve.specs.Weights.{kobbelt}
-use Rattle.tables.specs.Net.{Net}
+use Rattle.tables.specs.Net.{Net, frontNet}
 use Rattle.tables.specs.Tables.{filled}
-use Rattle.tables.proofs.Laws.{length-filled}
+use Rattle.tables.proofs.Laws.{length-filled, same-net}
 use Rattle.topology.specs.Shape.{quads}
 use Rattle.topology.specs.HalfEdge.{edgeCount}
 use Rattle.topology.specs.Manifold.{Oriented, Manifold}
@@ -31,14 +31,14 @@ use Rattle.adjacency.proofs.Chains.{mates-cong}
 use Rattle.growth.specs.Growth.{edges, extended, Mated, Numbered}
 use Rattle.growth.specs.Growth as Growth
 use Rattle.growth.proofs.Edges.{length-both}
-use Rattle.growth.proofs.Round.{oriented-wider, numbered-mates, numbered-edges, numbered-rest, numbered-cong, vertices-refined, marks-refined}
+use Rattle.growth.proofs.Round.{oriented-wider, numbered-mates, numbered-edges, numbered-rest, numbered-cong, vertices-refined, marks-refined, marks-cong}
 use Rattle.mates.specs.Tables.{MatesIn}
 use Rattle.mates.proofs.Round.{mates-in, mated-refined, mates-rest}
 use Rattle.walks.specs.Ready.{Ready}
 use Rattle.stencils.specs.Stencils.{Indexed}
 use Rattle.edgetable.specs.EdgeTable.{Round}
-use Rattle.roundpoints.specs.Passes.{lent, Scratch}
-use Rattle.rounds.specs.Round.{frontNet, Current, Refines}
+use Rattle.roundpoints.specs.Passes.{Scratch}
+use Rattle.rounds.specs.Round.{Current, Refines}
 
 -- the rest of a list, by places
 drop-same : (k : ℕ) (u w : List ℕ) → length u ≡ length w → ((i : ℕ) → k ≤ i → getD u i 0 ≡ getD w i 0) → drop k u ≡ drop k w
@@ -119,9 +119,8 @@ module _ (v n : ℕ) (points : List ℤ) (faces marks w : List ℕ) (c : Current
         }
 
     -- the net that the new points are made from
-    pub made : lent (take n faces) (take v marks) points ≡ frontNet v n points faces marks
-    unfolding lent
-    made = rw marked refl
+    pub made : frontNet (length (take v marks)) (length (take n faces)) points (take n faces) (take v marks) ≡ frontNet v n points faces marks
+    made = same-net (ap (λ (k : ℕ). take (3 * k) points) marked) (take-all (length (take n faces)) (take n faces) (omega arith)) (take-all (length (take v marks)) (take v marks) (omega arith))
 
     module _ (w₂ : List ℕ) (e₂ : Scratch (take n faces) w₁ w₂) where
       mated₂ : MateTable (take n faces) w₂
@@ -155,12 +154,7 @@ module _ (v n : ℕ) (points : List ℤ) (faces marks w : List ℕ) (c : Current
           subst (λ (k : ℕ). MatesIn k w₂) e (mates-in (take n faces) w₂ (c .refinable .fours) (omega arith) (omega arith) mated₂)
 
       same-marks : refinedMarks quads v (take n faces) (take v marks) ≡ refinedMarks quads v (take n faces) marks
-      unfolding refinedMarks
-      same-marks = tabulate-cong _ _ _ (λ p h. go p (decLt p v))
-        where
-          go : (p : ℕ) → Dec (p < v) → cond (ltb p v) (getD (take v marks) p 0) 0 ≡ cond (ltb p v) (getD marks p 0) 0
-          go p (yes h) = ap (λ (t : ℕ). cond (ltb p v) t 0) (getD-take v marks p 0 h)
-          go p (no h) = let f : ltb p v ≡ false = le-ltb p v (omega arith) in rw f
+      same-marks = marks-cong quads v (take n faces) (take v marks) marks (λ p h. getD-take v marks p 0 h)
 
       pub refines : (count : ℕ) (points′ : List ℤ) (faces′ marks′ w₃ : List ℕ) → count ≡ v + edgeCount quads (take n faces) + n / 4
           → points′ ≡ filled (step kobbelt (frontNet v n points faces marks) .vertices) points → faces′ ≡ filled (refined quads v (take n faces)) faces

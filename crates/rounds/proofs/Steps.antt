@@ -10,9 +10,9 @@ use lib.Seq.{length-take-le}
 use lib.Dec.{lit≤}
 use Rattle.lists.proofs.Parts.{drop-later}
 use Rattle.curve.specs.Weights.{kobbelt}
-use Rattle.tables.specs.Net.{Net}
+use Rattle.tables.specs.Net.{Net, frontNet}
 use Rattle.tables.specs.Tables.{filled}
-use Rattle.tables.proofs.Laws.{length-filled, take-filled, filled-over}
+use Rattle.tables.proofs.Laws.{length-filled, take-filled, filled-over, same-net}
 use Rattle.topology.specs.Shape.{quads}
 use Rattle.refinement.specs.Refined.{refined}
 use Rattle.refinement.proofs.Corners.{length-refined}
@@ -21,7 +21,7 @@ use Rattle.schemelaws.specs.Nets.{Refinable}
 use Rattle.schemelaws.proofs.Steps.{step-faces, step-count, step-length, refinable-steps}
 use Rattle.schemelaws.proofs.Growth.{steps-input}
 use Rattle.adjacency.specs.Chains.{MateTable}
-use Rattle.rounds.specs.Round.{frontNet, Current, Refines}
+use Rattle.rounds.specs.Round.{Current, Refines}
 use Rattle.rounds.specs.Rounds.{Prepared, After}
 use Rattle.rounds.proofs.Laws.{count-le, count-is}
 
@@ -29,9 +29,6 @@ use Rattle.rounds.proofs.Laws.{count-le, count-is}
 filled-self : {A : Type 0} (n : ℕ) (d : List A) → n ≤ length d → d ≡ filled (take n d) d
 unfolding filled
 filled-self n d h = rw (length-take-le n d h) (sym (take-append-drop n d))
-
-same-net : {p p′ : List ℤ} {f f′ m m′ : List ℕ} → p ≡ p′ → f ≡ f′ → m ≡ m′ → _≡_ {A = Net} (record { vertices = p; faces = f; marks = m }) (record { vertices = p′; faces = f′; marks = m′ })
-same-net p q r = λ i. record { vertices = p i; faces = q i; marks = r i }
 
 pub next-size : (n i : ℕ) → n * 4 ^ (i + 1) ≡ 4 * (n * 4 ^ i)
 next-size n i =

@@ -1,19 +1,15 @@
--- A round in the lent tables.
+-- A round in the caller's tables.
 use mathlib.Core.Path.{_≡_}
 use mathlib.Core.List.{List}
 use Prim.Native.Nat.{ℕ, _*_, _≤_}
 use lib.IntN.{ℤ}
 use lib.ListN.{length, take, drop}
 use Rattle.curve.specs.Weights.{kobbelt}
-use Rattle.tables.specs.Net.{Net}
+use Rattle.tables.specs.Net.{frontNet}
 use Rattle.tables.specs.Tables.{filled}
 use Rattle.scheme.specs.Step.{step}
 use Rattle.schemelaws.specs.Nets.{Within, Refinable}
 use Rattle.adjacency.specs.Chains.{MateTable}
-
--- the net of v vertices and n corners at the front of the tables
-abbrev pub frontNet : ℕ → ℕ → List ℤ → List ℕ → List ℕ → Net
-frontNet v n points faces marks = record { vertices = take (3 * v) points; faces = take n faces; marks = take v marks }
 
 -- the net at the front can be refined, its mates stand in w, and all tables have room for the refined net
 pub record Current (v n : ℕ) (points : List ℤ) (faces marks w : List ℕ) : Type 0 where

@@ -1,15 +1,15 @@
--- Rounds in the lent tables.
+-- Rounds in the caller's tables.
 use mathlib.Core.Path.{_≡_}
 use mathlib.Core.List.{List}
 use Prim.Native.Nat.{ℕ, _*_, _^_, _≤_}
 use lib.IntN.{ℤ}
 use lib.ListN.{length, take, drop}
 use Rattle.curve.specs.Weights.{kobbelt}
+use Rattle.tables.specs.Net.{frontNet}
 use Rattle.tables.specs.Tables.{filled}
 use Rattle.scheme.specs.Step.{steps}
 use Rattle.schemelaws.specs.Nets.{Within, Refinable}
 use Rattle.adjacency.specs.Chains.{MateTable}
-use Rattle.rounds.specs.Round.{frontNet}
 
 -- the net of v vertices and n corners at the front can be refined k times, its mates stand in w, and all tables have room for the refined net
 pub record Prepared (k v n : ℕ) (points : List ℤ) (faces marks w : List ℕ) : Type 0 where

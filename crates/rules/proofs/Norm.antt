@@ -1,8 +1,7 @@
 -- Three laws of each rule, in whole numbers over its denominator: it is additive in its points, so it speaks of differences; it spreads a difference by at most
--- its norm; it is constant on constants. The norms are 3 for an extrapolated point, 20/16 for the curve's rules, 11/6 for an edge point and 55/24 for a face
--- point. Those of the curve's rules hold at any tame weights, the others are at paper 01's. Assumes nothing.
+-- its norm; it is constant on constants. The norms are 3 for an extrapolated point, 20/16 for the curve's rules and 11/6 for an edge point. Those of the curve's rules hold at any tame weights, the others are at paper 01's. Assumes nothing.
 use mathlib.Core.Path.{_≡_, refl, sym, ap, subst, _∙_}
-use mathlib.Core.List.{List, [], _∷_}
+use mathlib.Core.List.{[], _∷_}
 use Prim.Native.Nat.{ℕ, _+_, _-_, _*_, _/_, _≤_, _<_}
 use native.Mathlib.Nat.{mul-assoc, mul-le-mul-left}
 use native.Mathlib.Omega.{arith}
@@ -48,10 +47,6 @@ module _ (w : Weights) where
 
     pub single-near : (p q p′ q′ : ℤ) → natAbs (p -ℤ p′) ≤ d → natAbs (q -ℤ q′) ≤ d → natAbs (singleEdge w p q -ℤ singleEdge w p′ q′) ≤ (5 * tame .quarter) * d
     single-near p q p′ q′ a b = subst (λ (z : ℤ). natAbs z ≤ (5 * tame .quarter) * d) (single-sub p q p′ q′) (single-size w tame (p -ℤ p′) (q -ℤ q′) d a b)
-
--- paper 01's weights: 20 d over 16
-abbrev pub tame : Tame kobbelt
-tame = record { quarter = 4; some = omega arith; apart = refl; small = omega arith }
 
 pub interior-constant : (c : ℤ) → interior kobbelt c c c c ≡ pos 16 *ℤ c
 interior-constant c = same (lit (pos 9) ⊠ (var 0 ⊞ var 0) ⊟ lit (pos 1) ⊠ (var 0 ⊞ var 0)) (lit (pos 16) ⊠ var 0) (c ∷ []) refl
@@ -135,25 +130,3 @@ boundary-edge-near n n′ d a =
     let e = ap natAbs (same (lit (pos 453600) ⊠ var 0 ⊟ lit (pos 453600) ⊠ var 1) (lit (pos 453600) ⊠ (var 0 ⊟ var 1)) (n ∷ n′ ∷ []) refl) in
     let f = abs-mul (pos 453600) (n -ℤ n′) in
     omega arith
-
--- ---- face points, from edge points that differ by at most 11/6 d: 55/24. The three kinds of direction, over 16 · 7,257,600
-module _ (d : ℕ) where
-  pub direction-two-near : (p q r s p′ q′ r′ s′ : ℤ) → natAbs (p -ℤ p′) ≤ 13305600 * d → natAbs (q -ℤ q′) ≤ 13305600 * d → natAbs (r -ℤ r′) ≤ 13305600 * d → natAbs (s -ℤ s′) ≤ 13305600 * d
-      → 24 * natAbs (interior kobbelt p q r s -ℤ interior kobbelt p′ q′ r′ s′) ≤ (16 * 7257600) * (55 * d)
-  direction-two-near p q r s p′ q′ r′ s′ a b c e = let h = interior-near kobbelt tame (13305600 * d) p q r s p′ q′ r′ s′ a b c e in omega arith
-
-  pub direction-one-near : (p q r p′ q′ r′ : ℤ) → natAbs (p -ℤ p′) ≤ 13305600 * d → natAbs (q -ℤ q′) ≤ 13305600 * d → natAbs (r -ℤ r′) ≤ 13305600 * d
-      → 24 * natAbs (endEdge kobbelt p q r -ℤ endEdge kobbelt p′ q′ r′) ≤ (16 * 7257600) * (55 * d)
-  direction-one-near p q r p′ q′ r′ a b c = let h = end-near kobbelt tame (13305600 * d) p q r p′ q′ r′ a b c in omega arith
-
-  pub direction-none-near : (p q p′ q′ : ℤ) → natAbs (p -ℤ p′) ≤ 13305600 * d → natAbs (q -ℤ q′) ≤ 13305600 * d
-      → 24 * natAbs (singleEdge kobbelt p q -ℤ singleEdge kobbelt p′ q′) ≤ (16 * 7257600) * (55 * d)
-  direction-none-near p q p′ q′ a b = let h = single-near kobbelt tame (13305600 * d) p q p′ q′ a b in omega arith
-
-  -- the mean of two, over 32 · 7,257,600
-  pub mean-near : (a b a′ b′ : ℤ) → 24 * natAbs (a -ℤ a′) ≤ (16 * 7257600) * (55 * d) → 24 * natAbs (b -ℤ b′) ≤ (16 * 7257600) * (55 * d)
-      → 24 * natAbs ((a +ℤ b) -ℤ (a′ +ℤ b′)) ≤ (32 * 7257600) * (55 * d)
-  mean-near a b a′ b′ h k =
-      let e = ap natAbs (same ((var 0 ⊞ var 1) ⊟ (var 2 ⊞ var 3)) ((var 0 ⊟ var 2) ⊞ (var 1 ⊟ var 3)) (a ∷ b ∷ a′ ∷ b′ ∷ []) refl) in
-      let f = abs-add (a -ℤ a′) (b -ℤ b′) in
-      omega arith

@@ -123,8 +123,3 @@ module _ (v : ℕ) (l : List ℕ) (ok : Manifold quads v l) (e : ℕ → ℤ) (c
   pub faceZ-constant : (f : ℕ) → f < quads .faces (length l) → faceZ l e f ≡ pos 32 *ℤ c
   unfolding faceZ
   faceZ-constant f k = face-value-all f k (faceRule l f)
-
-pub face-constant : (v : ℕ) (l marks : List ℕ) → Manifold quads v l → (c : ℤ) (f : ℕ) → f < quads .faces (length l) → faceZ l (edgeZ l marks (λ (x : ℕ). c)) f ≡ pos 232243200 *ℤ c
-face-constant v l marks ok c f k =
-    faceZ-constant v l ok (edgeZ l marks (λ (x : ℕ). c)) (pos 7257600 *ℤ c) (edge-constant v l ok c marks) f k
-    ∙ same (lit (pos 32) ⊠ (lit (pos 7257600) ⊠ var 0)) (lit (pos 232243200) ⊠ var 0) (c ∷ []) refl

@@ -16,8 +16,8 @@ use Rattle.rounding.specs.Rounding.{round}
 use Rattle.search.specs.Search.{first}
 use Rattle.search.proofs.First.{first-is}
 use Rattle.curve.specs.Weights.{Weights, kobbelt}
-use Rattle.fractions.specs.Fraction.{toWhole, Same}
-use Rattle.fractions.proofs.Laws.{toWhole-equals, equals-cong, same-of-equals}
+use Rattle.fractions.specs.Fraction.{toWhole}
+use Rattle.fractions.proofs.Laws.{toWhole-equals}
 use Rattle.rules.specs.Numerators.{innerEdgeZ}
 use Rattle.topology.specs.Shape.{quads}
 use Rattle.topology.specs.HalfEdge.{from, to, mate, edgeCount, edge}
@@ -46,11 +46,6 @@ module _ (v : ℕ) (l marks : List ℕ) (ok : Oriented quads v l) (p : ℕ → �
       let y : ℤ = virtualAtZ l p (mate quads l h) in
       rw (c, inner-rule l marks h m, b, r .start, r .end)
       (same (lit (pos 4082400) ⊠ (var 1 ⊞ var 0) ⊟ (var 3 ⊞ var 2)) (lit (pos 4082400) ⊠ (var 0 ⊞ var 1) ⊟ (var 2 ⊞ var 3)) (p (from l h) ∷ p (to quads l h) ∷ x ∷ y ∷ []) refl)
-
-pub point-either : (v : ℕ) (l marks : List ℕ) → Manifold quads v l → (p : ℕ → ℤ) (h : ℕ) → h < length l → mate quads l h < length l
-    → Same (edgePoint kobbelt l marks p (mate quads l h)) (edgePoint kobbelt l marks p h)
-point-either v l marks ok p h k m =
-    same-of-equals (omega arith) (equals-cong (edge-either v l marks (ok .oriented) p h k m) refl (equals-edge v l marks ok p (mate quads l h) m)) (equals-edge v l marks ok p h k)
 
 -- ---- the half-edge at which an edge is first met
 module _ (v : ℕ) (l : List ℕ) (ok : Oriented quads v l) where

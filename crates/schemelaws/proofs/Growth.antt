@@ -1,15 +1,9 @@
--- How far coordinates spread and grow, rounded: one round and six. Paper 01: "every coordinate stays within 268,435,456".
-use mathlib.Core.Path.{refl, ap}
-use mathlib.Core.List.{List, [], _∷_}
+-- How far coordinates grow, rounded: one round and six. Paper 01: "every coordinate stays within 268,435,456".
+use mathlib.Core.List.{List}
 use Prim.Native.Nat.{ℕ, zero, suc, _+_, _*_, _/_, _%_, _≤_, _<_}
-use native.Mathlib.Nat.{mul-add, mul-left-comm, le-of-mul-le-mul-left}
 use native.Mathlib.Omega.{arith}
-use lib.IntN.{ℤ, pos, natAbs, _-ℤ_, _*ℤ_}
+use lib.IntN.{ℤ, natAbs}
 use lib.ListN.{length}
-use Rattle.integers.proofs.AbsoluteValue.{abs-mul, abs-add, abs-sub}
-use Rattle.integers.proofs.Polynomial.{var, _⊞_, _⊟_, _⊠_, same}
-use Rattle.rounding.specs.Rounding.{round}
-use Rattle.rounding.proofs.Laws.{round-near}
 use Rattle.curve.specs.Weights.{kobbelt}
 use Rattle.rules.proofs.Growth.{grown, rounded-grown, grown-kept, limit, limit-input, limit-output}
 use Rattle.tables.specs.Net.{Net}
@@ -20,34 +14,8 @@ use Rattle.scheme.specs.Step.{refinedCoordinate, axis, step, steps}
 use Rattle.schemelaws.specs.Numerators.{edgeZ, faceZ}
 use Rattle.schemelaws.specs.Nets.{Within, Refinable}
 use Rattle.schemelaws.proofs.Coordinates.{refined-cases, refined-old, refined-edge, refined-face}
-use Rattle.schemelaws.proofs.Norm.{edge-near, face-near}
 use Rattle.schemelaws.proofs.Sizes.{edge-size, face-size}
 use Rattle.schemelaws.proofs.Steps.{refinable-manifold, refinable-steps, step-length, step-coordinate}
-
--- ---- differences, rounded: at most 55/24 d + 1
-close : (z z′ : ℤ) (D d : ℕ) → 0 < D → 24 * natAbs (z -ℤ z′) ≤ D * (55 * d) → 24 * natAbs (round z D -ℤ round z′ D) ≤ 55 * d + 24
-close z z′ D d h k =
-    let a : ℤ = round z D in
-    let a′ : ℤ = round z′ D in
-    let x : ℤ = pos D *ℤ a -ℤ z in
-    let y : ℤ = pos D *ℤ a′ -ℤ z′ in
-    let e = ap natAbs (same (var 0 ⊠ (var 1 ⊟ var 2)) ((var 0 ⊠ var 1 ⊟ var 3) ⊟ (var 0 ⊠ var 2 ⊟ var 4) ⊞ (var 3 ⊟ var 4)) (pos D ∷ a ∷ a′ ∷ z ∷ z′ ∷ []) refl) in
-    let f = abs-mul (pos D) (a -ℤ a′) in
-    let g = abs-add (x -ℤ y) (z -ℤ z′) in
-    let i = abs-sub x y in
-    let j = round-near z D h in
-    let o = round-near z′ D h in
-    let q = mul-left-comm D 24 (natAbs (a -ℤ a′)) in
-    let r = mul-add D (55 * d) 24 in
-    le-of-mul-le-mul-left {k = D} (omega arith) h
-
-module _ (v : ℕ) (l marks : List ℕ) (ok : Manifold quads v l) (p p′ : ℕ → ℤ) (d : ℕ) (near : (x : ℕ) → x < v → natAbs (p x -ℤ p′ x) ≤ d) where
-  pub refined-near : (i : ℕ) → i < refinedVertices quads v l → 24 * natAbs (refinedCoordinate kobbelt v l marks p i -ℤ refinedCoordinate kobbelt v l marks p′ i) ≤ 55 * d + 24
-  refined-near = refined-cases v l ok (λ i. 24 * natAbs (refinedCoordinate kobbelt v l marks p i -ℤ refinedCoordinate kobbelt v l marks p′ i) ≤ 55 * d + 24)
-      (λ i b. let e = near i b in rw (refined-old kobbelt v l marks p i b, refined-old kobbelt v l marks p′ i b) (omega arith))
-      (λ h b. let e = edge-near v l ok p p′ d near marks h b in rw (refined-edge v l marks ok p h b, refined-edge v l marks ok p′ h b) (close (edgeZ l marks p h) (edgeZ l marks p′ h) 7257600 d (omega arith) (omega arith)))
-      (λ f b. rw (refined-face v l marks ok p f b, refined-face v l marks ok p′ f b)
-      (close (faceZ l (edgeZ l marks p) f) (faceZ l (edgeZ l marks p′) f) 232243200 d (omega arith) (face-near v l marks ok p p′ d near f b)))
 
 -- ---- sizes
 module _ (v : ℕ) (l marks : List ℕ) (ok : Manifold quads v l) (p : ℕ → ℤ) (B : ℕ) (small : (x : ℕ) → x < v → natAbs (p x) ≤ B) where
@@ -72,7 +40,7 @@ step-within m ok B t = record {
 }
 
 module _ (m : Net) where
-  -- from drawn coordinates
+  -- from input coordinates
   steps-limit : Refinable m → Within 1048576 (m .vertices) → (k : ℕ) → Within (limit k) (steps kobbelt k m .vertices)
   unfolding steps limit
   steps-limit ok t zero = t

@@ -19,7 +19,8 @@ use Rattle.curve.specs.Weights.{kobbelt, interior, endEdge, singleEdge}
 use Rattle.rings.specs.Ring.{Periodic, wrap}
 use Rattle.rings.proofs.Periodic.{wrap-periodic}
 use Rattle.rings.proofs.Norm.{inside-numerator-near, boundary-numerator-near}
-use Rattle.rules.proofs.Norm.{tame, interior-near, end-near, single-near, extrapolated-near, extrapolated-corner-near, inner-near, boundary-edge-near}
+use Rattle.curve.proofs.Kobbelt.{tame}
+use Rattle.rules.proofs.Norm.{interior-near, end-near, single-near, extrapolated-near, extrapolated-corner-near, inner-near, boundary-edge-near}
 use Rattle.topology.specs.Shape.{quads}
 use Rattle.topology.specs.HalfEdge.{from, to, mate}
 use Rattle.topology.specs.Boundary.{OnBoundary, boundaryFrom, along, back}

@@ -1,4 +1,4 @@
--- The net after a round and after k rounds: its tables and their lengths, that drawn points and marks stay, and that it is refinable again.
+-- The net after a round and after k rounds: its tables and their lengths, that input points and marks stay, and that it is refinable again.
 use mathlib.Core.Path.{_≡_, refl, sym, ap, ap₂, _∙_}
 use mathlib.Core.List.{List}
 use Prim.Native.Nat.{ℕ, zero, suc, _+_, _*_, _/_, _%_, _≤_, _<_}
@@ -13,7 +13,7 @@ use Rattle.topology.specs.Shape.{quads}
 use Rattle.topology.specs.Manifold.{Manifold}
 use Rattle.topology.proofs.Shape.{quads-lawful}
 use Rattle.refusals.proofs.Manifold.{manifold-if}
-use Rattle.refinement.specs.Refined.{refinedVertices, refined, refinedMarks, verticesAfter, cornersAfter, marksAfter}
+use Rattle.refinement.specs.Refined.{refinedVertices, refined, refinedMarks, verticesAfter, cornersAfter}
 use Rattle.refinement.proofs.Corners.{length-refined}
 use Rattle.refinement.proofs.Manifold.{unrefused-refined, vertices-after-ge}
 use Rattle.refinement.proofs.Marks.{length-marks, mark-old, mark-new, no-6-refined, no-12-refined}
@@ -94,20 +94,7 @@ module _ (w : Weights) (m : Net) where
     steps-faces zero = refl
     steps-faces (suc k) = step-faces w (steps w k m) ∙ ap₂ (refined quads) (steps-count k) (steps-faces k)
 
-  pub steps-marks : (k : ℕ) → steps w k m .marks ≡ marksAfter k (length (m .marks)) (m .faces) (m .marks)
-  unfolding steps marksAfter
-  steps-marks zero = refl
-  steps-marks (suc k) =
-      step-marks w (steps w k m)
-      ∙ ap₂ (λ (v : ℕ) (l : List ℕ). refinedMarks quads v l (steps w k m .marks)) (steps-count k) (steps-faces k)
-      ∙ ap (refinedMarks quads (verticesAfter k (length (m .marks)) (m .faces)) (cornersAfter k (length (m .marks)) (m .faces))) (steps-marks k)
-
-  pub steps-length : length (m .vertices) ≡ 3 * length (m .marks) → (k : ℕ) → length (steps w k m .vertices) ≡ 3 * verticesAfter k (length (m .marks)) (m .faces)
-  unfolding steps verticesAfter
-  steps-length e zero = e
-  steps-length e (suc k) = step-length w (steps w k m) ∙ ap (λ (n : ℕ). 3 * n) (ap₂ (refinedVertices quads) (steps-count k) (steps-faces k))
-
-  -- the drawn points and marks stay, and later marks are 0
+  -- the input points and marks stay, and later marks are 0
   pub steps-kept : (k i : ℕ) → i < 3 * length (m .marks) → getD (steps w k m .vertices) i (pos 0) ≡ getD (m .vertices) i (pos 0)
   unfolding steps
   steps-kept zero i b = refl

@@ -10,7 +10,7 @@ use lib.Dec.{ltb}
 use lib.IntN.{ℤ, pos, _+ℤ_, _*ℤ_}
 use lib.ListN.{length, getD}
 use Rattle.topology.specs.Shape.{quads}
-use Rattle.topology.specs.HalfEdge.{mate, edge, edgeCount}
+use Rattle.topology.specs.HalfEdge.{mate}
 use Rattle.topology.specs.Manifold.{Manifold}
 use Rattle.topology.proofs.Mates.{edge-lt, edges-le}
 use Rattle.scheme.specs.Points.{across, beyond, inner, fourInner, FaceRule, firstAlone, secondAlone, bothDirections, faceRule}
@@ -18,7 +18,6 @@ use Rattle.schemelaws.specs.Numerators.{directionZ, faceValueZ, faceZ}
 use Rattle.schemelaws.proofs.Ties.{across-lt, side₀-lt, side₁-lt}
 use Rattle.stencils.specs.declared.Stencil.{Stencil}
 use Rattle.stencils.specs.declared.Stencil.the-variants.{Interior, End, Single}
-use Rattle.stencils.specs.declared.FaceStencil.{FaceStencil}
 use Rattle.stencils.specs.declared.FaceStencil.the-variants.{Alone, Both}
 use Rattle.stencils.specs.Stencils.{Indexed, place, innerTwice, stencilOf, faceStencilBy, faceStencilOf, stencilZ, faceStencilZ, OnStencil, OnFaceStencil}
 

@@ -1,6 +1,5 @@
 -- Stencils of face points: which stored edge points a direction of a face combines, and how. The work table has the mates, then the edge numbers,
 -- then the exact points of the edges, six numbers each.
-use mathlib.Core.Path.{_≡_}
 use mathlib.Core.Bool.{Bool, cond, _&&_}
 use mathlib.Core.List.{List}
 use Prim.Native.Nat.{ℕ, _+_, _*_, _≤_}

@@ -1,6 +1,6 @@
-// Which edge points make the point of a face: stencils of places in the work table, read from lent tables of corners, mates and edge numbers.
+// Which edge points make the point of a face: stencils of places in the work table, read from the caller's tables of corners, mates and edge numbers.
 ghost use mathlib.Core.Path.{_≡_};
-ghost use Prim.Native.Nat.{_*_, _/_, _<_};
+ghost use Prim.Native.Nat.{_<_};
 ghost use lib.ListN.{length};
 ghost use Rattle.topology.specs.Shape.{quads};
 ghost use Rattle.topology.specs.HalfEdge.{mate};

@@ -1,12 +1,14 @@
--- Laws of cleared and filled tables, and of the loops that make them. Assumes nothing.
+-- Laws of cleared and filled tables, and of the loops that make them; nets of equal tables. Assumes nothing.
 use mathlib.Core.Path.{_≡_, sym, ap, _∙_}
 use mathlib.Core.List.{List, _++_}
 use Prim.Native.Nat.{ℕ, _+_, _-_, _≤_, _<_}
 use native.Mathlib.Omega.{arith}
 use borrow.Author.Fill.{fill-more}
-use lib.ListN.{length, getD, take, drop, set, replicate, length-append, length-drop, length-replicate}
+use lib.IntN.{ℤ}
+use lib.ListN.{length, getD, take, drop, set, replicate, length-append, length-drop, length-replicate, List·getD-append}
 use lib.Seq.{take-at, drop-at, drop-append-add, drop-drop}
 use Rattle.lists.proofs.Prefix.{copy-one}
+use Rattle.tables.specs.Net.{Net}
 use Rattle.tables.specs.Tables.{filled, cleared}
 
 -- a turn of each loop
@@ -16,10 +18,6 @@ copy-turn s d₀ i z e h k = rw e (copy-one s d₀ i z h k)
 
 pub clear-turn : (w₀ : List ℕ) {w : List ℕ} (i : ℕ) → w ≡ replicate i 0 ++ drop i w₀ → i < length w₀ → set w i 0 ≡ replicate (i + 1) 0 ++ drop (i + 1) w₀
 clear-turn w₀ i e k = rw e (fill-more i 0 w₀ k)
-
-pub length-cleared : (n : ℕ) (w : List ℕ) → n ≤ length w → length (cleared n w) ≡ length w
-unfolding cleared
-length-cleared n w h = let a = length-append (replicate n 0) (drop n w) in let b = length-replicate {A = ℕ} n 0 in let c = length-drop n w in omega arith
 
 -- what lies past the cleared part is as found; so clearing again clears what was there before
 pub drop-cleared : (n : ℕ) (w : List ℕ) → drop n (cleared n w) ≡ drop n w
@@ -40,6 +38,10 @@ pub take-filled : {A : Type 0} (s d : List A) (n : ℕ) → n ≡ length s → t
 unfolding filled
 take-filled s d n e = take-at s (drop (length s) d) n (sym e)
 
+pub filled-at : {A : Type 0} (s d : List A) (z : A) (k : ℕ) → k < length s → getD (filled s d) k z ≡ getD s k z
+unfolding filled
+filled-at s d z k h = List·getD-append s (drop (length s) d) z k h
+
 -- what lies past the front is as found; so filling again with more writes over it
 pub drop-filled : {A : Type 0} (s d : List A) (n : ℕ) → length s ≤ n → drop n (filled s d) ≡ drop n d
 unfolding filled
@@ -50,3 +52,7 @@ drop-filled s d n h =
 pub filled-over : {A : Type 0} (s t d : List A) → length s ≤ length t → filled t (filled s d) ≡ filled t d
 unfolding filled
 filled-over {A} s t d h = ap (λ (x : List A). t ++ x) (drop-filled s d (length t) h)
+
+-- ---- nets of equal tables
+pub same-net : {p p′ : List ℤ} {f f′ m m′ : List ℕ} → p ≡ p′ → f ≡ f′ → m ≡ m′ → _≡_ {A = Net} (record { vertices = p; faces = f; marks = m }) (record { vertices = p′; faces = f′; marks = m′ })
+same-net p q r = λ i. record { vertices = p i; faces = q i; marks = r i }

@@ -1,4 +1,4 @@
--- What is left in a lent table.
+-- What is left in the caller's tables.
 use Prim.Native.Nat.{ℕ}
 use mathlib.Core.List.{List, _++_}
 use lib.ListN.{length, drop, replicate}

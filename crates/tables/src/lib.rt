@@ -1,4 +1,4 @@
-// Clearing and copying lent tables.
+// Clearing and copying the caller's tables.
 ghost use Prim.Native.Nat.{_≤_};
 ghost use mathlib.Core.Path.{_≡_};
 ghost use lib.ListN.{length};

@@ -245,21 +245,9 @@ module _ (S : Shape) (v : ℕ) (l : List ℕ) (ok : Manifold S v l) where
   unfolding along
   along-back h o = boundaryFrom-is (to S l (back S l h)) h o (sym (back-to h o))
 
-  -- whatever boundary half-edge leaves the end of h is the one after it, and whatever enters its start the one before
-  pub along-is : (h g : ℕ) → OnBoundary S l g → from l g ≡ to S l h → along S l h ≡ g
-  unfolding along
-  along-is h g o e = boundaryFrom-is (to S l h) g o e
-
-  pub back-is : (h g : ℕ) → OnBoundary S l g → to S l g ≡ from l h → back S l h ≡ g
-  unfolding back
-  back-is h g o e = boundaryInto-is (from l h) g o e
-
   -- a boundary half-edge is known by its start, and by its end
   pub from-inj : (h g : ℕ) → OnBoundary S l h → OnBoundary S l g → from l h ≡ from l g → h ≡ g
   from-inj h g o q e = sym (boundaryFrom-is (from l g) h o e) ∙ boundaryFrom-is (from l g) g q refl
-
-  pub to-inj : (h g : ℕ) → OnBoundary S l h → OnBoundary S l g → to S l h ≡ to S l g → h ≡ g
-  to-inj h g o q e = sym (boundaryInto-is (to S l g) h o e) ∙ boundaryInto-is (to S l g) g q refl
 
   -- a vertex that starts a boundary half-edge ends one, and the other way round
   pub starts-ends : (p : ℕ) → boundaryFrom S l p < length l → boundaryInto S l p < length l

@@ -2,7 +2,7 @@
 use mathlib.Core.Path.{_≡_, refl, sym, ap, _∙_}
 use mathlib.Core.Bool.{Bool, true}
 use mathlib.Core.List.{List}
-use Prim.Native.Nat.{ℕ, zero, suc, _+_, _-_, _≤_, _<_}
+use Prim.Native.Nat.{ℕ, zero, suc, _+_, _≤_, _<_}
 use native.Mathlib.Omega.{arith}
 use lib.ListN.{length}
 use lib.Dec.{eqb}
@@ -10,11 +10,11 @@ use borrow.Author.Tests.{eq-eqb}
 use Rattle.search.specs.Search.{first, iterate}
 use Rattle.search.proofs.Iterate.{iterate-add, iterate-meets}
 use Rattle.topology.specs.Shape.{Shape}
-use Rattle.topology.specs.HalfEdge.{from, to}
+use Rattle.topology.specs.HalfEdge.{from}
 use Rattle.topology.specs.Boundary.{OnBoundary, along, back, Way, withSides, againstSides, other, step, passed}
 use Rattle.topology.specs.Manifold.{Manifold}
 use Rattle.topology.proofs.Mates.{mate-only, ends-differ}
-use Rattle.topology.proofs.Boundary.{along-on, along-from, back-on, back-to, back-along, along-back}
+use Rattle.topology.proofs.Boundary.{along-on, along-from, back-on, back-along, along-back}
 
 module _ (S : Shape) (v : ℕ) (l : List ℕ) (ok : Manifold S v l) where
   pub step-on : (w : Way) (h : ℕ) → OnBoundary S l h → OnBoundary S l (step S l w h)
@@ -79,7 +79,7 @@ module _ (S : Shape) (v : ℕ) (l : List ℕ) (ok : Manifold S v l) where
   loop-three w (suc (suc zero)) h o b e = absurd (step-step-not w h o e)
   loop-three w (suc (suc (suc n))) h o b e = omega arith
 
-  -- ---- k steps and k steps the other way; on a loop of n half-edges, k steps the other way are n - k steps
+  -- ---- k steps and k steps the other way
 
   pub steps-undone : (w : Way) (k h : ℕ) → OnBoundary S l h → iterate (step S l (other w)) k (iterate (step S l w) k h) ≡ h
   unfolding iterate
@@ -91,19 +91,3 @@ module _ (S : Shape) (v : ℕ) (l : List ℕ) (ok : Manifold S v l) where
       ∙ iterate-add (step S l (other w)) k 1 (step S l w g)
       ∙ ap (iterate (step S l (other w)) k) (step-undone w g (steps-on w k h o))
       ∙ steps-undone w k h o
-
-  pub steps-round : (w : Way) (n h : ℕ) → OnBoundary S l h → iterate (step S l w) n h ≡ h → (k : ℕ) → k ≤ n → iterate (step S l (other w)) k h ≡ iterate (step S l w) (n - k) h
-  steps-round w n h o e k b =
-      let x : k + (n - k) ≡ n = omega arith in
-      let y : iterate (step S l w) k (iterate (step S l w) (n - k) h) ≡ h = sym (iterate-add (step S l w) k (n - k) h) ∙ ap (λ (j : ℕ). iterate (step S l w) j h) x ∙ e in
-      ap (iterate (step S l (other w)) k) (sym y) ∙ steps-undone w k (iterate (step S l w) (n - k) h) (steps-on w (n - k) h o)
-
-  -- ---- the edge that a step passes runs between the starts of h and of the half-edge it comes to
-
-  pub passed-with : (h : ℕ) → OnBoundary S l h → (from l (passed S l withSides h) ≡ from l h) × (to S l (passed S l withSides h) ≡ from l (step S l withSides h))
-  unfolding passed step
-  passed-with h o = (refl, sym (along-from S v l ok h o))
-
-  pub passed-against : (h : ℕ) → OnBoundary S l h → (to S l (passed S l againstSides h) ≡ from l h) × (from l (passed S l againstSides h) ≡ from l (step S l againstSides h))
-  unfolding passed step
-  passed-against h o = (back-to S v l ok h o, refl)

@@ -20,7 +20,7 @@ use Rattle.topology.specs.Shape.{Shape}
 use Rattle.topology.specs.HalfEdge.{from, to, mate}
 use Rattle.topology.specs.Vertex.{leaves, valence, turn, turns, unturn, stops, facesMet, Walk, Ring, Fan}
 use Rattle.topology.specs.Manifold.{Oriented}
-use Rattle.topology.proofs.Mates.{mate-is, mate-only, to-prev}
+use Rattle.topology.proofs.Mates.{mate-is}
 use Rattle.topology.proofs.Turn.{turn-le, turn-inj, turn-unturn, turned-mate, turns-from, turns-listed}
 
 module _ (S : Shape) (v : ℕ) (l : List ℕ) (ok : Oriented S v l) where
@@ -113,10 +113,6 @@ module _ (S : Shape) (v : ℕ) (l : List ℕ) (ok : Oriented S v l) where
         go (yes c) q = q .walk .inside 1 c
         go (no c) q = let e : m ≡ 1 = omega (arith, q .some) in let x : turn S l g ≡ g = subst (λ (k : ℕ). turns S l k g ≡ g) e (q .back) in omega arith
 
-    -- its neighbours are pairwise distinct
-    pub ring-neighbours : (i j : ℕ) → i < j → j < m → to S l (turns S l i h) ≡ to S l (turns S l j h) → ⊥
-    ring-neighbours = walk-neighbours p h m (r .walk) (r .not-before)
-
   -- ---- fans
 
   module _ (p h m : ℕ) (r : Fan S l p h m) where
@@ -159,17 +155,6 @@ module _ (S : Shape) (v : ℕ) (l : List ℕ) (ok : Oriented S v l) where
     -- its neighbours are pairwise distinct; the last of them is where the side before the last half-edge begins
     pub fan-neighbours : (i j : ℕ) → i < j → j < m → to S l (turns S l i h) ≡ to S l (turns S l j h) → ⊥
     fan-neighbours = walk-neighbours p h m (r .walk) fan-not-back
-
-    pub fan-last-neighbour : (i : ℕ) → i < m → to S l (turns S l i h) ≡ from l (S .prev (turns S l (m - 1) h)) → ⊥
-    unfolding iterate turn
-    fan-last-neighbour i b e =
-        let x : suc (m - 1) ≡ m = omega arith in
-        let g : ℕ = turns S l (m - 1) h in
-        let d : mate S l (S .prev g) ≡ length l = subst (λ (k : ℕ). turns S l k h ≡ length l) (sym x) (r .ends) in
-        let c = r .walk .inside i b in
-        let y : (k : ℕ) → k < m → from l (turns S l k h) ≡ p = λ k a. turns-from S v l ok p h k (r .walk .leaves) (λ j z. r .walk .inside j (omega arith)) in
-        let q = mate-only S v l ok (S .prev g) (turns S l i h) (record { lt = c; start = y i b ∙ sym (y (m - 1) (omega arith)) ∙ sym (to-prev S (length l) (ok .shape) l g); end = e }) in
-        omega arith
 
   -- ---- turning from h, until there is no face or one is back at h
 

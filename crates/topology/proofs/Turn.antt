@@ -62,16 +62,6 @@ module _ (S : Shape) (v : ℕ) (l : List ℕ) (ok : Oriented S v l) where
   turns-from p h zero s f = s
   turns-from p h (suc k) s f = turn-from (turns S l k h) (f (suc k) (omega arith)) ∙ turns-from p h k s (λ j b. f j (omega arith))
 
-  -- k turns and j of them undone
-  pub unturns-turns : (h j k : ℕ) → ((i : ℕ) → i ≤ j + k → turns S l i h < length l) → iterate (unturn S l) j (turns S l (j + k) h) ≡ turns S l k h
-  unfolding iterate
-  unturns-turns h zero k f = let e : 0 + k ≡ k = omega arith in ap (λ (i : ℕ). turns S l i h) e
-  unturns-turns h (suc j) k f =
-      let e : suc j + k ≡ j + suc k = omega arith in
-      ap (λ (i : ℕ). unturn S l (iterate (unturn S l) j (turns S l i h))) e
-      ∙ ap (unturn S l) (unturns-turns h j (suc k) (λ i b. f i (omega arith)))
-      ∙ unturn-turn (turns S l k h) (f k (omega arith)) (f (suc k) (omega arith))
-
   -- turns that do not come back to h before m are m different half-edges that leave p
   pub turns-listed : (p h m : ℕ) → from l h ≡ p → ((k : ℕ) → k < m → turns S l k h < length l) → ((k : ℕ) → 0 < k → k < m → turns S l k h ≡ h → ⊥)
       → Listed (leaves l p) (length l) (λ (k : ℕ). turns S l k h) m

@@ -1,25 +1,17 @@
--- A manifold net has no more vertices than half-edges.
+-- Vertices that half-edges leave are no more than the half-edges.
 use mathlib.Core.Path.{_≡_, refl, ap}
 use mathlib.Core.Bool.{true}
 use mathlib.Core.List.{List}
 use Prim.Native.Nat.{ℕ, _≤_, _<_}
 use native.Mathlib.Omega.{arith}
 use lib.ListN.{length}
-use Rattle.search.specs.Search.{first, iterate}
-use Rattle.search.proofs.First.{first-holds, first-reach}
+use Rattle.search.specs.Search.{first}
+use Rattle.search.proofs.First.{first-holds}
 use Rattle.search.proofs.Count.{count-le}
 use Rattle.search.proofs.Pigeonhole.{listed-le}
-use borrow.Author.Tests.{eq-eqb, eqb-true}
-use Rattle.topology.specs.Shape.{Shape}
+use borrow.Author.Tests.{eqb-true}
 use Rattle.topology.specs.HalfEdge.{from}
 use Rattle.topology.specs.Vertex.{leaves}
-use Rattle.topology.specs.Manifold.{Around, ring, fan, Manifold}
-
--- the first half-edge that leaves a vertex where there is one
-pub leaver-lt : (S : Shape) (l : List ℕ) (p : ℕ) → Around S l p → first (leaves l p) (length l) < length l
-unfolding iterate leaves
-leaver-lt S l p (ring h m s t r) = let k = r .walk .inside 0 (r .some) in let e = first-reach (leaves l p) (length l) h k (eq-eqb (from l h) p (r .walk .leaves)) in omega arith
-leaver-lt S l p (fan h m t r) = let k = r .walk .inside 0 (r .some) in let e = first-reach (leaves l p) (length l) h k (eq-eqb (from l h) p (r .walk .leaves)) in omega arith
 
 -- where a half-edge leaves each of v vertices, there are v half-edges or more
 pub leavers-le : (v : ℕ) (l : List ℕ) → ((p : ℕ) → p < v → first (leaves l p) (length l) < length l) → v ≤ length l
@@ -34,6 +26,3 @@ leavers-le v l f =
     }) in
     let b = count-le (λ (h : ℕ). true) (length l) in
     omega arith
-
-pub vertices-le : (S : Shape) (v : ℕ) (l : List ℕ) → Manifold S v l → v ≤ length l
-vertices-le S v l ok = leavers-le v l (λ p b. leaver-lt S l p (ok .around p b))

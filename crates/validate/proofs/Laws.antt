@@ -1,12 +1,12 @@
 -- How the parts of the check fit together. Assumes nothing.
-use mathlib.Core.Path.{_≡_, refl, sym, ap, ap₂, _∙_}
-use mathlib.Core.Bool.{Bool, cond}
+use mathlib.Core.Path.{_≡_, refl, _∙_}
+use mathlib.Core.Bool.{Bool}
 use mathlib.Core.List.{List}
-use Prim.Native.Nat.{ℕ, _+_, _*_, _/_, _%_, _^_, _≤_, _<_}
+use Prim.Native.Nat.{ℕ, _*_, _/_, _%_, _^_, _≤_, _<_}
 use native.Mathlib.Nat.{one-le-pow, mul-le-mul-left}
 use native.Mathlib.Omega.{arith}
 use native.Mathlib.Decide.{decLt}
-use lib.Dec.{eqb, ltb, lit≤}
+use lib.Dec.{lit≤}
 use borrow.Author.Tests.{eq-eqb, ne-eqb}
 use lib.ListN.{length, drop}
 use Rattle.search.specs.Search.{first}
@@ -19,15 +19,14 @@ use Rattle.tables.specs.Tables.{cleared}
 use Rattle.tables.proofs.Laws.{cleared-over}
 use Rattle.lists.proofs.Parts.{drop-later}
 use Rattle.verdict.specs.Call.{Room, Call, finalFaces}
-use Rattle.verdict.specs.Verdict.{Verdict, accepted, refused, orElse, afterCall, limitsVerdict, callVerdict, vertexVerdict, adjacencyVerdict, facesVerdict, netVerdict, verdict, workAfter}
-use Rattle.verdict.proofs.Accepted.{WithinLimits, at-hit, at-pass, last-pass}
+use Rattle.verdict.specs.Verdict.{Verdict, accepted, refused, limitsVerdict, callVerdict, vertexVerdict, adjacencyVerdict, facesVerdict, netVerdict, verdict}
+use Rattle.verdict.proofs.Accepted.{never, WithinLimits, at-hit, at-pass, last-pass}
 use Rattle.limits.specs.Answer.{limitsOf}
-use Rattle.adjacency.specs.Chains.{InRange, Tables, MateTable}
-use Rattle.adjacency.proofs.Chains.{in-range-le}
-use Rattle.validate.specs.declared.Answer.{Answer}
+use Rattle.adjacency.specs.Chains.{CornersBelow, Tables}
+use Rattle.adjacency.proofs.Chains.{corners-below-le}
 use Rattle.validate.specs.declared.Answer.the-variants.{Accepted, Refused}
-use Rattle.validate.specs.Answer.{verdictOf, Checked, found, checked}
-use Rattle.validate.specs.Examine.{Lent, Joined, Examined}
+use Rattle.validate.specs.Answer.{found, checked}
+use Rattle.validate.specs.Examine.{CheckTables, Joined, Examined}
 
 -- no vertex is isolated, so there are no more than corners
 pub joined : (l : List ℕ) (v : ℕ) → first (isolated l) v ≡ v → Joined l v
@@ -37,15 +36,11 @@ joined l v e = record { few = go (decLt (length l) v); none = e }
     go (yes h) = let k = isolated-soon l v h in absurd (omega arith)
     go (no h) = omega arith
 
-pub tables : (l w w′ : List ℕ) (v : ℕ) → Lent l w → Joined l v → InRange v l → length w′ ≡ length w → Tables l w′
+pub tables : (l w w′ : List ℕ) (v : ℕ) → CheckTables l w → Joined l v → CornersBelow v l → length w′ ≡ length w → Tables l w′
 tables l w w′ v t j r e =
     let a = t .few in
     let b = t .room in
-    record { fours = t .fours; small = omega arith; corners = in-range-le v (length l) l (j .few) r; room = omega arith }
-
--- no half-edge is refused a verdict other than accepted
-pub never : {A : Type 0} (r p : ℕ) → refused r p ≡ accepted → A
-never r p e = let z : _≡_ {A = ℕ} 0 1 = cc in absurd (omega arith)
+    record { fours = t .fours; small = omega arith; corners = corners-below-le v (length l) l (j .few) r; room = omega arith }
 
 -- a search that passes all found nothing
 pub all : (t : ℕ → Bool) (n i : ℕ) → i ≡ first t n → n ≤ i → first t n ≡ n
@@ -73,8 +68,8 @@ lonely-vertex l m w e f = record {
 }
 
 -- ---- the whole call
-pub lent : (k nv nm : ℕ) (l w : List ℕ) {room : Room} → WithinLimits k nv (length l) nm room → room .work ≡ length w → Lent l w
-lent k nv nm l w r e =
+pub check-tables : (k nv nm : ℕ) (l w : List ℕ) {room : Room} → WithinLimits k nv (length l) nm room → room .work ≡ length w → CheckTables l w
+check-tables k nv nm l w r e =
     let p : 1 ≤ 4 ^ k = one-le-pow k 4 (lit≤ tt) in
     let g : length l / 4 * 1 ≤ length l / 4 * 4 ^ k = mul-le-mul-left (length l / 4) p in
     let q = r .quadrilaterals in

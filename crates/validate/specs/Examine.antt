@@ -11,7 +11,7 @@ use Rattle.validate.specs.declared.Answer.{Answer}
 use Rattle.validate.specs.Answer.{verdictOf}
 
 -- corners l by fours, not too many, and a work table w with room for four numbers per half-edge
-pub record Lent (l w : List ℕ) : Type 0 where
+pub record CheckTables (l w : List ℕ) : Type 0 where
   pub fours : length l % 4 ≡ 0
   pub few : length l ≤ 16384
   pub room : 4 * length l ≤ length w

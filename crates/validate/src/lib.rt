@@ -1,13 +1,12 @@
 // The check that finds the first refusal of a call, or none.
-ghost use Prim.Native.Nat.{ℕ};
 ghost use mathlib.Core.Path.{_≡_};
 ghost use lib.ListN.{length};
 ghost use Rattle.tables.specs.Net.{Net};
 ghost use Rattle.verdict.specs.Call.{Call};
 ghost use Rattle.verdict.specs.Verdict.{vertexVerdict, adjacencyVerdict, facesVerdict, netVerdict};
-ghost use Rattle.adjacency.specs.Chains.{Tables, Adjacency, InRange};
+ghost use Rattle.adjacency.specs.Chains.{Tables, Adjacency, CornersBelow};
 ghost use Rattle.validate.specs.Answer.{verdictOf, found, checked};
-ghost use Rattle.validate.specs.Examine.{Lent, Joined, Examined};
+ghost use Rattle.validate.specs.Examine.{CheckTables, Joined, Examined};
 
 pub enum Answer {
     Accepted,
@@ -52,8 +51,8 @@ fn examine_adjacency(faces: &[u32], marks: &[u8], work: &mut [u32]) -> Answer
 
 // Refusals 8 to 12 of a net whose corners all are vertices.
 fn examine_faces(faces: &[u32], marks: &[u8], work: &mut [u32]) -> Answer
-    requires { ⌜ Lent (now faces) (now work) ⌝ }
-    requires { ⌜ InRange (length (now marks)) (now faces) ⌝ }
+    requires { ⌜ CheckTables (now faces) (now work) ⌝ }
+    requires { ⌜ CornersBelow (length (now marks)) (now faces) ⌝ }
     ensures { λ r. ⌜ Examined (facesVerdict (length (now (marks .entry))) (now (faces .entry)) (now (marks .entry))) (now (faces .entry)) (now (work .entry)) r (now (work .exit)) ⌝ }
 {
     if faces.len() == 0 {
@@ -71,7 +70,7 @@ fn examine_faces(faces: &[u32], marks: &[u8], work: &mut [u32]) -> Answer
 
 // Refusals 5 to 12. Only the first 4n numbers of the work table are used, n being the number of corners; on acceptance it starts with the mates.
 pub fn examine_net(vertices: &[i32], faces: &[u32], marks: &[u8], work: &mut [u32]) -> Answer
-    requires { ⌜ Lent (now faces) (now work) ⌝ }
+    requires { ⌜ CheckTables (now faces) (now work) ⌝ }
     ensures { λ r. ⌜ Examined (netVerdict (record { vertices = now (vertices .entry); faces = now (faces .entry); marks = now (marks .entry) })) (now (faces .entry)) (now (work .entry)) r (now (work .exit)) ⌝ }
 {
     let x = scan::first_bad_coordinate(vertices);

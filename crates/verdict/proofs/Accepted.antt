@@ -1,12 +1,11 @@
 -- What an accepted call has, and that a call for fewer rounds is accepted too. Assumes nothing.
-use mathlib.Core.Path.{_≡_, refl, sym, ap, _∙_}
-use mathlib.Core.Bool.{Bool, true, false, cond, not}
-use mathlib.Core.List.{List}
-use Prim.Native.Nat.{ℕ, _+_, _*_, _/_, _%_, _^_, _≤_, _<_}
+use mathlib.Core.Path.{_≡_, refl}
+use mathlib.Core.Bool.{Bool, true, false, cond}
+use Prim.Native.Nat.{ℕ, _*_, _/_, _%_, _^_, _≤_, _<_}
 use native.Mathlib.Nat.{pow-le-pow-right, mul-le-mul-left}
 use native.Mathlib.Omega.{arith}
-use lib.Dec.{eqb, ltb}
-use lib.IntN.{ℤ, pos, natAbs}
+use lib.Dec.{ltb}
+use lib.IntN.{pos, natAbs}
 use lib.ListN.{length, getD}
 use borrow.Author.Tests.{ltb-false, eqb-true, not-false, lt-ltb, le-ltb, eq-eqb}
 use Rattle.search.specs.Search.{first}
@@ -17,12 +16,14 @@ use Rattle.topology.proofs.Shape.{quads-lawful}
 use Rattle.refusals.proofs.Manifold.{manifold-if}
 use Rattle.refusals.specs.Refusals.{badMark, badCorner, isolated, repeatedSide, nonManifold, badValence, markedRing}
 use Rattle.tables.specs.Net.{Net}
-use Rattle.verdict.specs.Call.{Room, Call, finalFaces}
+use Rattle.verdict.specs.Call.{Room, Call}
 use Rattle.verdict.specs.Verdict.{Verdict, accepted, refused, orElse, refusedIf, refusedAt, roomVerdict, limitsVerdict, callVerdict, badCoordinate, vertexVerdict, adjacencyVerdict, facesVerdict, netVerdict, verdict}
 use Rattle.verdict.proofs.Examples
 
 -- ---- the chain
-never : {A : Type 0} (r p : ℕ) → refused r p ≡ accepted → A
+
+-- a refusal is no acceptance
+pub never : {A : Type 0} (r p : ℕ) → refused r p ≡ accepted → A
 never r p e = let z : _≡_ {A = ℕ} 0 1 = cc in absurd (omega arith)
 
 pub or-both : (u v : Verdict) → orElse u v ≡ accepted → (u ≡ accepted) × (v ≡ accepted)
@@ -36,18 +37,12 @@ pub if-false : (r : ℕ) (t : Bool) → refusedIf r t ≡ accepted → t ≡ fal
 if-false r true e = never r 0 e
 if-false r false e = refl
 
-pub false-if : (r : ℕ) (t : Bool) → t ≡ false → refusedIf r t ≡ accepted
-false-if r t e = rw e
-
 pub at-none : (r : ℕ) (t : ℕ → Bool) (n : ℕ) (place : ℕ → ℕ) → refusedAt r t n place ≡ accepted → first t n ≡ n
 at-none r t n place e = go (ltb (first t n) n) refl e
   where
     go : (b : Bool) → ltb (first t n) n ≡ b → cond b (refused r (place (first t n))) accepted ≡ accepted → first t n ≡ n
     go true f e = never r (place (first t n)) e
     go false f e = let a = ltb-false (first t n) n f in let b = first-le t n in omega arith
-
-pub none-at : (r : ℕ) (t : ℕ → Bool) (n : ℕ) (place : ℕ → ℕ) → first t n ≡ n → refusedAt r t n place ≡ accepted
-none-at r t n place e = let f : ltb (first t n) n ≡ false = le-ltb (first t n) n (omega arith) in rw f
 
 -- ---- 1 to 4 do not hold
 pub record WithinLimits (rounds coordinates corners marks : ℕ) (room : Room) : Type 0 where

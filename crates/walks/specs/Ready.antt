@@ -1,4 +1,4 @@
--- What walks assume of the lent tables during a round, and what they find.
+-- What walks assume of the caller's tables during a round, and what they find.
 use mathlib.Core.Path.{_≡_}
 use mathlib.Core.List.{List}
 use Prim.Native.Nat.{ℕ, _%_, _≤_, _<_}

@@ -1,4 +1,4 @@
-// Walks round the vertices of a net and along its boundary, on lent tables of corners and mates. The number of half-edges stands for 'none'.
+// Walks round the vertices of a net and along its boundary, on the caller's tables of corners and mates. The number of half-edges stands for 'none'.
 ghost use mathlib.Core.Path.{_≡_};
 ghost use Prim.Native.Nat.{_<_};
 ghost use lib.ListN.{length};

@@ -1,5 +1,5 @@
 -- `capi::finding_of` meets its contract: by cases. Assumes nothing.
-use mathlib.Core.Path.{_≡_, sym, ap}
+use mathlib.Core.Path.{sym, ap}
 use Rattle.capi.specs.Export.{finding}
 use Rattle.validate.specs.Answer.{verdictOf}
 use Rattle.validate.specs.declared.Answer.{Answer}

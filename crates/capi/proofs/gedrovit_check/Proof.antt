@@ -1,6 +1,6 @@
 -- `capi::gedrovit_check` meets its contract. Assumes nothing.
-use mathlib.Core.Path.{_≡_, ap}
-use Rattle.capi.specs.Export.{finding, exported}
+use mathlib.Core.Path.{ap}
+use Rattle.capi.specs.Export.{exported}
 use borrow.Author.Needs.{needs}
 use Rattle.capi.proofs.gedrovit_check.Statement.{statement}
 use Rattle.capi.proofs.gedrovit_check.Tie as tie

@@ -1,6 +1,6 @@
 -- `capi::gedrovit_refine` meets its contract. Assumes nothing.
-use mathlib.Core.Path.{_≡_, ap}
-use Rattle.capi.specs.Export.{report, exportedOutcome}
+use mathlib.Core.Path.{ap}
+use Rattle.capi.specs.Export.{exportedOutcome}
 use borrow.Author.Needs.{needs}
 use Rattle.capi.proofs.gedrovit_refine.Statement.{statement}
 use Rattle.capi.proofs.gedrovit_refine.Tie as tie

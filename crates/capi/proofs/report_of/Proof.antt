@@ -1,5 +1,5 @@
 -- `capi::report_of` meets its contract: by cases. Assumes nothing.
-use mathlib.Core.Path.{_≡_, sym, ap}
+use mathlib.Core.Path.{sym, ap}
 use Rattle.capi.specs.Export.{report}
 use Rattle.refine.specs.Answer.{resultOf}
 use Rattle.refine.specs.declared.Answer.{Answer}

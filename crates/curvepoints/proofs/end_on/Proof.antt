@@ -7,7 +7,8 @@ use mir.Val.{SFits}
 use mir.Facts.{toZ-ofZ}
 use Rattle.curve.specs.Weights.{kobbelt, endEdge}
 use Rattle.scheme.specs.Step.{axis}
-use Rattle.curvepoints.proofs.Sizes.{read-range, scaled-fits, end-bound, end-read}
+use Rattle.curvepoints.proofs.Sizes.{read-range, scaled-fits, end-bound}
+use Rattle.curve.proofs.Kobbelt.{end-read}
 use Rattle.curvepoints.proofs.end_on.Statement.{statement}
 use Rattle.curvepoints.proofs.end_on.Tie as tie
 

@@ -7,7 +7,8 @@ use mir.Val.{SFits}
 use mir.Facts.{toZ-ofZ}
 use Rattle.curve.specs.Weights.{kobbelt, interior}
 use Rattle.scheme.specs.Step.{axis}
-use Rattle.curvepoints.proofs.Sizes.{read-range, scaled-fits, interior-bound, interior-read}
+use Rattle.curvepoints.proofs.Sizes.{read-range, scaled-fits, interior-bound}
+use Rattle.curve.proofs.Kobbelt.{interior-read}
 use Rattle.curvepoints.proofs.interior_on.Statement.{statement}
 use Rattle.curvepoints.proofs.interior_on.Tie as tie
 

@@ -7,7 +7,8 @@ use mir.Val.{SFits}
 use mir.Facts.{toZ-ofZ}
 use Rattle.curve.specs.Weights.{kobbelt, singleEdge}
 use Rattle.scheme.specs.Step.{axis}
-use Rattle.curvepoints.proofs.Sizes.{read-range, scaled-fits, single-bound, single-read}
+use Rattle.curvepoints.proofs.Sizes.{read-range, scaled-fits, single-bound}
+use Rattle.curve.proofs.Kobbelt.{single-read}
 use Rattle.curvepoints.proofs.single_on.Statement.{statement}
 use Rattle.curvepoints.proofs.single_on.Tie as tie
 

@@ -1,3 +1,4 @@
+-- `decimal::read_digits` meets its contract: each turn reads one more digit. Assumes nothing.
 use mathlib.Core.Path.{_≡_, sym, _∙_}
 use Prim.Native.Nat.{_+_, _-_, _≤_}
 use native.Mathlib.Omega.{arith}
@@ -15,23 +16,18 @@ Inv-loop text limit most value₀ i₀ value i = (i ≤ length text) × (value �
 abbrev μ-loop : tie.MeasureT-loop
 μ-loop text limit most value₀ i₀ value i = length text - i
 
--- src/lib.rt:34:5
 loop-holds : tie.Need-loop-holds Inv-loop μ-loop
 loop-holds c = search needs
 
--- src/lib.rt:35:17
 shared-slice-read-b : tie.Need-shared-slice-read-b Inv-loop μ-loop
 shared-slice-read-b c = search needs
 
--- src/lib.rt:36:13
 is-digit-requires : tie.Need-is-digit-requires Inv-loop μ-loop
 is-digit-requires c κs = search needs
 
--- src/lib.rt:37:34
 cast-t13 : tie.Need-cast-t13 Inv-loop μ-loop
 cast-t13 c = search needs
 
--- src/lib.rt:37:13
 returns : tie.Need-returns Inv-loop μ-loop
 returns c =
     let i = c .before .before .before .before .loop .i in
@@ -39,23 +35,18 @@ returns c =
     digits-given l _ i _ (omega arith) (omega arith) (c .before .before .before .before .loop .inv .2)
     (digits-stop l i _ (c .before .before .before .loop-test .taken) (sym (c .before .is-digit .ensures) ∙ not-true _ (c .if1 .taken)))
 
--- src/lib.rt:39:20
 mul-next : tie.Need-mul-next Inv-loop μ-loop
 mul-next c = search needs
 
--- src/lib.rt:39:34
 cast-next : tie.Need-cast-next Inv-loop μ-loop
 cast-next c = omega (arith, c .before .before .shared-slice-known2 .given (c .before .before .before .before .loop .i))
 
--- src/lib.rt:39:34
 sub-next : tie.Need-sub-next Inv-loop μ-loop
 sub-next c = digit-low _ (sym (c .before .is-digit .ensures) ∙ not-false _ (c .if1 .left))
 
--- src/lib.rt:39:20
 add-next : tie.Need-add-next Inv-loop μ-loop
 add-next c = omega (arith, c .before .before .shared-slice-known2 .given (c .before .before .before .before .loop .i))
 
--- src/lib.rt:41:13
 returns-2 : tie.Need-returns-2 Inv-loop μ-loop
 returns-2 c =
     let p = c .before .before .before .before .before in
@@ -63,26 +54,21 @@ returns-2 c =
     digits-refused l (drop (p .loop .i + 1) l) _ _ (c .if2 .taken)
     (p .loop .inv .2 ∙ digits-on l (p .loop .i) (p .loop .value) (c .before .before .before .before .loop-test .taken) (sym (c .before .before .is-digit .ensures) ∙ not-false _ (c .before .if1 .left)))
 
--- src/lib.rt:44:9
 add-i : tie.Need-add-i Inv-loop μ-loop
 add-i c = search needs
 
--- src/lib.rt:34:5
 loop-less : tie.Need-loop-less Inv-loop μ-loop
 loop-less c = search needs
 
--- src/lib.rt:34:5
 loop-again : tie.Need-loop-again Inv-loop μ-loop
 loop-again c =
     let p = c .before .before .before .before .before in
     let l = p .before .before .args .text .now in
     (omega arith, omega arith, p .loop .inv .2 ∙ digits-on l (p .loop .i) (p .loop .value) (c .before .before .before .before .loop-test .taken) (sym (c .before .before .is-digit .ensures) ∙ not-false _ (c .before .if1 .left)))
 
--- src/lib.rt:46:19
 cast-t17 : tie.Need-cast-t17 Inv-loop μ-loop
 cast-t17 c = search needs
 
--- src/lib.rt:28:1
 returns-3 : tie.Need-returns-3 Inv-loop μ-loop
 returns-3 c =
     let l = c .before .before .before .args .text .now in

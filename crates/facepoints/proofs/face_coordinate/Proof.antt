@@ -8,8 +8,6 @@ use mir.Syntax.{w32, w64}
 use mir.Val.{SFits}
 use mir.Facts.{toZ-ofZ}
 use Rattle.rounding.specs.Rounding.{round}
-use Rattle.stencils.specs.Stencils.{faceStencilZ}
-use Rattle.facepoints.specs.Stored.{storedAt}
 use Rattle.facepoints.proofs.Values.{face-size, rounded-fits}
 use Rattle.facepoints.proofs.face_coordinate.Statement.{statement}
 use Rattle.facepoints.proofs.face_coordinate.Tie as tie

@@ -5,7 +5,7 @@ use mir.Syntax.{w64}
 use mir.Val.{SFits}
 use mir.Facts.{toZ-ofZ}
 use Rattle.facepoints.specs.Stored.{storedAt, Readable}
-use Rattle.facepoints.proofs.Values.{Sizes, sizes, read-size, on-alone, on-both, value-alone, value-both}
+use Rattle.facepoints.proofs.Values.{sizes, read-size, on-alone, on-both, value-alone, value-both}
 use Rattle.facepoints.proofs.face_value.Statement.{statement}
 use Rattle.facepoints.proofs.face_value.Tie as tie
 

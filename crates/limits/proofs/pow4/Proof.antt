@@ -2,7 +2,6 @@
 use mathlib.Core.Path.{_≡_, refl}
 use native.Mathlib.Omega.{arith}
 use lib.Dec.{lit≤}
-use borrow.Author.Needs.{needs}
 use Rattle.limits.proofs.pow4.Statement.{statement}
 use Rattle.limits.proofs.pow4.Tie as tie
 

@@ -1,6 +1,6 @@
 -- `bias` meets its contract: the sum is natural and in range. Assumes nothing.
 use mathlib.Core.Path.{refl}
-use lib.IntN.{ℤ, pos, natAbs, _+ℤ_}
+use lib.IntN.{pos, natAbs, _+ℤ_}
 use lib.Dec.{T}
 use lib.Signed.{nonNeg}
 use mir.Syntax.{w64}

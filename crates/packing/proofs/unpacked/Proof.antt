@@ -1,6 +1,6 @@
 -- `unpacked` meets its contract: no step leaves its range. Assumes nothing.
 use mathlib.Core.Path.{_≡_, refl, subst⁻¹}
-use Prim.Native.Nat.{ℕ, _+_, _*_}
+use Prim.Native.Nat.{_+_, _*_}
 use native.Mathlib.Omega.{arith}
 use lib.IntN.{ℤ, pos, _-ℤ_}
 use mir.Syntax.{w64}
@@ -11,9 +11,6 @@ use Rattle.packing.specs.Packed.{joined}
 use Rattle.packing.proofs.Packed.{joined-fits}
 use Rattle.packing.proofs.unpacked.Statement.{statement}
 use Rattle.packing.proofs.unpacked.Tie as tie
-
-whole : (c : tie.Start) → ℕ
-whole c = c .args .hi * 4294967296 + c .args .lo
 
 read : (c : tie.Start) → toZ w64 (c .args .hi * 4294967296 + c .args .lo) ≡ pos (c .args .hi * 4294967296 + c .args .lo)
 read c = let h = c .pre in let l = c .fits .lo .fits in toZ-pos w64 (omega arith)

@@ -5,7 +5,7 @@ use native.Mathlib.Omega.{arith}
 use lib.IntN.{pos}
 use lib.ListN.{length, replicate, length-replicate}
 use Rattle.tables.specs.Net.{Net}
-use Rattle.outcome.specs.Outcome.{Lent}
+use Rattle.outcome.specs.Outcome.{Buffers}
 use Rattle.refine.specs.declared.Answer.{Answer}
 use Rattle.refine.specs.Answer.{answered}
 use Rattle.printing.proofs.Writing.{every-answer-fits}
@@ -15,7 +15,7 @@ use Rattle.program.proofs.refine_net.Statement.{statement}
 use Rattle.program.proofs.refine_net.Tie as tie
 
 -- the tables before the call
-abbrev zeros : Lent
+abbrev zeros : Buffers
 zeros = record { vertices = replicate 3072 (pos 0); faces = replicate 1024 0; marks = replicate 1024 0; work = replicate 4096 0 }
 
 long-vertices : length (zeros .vertices) ≡ 3072

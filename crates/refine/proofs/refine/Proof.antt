@@ -1,6 +1,5 @@
 -- `refine::refine` meets its contract: the limits, the net, the rounds. Assumes nothing.
 use mathlib.Core.Path.{_≡_, refl, sym, ap, _∙_}
-use mathlib.Core.List.{List}
 use Prim.Native.Nat.{ℕ, _*_, _/_}
 use native.Mathlib.Omega.{arith}
 use lib.ListN.{length}
@@ -9,8 +8,8 @@ use Rattle.tables.specs.Tables.{cleared}
 use Rattle.verdict.specs.Verdict.{accepted, callVerdict}
 use Rattle.verdict.proofs.Accepted.{WithinLimits, within-if}
 use Rattle.validate.specs.Answer.{verdictOf}
-use Rattle.validate.proofs.Laws.{passed, lent}
-use Rattle.outcome.specs.Outcome.{Lent, callOf}
+use Rattle.validate.proofs.Laws.{passed, check-tables}
+use Rattle.outcome.specs.Outcome.{Buffers, callOf}
 use Rattle.refine.proofs.Laws.{unchanged, admitted, refined-net, refused-net}
 use borrow.Author.Needs.{needs}
 use Rattle.refine.proofs.refine.Statement.{statement}
@@ -19,7 +18,7 @@ use Rattle.refine.proofs.refine.Tie as tie
 abbrev net : tie.Start → Net
 net s = record { vertices = s .args .vertices .now; faces = s .args .faces .now; marks = s .args .marks .now }
 
-abbrev tables : tie.Start → Lent
+abbrev tables : tie.Start → Buffers
 tables s = record { vertices = s .args .out-vertices .now; faces = s .args .out-faces .now; marks = s .args .out-marks .now; work = s .args .work .now }
 
 -- past the limits
@@ -43,7 +42,7 @@ mul-last : tie.Need-mul-last
 mul-last c = let f = within (c .before) .final in rw (c .pow4 .ensures .0) (omega arith)
 
 examine-net-requires : tie.Need-examine-net-requires
-examine-net-requires c κs = let s = c .before .before .before .before .before .before .before .before .before in lent (s .args .rounds) _ _ (s .args .faces .now) (s .args .work .now) (within (c .before .before)) refl
+examine-net-requires c κs = let s = c .before .before .before .before .before .before .before .before .before in check-tables (s .args .rounds) _ _ (s .args .faces .now) (s .args .work .now) (within (c .before .before)) refl
 
 enum-told : tie.Need-enum-told
 enum-told c = search needs

@@ -1,8 +1,7 @@
 -- `refine::run` meets its contract: copies, rounds, clearing. Assumes nothing.
-use mathlib.Core.Path.{_≡_}
 use native.Mathlib.Omega.{arith}
 use Rattle.tables.specs.Net.{Net}
-use Rattle.outcome.specs.Outcome.{Lent}
+use Rattle.outcome.specs.Outcome.{Buffers}
 use Rattle.refine.proofs.Laws.{room-vertices, room-faces, room-marks, room-work, last-le, prepared, ran}
 use borrow.Author.Needs.{needs}
 use Rattle.refine.proofs.run.Statement.{statement}
@@ -11,7 +10,7 @@ use Rattle.refine.proofs.run.Tie as tie
 abbrev net : tie.Start → Net
 net s = record { vertices = s .args .vertices .now; faces = s .args .faces .now; marks = s .args .marks .now }
 
-abbrev tables : tie.Start → Lent
+abbrev tables : tie.Start → Buffers
 tables s = record { vertices = s .args .out-vertices .now; faces = s .args .out-faces .now; marks = s .args .out-marks .now; work = s .args .work .now }
 
 copy-i32-requires : tie.Need-copy-i32-requires

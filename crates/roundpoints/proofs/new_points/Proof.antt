@@ -1,5 +1,4 @@
 -- `new_points` meets its contract. Assumes nothing.
-use native.Mathlib.Omega.{arith}
 use borrow.Author.Needs.{needs}
 use Rattle.edgetable.proofs.EdgeTable.{loaded-now}
 use Rattle.roundpoints.proofs.Passes.{scratch-now, face-room, points-made}

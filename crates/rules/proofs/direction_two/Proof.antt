@@ -1,12 +1,10 @@
 -- `rules::direction_two` meets its contract: no step leaves its range. Assumes nothing.
-use mathlib.Core.Path.{_≡_}
 use Prim.Native.Nat.{_<_, _^_}
 use native.Mathlib.Omega.{arith}
 use borrow.Author.Needs.{needs}
 use lib.IntN.{ℤ, pos, natAbs, _+ℤ_, _-ℤ_, _*ℤ_}
 use mir.Syntax.{w64}
 use mir.Val.{SFits}
-use mir.Facts.{toZ-ofZ}
 use Rattle.integers.proofs.AbsoluteValue.{abs-add, abs-sub, abs-mul}
 use Rattle.integers.proofs.Range.{fits-abs}
 use Rattle.integers.proofs.Ring.{one-*ℤ}

@@ -1,6 +1,6 @@
 -- `scan::first_bad_corner` meets its contract: no corner before h is bad. Assumes nothing.
 use mathlib.Core.Path.{_≡_, sym, _∙_}
-use mathlib.Core.Bool.{Bool, false}
+use mathlib.Core.Bool.{false}
 use Prim.Native.Nat.{ℕ, _-_, _≤_, _<_}
 use native.Mathlib.Omega.{arith}
 use borrow.Author.Count.{below-more}
@@ -8,7 +8,6 @@ use lib.ListN.{length}
 use Rattle.topology.specs.Shape.{quads}
 use Rattle.refusals.specs.Refusals.{badCorner}
 use Rattle.scan.proofs.Laws.{hit, end}
-use borrow.Author.Needs.{needs}
 use Rattle.scan.proofs.first_bad_corner.Statement.{statement}
 use Rattle.scan.proofs.first_bad_corner.Tie as tie
 

@@ -1,14 +1,13 @@
 -- `scan::first_bad_mark` meets its contract: nothing before i is above 1. Assumes nothing.
 use mathlib.Core.Path.{_≡_}
-use mathlib.Core.Bool.{Bool, false}
+use mathlib.Core.Bool.{false}
 use Prim.Native.Nat.{ℕ, _-_, _≤_, _<_}
 use native.Mathlib.Omega.{arith}
-use borrow.Author.Count.{below-none, below-more}
+use borrow.Author.Count.{below-more}
 use borrow.Author.Tests.{lt-ltb, le-ltb}
-use lib.ListN.{length, getD}
+use lib.ListN.{length}
 use Rattle.refusals.specs.Refusals.{badMark}
 use Rattle.scan.proofs.Laws.{hit, end}
-use borrow.Author.Needs.{needs}
 use Rattle.scan.proofs.first_bad_mark.Statement.{statement}
 use Rattle.scan.proofs.first_bad_mark.Tie as tie
 

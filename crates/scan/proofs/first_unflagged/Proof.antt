@@ -1,13 +1,11 @@
 -- `scan::first_unflagged` meets its contract: each vertex before p has a flag. Assumes nothing.
 use mathlib.Core.Path.{_≡_}
-use mathlib.Core.Bool.{Bool, false}
+use mathlib.Core.Bool.{false}
 use Prim.Native.Nat.{ℕ, _-_, _≤_, _<_}
 use native.Mathlib.Omega.{arith}
-use borrow.Author.Count.{below-none, below-more}
-use lib.ListN.{length, getD}
+use borrow.Author.Count.{below-more}
 use Rattle.refusals.specs.Refusals.{isolated}
 use Rattle.scan.proofs.Laws.{hit, end, flagged, unflagged}
-use borrow.Author.Needs.{needs}
 use Rattle.scan.proofs.first_unflagged.Statement.{statement}
 use Rattle.scan.proofs.first_unflagged.Tie as tie
 

@@ -3,7 +3,7 @@ use mathlib.Core.Path.{_≡_, refl, subst, _∙_}
 use Prim.Native.Nat.{ℕ, _-_, _≤_}
 use native.Mathlib.Omega.{arith}
 use lib.ListN.{length, drop}
-use Rattle.tables.proofs.Laws.{length-cleared, drop-cleared}
+use Rattle.tables.proofs.Laws.{drop-cleared}
 use Rattle.scan.specs.Flags.{Flagged}
 use Rattle.scan.proofs.Laws.{flagged-none}
 use borrow.Author.Needs.{needs}

@@ -1,5 +1,4 @@
 -- `direction_stencil` meets its contract. Assumes nothing.
-use native.Mathlib.Omega.{arith}
 use borrow.Author.Needs.{needs}
 use Rattle.stencils.proofs.Stencils.{far-lt, stencil-interior, stencil-first, stencil-second, stencil-single}
 use Rattle.stencils.proofs.direction_stencil.Statement.{statement}

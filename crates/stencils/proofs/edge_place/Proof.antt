@@ -1,8 +1,8 @@
 -- `edge_place` meets its contract: edge numbers are below the number of half-edges. Assumes nothing.
-use mathlib.Core.Path.{_≡_, ap}
-use Prim.Native.Nat.{ℕ, _+_, _*_, _≤_}
+use mathlib.Core.Path.{ap}
+use Prim.Native.Nat.{ℕ, _+_, _*_}
 use native.Mathlib.Omega.{arith}
-use lib.ListN.{length, getD}
+use lib.ListN.{length}
 use borrow.Author.Needs.{needs}
 use Rattle.stencils.specs.Stencils.{place}
 use Rattle.stencils.proofs.Stencils.{number-le}

@@ -1,6 +1,5 @@
 -- `face_stencil` meets its contract. Assumes nothing.
 use native.Mathlib.Omega.{arith}
-use borrow.Author.Needs.{needs}
 use Rattle.schemelaws.proofs.Ties.{side₀-lt, side₁-lt}
 use Rattle.stencils.proofs.Stencils.{face-both-inner, face-first, face-second, face-neither}
 use Rattle.stencils.proofs.face_stencil.Statement.{statement}

@@ -1,6 +1,5 @@
 -- `far_place` meets its contract. Assumes nothing.
 use mathlib.Core.Path.{ap, _∙_}
-use native.Mathlib.Omega.{arith}
 use borrow.Author.Needs.{needs}
 use Rattle.stencils.specs.Stencils.{place}
 use Rattle.stencils.proofs.Stencils.{far-lt}

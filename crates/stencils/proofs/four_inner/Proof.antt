@@ -1,7 +1,5 @@
 -- `four_inner` meets its contract. Assumes nothing.
-use native.Mathlib.Omega.{arith}
 use borrow.Author.Needs.{needs}
-use Rattle.scheme.specs.Points.{across}
 use Rattle.stencils.proofs.Stencils.{far-lt, four-yes, four-no}
 use mathlib.Core.Path.{refl}
 use Rattle.stencils.proofs.four_inner.Statement.{statement}

@@ -1,5 +1,4 @@
 -- `inner_twice` meets its contract. Assumes nothing.
-use native.Mathlib.Omega.{arith}
 use borrow.Author.Needs.{needs}
 use Rattle.stencils.proofs.Stencils.{far-lt, twice-yes, twice-no}
 use mathlib.Core.Path.{ap, _∙_}

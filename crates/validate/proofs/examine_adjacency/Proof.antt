@@ -1,15 +1,14 @@
 -- `validate::examine_adjacency` meets its contract: refusal 9, then the vertices. Assumes nothing.
-use mathlib.Core.Path.{_≡_, refl, sym, ap, _∙_}
-use Prim.Native.Nat.{ℕ, _*_, _/_, _≤_, _<_}
+use mathlib.Core.Path.{ap, _∙_}
+use Prim.Native.Nat.{_*_}
 use native.Mathlib.Omega.{arith}
-use lib.ListN.{length, drop}
-use Rattle.verdict.specs.Verdict.{Verdict, accepted, refused, orElse, refusedAt, vertexVerdict, adjacencyVerdict, facesVerdict, netVerdict}
-use Rattle.refusals.specs.Refusals.{badMark, badCorner, isolated, repeatedSide}
+use lib.ListN.{length}
+use Rattle.verdict.specs.Verdict.{refused, adjacencyVerdict}
+use Rattle.refusals.specs.Refusals.{repeatedSide}
 use Rattle.topology.specs.Shape.{quads}
 use Rattle.lists.proofs.Parts.{drop-later}
-use Rattle.verdict.proofs.Accepted.{at-hit, at-pass}
+use Rattle.verdict.proofs.Accepted.{never, at-hit, at-pass}
 use Rattle.adjacency.proofs.Chains.{tables-length}
-use Rattle.validate.proofs.Laws.{never}
 use borrow.Author.Needs.{needs}
 use Rattle.validate.proofs.examine_adjacency.Statement.{statement}
 use Rattle.validate.proofs.examine_adjacency.Tie as tie

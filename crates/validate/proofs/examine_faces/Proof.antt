@@ -1,13 +1,11 @@
 -- `validate::examine_faces` meets its contract: refusal 8, then the sides. Assumes nothing.
-use mathlib.Core.Path.{_≡_, refl, sym, ap, _∙_}
-use Prim.Native.Nat.{ℕ, _*_, _/_, _≤_, _<_}
+use mathlib.Core.Path.{_∙_}
 use native.Mathlib.Omega.{arith}
-use lib.ListN.{length, drop}
-use Rattle.verdict.specs.Verdict.{Verdict, accepted, refused, orElse, refusedAt, vertexVerdict, adjacencyVerdict, facesVerdict, netVerdict}
-use Rattle.refusals.specs.Refusals.{badMark, badCorner, isolated, repeatedSide}
-use Rattle.topology.specs.Shape.{quads}
-use Rattle.verdict.proofs.Accepted.{at-hit, at-pass}
-use Rattle.validate.proofs.Laws.{never, all, joined, tables, empty-faces, lonely-vertex}
+use lib.ListN.{length}
+use Rattle.verdict.specs.Verdict.{facesVerdict}
+use Rattle.refusals.specs.Refusals.{isolated}
+use Rattle.verdict.proofs.Accepted.{never, at-hit, at-pass}
+use Rattle.validate.proofs.Laws.{all, joined, tables, empty-faces, lonely-vertex}
 use borrow.Author.Needs.{needs}
 use Rattle.validate.proofs.examine_faces.Statement.{statement}
 use Rattle.validate.proofs.examine_faces.Tie as tie

@@ -1,15 +1,15 @@
 -- `validate::examine_net` meets its contract: the tests in their order. Assumes nothing.
-use mathlib.Core.Path.{_≡_, refl, sym, ap, _∙_}
-use Prim.Native.Nat.{ℕ, _*_, _/_, _≤_, _<_}
+use mathlib.Core.Path.{refl, ap, _∙_}
+use Prim.Native.Nat.{_/_}
 use native.Mathlib.Omega.{arith}
-use lib.ListN.{length, drop}
-use Rattle.verdict.specs.Verdict.{Verdict, accepted, refused, orElse, refusedAt, vertexVerdict, adjacencyVerdict, facesVerdict, netVerdict}
-use Rattle.refusals.specs.Refusals.{badMark, badCorner, isolated, repeatedSide}
+use lib.ListN.{length}
+use Rattle.verdict.specs.Verdict.{refused, netVerdict}
+use Rattle.refusals.specs.Refusals.{badMark, badCorner}
 use Rattle.topology.specs.Shape.{quads}
-use Rattle.verdict.proofs.Accepted.{at-hit, at-pass}
-use Rattle.adjacency.proofs.Chains.{in-range-if}
+use Rattle.verdict.proofs.Accepted.{never, at-hit, at-pass}
+use Rattle.adjacency.proofs.Chains.{corners-below-if}
 use Rattle.verdict.specs.Verdict.{badCoordinate}
-use Rattle.validate.proofs.Laws.{never, all}
+use Rattle.validate.proofs.Laws.{all}
 use borrow.Author.Needs.{needs}
 use Rattle.validate.proofs.examine_net.Statement.{statement}
 use Rattle.validate.proofs.examine_net.Tie as tie
@@ -39,7 +39,7 @@ unfolding netVerdict
 returns-3 c = let s = c .before .before .before .before .before .before .before .before .before .before in let vs = s .args .vertices .now in let m = s .args .marks .now in let l = s .args .faces .now in record { verdict = at-pass 5 (badCoordinate vs) (length vs) (λ i. i / 3) _ _ _ (c .before .before .before .before .before .before .first-bad-coordinate .ensures) (c .before .before .before .before .before .if1 .left) (at-pass 6 (badMark m) (length m) (λ p. p) _ _ _ (c .before .before .before .before .first-bad-mark .ensures) (c .before .before .before .if2 .left) (ap (refused 7) (c .face-of .ensures) ∙ at-hit 7 (badCorner quads (length m) l) (length l) (quads .face) _ _ (c .before .before .first-bad-corner .ensures) (c .before .if3 .taken))); mated = λ e. never 7 _ e; rest = refl }
 
 examine-faces-requires : tie.Need-examine-faces-requires
-examine-faces-requires c κs = let s = c .before .before .before .before .before .before .before .before .before .before in let l = s .args .faces .now in let v = length (s .args .marks .now) in (s .pre, in-range-if quads v l (all (badCorner quads v l) (length l) _ (c .before .before .first-bad-corner .ensures) (c .before .if3 .left)))
+examine-faces-requires c κs = let s = c .before .before .before .before .before .before .before .before .before .before in let l = s .args .faces .now in let v = length (s .args .marks .now) in (s .pre, corners-below-if quads v l (all (badCorner quads v l) (length l) _ (c .before .before .first-bad-corner .ensures) (c .before .if3 .left)))
 
 same-length : tie.Need-same-length
 same-length c = search needs

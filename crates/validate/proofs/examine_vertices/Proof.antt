@@ -1,10 +1,7 @@
 -- `validate::examine_vertices` meets its contract: the tests in their order. Assumes nothing.
-use mathlib.Core.Path.{_≡_, refl, sym, ap, _∙_}
-use Prim.Native.Nat.{ℕ, _*_, _/_, _≤_, _<_}
-use native.Mathlib.Omega.{arith}
-use lib.ListN.{length, drop}
-use Rattle.verdict.specs.Verdict.{Verdict, accepted, refused, orElse, refusedAt, vertexVerdict, adjacencyVerdict, facesVerdict, netVerdict}
-use Rattle.refusals.specs.Refusals.{badMark, badCorner, isolated, repeatedSide, nonManifold, badValence, markedRing}
+use lib.ListN.{length}
+use Rattle.verdict.specs.Verdict.{vertexVerdict}
+use Rattle.refusals.specs.Refusals.{nonManifold, badValence, markedRing}
 use Rattle.topology.specs.Shape.{quads}
 use Rattle.verdict.proofs.Accepted.{at-hit, at-pass, last-hit, last-pass}
 use borrow.Author.Needs.{needs}
