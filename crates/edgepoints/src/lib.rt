@@ -58,7 +58,7 @@ pub fn inner_on(
     inner_sum(p, q, u, w)
 }
 
-// The point on the inner edge of h, whose mate is g, from its two virtual points.
+// The point on the inner edge of h, whose mate is g, from its two virtual points. The vertices straight across are o and r, or none.
 pub fn inner_exact(
     points: &[i32],
     faces: &[u32],
@@ -80,6 +80,48 @@ pub fn inner_exact(
     }
 }
 
+// The same by the general rule at the vertex that h leaves.
+fn inner_at_end(
+    points: &[i32],
+    faces: &[u32],
+    work: &[u32],
+    h: usize,
+    g: usize,
+) -> curvepoints::Exact
+    requires { ⌜ Ready (now faces) (now work) ⌝ }
+    requires { ⌜ Points (now faces) (now points) ⌝ }
+    requires { ⌜ (h < length (now faces)) × (g ≡ mate quads (now faces) h) × (g < length (now faces)) ⌝ }
+    ensures { λ e. ⌜ ExactPoint (λ (a : ℕ). edgeValue kobbelt (now (faces .entry)) (axis (now (points .entry)) a) h innerRule) (e .x) (e .y) (e .z) ⌝ }
+{
+    let n = faces.len();
+    inner_exact(
+        points,
+        faces,
+        work,
+        h,
+        g,
+        n,
+        walks::regular_across(faces, work, g),
+    )
+}
+
+// The same by the general rule at the vertex that g leaves.
+fn inner_at_start(
+    points: &[i32],
+    faces: &[u32],
+    work: &[u32],
+    h: usize,
+    g: usize,
+    o: usize,
+) -> curvepoints::Exact
+    requires { ⌜ Ready (now faces) (now work) ⌝ }
+    requires { ⌜ Points (now faces) (now points) ⌝ }
+    requires { ⌜ (h < length (now faces)) × (g ≡ mate quads (now faces) h) × (g < length (now faces)) × Across (now faces) h o ⌝ }
+    ensures { λ e. ⌜ ExactPoint (λ (a : ℕ). edgeValue kobbelt (now (faces .entry)) (axis (now (points .entry)) a) h innerRule) (e .x) (e .y) (e .z) ⌝ }
+{
+    inner_exact(points, faces, work, h, g, o, faces.len())
+}
+
 // The point on the inner edge of h, whose mate is g. Where both ends have full rings of four, the virtual points are the vertices straight across.
 pub fn inner_edge(
     points: &[i32],
@@ -95,12 +137,12 @@ pub fn inner_edge(
 {
     let n = faces.len();
     let o = walks::regular_across(faces, work, h);
-    let r = walks::regular_across(faces, work, g);
     if o >= n {
-        return inner_exact(points, faces, work, h, g, o, r);
+        return inner_at_end(points, faces, work, h, g);
     }
+    let r = walks::regular_across(faces, work, g);
     if r >= n {
-        return inner_exact(points, faces, work, h, g, o, r);
+        return inner_at_start(points, faces, work, h, g, o);
     }
     let p = corners::start_of(faces, h);
     let q = corners::end_of(faces, h);

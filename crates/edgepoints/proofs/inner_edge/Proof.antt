@@ -10,26 +10,23 @@ use Rattle.edgepoints.proofs.inner_edge.Tie as tie
 regular-across-requires : tie.Need-regular-across-requires
 regular-across-requires c κs = let s = c .before .before in (s .pre .0, s .pre .1 .1 .0)
 
-regular-across-requires-2 : tie.Need-regular-across-requires-2
-regular-across-requires-2 c κs = let s = c .before .before .before in (s .pre .0, s .pre .1 .1 .2)
-
-inner-exact-requires : tie.Need-inner-exact-requires
-inner-exact-requires c κs =
-    let s = c .before .before .before .before .before in
-    let e = s .pre .1 .1 in
-    (s .pre .0, (s .pre .1 .0, (e .0, e .1, e .2, c .before .before .regular-across .ensures, c .before .regular-across2 .ensures)))
+inner-at-end-requires : tie.Need-inner-at-end-requires
+inner-at-end-requires c κs = c .before .before .before .before .pre
 
 returns : tie.Need-returns
-returns c = c .inner-exact .ensures
+returns c = c .inner-at-end .ensures
 
-inner-exact-requires-2 : tie.Need-inner-exact-requires-2
-inner-exact-requires-2 c κs =
+regular-across-requires-2 : tie.Need-regular-across-requires-2
+regular-across-requires-2 c κs = let s = c .before .before .before .before in (s .pre .0, s .pre .1 .1 .2)
+
+inner-at-start-requires : tie.Need-inner-at-start-requires
+inner-at-start-requires c κs =
     let s = c .before .before .before .before .before .before in
     let e = s .pre .1 .1 in
-    (s .pre .0, (s .pre .1 .0, (e .0, e .1, e .2, c .before .before .before .regular-across .ensures, c .before .before .regular-across2 .ensures)))
+    (s .pre .0, (s .pre .1 .0, (e .0, e .1, e .2, c .before .before .before .regular-across .ensures)))
 
 returns-2 : tie.Need-returns-2
-returns-2 c = c .inner-exact2 .ensures
+returns-2 c = c .inner-at-start .ensures
 
 start-of-requires : tie.Need-start-of-requires
 start-of-requires c κs = c .before .before .before .before .before .before .pre .1 .1 .0
@@ -38,8 +35,8 @@ end-of-requires : tie.Need-end-of-requires
 end-of-requires c κs = let s = c .before .before .before .before .before .before .before in (record { fours = s .pre .0 .fours; small = s .pre .0 .small }, s .pre .1 .1 .0)
 
 -- both vertices straight across are in the table
-across-room : (c : tie.Else2) → ((c .before .before .before .regular-across .result < length (c .before .before .before .before .before .before .args .faces .now)) × (c .before .before .regular-across2 .result < length (c .before .before .before .before .before .before .args .faces .now)))
-across-room c = (omega (arith, c .before .if1 .left), omega (arith, c .if2 .left))
+across-room : (c : tie.Else2) → ((c .before .before .before .regular-across .result < length (c .before .before .before .before .before .before .args .faces .now)) × (c .before .regular-across2 .result < length (c .before .before .before .before .before .before .args .faces .now)))
+across-room c = (omega (arith, c .before .before .if1 .left), omega (arith, c .if2 .left))
 
 interior-exact-requires : tie.Need-interior-exact-requires
 interior-exact-requires c κs =
@@ -50,7 +47,7 @@ interior-exact-requires c κs =
     let p = s .pre .1 .0 in
     let k = across-room (c .before .before) in
     let x₁ = c .before .before .before .before .before .regular-across .ensures in
-    let x₂ = c .before .before .before .before .regular-across2 .ensures in (
+    let x₂ = c .before .before .before .regular-across2 .ensures in (
       p .bounded,
       (
         end-room (r .vertices) l (r .net) t p _ _ (across-inside (r .vertices) l (r .net) (s .args .h) (s .pre .1 .1 .0) _ (k .0) x₁) (x₁ .across (k .0)),
@@ -66,17 +63,17 @@ returns-3 c =
     let r = s .pre .0 in
     let k = across-room (c .before .before .before) in
     regular-made (r .vertices) (s .args .faces .now) (r .net) (s .args .points .now) (s .pre .1 .0 .bounded) (s .args .h) (s .args .g) _ _ _ _ (s .pre .1 .1 .0) (s .pre .1 .1 .1) (s .pre .1 .1 .2)
-    (k .0) (c .before .before .before .before .before .before .regular-across .ensures) (k .1) (c .before .before .before .before .before .regular-across2 .ensures) (c .before .before .start-of .ensures) (c .before .end-of .ensures) _ _ _ (c .interior-exact .ensures)
+    (k .0) (c .before .before .before .before .before .before .regular-across .ensures) (k .1) (c .before .before .before .before .regular-across2 .ensures) (c .before .before .start-of .ensures) (c .before .end-of .ensures) _ _ _ (c .interior-exact .ensures)
 
 pub inner-edge-spec : {M : Type 1} → statement M
 inner-edge-spec =
     tie.close
     (tie.spec
     regular-across-requires
-    regular-across-requires-2
-    inner-exact-requires
+    inner-at-end-requires
     returns
-    inner-exact-requires-2
+    regular-across-requires-2
+    inner-at-start-requires
     returns-2
     start-of-requires
     end-of-requires
