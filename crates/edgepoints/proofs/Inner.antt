@@ -72,6 +72,12 @@ module _ (v : ℕ) (l : List ℕ) (ok : Manifold quads v l) (h : ℕ) (c : h < l
       (record { again = λ i. ap (λ (m : ℕ). p (to quads l m)) (round .again i) }) (record { again = λ i. ap (λ (m : ℕ). p (oppositeCorner l m)) (round .again i) })
       (λ i. equals-whole (p (to quads l (turns quads l i h)))) (λ i. equals-whole (p (oppositeCorner l (turns quads l i h)))) 0)
 
+  pub across-made : (t : List ℤ) → Bounded 67108864 t → (a : ℕ) (z : ℤ) → z ≡ axis t a r → Over453600 (virtualAt kobbelt l (axis t a) h) (pos 453600 *ℤ z)
+  across-made t b a z e =
+      let k = axis-bound t a r b in
+      let m = abs-mul (pos 453600) (axis t a r) in
+      rw e (record { value = equals-scaled 453600 (across-value (axis t a)); small = omega arith })
+
 pub regular-made : (v : ℕ) (l : List ℕ) → Manifold quads v l → (t : List ℤ) → Bounded 67108864 t → (h g o r p q : ℕ) → h < length l → g ≡ mate quads l h → g < length l
     → o < length l → Across l h o → r < length l → Across l g r → p ≡ from l h → q ≡ to quads l h → (x y z : ℤ)
     → OnAxes (λ (a : ℕ). pos 453600 *ℤ interior kobbelt (axis t a o) (axis t a p) (axis t a q) (axis t a r)) x y z

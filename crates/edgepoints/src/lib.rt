@@ -8,9 +8,11 @@ ghost use Rattle.rules.specs.Numerators.{innerEdgeZ};
 ghost use Rattle.topology.specs.Shape.{quads};
 ghost use Rattle.topology.specs.HalfEdge.{mate};
 ghost use Rattle.scheme.specs.Points.{innerRule, edgeValue, edgePoint};
+ghost use Rattle.scheme.specs.Rings.{virtualAt};
 ghost use Rattle.scheme.specs.Step.{axis};
-ghost use Rattle.walks.specs.Ready.{Ready};
+ghost use Rattle.walks.specs.Ready.{Ready, Across};
 ghost use Rattle.curvepoints.specs.Exact.{Points, Marks, ExactEdge, ExactPoint};
+ghost use Rattle.ringpoints.specs.Gathered.{Over453600};
 
 // The numerator of an inner edge's point, from the ends p and q of the edge and the virtual points u and w over 453,600.
 pub fn inner_sum(p: i64, q: i64, u: i64, w: i64) -> i64
@@ -20,22 +22,66 @@ pub fn inner_sum(p: i64, q: i64, u: i64, w: i64) -> i64
     4082400 * (p + q) - (u + w)
 }
 
-// Coordinate a of the point on the inner edge of h, whose mate is g.
-pub fn inner_on(points: &[i32], faces: &[u32], work: &[u32], h: usize, g: usize, a: usize) -> i64
+// Coordinate a of the virtual point at the vertex that h leaves, on the inner edge of h. At a full ring of four it is the vertex o straight across.
+pub fn virtual_on(points: &[i32], faces: &[u32], work: &[u32], h: usize, o: usize, a: usize) -> i64
     requires { ⌜ Ready (now faces) (now work) ⌝ }
     requires { ⌜ Points (now faces) (now points) × (a < 3) ⌝ }
-    requires { ⌜ (h < length (now faces)) × (g ≡ mate quads (now faces) h) × (g < length (now faces)) ⌝ }
-    ensures { λ r. ⌜ ExactEdge (edgeValue kobbelt (now (faces .entry)) (axis (now (points .entry)) a) h innerRule) r ⌝ }
+    requires { ⌜ (h < length (now faces)) × (mate quads (now faces) h < length (now faces)) × Across (now faces) h o ⌝ }
+    ensures { λ r. ⌜ Over453600 (virtualAt kobbelt (now (faces .entry)) (axis (now (points .entry)) a) h) r ⌝ }
+{
+    if o < faces.len() {
+        return 453600 * extrapolation::coordinate_wide(points, o, a);
+    }
+    fanpoints::virtual_point(points, faces, work, h, a)
+}
+
+// Coordinate a of the point on the inner edge of h, whose mate is g. The vertices straight across are o and r, or none.
+pub fn inner_on(
+    points: &[i32],
+    faces: &[u32],
+    work: &[u32],
+    h: usize,
+    g: usize,
+    o: usize,
+    r: usize,
+    a: usize,
+) -> i64
+    requires { ⌜ Ready (now faces) (now work) ⌝ }
+    requires { ⌜ Points (now faces) (now points) × (a < 3) ⌝ }
+    requires { ⌜ (h < length (now faces)) × (g ≡ mate quads (now faces) h) × (g < length (now faces)) × Across (now faces) h o × Across (now faces) g r ⌝ }
+    ensures { λ z. ⌜ ExactEdge (edgeValue kobbelt (now (faces .entry)) (axis (now (points .entry)) a) h innerRule) z ⌝ }
 {
     let p = extrapolation::coordinate_wide(points, corners::start_of(faces, h), a);
     let q = extrapolation::coordinate_wide(points, corners::end_of(faces, h), a);
-    let u = fanpoints::virtual_point(points, faces, work, h, a);
-    let w = fanpoints::virtual_point(points, faces, work, g, a);
+    let u = virtual_on(points, faces, work, h, o, a);
+    let w = virtual_on(points, faces, work, g, r, a);
     inner_sum(p, q, u, w)
 }
 
-// The point on the inner edge of h, whose mate is g, from its two virtual points.
+// The point on the inner edge of h, whose mate is g, from its two virtual points. The vertices straight across are o and r, or none.
 pub fn inner_exact(
+    points: &[i32],
+    faces: &[u32],
+    work: &[u32],
+    h: usize,
+    g: usize,
+    o: usize,
+    r: usize,
+) -> curvepoints::Exact
+    requires { ⌜ Ready (now faces) (now work) ⌝ }
+    requires { ⌜ Points (now faces) (now points) ⌝ }
+    requires { ⌜ (h < length (now faces)) × (g ≡ mate quads (now faces) h) × (g < length (now faces)) × Across (now faces) h o × Across (now faces) g r ⌝ }
+    ensures { λ e. ⌜ ExactPoint (λ (a : ℕ). edgeValue kobbelt (now (faces .entry)) (axis (now (points .entry)) a) h innerRule) (e .x) (e .y) (e .z) ⌝ }
+{
+    curvepoints::Exact {
+        x: inner_on(points, faces, work, h, g, o, r, 0),
+        y: inner_on(points, faces, work, h, g, o, r, 1),
+        z: inner_on(points, faces, work, h, g, o, r, 2),
+    }
+}
+
+// The same by the general rule at the vertex that h leaves.
+fn inner_at_end(
     points: &[i32],
     faces: &[u32],
     work: &[u32],
@@ -47,11 +93,33 @@ pub fn inner_exact(
     requires { ⌜ (h < length (now faces)) × (g ≡ mate quads (now faces) h) × (g < length (now faces)) ⌝ }
     ensures { λ e. ⌜ ExactPoint (λ (a : ℕ). edgeValue kobbelt (now (faces .entry)) (axis (now (points .entry)) a) h innerRule) (e .x) (e .y) (e .z) ⌝ }
 {
-    curvepoints::Exact {
-        x: inner_on(points, faces, work, h, g, 0),
-        y: inner_on(points, faces, work, h, g, 1),
-        z: inner_on(points, faces, work, h, g, 2),
-    }
+    let n = faces.len();
+    inner_exact(
+        points,
+        faces,
+        work,
+        h,
+        g,
+        n,
+        walks::regular_across(faces, work, g),
+    )
+}
+
+// The same by the general rule at the vertex that g leaves.
+fn inner_at_start(
+    points: &[i32],
+    faces: &[u32],
+    work: &[u32],
+    h: usize,
+    g: usize,
+    o: usize,
+) -> curvepoints::Exact
+    requires { ⌜ Ready (now faces) (now work) ⌝ }
+    requires { ⌜ Points (now faces) (now points) ⌝ }
+    requires { ⌜ (h < length (now faces)) × (g ≡ mate quads (now faces) h) × (g < length (now faces)) × Across (now faces) h o ⌝ }
+    ensures { λ e. ⌜ ExactPoint (λ (a : ℕ). edgeValue kobbelt (now (faces .entry)) (axis (now (points .entry)) a) h innerRule) (e .x) (e .y) (e .z) ⌝ }
+{
+    inner_exact(points, faces, work, h, g, o, faces.len())
 }
 
 // The point on the inner edge of h, whose mate is g. Where both ends have full rings of four, the virtual points are the vertices straight across.
@@ -70,11 +138,11 @@ pub fn inner_edge(
     let n = faces.len();
     let o = walks::regular_across(faces, work, h);
     if o >= n {
-        return inner_exact(points, faces, work, h, g);
+        return inner_at_end(points, faces, work, h, g);
     }
     let r = walks::regular_across(faces, work, g);
     if r >= n {
-        return inner_exact(points, faces, work, h, g);
+        return inner_at_start(points, faces, work, h, g, o);
     }
     let p = corners::start_of(faces, h);
     let q = corners::end_of(faces, h);

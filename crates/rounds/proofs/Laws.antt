@@ -84,6 +84,29 @@ module _ (v n : ℕ) (points : List ℤ) (faces marks w : List ℕ) (c : Current
       let e = corners in
       sym (step-count kobbelt (frontNet v n points faces marks) ∙ ap (λ (k : ℕ). refinedVertices quads k (take n faces)) marked ∙ ap (λ (k : ℕ). v + edgeCount quads (take n faces) + k / 4) e)
 
+  faces-are : step kobbelt (frontNet v n points faces marks) .faces ≡ refined quads v (take n faces)
+  faces-are = step-faces kobbelt (frontNet v n points faces marks) ∙ ap (λ (j : ℕ). refined quads j (take n faces)) marked
+
+  -- the mates for the next round
+  module _ (w′ : List ℕ) (k : length w′ ≡ length w) (t : MateTable (take n faces) w′) where
+    pub mates-ready : MatesIn n w′
+    mates-ready =
+        let e = corners in
+        let r = c .roomWork in
+        let s = c .small in
+        subst (λ (j : ℕ). MatesIn j w′) e (mates-in (take n faces) w′ (c .refinable .fours) (omega arith) (omega arith) t)
+
+    module _ (w″ : List ℕ) (h : w″ ≡ filled (refinedMates quads (take n w′)) w′) where
+      pub mates-next : MateTable (step kobbelt (frontNet v n points faces marks) .faces) w″
+      mates-next =
+          let e = corners in
+          let r = c .roomWork in
+          let q : w″ ≡ filled (refinedMates quads (take (length (take n faces)) w′)) w′ = h ∙ ap (λ (j : ℕ). filled (refinedMates quads (take j w′)) w′) (sym e) in
+          rw (faces-are, q) (mated-refined v (take n faces) w′ oriented (omega arith) t)
+
+      pub mates-past : drop (8 * n) w″ ≡ drop (8 * n) w′
+      mates-past = let r = c .roomWork in ap (drop (8 * n)) h ∙ drop-later (4 * n) (8 * n) _ _ (omega arith) (mates-rest n w′ (omega arith))
+
   module _ (w₁ : List ℕ) (e₁ : w₁ ≡ filled (mates quads (take n faces) ++ edges quads (take n faces)) w) where
     length₁ : length w₁ ≡ length w
     length₁ = let e = corners in let r = c .roomWork in let b = length-both (take n faces) in ap length e₁ ∙ length-filled _ w (omega arith)
@@ -145,38 +168,25 @@ module _ (v n : ℕ) (points : List ℤ) (faces marks w : List ℕ) (c : Current
           let k = length₂ in
           record { fours = omega arith; small = c .small; vertices = c .vertices; room = c .roomFaces; behind = omega arith; numbered = numbered₂; counted = h }
 
-      pub mates-ready : MatesIn n w₂
-      mates-ready =
-          let e = corners in
-          let r = c .roomWork in
-          let s = c .small in
-          let k = length₂ in
-          subst (λ (k : ℕ). MatesIn k w₂) e (mates-in (take n faces) w₂ (c .refinable .fours) (omega arith) (omega arith) mated₂)
-
       same-marks : refinedMarks quads v (take n faces) (take v marks) ≡ refinedMarks quads v (take n faces) marks
       same-marks = marks-cong quads v (take n faces) (take v marks) marks (λ p h. getD-take v marks p 0 h)
 
-      pub refines : (count : ℕ) (points′ : List ℤ) (faces′ marks′ w₃ : List ℕ) → count ≡ v + edgeCount quads (take n faces) + n / 4
+      pub refines : (count : ℕ) (points′ : List ℤ) (faces′ marks′ : List ℕ) → count ≡ v + edgeCount quads (take n faces) + n / 4
           → points′ ≡ filled (step kobbelt (frontNet v n points faces marks) .vertices) points → faces′ ≡ filled (refined quads v (take n faces)) faces
-          → marks′ ≡ filled (extended v count marks) marks → w₃ ≡ filled (refinedMates quads (take n w₂)) w₂
-          → Refines v n count points points′ faces faces′ marks marks′ w w₃
+          → marks′ ≡ filled (extended v count marks) marks → Refines v n count points points′ faces faces′ marks marks′ w w₂
       unfolding quads
-      refines count points′ faces′ marks′ w₃ hc hp hf hm hw =
+      refines count points′ faces′ marks′ hc hp hf hm =
           let m : Net = frontNet v n points faces marks in
           let e = corners in
-          let k = length₂ in
-          let r = c .roomWork in
-          let f : step kobbelt m .faces ≡ refined quads v (take n faces) = step-faces kobbelt m ∙ ap (λ (j : ℕ). refined quads j (take n faces)) marked in
           let g : extended v count marks ≡ step kobbelt m .marks =
           ap (λ (j : ℕ). extended v j marks) (hc ∙ ap (λ (j : ℕ). v + edgeCount quads (take n faces) + j / 4) (sym e)) ∙ marks-refined quads v (take n faces) marks ∙ sym same-marks
           ∙ sym (step-marks kobbelt m ∙ ap (λ (j : ℕ). refinedMarks quads j (take n faces) (take v marks)) marked) in
           record {
             count = hc ∙ count-is;
             newPoints = hp;
-            newFaces = hf ∙ ap (λ (t : List ℕ). filled t faces) (sym f);
+            newFaces = hf ∙ ap (λ (t : List ℕ). filled t faces) (sym faces-are);
             newMarks = hm ∙ ap (λ (t : List ℕ). filled t marks) g;
-            mated = subst (λ (t : List ℕ). MateTable t w₃) (sym f) (subst (λ (t : List ℕ). MateTable (refined quads v (take n faces)) t) (sym (hw ∙ ap (λ (j : ℕ). filled (refinedMates quads (take j w₂)) w₂) (sym e))) (mated-refined v (take n faces) w₂ oriented (omega arith) mated₂));
-            rest = ap (drop (8 * n)) hw ∙ drop-later (4 * n) (8 * n) _ _ (omega arith) (mates-rest n w₂ (omega arith))
-                ∙ ap (λ (j : ℕ). drop (8 * j) w₂) (sym e) ∙ rest₂ ∙ ap (λ (j : ℕ). drop (8 * j) w₁) e
+            mated = mated₂;
+            rest = ap (λ (j : ℕ). drop (8 * j) w₂) (sym e) ∙ rest₂ ∙ ap (λ (j : ℕ). drop (8 * j) w₁) e
                 ∙ ap (drop (8 * n)) e₁ ∙ drop-later (2 * length (take n faces)) (8 * n) _ _ (omega arith) (numbered-rest (take n faces) w);
           }

@@ -21,9 +21,11 @@ use Rattle.schemelaws.specs.Nets.{Refinable}
 use Rattle.schemelaws.proofs.Steps.{step-faces, step-count, step-length, refinable-steps}
 use Rattle.schemelaws.proofs.Growth.{steps-input}
 use Rattle.adjacency.specs.Chains.{MateTable}
+use Rattle.refinement.specs.Mates.{refinedMates}
+use Rattle.mates.specs.Tables.{MatesIn}
 use Rattle.rounds.specs.Round.{Current, Refines}
 use Rattle.rounds.specs.Rounds.{Prepared, After}
-use Rattle.rounds.proofs.Laws.{count-le, count-is}
+use Rattle.rounds.proofs.Laws.{count-le, count-is, mates-ready, mates-next, mates-past}
 
 -- a list at the front of a table of its length is the whole
 filled-self : {A : Type 0} (n : ℕ) (d : List A) → n ≤ length d → d ≡ filled (take n d) d
@@ -65,10 +67,13 @@ module _ (k v n : ℕ) (points : List ℤ) (faces marks w : List ℕ) (ok : Prep
         newPoints = filled-self (3 * v) points (omega arith);
         newFaces = filled-self n faces (omega arith);
         newMarks = filled-self v marks (omega arith);
-        mated = ok .mated;
         kept = refl;
         rest = refl;
       }
+
+  pub mated-none : MateTable (steps kobbelt 0 m .faces) w
+  unfolding steps
+  mated-none = ok .mated
 
   module _ (i r : ℕ) (points₁ : List ℤ) (faces₁ marks₁ w₁ : List ℕ) (a : After i v n r points points₁ faces faces₁ marks marks₁ w w₁) where
     refinable : Refinable (steps kobbelt i m)
@@ -111,7 +116,7 @@ module _ (k v n : ℕ) (points : List ℤ) (faces marks w : List ℕ) (ok : Prep
           let b = ok .roomMarks in
           ap length (a .newMarks) ∙ length-filled _ marks (omega arith)
 
-    module _ (h : i < k) where
+    module _ (t : MateTable (steps kobbelt i m .faces) w₁) (h : i < k) where
       pub current : Current r (n * 4 ^ i) points₁ faces₁ marks₁ w₁
       current =
           let s = sized i h in
@@ -134,7 +139,7 @@ module _ (k v n : ℕ) (points : List ℤ) (faces marks w : List ℕ) (ok : Prep
             roomFaces = omega arith;
             roomMarks = omega arith;
             roomWork = omega arith;
-            mated = rw (ap (λ (x : Net). x .faces) front-is) (a .mated);
+            mated = rw (ap (λ (x : Net). x .faces) front-is) t;
           }
 
       module _ (r₂ : ℕ) (points₂ : List ℤ) (faces₂ marks₂ w₂ : List ℕ) (e : Refines r (n * 4 ^ i) r₂ points₁ points₂ faces₁ faces₂ marks₁ marks₂ w₁ w₂) (z : length w₂ ≡ length w₁) where
@@ -142,8 +147,9 @@ module _ (k v n : ℕ) (points : List ℤ) (faces marks w : List ℕ) (ok : Prep
         unfolding steps
         next = let q : i + 1 ≡ suc i = omega arith in rw (front-is, q) refl
 
-        pub after-next : After (i + 1) v n r₂ points points₂ faces faces₂ marks marks₂ w w₂
-        after-next =
+        -- whatever stands in the work table where a round leaves it open
+        past : (w₃ : List ℕ) → length w₃ ≡ length w₂ → drop (8 * (n * 4 ^ i)) w₃ ≡ drop (8 * (n * 4 ^ i)) w₂ → After (i + 1) v n r₂ points points₂ faces faces₂ marks marks₂ w w₃
+        past w₃ y d =
             let t = refinable .threes in
             let u : length (steps kobbelt (i + 1) m .vertices) ≡ 3 * length (steps kobbelt (i + 1) m .marks) = refinable-steps kobbelt m (ok .refinable) (i + 1) .threes in
             let g : n * 4 ^ (i + 1) ≡ 4 * (n * 4 ^ i) = next-size n i in
@@ -162,9 +168,21 @@ module _ (k v n : ℕ) (points : List ℤ) (faces marks w : List ℕ) (ok : Prep
               newPoints = e .newPoints ∙ ap (λ (x : Net). filled (x .vertices) points₁) nx ∙ ap (filled (steps kobbelt (i + 1) m .vertices)) (a .newPoints) ∙ filled-over _ _ points (omega arith);
               newFaces = e .newFaces ∙ ap (λ (x : Net). filled (x .faces) faces₁) nx ∙ ap (filled (steps kobbelt (i + 1) m .faces)) (a .newFaces) ∙ filled-over _ _ faces (omega arith);
               newMarks = e .newMarks ∙ ap (λ (x : Net). filled (x .marks) marks₁) nx ∙ ap (filled (steps kobbelt (i + 1) m .marks)) (a .newMarks) ∙ filled-over _ _ marks (omega arith);
-              mated = rw (ap (λ (x : Net). x .faces) (sym nx)) (e .mated);
-              kept = z ∙ a .kept;
-              rest = ap (λ (x : ℕ). drop (2 * x) w₂) g ∙ ap (λ (x : ℕ). drop x w₂) (let y : 2 * (4 * (n * 4 ^ i)) ≡ 8 * (n * 4 ^ i) = omega arith in y) ∙ e .rest
+              kept = y ∙ z ∙ a .kept;
+              rest = ap (λ (x : ℕ). drop x w₃) (let j : 2 * (n * 4 ^ (i + 1)) ≡ 8 * (n * 4 ^ i) = omega arith in j) ∙ d ∙ e .rest
                   ∙ drop-later (2 * (n * 4 ^ i)) (8 * (n * 4 ^ i)) _ _ (omega arith) (a .rest)
-                  ∙ ap (λ (x : ℕ). drop x w) (let y : 8 * (n * 4 ^ i) ≡ 2 * (n * 4 ^ (i + 1)) = omega arith in y);
+                  ∙ ap (λ (x : ℕ). drop x w) (let j : 8 * (n * 4 ^ i) ≡ 2 * (n * 4 ^ (i + 1)) = omega arith in j);
             }
+
+        pub after-next : After (i + 1) v n r₂ points points₂ faces faces₂ marks marks₂ w w₂
+        after-next = past w₂ refl refl
+
+        pub ready-mates : MatesIn (n * 4 ^ i) w₂
+        ready-mates = mates-ready r (n * 4 ^ i) points₁ faces₁ marks₁ w₁ current w₂ z (e .mated)
+
+        module _ (w₃ : List ℕ) (y : length w₃ ≡ length w₂) (d : w₃ ≡ filled (refinedMates quads (take (n * 4 ^ i) w₂)) w₂) where
+          pub after-mates : After (i + 1) v n r₂ points points₂ faces faces₂ marks marks₂ w w₃
+          after-mates = past w₃ y (mates-past r (n * 4 ^ i) points₁ faces₁ marks₁ w₁ current w₂ z (e .mated) w₃ d)
+
+          pub mated-next : MateTable (steps kobbelt (i + 1) m .faces) w₃
+          mated-next = rw (ap (λ (x : Net). x .faces) (sym next)) (mates-next r (n * 4 ^ i) points₁ faces₁ marks₁ w₁ current w₂ z (e .mated) w₃ d)

@@ -23,11 +23,12 @@ pub record Current (v n : ℕ) (points : List ℤ) (faces marks w : List ℕ) : 
   pub roomWork : 8 * n ≤ length w
   pub mated : MateTable (take n faces) w
 
--- the tables after the round: the refined net at their front, its mates in the work table; past that all is as found
+-- the tables after the round: the refined net at their front, the mates of the net before it in the work table; past that all is as found.
+-- Open, and may differ between correct programs: what stands between the mates and place 8n of the work table
 pub record Refines (v n r : ℕ) (points points′ : List ℤ) (faces faces′ marks marks′ w w′ : List ℕ) : Type 0 where
   pub count : r ≡ length (step kobbelt (frontNet v n points faces marks) .marks)
   pub newPoints : points′ ≡ filled (step kobbelt (frontNet v n points faces marks) .vertices) points
   pub newFaces : faces′ ≡ filled (step kobbelt (frontNet v n points faces marks) .faces) faces
   pub newMarks : marks′ ≡ filled (step kobbelt (frontNet v n points faces marks) .marks) marks
-  pub mated : MateTable (step kobbelt (frontNet v n points faces marks) .faces) w′
+  pub mated : MateTable (take n faces) w′
   pub rest : drop (8 * n) w′ ≡ drop (8 * n) w

@@ -24,7 +24,8 @@ pub record Prepared (k v n : ℕ) (points : List ℤ) (faces marks w : List ℕ)
   pub roomWork : 4 * (n * 4 ^ k) ≤ length w
   pub mated : MateTable (take n faces) w
 
--- the tables after i rounds: r vertices of the refined net at their front; past that all is as found
+-- the tables after i rounds: r vertices of the refined net at their front; past that all is as found.
+-- Open, and may differ between correct programs: what stands before place 2n * 4^i of the work table
 pub record After (i v n r : ℕ) (points points′ : List ℤ) (faces faces′ marks marks′ w w′ : List ℕ) : Type 0 where
   pub count : r ≡ length (steps kobbelt i (frontNet v n points faces marks) .marks)
   pub corners : n * 4 ^ i ≡ length (steps kobbelt i (frontNet v n points faces marks) .faces)
@@ -32,6 +33,5 @@ pub record After (i v n r : ℕ) (points points′ : List ℤ) (faces faces′ m
   pub newPoints : points′ ≡ filled (steps kobbelt i (frontNet v n points faces marks) .vertices) points
   pub newFaces : faces′ ≡ filled (steps kobbelt i (frontNet v n points faces marks) .faces) faces
   pub newMarks : marks′ ≡ filled (steps kobbelt i (frontNet v n points faces marks) .marks) marks
-  pub mated : MateTable (steps kobbelt i (frontNet v n points faces marks) .faces) w′
   pub kept : length w′ ≡ length w
   pub rest : drop (2 * (n * 4 ^ i)) w′ ≡ drop (2 * (n * 4 ^ i)) w

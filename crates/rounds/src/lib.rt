@@ -5,7 +5,7 @@ ghost use lib.ListN.{length};
 ghost use Rattle.rounds.specs.Round.{Current, Refines};
 ghost use Rattle.rounds.specs.Rounds.{Prepared, After};
 
-// One round on the net of v vertices and n corners at the front of the tables. The answer is the new number of vertices.
+// One round on the net of v vertices and n corners at the front of the tables; the mates stay as they are. The answer is the new number of vertices.
 pub fn round(
     points: &mut [i32],
     faces: &mut [u32],
@@ -22,11 +22,10 @@ pub fn round(
     let count = v + edges + n / 4;
     growth::extend_marks(&mut *marks, v, count);
     growth::refine_faces(&mut *faces, &*work, n, v, edges);
-    mates::refine_mates(&mut *work, n);
     count
 }
 
-// k rounds. The answer is the final number of vertices.
+// k rounds. The mates are refined only where another round follows. The answer is the final number of vertices.
 pub fn rounds(
     points: &mut [i32],
     faces: &mut [u32],
@@ -51,8 +50,12 @@ pub fn rounds(
             count,
             corners,
         );
-        corners *= 4;
         i += 1;
+        if i == k {
+            return count;
+        }
+        mates::refine_mates(&mut *work, corners);
+        corners *= 4;
     }
     count
 }

@@ -10,20 +10,23 @@ use Rattle.edgepoints.proofs.inner_edge.Tie as tie
 regular-across-requires : tie.Need-regular-across-requires
 regular-across-requires c κs = let s = c .before .before in (s .pre .0, s .pre .1 .1 .0)
 
-inner-exact-requires : tie.Need-inner-exact-requires
-inner-exact-requires c κs = c .before .before .before .before .pre
+inner-at-end-requires : tie.Need-inner-at-end-requires
+inner-at-end-requires c κs = c .before .before .before .before .pre
 
 returns : tie.Need-returns
-returns c = c .inner-exact .ensures
+returns c = c .inner-at-end .ensures
 
 regular-across-requires-2 : tie.Need-regular-across-requires-2
 regular-across-requires-2 c κs = let s = c .before .before .before .before in (s .pre .0, s .pre .1 .1 .2)
 
-inner-exact-requires-2 : tie.Need-inner-exact-requires-2
-inner-exact-requires-2 c κs = c .before .before .before .before .before .before .pre
+inner-at-start-requires : tie.Need-inner-at-start-requires
+inner-at-start-requires c κs =
+    let s = c .before .before .before .before .before .before in
+    let e = s .pre .1 .1 in
+    (s .pre .0, (s .pre .1 .0, (e .0, e .1, e .2, c .before .before .before .regular-across .ensures)))
 
 returns-2 : tie.Need-returns-2
-returns-2 c = c .inner-exact2 .ensures
+returns-2 c = c .inner-at-start .ensures
 
 start-of-requires : tie.Need-start-of-requires
 start-of-requires c κs = c .before .before .before .before .before .before .pre .1 .1 .0
@@ -67,10 +70,10 @@ inner-edge-spec =
     tie.close
     (tie.spec
     regular-across-requires
-    inner-exact-requires
+    inner-at-end-requires
     returns
     regular-across-requires-2
-    inner-exact-requires-2
+    inner-at-start-requires
     returns-2
     start-of-requires
     end-of-requires

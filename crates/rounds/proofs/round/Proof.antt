@@ -5,7 +5,7 @@ use Rattle.curve.specs.Weights.{kobbelt}
 use Rattle.scheme.specs.Step.{step}
 use Prim.Native.Nat.{ℕ, _+_, _/_}
 use native.Mathlib.Omega.{arith}
-use Rattle.rounds.proofs.Laws.{corners, marked, mated, count-le, ready, made, net-ready, mates-ready, refines}
+use Rattle.rounds.proofs.Laws.{corners, marked, mated, count-le, ready, made, net-ready, refines}
 use borrow.Author.Needs.{needs}
 use Rattle.rounds.proofs.round.Statement.{statement}
 use Rattle.rounds.proofs.round.Tie as tie
@@ -14,7 +14,6 @@ use Rattle.rounds.proofs.round.Lts as lts
 use Rattle.growth.proofs.extend_marks.Reads as extend-marks-reads
 use Rattle.growth.proofs.number_edges.Reads as number-edges-reads
 use Rattle.growth.proofs.refine_faces.Reads as refine-faces-reads
-use Rattle.mates.proofs.refine_mates.Reads as refine-mates-reads
 use Rattle.roundpoints.proofs.new_points.Reads as new-points-reads
 
 -- src/lib.rt:21:38
@@ -65,10 +64,6 @@ extend-marks-requires c κs = let s = c .before .before .before .before .before 
 refine-faces-requires : tie.Need-refine-faces-requires
 refine-faces-requires c κs = let s = c .before .before .before .before .before .before .before .before .before .before .before .before .before .before .before .before .before .before .before .before .before .before in let e = c .before .before .before .before .before .before .before .before .before .before .before .before .before .before .before .before .number-edges in let p = c .before .before .before .before .before .before .before .before .before .new-points in net-ready (s .args .v) (s .args .n) (s .args .points .now) (s .args .faces .now) (s .args .marks .now) (s .args .work .now) (s .pre) _ (e .ensures .1) _ (p .ensures .1) _ (e .ensures .0)
 
--- src/lib.rt:26:5
-refine-mates-requires : tie.Need-refine-mates-requires
-refine-mates-requires c κs = let s = c .before .before .before .before .before .before .before .before .before .before .before .before .before .before .before .before .before .before .before .before .before .before .before .before .before .before in let e = c .before .before .before .before .before .before .before .before .before .before .before .before .before .before .before .before .before .before .before .before .number-edges in let p = c .before .before .before .before .before .before .before .before .before .before .before .before .before .new-points in mates-ready (s .args .v) (s .args .n) (s .args .points .now) (s .args .faces .now) (s .args .marks .now) (s .args .work .now) (s .pre) _ (e .ensures .1) _ (p .ensures .1)
-
 -- src/lib.rt:10:1
 same-length : tie.Need-same-length
 same-length c = search needs
@@ -87,7 +82,11 @@ same-length-4 c = search needs
 
 -- src/lib.rt:10:1
 returns : tie.Need-returns
-returns c = let s = c .before .before .before .before .before .before .before .before .before .before .before .before .before .before .before .before .before .before .before .before .before .before .before .before .before .before .before .before .before in let e = c .before .before .before .before .before .before .before .before .before .before .before .before .before .before .before .before .before .before .before .before .before .before .before .number-edges in let p = c .before .before .before .before .before .before .before .before .before .before .before .before .before .before .before .before .new-points in refines (s .args .v) (s .args .n) (s .args .points .now) (s .args .faces .now) (s .args .marks .now) (s .args .work .now) (s .pre) _ (e .ensures .1) _ (p .ensures .1) _ _ _ _ _ (ap (λ (k : ℕ). s .args .v + k + s .args .n / 4) (e .ensures .0)) (p .ensures .0 ∙ ap (λ (x : Net). filled (step kobbelt x .vertices) (s .args .points .now)) (made (s .args .v) (s .args .n) (s .args .points .now) (s .args .faces .now) (s .args .marks .now) (s .args .work .now) (s .pre) _ (e .ensures .1))) (c .before .before .before .before .before .before .refine-faces .ensures) (c .before .before .before .before .before .before .before .before .before .before .before .extend-marks .ensures) (c .before .before .refine-mates .ensures)
+returns c =
+    let s = c .before .before .before .before .before .before .before .before .before .before .before .before .before .before .before .before .before .before .before .before .before .before .before .before .before in
+    let e = c .before .before .before .before .before .before .before .before .before .before .before .before .before .before .before .before .before .before .before .number-edges in
+    let p = c .before .before .before .before .before .before .before .before .before .before .before .before .new-points in
+    refines (s .args .v) (s .args .n) (s .args .points .now) (s .args .faces .now) (s .args .marks .now) (s .args .work .now) (s .pre) _ (e .ensures .1) _ (p .ensures .1) _ _ _ _ (ap (λ (k : ℕ). s .args .v + k + s .args .n / 4) (e .ensures .0)) (p .ensures .0 ∙ ap (λ (x : Net). filled (step kobbelt x .vertices) (s .args .points .now)) (made (s .args .v) (s .args .n) (s .args .points .now) (s .args .faces .now) (s .args .marks .now) (s .args .work .now) (s .pre) _ (e .ensures .1))) (c .before .before .refine-faces .ensures) (c .before .before .before .before .before .before .before .extend-marks .ensures)
 
 pub round-spec : {M : Type 1} → statement M
 round-spec =
@@ -105,7 +104,6 @@ round-spec =
     add-count-2
     extend-marks-requires
     refine-faces-requires
-    refine-mates-requires
     same-length
     same-length-2
     same-length-3
