@@ -1,3 +1,4 @@
+-- `rounds::rounds` meets its contract. Assumes nothing.
 use mathlib.Core.Path.{_≡_, refl, sym, ap, _∙_, subst}
 use Prim.Native.Nat.{ℕ, _+_, _-_, _*_, _^_, _≤_}
 use native.Mathlib.Omega.{arith}
@@ -5,15 +6,12 @@ use borrow.Author.Needs.{needs}
 use Rattle.adjacency.specs.Chains.{MateTable}
 use Rattle.curve.specs.Weights.{kobbelt}
 use Rattle.scheme.specs.Step.{steps}
-use Rattle.rounds.specs.Round.{frontNet, Current}
+use Rattle.tables.specs.Net.{frontNet}
+use Rattle.rounds.specs.Round.{Current}
 use Rattle.rounds.specs.Rounds.{Prepared, After}
 use Rattle.rounds.proofs.Steps.{again, after-none, mated-none, kept-points, kept-faces, kept-marks, current, after-next, ready-mates, after-mates, mated-next}
 use Rattle.rounds.proofs.rounds.Statement.{statement}
 use Rattle.rounds.proofs.rounds.Tie as tie
-use Rattle.rounds.proofs.rounds.Reads as reads
-use Rattle.rounds.proofs.rounds.Lts as lts
-use Rattle.mates.proofs.refine_mates.Reads as refine-mates-reads
-use Rattle.rounds.proofs.round.Reads as round-reads
 
 abbrev Inv-loop : tie.InvT-loop
 Inv-loop points₀ faces₀ marks₀ work₀ v n k count₀ corners₀ i₀ points faces marks work count corners i =
