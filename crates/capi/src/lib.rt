@@ -2,10 +2,10 @@
 ghost use mathlib.Core.Path.{_≡_};
 ghost use Prim.Native.Nat.{_*_, _/_, _^_, _≤_};
 ghost use lib.ListN.{length};
-ghost use Rattle.tables.specs.Net.{Net};
-ghost use Rattle.verdict.specs.Call.{Call};
+ghost use Rattle.tables.specs.Net.{net};
+ghost use Rattle.verdict.specs.Call.{room, call};
 ghost use Rattle.validate.specs.Answer.{verdictOf, checked};
-ghost use Rattle.outcome.specs.Outcome.{outcome};
+ghost use Rattle.outcome.specs.Outcome.{buffers, outcome};
 ghost use Rattle.refine.specs.Answer.{resultOf};
 ghost use Rattle.capi.specs.Export.{finding, handed, exported, report, delivered, exportedOutcome, sizes};
 use validate::Answer;
@@ -53,11 +53,8 @@ pub extern "C" fn gedrovit_check(
     out_marks: usize,
     work: &mut [u32],
 ) -> Finding
-    ensures { λ r. ⌜ handed r (now (work .exit)) ≡ exported (checked (record {
-      rounds = rounds;
-      net = record { vertices = now (vertices .entry); faces = now (faces .entry); marks = now (marks .entry) };
-      room = record { vertices = «out_vertices»; faces = «out_faces»; marks = «out_marks»; work = length (now (work .entry)) };
-    }) (now (work .entry))) ⌝ }
+    ensures { λ r. ⌜ handed r (now (work .exit)) ≡
+        exported (checked (call rounds (net (now (vertices .entry)) (now (faces .entry)) (now (marks .entry))) (room «out_vertices» «out_faces» «out_marks» (length (now (work .entry))))) (now (work .entry))) ⌝ }
 {
     let answer = validate::check(
         rounds,
@@ -103,7 +100,9 @@ pub extern "C" fn gedrovit_refine(
     out_marks: &mut [u8],
     work: &mut [u32],
 ) -> Report
-    ensures { λ r. ⌜ delivered r (now («out_vertices» .exit)) (now («out_faces» .exit)) (now («out_marks» .exit)) (now (work .exit)) ≡ exportedOutcome (outcome rounds (record { vertices = now (vertices .entry); faces = now (faces .entry); marks = now (marks .entry) }) (record { vertices = now («out_vertices» .entry); faces = now («out_faces» .entry); marks = now («out_marks» .entry); work = now (work .entry) })) ⌝ }
+    ensures { λ r. ⌜ delivered r (now («out_vertices» .exit)) (now («out_faces» .exit)) (now («out_marks» .exit)) (now (work .exit)) ≡
+        exportedOutcome (outcome rounds (net (now (vertices .entry)) (now (faces .entry)) (now (marks .entry)))
+        (buffers (now («out_vertices» .entry)) (now («out_faces» .entry)) (now («out_marks» .entry)) (now (work .entry)))) ⌝ }
 {
     let answer = refine::refine(
         rounds,

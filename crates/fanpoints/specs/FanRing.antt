@@ -9,7 +9,8 @@ use Rattle.topology.specs.Vertex.{valence}
 use Rattle.scheme.specs.Rings.{fanNeighbour, fanCorner}
 use Rattle.scheme.specs.Step.{axis}
 
--- L and K begin with the ring of the vertex that the boundary half-edge s leaves; only extrapolated points exceed the largest coordinate, which is 2^26
+-- L and K begin with the ring of the vertex that the boundary half-edge s leaves; only extrapolated points exceed the largest coordinate, which is 2^26.
+-- Open, and may differ between correct programs: the places after the ring
 pub record FanRing (l : List ℕ) (t : List ℤ) (a s : ℕ) (L K : List ℤ) : Type 0 where
   pub neighbours : (i : ℕ) → i < valence l (from l s) + 2 → Equals (fanNeighbour l (axis t a) (from l s) i) (getD L i (pos 0)) 60
   pub corners : (i : ℕ) → i < valence l (from l s) + 2 → Equals (fanCorner l (axis t a) (from l s) i) (getD K i (pos 0)) 60

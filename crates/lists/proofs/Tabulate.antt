@@ -27,6 +27,12 @@ module _ {ℓ} {A : Type ℓ} where
   tabulate-cong zero f g h = refl
   tabulate-cong (suc n) f g h = ap (λ (x : A). x ∷ tabulate n (λ (k : ℕ). f (suc k))) (h 0 (omega arith)) ∙ ap (λ (t : List A). g 0 ∷ t) (tabulate-cong n (λ (k : ℕ). f (suc k)) (λ (k : ℕ). g (suc k)) (λ k l. h (suc k) (omega arith)))
 
+  -- a list is the table of its elements
+  pub tabulate-getD : (l : List A) (d : A) → tabulate (length l) (λ (k : ℕ). getD l k d) ≡ l
+  unfolding tabulate
+  tabulate-getD [] d = refl
+  tabulate-getD (x ∷ l) d = ap (λ (t : List A). x ∷ t) (tabulate-getD l d)
+
   -- ---- the loop that writes it
   pub write-none : (f : ℕ → A) (o : List A) → o ≡ tabulate 0 f ++ drop 0 o
   unfolding tabulate

@@ -1,12 +1,12 @@
 -- What a refining call answers and leaves in the caller's tables, on every input.
 use mathlib.Core.List.{List}
-use Prim.Native.Nat.{ℕ, _*_, _/_}
+use Prim.Native.Nat.{ℕ}
 use lib.IntN.{ℤ}
 use lib.ListN.{length}
 use Rattle.curve.specs.Weights.{kobbelt}
 use Rattle.tables.specs.Net.{Net}
 use Rattle.tables.specs.Tables.{filled}
-use Rattle.verdict.specs.Call.{Call}
+use Rattle.verdict.specs.Call.{Call, room, call, vertexCount, faceCount}
 use Rattle.verdict.specs.Verdict.{Verdict, accepted, refused, verdict, workAfter}
 use Rattle.scheme.specs.Step.{steps}
 
@@ -16,6 +16,9 @@ pub record Buffers : Type 0 where
   pub faces : List ℕ
   pub marks : List ℕ
   pub work : List ℕ
+
+abbrev pub buffers : List ℤ → List ℕ → List ℕ → List ℕ → Buffers
+buffers vertices faces marks work = record { vertices = vertices; faces = faces; marks = marks; work = work }
 
 -- "reports both counts", or the refusal's number and place
 pub data Result : Type 0 where
@@ -32,13 +35,13 @@ pub record Outcome : Type 0 where
 
 -- the call of k rounds on the net m with the tables o
 abbrev pub callOf : ℕ → Net → Buffers → Call
-callOf k m o = record { rounds = k; net = m; room = record { vertices = length (o .vertices); faces = length (o .faces); marks = length (o .marks); work = length (o .work) } }
+callOf k m o = call k m (room (length (o .vertices)) (length (o .faces)) (length (o .marks)) (length (o .work)))
 
 -- "An accepted call fills the refined vertices, faces and marks from the front, reports both counts, leaves the first 16G work numbers zero and the rest of
 -- every output as found."
 abbrev pub refinedOutcome : Net → Buffers → List ℕ → Outcome
 refinedOutcome n o w = record {
-  result = refinedTo (length (n .marks)) (length (n .faces) / 4);
+  result = refinedTo (vertexCount n) (faceCount n);
   vertices = filled (n .vertices) (o .vertices);
   faces = filled (n .faces) (o .faces);
   marks = filled (n .marks) (o .marks);

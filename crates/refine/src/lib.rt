@@ -1,7 +1,7 @@
 // The refining call.
 ghost use mathlib.Core.Path.{_≡_};
-ghost use Rattle.tables.specs.Net.{Net};
-ghost use Rattle.outcome.specs.Outcome.{outcome};
+ghost use Rattle.tables.specs.Net.{net};
+ghost use Rattle.outcome.specs.Outcome.{buffers, outcome};
 ghost use Rattle.refine.specs.Answer.{answered};
 ghost use Rattle.refine.specs.Run.{Admitted, Ran};
 
@@ -22,8 +22,10 @@ fn run(
     work: &mut [u32],
     last: usize,
 ) -> usize
-    requires { ⌜ Admitted rounds (record { vertices = now vertices; faces = now faces; marks = now marks }) (record { vertices = now «out_vertices»; faces = now «out_faces»; marks = now «out_marks»; work = now work }) last ⌝ }
-    ensures { λ r. ⌜ Ran rounds (record { vertices = now (vertices .entry); faces = now (faces .entry); marks = now (marks .entry) }) (record { vertices = now («out_vertices» .entry); faces = now («out_faces» .entry); marks = now («out_marks» .entry); work = now (work .entry) }) (record { vertices = now («out_vertices» .exit); faces = now («out_faces» .exit); marks = now («out_marks» .exit); work = now (work .exit) }) last r ⌝ }
+    requires { ⌜ Admitted rounds (net (now vertices) (now faces) (now marks)) (buffers (now «out_vertices») (now «out_faces») (now «out_marks») (now work)) last ⌝ }
+    ensures { λ r. ⌜ Ran rounds (net (now (vertices .entry)) (now (faces .entry)) (now (marks .entry)))
+        (buffers (now («out_vertices» .entry)) (now («out_faces» .entry)) (now («out_marks» .entry)) (now (work .entry)))
+        (buffers (now («out_vertices» .exit)) (now («out_faces» .exit)) (now («out_marks» .exit)) (now (work .exit))) last r ⌝ }
 {
     tables::copy_i32(vertices, &mut *out_vertices);
     tables::copy_u32(faces, &mut *out_faces);
@@ -52,7 +54,9 @@ pub fn refine(
     out_marks: &mut [u8],
     work: &mut [u32],
 ) -> Answer
-    ensures { λ r. ⌜ answered r (now («out_vertices» .exit)) (now («out_faces» .exit)) (now («out_marks» .exit)) (now (work .exit)) ≡ outcome rounds (record { vertices = now (vertices .entry); faces = now (faces .entry); marks = now (marks .entry) }) (record { vertices = now («out_vertices» .entry); faces = now («out_faces» .entry); marks = now («out_marks» .entry); work = now (work .entry) }) ⌝ }
+    ensures { λ r. ⌜ answered r (now («out_vertices» .exit)) (now («out_faces» .exit)) (now («out_marks» .exit)) (now (work .exit)) ≡
+        outcome rounds (net (now (vertices .entry)) (now (faces .entry)) (now (marks .entry)))
+        (buffers (now («out_vertices» .entry)) (now («out_faces» .entry)) (now («out_marks» .entry)) (now (work .entry))) ⌝ }
 {
     let fault = limits::limits(
         rounds,

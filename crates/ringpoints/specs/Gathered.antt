@@ -20,7 +20,7 @@ pub record Circuit (l : List ℕ) (h : ℕ) : Type 0 where
   pub ends : (turns quads l (valence l (from l h)) h ≡ h) ⊎ (turns quads l (valence l (from l h)) h ≡ length l)
   pub goes-on : (k : ℕ) → 0 < k → k < valence l (from l h) → turns quads l k h ≡ h → ⊥
 
--- L and K begin with the neighbours and the opposite corners of n faces, from h on
+-- L and K begin with the neighbours and the opposite corners of n faces, from h on. Open, and may differ between correct programs: the places after them
 pub record Filled (l : List ℕ) (t : List ℤ) (a h n : ℕ) (L K : List ℤ) : Type 0 where
   pub eight-l : length L ≡ 8
   pub eight-k : length K ≡ 8

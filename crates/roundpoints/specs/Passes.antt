@@ -34,7 +34,8 @@ pub data Turned (l marks : List ℕ) (h e r : ℕ) (p : List ℤ) (w : List ℕ)
       → Turned l marks h e r p w p′ w′
   passed : mate quads l h ≤ h → r ≡ e → p′ ≡ p → w′ ≡ w → Turned l marks h e r p w p′ w′
 
--- what is left of the work table: mates and edge numbers, and all past 8 numbers for each half-edge
+-- what is left of the work table: mates and edge numbers, and all past 8 numbers for each half-edge.
+-- Open, and may differ between correct programs: the places from 2n up to 8n
 pub record Scratch (l w w′ : List ℕ) : Type 0 where
   pub kept : length w′ ≡ length w
   pub front : (k : ℕ) → k < 2 * length l → getD w′ k 0 ≡ getD w k 0

@@ -10,6 +10,9 @@ pub record Net : Type 0 where
   pub faces : List ℕ
   pub marks : List ℕ
 
+abbrev pub net : List ℤ → List ℕ → List ℕ → Net
+net vertices faces marks = record { vertices = vertices; faces = faces; marks = marks }
+
 -- the net of v vertices and n corners at the front of the tables
 abbrev pub frontNet : ℕ → ℕ → List ℤ → List ℕ → List ℕ → Net
-frontNet v n vertices faces marks = record { vertices = take (3 * v) vertices; faces = take n faces; marks = take v marks }
+frontNet v n vertices faces marks = net (take (3 * v) vertices) (take n faces) (take v marks)

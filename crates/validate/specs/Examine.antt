@@ -21,7 +21,8 @@ pub record Joined (l : List ℕ) (v : ℕ) : Type 0 where
   pub few : v ≤ length l
   pub none : first (isolated l) v ≡ v
 
--- the answer r means the verdict v; on acceptance the work table starts with the mates; past four numbers per half-edge it is as found
+-- the answer r means the verdict v; on acceptance the work table starts with the mates; past four numbers per half-edge it is as found.
+-- Open, and may differ between correct programs: the first 4n numbers on a refusal, those from n up to 4n on acceptance
 pub record Examined (v : Verdict) (l w : List ℕ) (r : Answer) (w′ : List ℕ) : Type 0 where
   pub verdict : verdictOf r ≡ v
   pub mated : verdictOf r ≡ accepted → MateTable l w′

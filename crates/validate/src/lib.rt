@@ -1,8 +1,8 @@
 // The check that finds the first refusal of a call, or none.
 ghost use mathlib.Core.Path.{_≡_};
 ghost use lib.ListN.{length};
-ghost use Rattle.tables.specs.Net.{Net};
-ghost use Rattle.verdict.specs.Call.{Call};
+ghost use Rattle.tables.specs.Net.{net};
+ghost use Rattle.verdict.specs.Call.{room, call};
 ghost use Rattle.verdict.specs.Verdict.{vertexVerdict, adjacencyVerdict, facesVerdict, netVerdict};
 ghost use Rattle.adjacency.specs.Chains.{Tables, Adjacency, CornersBelow};
 ghost use Rattle.validate.specs.Answer.{verdictOf, found, checked};
@@ -71,7 +71,7 @@ fn examine_faces(faces: &[u32], marks: &[u8], work: &mut [u32]) -> Answer
 // Refusals 5 to 12. Only the first 4n numbers of the work table are used, n being the number of corners; on acceptance it starts with the mates.
 pub fn examine_net(vertices: &[i32], faces: &[u32], marks: &[u8], work: &mut [u32]) -> Answer
     requires { ⌜ CheckTables (now faces) (now work) ⌝ }
-    ensures { λ r. ⌜ Examined (netVerdict (record { vertices = now (vertices .entry); faces = now (faces .entry); marks = now (marks .entry) })) (now (faces .entry)) (now (work .entry)) r (now (work .exit)) ⌝ }
+    ensures { λ r. ⌜ Examined (netVerdict (net (now (vertices .entry)) (now (faces .entry)) (now (marks .entry)))) (now (faces .entry)) (now (work .entry)) r (now (work .exit)) ⌝ }
 {
     let x = scan::first_bad_coordinate(vertices);
     if x < vertices.len() {
@@ -100,11 +100,7 @@ pub fn check(
     out_marks: usize,
     work: &mut [u32],
 ) -> Answer
-    ensures { λ r. ⌜ found (verdictOf r) (now (work .exit)) ≡ checked (record {
-      rounds = rounds;
-      net = record { vertices = now (vertices .entry); faces = now (faces .entry); marks = now (marks .entry) };
-      room = record { vertices = «out_vertices»; faces = «out_faces»; marks = «out_marks»; work = length (now (work .entry)) };
-    }) (now (work .entry)) ⌝ }
+    ensures { λ r. ⌜ found (verdictOf r) (now (work .exit)) ≡ checked (call rounds (net (now (vertices .entry)) (now (faces .entry)) (now (marks .entry))) (room «out_vertices» «out_faces» «out_marks» (length (now (work .entry))))) (now (work .entry)) ⌝ }
 {
     let fault = limits::limits(
         rounds,

@@ -10,10 +10,16 @@ pub record Room : Type 0 where
   pub marks : ℕ
   pub work : ℕ
 
+abbrev pub room : (vertices faces marks work : ℕ) → Room
+room vertices faces marks work = record { vertices = vertices; faces = faces; marks = marks; work = work }
+
 pub record Call : Type 0 where
   pub rounds : ℕ
   pub net : Net
   pub room : Room
+
+abbrev pub call : ℕ → Net → Room → Call
+call rounds net room = record { rounds = rounds; net = net; room = room }
 
 -- "V and F are their counts."
 abbrev pub vertexCount : Net → ℕ

@@ -20,12 +20,14 @@ pub record Ready (l w : List ℕ) : Type 0 where
   pub room : length l ≤ length w
   pub mated : MateTable l w
 
--- the boundary half-edge that leaves the vertex of h, or none; and where there is one, the place of h in the fan that starts with it
+-- the boundary half-edge that leaves the vertex of h, or none; and where there is one, the place of h in the fan that starts with it.
+-- Open, and may differ between correct programs: the place where there is none
 pub record FanStart (l : List ℕ) (h s i : ℕ) : Type 0 where
   pub side : s ≡ boundaryFrom quads l (from l h)
   pub place : boundaryFrom quads l (from l h) < length l → i ≡ fanPlace l (from l h) h
 
--- r is none; or the vertex of h has a full ring of four, and r is the vertex straight across it from the end of h
+-- r is none; or the vertex of h has a full ring of four, and r is the vertex straight across it from the end of h.
+-- Open, and may differ between correct programs: whether r is none at such a vertex; the point of an edge is the same either way
 pub record Across (l : List ℕ) (h r : ℕ) : Type 0 where
   pub inner : r < length l → boundaryFrom quads l (from l h) ≡ length l
   pub four : r < length l → valence l (from l h) ≡ 4
