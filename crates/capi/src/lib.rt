@@ -2,8 +2,6 @@
 ghost use mathlib.Core.Path.{_≡_};
 ghost use Prim.Native.Nat.{_*_, _/_, _^_, _≤_};
 ghost use lib.ListN.{length};
-ghost use Rattle.tables.specs.Net.{Net};
-ghost use Rattle.verdict.specs.Call.{Call};
 ghost use Rattle.validate.specs.Answer.{verdictOf, checked};
 ghost use Rattle.outcome.specs.Outcome.{outcome};
 ghost use Rattle.refine.specs.Answer.{resultOf};

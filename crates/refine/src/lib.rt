@@ -1,6 +1,5 @@
 // The refining call.
 ghost use mathlib.Core.Path.{_≡_};
-ghost use Rattle.tables.specs.Net.{Net};
 ghost use Rattle.outcome.specs.Outcome.{outcome};
 ghost use Rattle.refine.specs.Answer.{answered};
 ghost use Rattle.refine.specs.Run.{Admitted, Ran};

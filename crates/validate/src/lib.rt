@@ -1,8 +1,6 @@
 // The check that finds the first refusal of a call, or none.
 ghost use mathlib.Core.Path.{_≡_};
 ghost use lib.ListN.{length};
-ghost use Rattle.tables.specs.Net.{Net};
-ghost use Rattle.verdict.specs.Call.{Call};
 ghost use Rattle.verdict.specs.Verdict.{vertexVerdict, adjacencyVerdict, facesVerdict, netVerdict};
 ghost use Rattle.adjacency.specs.Chains.{Tables, Adjacency, CornersBelow};
 ghost use Rattle.validate.specs.Answer.{verdictOf, found, checked};
