@@ -1,4 +1,4 @@
--- Division of an integer by a natural, cut toward zero, turns with the sign. Assumes nothing.
+-- Division of an integer by a natural, cut toward zero, commutes with negation. Assumes nothing.
 use mathlib.Core.Path.{_≡_, refl, sym}
 use Prim.Native.Nat.{ℕ, zero, suc, _/_}
 use native.Mathlib.Nat.{zero-div}

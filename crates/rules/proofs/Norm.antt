@@ -1,5 +1,6 @@
 -- Three laws of each rule, in whole numbers over its denominator: it is additive in its points, so it speaks of differences; it spreads a difference by at most
--- its norm; it is constant on constants. The norms are 3 for an extrapolated point, 20/16 for the curve's rules and 11/6 for an edge point. Those of the curve's rules hold at any tame weights, the others are at paper 01's. Assumes nothing.
+-- its norm; it is constant on constants. The norms are 3 for an extrapolated point, 20/16 for the curve's rules and 11/6 for an edge point. Those of the curve's
+-- rules hold at any tame weights, the others are at paper 01's. Assumes nothing.
 use mathlib.Core.Path.{_≡_, refl, sym, ap, subst, _∙_}
 use mathlib.Core.List.{[], _∷_}
 use Prim.Native.Nat.{ℕ, _+_, _-_, _*_, _/_, _≤_, _<_}

@@ -1,4 +1,4 @@
-// The point rules without a net: definitions in specs/, laws in proofs/; and their numerators as functions of numbers.
+// The point rules without a net: definitions in specs/, laws in proofs/; and the directions of a face as functions of numbers.
 ghost use mathlib.Core.Path.{_≡_};
 ghost use Prim.Native.Nat.{_<_, _^_};
 ghost use lib.IntN.{natAbs};

@@ -1,4 +1,4 @@
--- The virtual point at the start of h at an inner vertex is made from its ring.
+-- The virtual point of h, at an inner vertex, from the ring of its start.
 use mathlib.Core.Path.{_≡_}
 use mathlib.Core.List.{List}
 use Prim.Native.Nat.{ℕ}
