@@ -68,11 +68,14 @@ pub fn times_share(n: usize, v: i64) -> i64
     c as i64 * v
 }
 
-// The virtual point over 453,600 on edge j of a ring of n over 60.
+// The virtual point over 453,600 on edge j of a ring of n over 60. In a ring of four it is the neighbour straight across.
 pub fn virtual_over(l: &[i64; 8], k: &[i64; 8], n: usize, j: usize) -> i64
     requires { ⌜ (3 ≤ n) × (n ≤ 8) × (j < n) × BoundedFirst n (2 ^ 40) (now l) × BoundedFirst n (2 ^ 40) (now k) ⌝ }
     ensures { λ r. ⌜ r ≡ virtualNumerator n (ringOf n (now (l .entry))) (ringOf n (now (k .entry))) j ⌝ }
 {
+    if n == 4 {
+        return 7560 * l[(j + 2) % 4];
+    }
     let v = rings::virtual_from(l, k, n, j);
     times_share(n, v)
 }
