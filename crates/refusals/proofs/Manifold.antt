@@ -1,6 +1,7 @@
 -- An oriented net is manifold exactly if refusals 8, 10 and 11 hold nowhere in it.
 use mathlib.Core.Path.{_≡_, sym, ap, _∙_, subst}
 use mathlib.Core.Bool.{false, _||_}
+use mathlib.Core.Logic.{_⊎_, inl, inr}
 use mathlib.Core.List.{List}
 use Prim.Native.Nat.{ℕ, _<_}
 use native.Mathlib.Decide.{decLt}
@@ -65,6 +66,14 @@ module _ (S : Shape) (v : ℕ) (l : List ℕ) (ok : Oriented S v l) where
       let k : start S l p < length l = rw s i in
       let f : from l (start S l p) ≡ p = ap (from l) s ∙ eqb-true (from l (first (leaves l p) (length l))) p (first-holds (leaves l p) (length l) i) in
       subst (Ring S l p (start S l p)) u (full-ring S v l ok p (start S l p) k f u (boundaryFrom-none S l p b (start S l p) k f))
+
+  -- Paper 01: refusal 10 holds where "the faces at a vertex form neither one full ring nor one open fan"
+  pub ring-or-fan : (p : ℕ) → nonManifold S l p ≡ false → Ring S l p (start S l p) (valence l p) ⊎ Fan S l p (start S l p) (valence l p)
+  ring-or-fan p e = go (decLt (boundaryFrom S l p) (length l))
+    where
+      go : Dec (boundaryFrom S l p < length l) → Ring S l p (start S l p) (valence l p) ⊎ Fan S l p (start S l p) (valence l p)
+      go (yes b) = inr (manifold-fan p e b)
+      go (no b) = inl (manifold-ring p e (omega (arith, boundaryFrom-le S l p)))
 
   -- and back
   pub fan-manifold : (p h m : ℕ) → Fan S l p h m → nonManifold S l p ≡ false
