@@ -1,5 +1,5 @@
 -- The point on an inner edge: from two virtual points, and directly between two vertices with full rings of four.
-use mathlib.Core.Path.{_≡_, ap, _∙_, subst}
+use mathlib.Core.Path.{_≡_, sym, ap, _∙_, subst}
 use mathlib.Core.List.{List}
 use Prim.Native.Nat.{ℕ, _*_, _≤_, _<_}
 use native.Mathlib.Omega.{arith}
@@ -21,6 +21,7 @@ use Rattle.topology.specs.HalfEdge.{from, to, mate}
 use Rattle.topology.specs.Boundary.{boundaryFrom}
 use Rattle.topology.specs.Vertex.{turn, turns}
 use Rattle.topology.specs.Manifold.{Manifold}
+use Rattle.topology.proofs.Mates.{mate-back}
 use Rattle.scheme.specs.Rings.{oppositeCorner, ringVirtual, virtualAt}
 use Rattle.scheme.specs.Points.{innerRule, edgeRule, edgeValue, edgePoint}
 use Rattle.scheme.specs.Step.{axis}
@@ -29,6 +30,14 @@ use Rattle.walks.proofs.Around.{ring-here}
 use Rattle.curvepoints.specs.Exact.{OnAxes, ExactEdge, ExactPoint}
 use Rattle.curvepoints.proofs.Sizes.{axis-bound, scaled-bound, interior-bound, on-axes}
 use Rattle.ringpoints.specs.Gathered.{Over453600}
+
+-- an inner edge from its other side
+pub from-mate : (v : ℕ) (l : List ℕ) → Manifold quads v l → (h g : ℕ) → (h < length l) × (g ≡ mate quads l h) × (g < length l) → (g < length l) × (h ≡ mate quads l g) × (h < length l)
+from-mate v l ok h g x =
+    let e = x .1 in
+    let b = x .2 in
+    let m : mate quads l h < length l = omega arith in
+    (x .2, sym (ap (mate quads l) e ∙ mate-back quads v l (ok .oriented) h (x .0) m), x .0)
 
 -- ---- from two virtual points
 pub inner-size : (P Q u w : ℤ) → natAbs P ≤ 67108864 → natAbs Q ≤ 67108864 → natAbs u ≤ 2570400 * 67108864 → natAbs w ≤ 2570400 * 67108864 → natAbs (innerEdgeZ P Q u w) ≤ 13305600 * 67108864

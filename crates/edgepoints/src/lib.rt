@@ -1,4 +1,4 @@
-// The exact point on any edge, over 7,257,600, on lent tables.
+// The exact point on any edge, over 7,257,600, on the caller's tables.
 ghost use mathlib.Core.Path.{_≡_};
 ghost use Prim.Native.Nat.{ℕ, _*_, _≤_, _<_};
 ghost use lib.IntN.{natAbs};
@@ -101,7 +101,7 @@ fn inner_at_end(
         h,
         g,
         n,
-        walks::regular_across(faces, work, g),
+        walks::regular_across(faces, work, g, h),
     )
 }
 
@@ -136,11 +136,11 @@ pub fn inner_edge(
     ensures { λ e. ⌜ ExactPoint (λ (a : ℕ). edgeValue kobbelt (now (faces .entry)) (axis (now (points .entry)) a) h innerRule) (e .x) (e .y) (e .z) ⌝ }
 {
     let n = faces.len();
-    let o = walks::regular_across(faces, work, h);
+    let o = walks::regular_across(faces, work, h, g);
     if o >= n {
         return inner_at_end(points, faces, work, h, g);
     }
-    let r = walks::regular_across(faces, work, g);
+    let r = walks::regular_across(faces, work, g, h);
     if r >= n {
         return inner_at_start(points, faces, work, h, g, o);
     }

@@ -1,4 +1,4 @@
-// Virtual points at boundary vertices, and at any vertex, over 453,600, on lent tables.
+// Virtual points at boundary vertices, and at any vertex, over 453,600, on the caller's tables.
 ghost use mathlib.Core.Path.{_≡_};
 ghost use Prim.Native.Nat.{_+_, _<_};
 ghost use lib.ListN.{length};

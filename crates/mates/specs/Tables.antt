@@ -1,4 +1,4 @@
--- The mates of a round's refined faces, in a lent table w. The mate of h is at h, of n half-edges; the refined mates take the place of the old ones.
+-- The mates of a round's refined faces, in a work table w. The mate of h is at h, of n half-edges; the refined mates take the place of the old ones.
 use mathlib.Core.Path.{_≡_}
 use mathlib.Core.Bool.{cond}
 use mathlib.Core.List.{List}

@@ -1,4 +1,4 @@
-// The mates of one round's refined faces, in place on a lent table.
+// The mates of one round's refined faces, in place on the work table.
 ghost use mathlib.Core.Path.{_≡_};
 ghost use Prim.Native.Nat.{ℕ, _+_, _*_, _/_, _%_, _≤_};
 ghost use lib.ListN.{getD, take};

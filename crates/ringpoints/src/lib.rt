@@ -1,4 +1,4 @@
-// The rings of vertices gathered on lent tables, and virtual points at vertices with a full ring, over 453,600.
+// The rings of vertices gathered on the caller's tables, and virtual points at vertices with a full ring, over 453,600.
 ghost use mathlib.Core.Path.{_≡_};
 ghost use Prim.Native.Nat.{_*_, _/_, _^_, _≤_, _<_};
 ghost use lib.IntN.{pos, natAbs, _*ℤ_};

@@ -1,4 +1,4 @@
-// Rounds in the lent tables: the net at their front is refined in place.
+// Rounds in the caller's tables: the net at their front is refined in place.
 ghost use Prim.Native.Nat.{_*_, _≤_};
 ghost use mathlib.Core.Path.{_≡_};
 ghost use lib.ListN.{length};

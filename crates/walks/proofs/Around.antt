@@ -12,6 +12,7 @@ use Rattle.topology.specs.HalfEdge.{from, to, mate}
 use Rattle.topology.specs.Boundary.{boundaryFrom}
 use Rattle.topology.specs.Vertex.{valence, turn, turns, start, Ring, Fan}
 use Rattle.topology.specs.Manifold.{Manifold}
+use Rattle.topology.proofs.Mates.{mate-back}
 use Rattle.topology.proofs.Turn.{turn-inj, turned-mate, turns-listed}
 use Rattle.topology.proofs.Rings.{ring-at, fan-not-back}
 use Rattle.topology.proofs.Boundary.{boundaryFrom-le, start-open, ring-start, fan-start, ring-range, fan-range}
@@ -99,14 +100,17 @@ module _ (v : ℕ) (l : List ℕ) (ok : Manifold quads v l) (h : ℕ) (b : h < l
         go (no a) (yes c) = absurd (three (let q = ring-here-range four-inner in omega arith))
         go (no a) (no c) = omega arith
 
--- four turns a, c, d, and back to h
-pub across-is : (v : ℕ) (l : List ℕ) → Manifold quads v l → (h : ℕ) → h < length l → (a c d e r : ℕ) → a ≡ turn quads l h → a < length l → c ≡ turn quads l a → c < length l
-    → d ≡ turn quads l c → d < length l → e ≡ turn quads l d → e ≡ h → r ≡ getD l (quads .next c) 0 → Across l h r
-unfolding iterate to from
-across-is v l ok h b a c d e r ta la tc lc td ld te back is =
+-- three turns a, c, d, the last to the side after the mate g of h; from there the next turn is back to h
+pub across-is : (v : ℕ) (l : List ℕ) → Manifold quads v l → (h : ℕ) → h < length l → (a c d g r : ℕ) → a ≡ turn quads l h → a < length l → c ≡ turn quads l a → c < length l
+    → d ≡ turn quads l c → g ≡ mate quads l h → g < length l → d ≡ quads .next g → r ≡ getD l (quads .next c) 0 → Across l h r
+unfolding iterate to from turn
+across-is v l ok h b a c d g r ta la tc lc td eg lg ed is =
+    let m : mate quads l h < length l = omega arith in
+    let ld : d < length l = rw ed (ok .oriented .shape .next-lt g lg) in
+    let back : turn quads l d ≡ h = ap (turn quads l) ed ∙ ap (mate quads l) (ok .oriented .shape .prev-next g ∙ eg) ∙ mate-back quads v l (ok .oriented) h b m in
     let t₂ : c ≡ turn quads l (turn quads l h) = tc ∙ ap (turn quads l) ta in
     let t₃ : d ≡ turn quads l (turn quads l (turn quads l h)) = td ∙ ap (turn quads l) t₂ in
-    let t₄ : turn quads l (turn quads l (turn quads l (turn quads l h))) ≡ h = ap (turn quads l) (sym t₃) ∙ sym te ∙ back in
+    let t₄ : turn quads l (turn quads l (turn quads l (turn quads l h))) ≡ h = ap (turn quads l) (sym t₃) ∙ back in
     let i₁ : turns quads l 1 h < length l = rw ta at la in
     let i₂ : turns quads l 2 h < length l = rw t₂ at lc in
     let i₃ : turns quads l 3 h < length l = rw t₃ at ld in

@@ -3,6 +3,7 @@ ghost use mathlib.Core.Path.{_≡_};
 ghost use Prim.Native.Nat.{_<_};
 ghost use lib.ListN.{length};
 ghost use Rattle.topology.specs.Shape.{quads};
+ghost use Rattle.topology.specs.HalfEdge.{mate};
 ghost use Rattle.topology.specs.Boundary.{along, back};
 ghost use Rattle.topology.specs.Vertex.{turn};
 ghost use Rattle.walks.specs.Ready.{Ready, FanStart, Across};
@@ -73,10 +74,10 @@ pub fn back_side(faces: &[u32], work: &[u32], h: usize) -> usize
     n
 }
 
-// The vertex straight across the vertex of h, where that has a full ring of four faces.
-pub fn regular_across(faces: &[u32], work: &[u32], h: usize) -> usize
+// The vertex straight across the vertex of h, whose mate is g, where that has a full ring of four faces: three turns from h lead to the side after g.
+pub fn regular_across(faces: &[u32], work: &[u32], h: usize, g: usize) -> usize
     requires { ⌜ Ready (now faces) (now work) ⌝ }
-    requires { ⌜ h < length (now faces) ⌝ }
+    requires { ⌜ (h < length (now faces)) × (g ≡ mate quads (now faces) h) × (g < length (now faces)) ⌝ }
     ensures { λ r. ⌜ Across (now (faces .entry)) h r ⌝ }
 {
     let n = faces.len();
@@ -89,10 +90,7 @@ pub fn regular_across(faces: &[u32], work: &[u32], h: usize) -> usize
         return n;
     }
     let c = turn_side(faces, work, b);
-    if c == n {
-        return n;
-    }
-    if turn_side(faces, work, c) != h {
+    if c != adjacency::next_side(g) {
         return n;
     }
     faces[adjacency::next_side(b)] as usize

@@ -1,10 +1,11 @@
 -- `inner_at_end` meets its contract. Assumes nothing.
 use Rattle.walks.proofs.Around.{across-none}
+use Rattle.edgepoints.proofs.Inner.{from-mate}
 use Rattle.edgepoints.proofs.inner_at_end.Statement.{statement}
 use Rattle.edgepoints.proofs.inner_at_end.Tie as tie
 
 regular-across-requires : tie.Need-regular-across-requires
-regular-across-requires c κs = let s = c .before .before in (s .pre .0, s .pre .1 .1 .2)
+regular-across-requires c κs = let s = c .before .before in (s .pre .0, from-mate (s .pre .0 .vertices) (s .args .faces .now) (s .pre .0 .net) (s .args .h) (s .args .g) (s .pre .1 .1))
 
 inner-exact-requires : tie.Need-inner-exact-requires
 inner-exact-requires c κs =

@@ -3,12 +3,12 @@ use Prim.Native.Nat.{_<_}
 use native.Mathlib.Omega.{arith}
 use lib.ListN.{length}
 use Rattle.boundarypoints.proofs.Edges.{start-room, end-room}
-use Rattle.edgepoints.proofs.Inner.{across-inside, regular-made}
+use Rattle.edgepoints.proofs.Inner.{from-mate, across-inside, regular-made}
 use Rattle.edgepoints.proofs.inner_edge.Statement.{statement}
 use Rattle.edgepoints.proofs.inner_edge.Tie as tie
 
 regular-across-requires : tie.Need-regular-across-requires
-regular-across-requires c κs = let s = c .before .before in (s .pre .0, s .pre .1 .1 .0)
+regular-across-requires c κs = let s = c .before .before in (s .pre .0, s .pre .1 .1)
 
 inner-at-end-requires : tie.Need-inner-at-end-requires
 inner-at-end-requires c κs = c .before .before .before .before .pre
@@ -17,7 +17,7 @@ returns : tie.Need-returns
 returns c = c .inner-at-end .ensures
 
 regular-across-requires-2 : tie.Need-regular-across-requires-2
-regular-across-requires-2 c κs = let s = c .before .before .before .before in (s .pre .0, s .pre .1 .1 .2)
+regular-across-requires-2 c κs = let s = c .before .before .before .before in (s .pre .0, from-mate (s .pre .0 .vertices) (s .args .faces .now) (s .pre .0 .net) (s .args .h) (s .args .g) (s .pre .1 .1))
 
 inner-at-start-requires : tie.Need-inner-at-start-requires
 inner-at-start-requires c κs =

@@ -1,14 +1,12 @@
--- `rounds::rounds` meets its contract. Assumes nothing.
-use mathlib.Core.Path.{_≡_, refl, sym, ap, _∙_, subst}
-use Prim.Native.Nat.{ℕ, _+_, _-_, _*_, _^_, _≤_}
+-- `rounds` meets its contract: before each round the mates are those of its net. Assumes nothing.
+use mathlib.Core.Path.{_≡_}
+use Prim.Native.Nat.{_+_, _-_, _*_, _^_, _≤_}
 use native.Mathlib.Omega.{arith}
-use borrow.Author.Needs.{needs}
 use Rattle.adjacency.specs.Chains.{MateTable}
 use Rattle.curve.specs.Weights.{kobbelt}
 use Rattle.scheme.specs.Step.{steps}
 use Rattle.tables.specs.Net.{frontNet}
-use Rattle.rounds.specs.Round.{Current}
-use Rattle.rounds.specs.Rounds.{Prepared, After}
+use Rattle.rounds.specs.Rounds.{After}
 use Rattle.rounds.proofs.Steps.{again, after-none, mated-none, kept-points, kept-faces, kept-marks, current, after-next, ready-mates, after-mates, mated-next}
 use Rattle.rounds.proofs.rounds.Statement.{statement}
 use Rattle.rounds.proofs.rounds.Tie as tie
@@ -20,71 +18,91 @@ Inv-loop points₀ faces₀ marks₀ work₀ v n k count₀ corners₀ i₀ poin
 abbrev μ-loop : tie.MeasureT-loop
 μ-loop points₀ faces₀ marks₀ work₀ v n k count₀ corners₀ i₀ points faces marks work count corners i = k - i
 
--- src/lib.rt:44:5
 loop-holds : tie.Need-loop-holds Inv-loop μ-loop
 loop-holds c = let s = c .before .before .before in (omega arith, omega arith, after-none (s .args .k) (s .args .v) (s .args .n) (s .args .points .now) (s .args .faces .now) (s .args .marks .now) (s .args .work .now) (s .pre), mated-none (s .args .k) (s .args .v) (s .args .n) (s .args .points .now) (s .args .faces .now) (s .args .marks .now) (s .args .work .now) (s .pre))
 
--- src/lib.rt:45:9
 round-requires : tie.Need-round-requires Inv-loop μ-loop
-round-requires c κs = let s = c .before .before .before .before .before .before .before .before .before in let h = c .before .before .before .before .before .loop in let e : h .corners ≡ s .args .n * 4 ^ h .i = h .inv .1 in rw e (current (s .args .k) (s .args .v) (s .args .n) (s .args .points .now) (s .args .faces .now) (s .args .marks .now) (s .args .work .now) (s .pre) (h .i) (h .count) (h .points) (h .faces) (h .marks) (h .work) (h .inv .2) (h .inv .3) (c .before .before .before .before .loop-test .taken))
+round-requires c κs =
+    let s = c .before .before .before .before .before .before .before .before .before in
+    let h = c .before .before .before .before .before .loop in
+    let b = c .before .before .before .before .loop-test .taken in
+    let e : h .corners ≡ s .args .n * 4 ^ h .i = h .inv .1 in
+    rw e (current (s .args .k) (s .args .v) (s .args .n) (s .args .points .now) (s .args .faces .now) (s .args .marks .now) (s .args .work .now) (s .pre) (h .i) (h .count) (h .points) (h .faces) (h .marks) (h .work) (h .inv .2) (h .inv .3) b)
 
--- src/lib.rt:53:9
 add-i : tie.Need-add-i Inv-loop μ-loop
-add-i c = let s = c .before .before .before .before .before .before .before .before .before .before .before .before .before .before .before .before .before in let h = c .before .before .before .before .before .before .before .before .before .before .before .before .before .loop in let b = c .before .before .before .before .before .before .before .before .before .before .before .before .loop-test .taken in let q = s .pre .few in omega arith
+add-i c = let b = c .before .before .before .before .before .before .before .before .before .before .before .before .loop-test .taken in let q = c .before .before .before .before .before .before .before .before .before .before .before .before .before .before .before .before .before .pre .few in omega arith
 
--- src/lib.rt:55:13
+-- the tables after the last round
+done : (c : tie.Then1 Inv-loop μ-loop) → After (c .before .before .before .before .before .before .before .before .before .before .before .before .before .before .loop .i + 1) (c .before .before .before .before .before .before .before .before .before .before .before .before .before .before .before .before .before .before .args .v) (c .before .before .before .before .before .before .before .before .before .before .before .before .before .before .before .before .before .before .args .n) (c .before .before .before .before .before .before .before .before .round .result) (c .before .before .before .before .before .before .before .before .before .before .before .before .before .before .before .before .before .before .args .points .now) (c .before .before .before .before .before .before .before .before .round .last .0) (c .before .before .before .before .before .before .before .before .before .before .before .before .before .before .before .before .before .before .args .faces .now) (c .before .before .before .before .before .before .before .before .round .last .1 .0) (c .before .before .before .before .before .before .before .before .before .before .before .before .before .before .before .before .before .before .args .marks .now) (c .before .before .before .before .before .before .before .before .round .last .1 .1 .0) (c .before .before .before .before .before .before .before .before .before .before .before .before .before .before .before .before .before .before .args .work .now) (c .before .before .before .before .before .before .before .before .round .last .1 .1 .1 .0)
+done c =
+    let s = c .before .before .before .before .before .before .before .before .before .before .before .before .before .before .before .before .before .before in
+    let h = c .before .before .before .before .before .before .before .before .before .before .before .before .before .before .loop in
+    let b = c .before .before .before .before .before .before .before .before .before .before .before .before .before .loop-test .taken in
+    let e : h .corners ≡ s .args .n * 4 ^ h .i = h .inv .1 in
+    let r = c .before .before .before .before .before .before .before .before .round in
+    after-next (s .args .k) (s .args .v) (s .args .n) (s .args .points .now) (s .args .faces .now) (s .args .marks .now) (s .args .work .now) (s .pre) (h .i) (h .count) (h .points) (h .faces) (h .marks) (h .work) (h .inv .2) (h .inv .3) b _ _ _ _ _ (rw e at (r .ensures)) (r .kept .1 .1 .1 .0)
+
 same-length : tie.Need-same-length Inv-loop μ-loop
-same-length c = let s = c .before .before .before .before .before .before .before .before .before .before .before .before .before .before .before .before .before .before in let h = c .before .before .before .before .before .before .before .before .before .before .before .before .before .before .loop in let b = c .before .before .before .before .before .before .before .before .before .before .before .before .before .loop-test .taken in let e : h .corners ≡ s .args .n * 4 ^ h .i = h .inv .1 in let r = c .before .before .before .before .before .before .before .before .round in kept-points (s .args .k) (s .args .v) (s .args .n) (s .args .points .now) (s .args .faces .now) (s .args .marks .now) (s .args .work .now) (s .pre) (h .i + 1) _ _ _ _ _ (after-next (s .args .k) (s .args .v) (s .args .n) (s .args .points .now) (s .args .faces .now) (s .args .marks .now) (s .args .work .now) (s .pre) (h .i) (h .count) (h .points) (h .faces) (h .marks) (h .work) (h .inv .2) (h .inv .3) b _ _ _ _ _ (rw e at (r .ensures)) (r .kept .1 .1 .1 .0)) (omega arith)
+same-length c = let s = c .before .before .before .before .before .before .before .before .before .before .before .before .before .before .before .before .before .before in let b = c .before .before .before .before .before .before .before .before .before .before .before .before .before .loop-test .taken in kept-points (s .args .k) (s .args .v) (s .args .n) (s .args .points .now) (s .args .faces .now) (s .args .marks .now) (s .args .work .now) (s .pre) _ _ _ _ _ _ (done c) (omega arith)
 
--- src/lib.rt:55:13
 same-length-2 : tie.Need-same-length-2 Inv-loop μ-loop
-same-length-2 c = let s = c .before .before .before .before .before .before .before .before .before .before .before .before .before .before .before .before .before .before in let h = c .before .before .before .before .before .before .before .before .before .before .before .before .before .before .loop in let b = c .before .before .before .before .before .before .before .before .before .before .before .before .before .loop-test .taken in let e : h .corners ≡ s .args .n * 4 ^ h .i = h .inv .1 in let r = c .before .before .before .before .before .before .before .before .round in kept-faces (s .args .k) (s .args .v) (s .args .n) (s .args .points .now) (s .args .faces .now) (s .args .marks .now) (s .args .work .now) (s .pre) (h .i + 1) _ _ _ _ _ (after-next (s .args .k) (s .args .v) (s .args .n) (s .args .points .now) (s .args .faces .now) (s .args .marks .now) (s .args .work .now) (s .pre) (h .i) (h .count) (h .points) (h .faces) (h .marks) (h .work) (h .inv .2) (h .inv .3) b _ _ _ _ _ (rw e at (r .ensures)) (r .kept .1 .1 .1 .0)) (omega arith)
+same-length-2 c = let s = c .before .before .before .before .before .before .before .before .before .before .before .before .before .before .before .before .before .before in let b = c .before .before .before .before .before .before .before .before .before .before .before .before .before .loop-test .taken in kept-faces (s .args .k) (s .args .v) (s .args .n) (s .args .points .now) (s .args .faces .now) (s .args .marks .now) (s .args .work .now) (s .pre) _ _ _ _ _ _ (done c) (omega arith)
 
--- src/lib.rt:55:13
 same-length-3 : tie.Need-same-length-3 Inv-loop μ-loop
-same-length-3 c = let s = c .before .before .before .before .before .before .before .before .before .before .before .before .before .before .before .before .before .before in let h = c .before .before .before .before .before .before .before .before .before .before .before .before .before .before .loop in let b = c .before .before .before .before .before .before .before .before .before .before .before .before .before .loop-test .taken in let e : h .corners ≡ s .args .n * 4 ^ h .i = h .inv .1 in let r = c .before .before .before .before .before .before .before .before .round in kept-marks (s .args .k) (s .args .v) (s .args .n) (s .args .points .now) (s .args .faces .now) (s .args .marks .now) (s .args .work .now) (s .pre) (h .i + 1) _ _ _ _ _ (after-next (s .args .k) (s .args .v) (s .args .n) (s .args .points .now) (s .args .faces .now) (s .args .marks .now) (s .args .work .now) (s .pre) (h .i) (h .count) (h .points) (h .faces) (h .marks) (h .work) (h .inv .2) (h .inv .3) b _ _ _ _ _ (rw e at (r .ensures)) (r .kept .1 .1 .1 .0)) (omega arith)
+same-length-3 c = let s = c .before .before .before .before .before .before .before .before .before .before .before .before .before .before .before .before .before .before in let b = c .before .before .before .before .before .before .before .before .before .before .before .before .before .loop-test .taken in kept-marks (s .args .k) (s .args .v) (s .args .n) (s .args .points .now) (s .args .faces .now) (s .args .marks .now) (s .args .work .now) (s .pre) _ _ _ _ _ _ (done c) (omega arith)
 
--- src/lib.rt:55:13
 same-length-4 : tie.Need-same-length-4 Inv-loop μ-loop
-same-length-4 c = let s = c .before .before .before .before .before .before .before .before .before .before .before .before .before .before .before .before .before .before in let h = c .before .before .before .before .before .before .before .before .before .before .before .before .before .before .loop in let b = c .before .before .before .before .before .before .before .before .before .before .before .before .before .loop-test .taken in let e : h .corners ≡ s .args .n * 4 ^ h .i = h .inv .1 in let r = c .before .before .before .before .before .before .before .before .round in after-next (s .args .k) (s .args .v) (s .args .n) (s .args .points .now) (s .args .faces .now) (s .args .marks .now) (s .args .work .now) (s .pre) (h .i) (h .count) (h .points) (h .faces) (h .marks) (h .work) (h .inv .2) (h .inv .3) b _ _ _ _ _ (rw e at (r .ensures)) (r .kept .1 .1 .1 .0) .kept
+same-length-4 c = done c .kept
 
--- src/lib.rt:55:13
 returns : tie.Need-returns Inv-loop μ-loop
-returns c = let s = c .before .before .before .before .before .before .before .before .before .before .before .before .before .before .before .before .before .before in let h = c .before .before .before .before .before .before .before .before .before .before .before .before .before .before .loop in let b = c .before .before .before .before .before .before .before .before .before .before .before .before .before .loop-test .taken in let e : h .corners ≡ s .args .n * 4 ^ h .i = h .inv .1 in let r = c .before .before .before .before .before .before .before .before .round in let q : s .args .k ≡ h .i + 1 = (let t = c .if1 .taken in omega arith) in rw q (after-next (s .args .k) (s .args .v) (s .args .n) (s .args .points .now) (s .args .faces .now) (s .args .marks .now) (s .args .work .now) (s .pre) (h .i) (h .count) (h .points) (h .faces) (h .marks) (h .work) (h .inv .2) (h .inv .3) b _ _ _ _ _ (rw e at (r .ensures)) (r .kept .1 .1 .1 .0))
+returns c =
+    let q : c .before .before .before .before .before .before .before .before .before .before .before .before .before .before .before .before .before .before .args .k ≡ c .before .before .before .before .before .before .before .before .before .before .before .before .before .before .loop .i + 1 = (let t = c .if1 .taken in omega arith) in
+    rw q (done c)
 
--- src/lib.rt:57:9
 refine-mates-requires : tie.Need-refine-mates-requires Inv-loop μ-loop
-refine-mates-requires c κs = let s = c .before .before .before .before .before .before .before .before .before .before .before .before .before .before .before .before .before .before .before in let h = c .before .before .before .before .before .before .before .before .before .before .before .before .before .before .before .loop in let b = c .before .before .before .before .before .before .before .before .before .before .before .before .before .before .loop-test .taken in let e : h .corners ≡ s .args .n * 4 ^ h .i = h .inv .1 in let r = c .before .before .before .before .before .before .before .before .before .round in rw e (ready-mates (s .args .k) (s .args .v) (s .args .n) (s .args .points .now) (s .args .faces .now) (s .args .marks .now) (s .args .work .now) (s .pre) (h .i) (h .count) (h .points) (h .faces) (h .marks) (h .work) (h .inv .2) (h .inv .3) b _ _ _ _ _ (rw e at (r .ensures)) (r .kept .1 .1 .1 .0))
+refine-mates-requires c κs =
+    let s = c .before .before .before .before .before .before .before .before .before .before .before .before .before .before .before .before .before .before .before in
+    let h = c .before .before .before .before .before .before .before .before .before .before .before .before .before .before .before .loop in
+    let b = c .before .before .before .before .before .before .before .before .before .before .before .before .before .before .loop-test .taken in
+    let e : h .corners ≡ s .args .n * 4 ^ h .i = h .inv .1 in
+    let r = c .before .before .before .before .before .before .before .before .before .round in
+    rw e (ready-mates (s .args .k) (s .args .v) (s .args .n) (s .args .points .now) (s .args .faces .now) (s .args .marks .now) (s .args .work .now) (s .pre) (h .i) (h .count) (h .points) (h .faces) (h .marks) (h .work) (h .inv .2) (h .inv .3) b _ _ _ _ _ (rw e at (r .ensures)) (r .kept .1 .1 .1 .0))
 
--- src/lib.rt:58:9
 mul-corners : tie.Need-mul-corners Inv-loop μ-loop
-mul-corners c = let s = c .before .before .before .before .before .before .before .before .before .before .before .before .before .before .before .before .before .before .before .before .before .before in let h = c .before .before .before .before .before .before .before .before .before .before .before .before .before .before .before .before .before .before .loop in let b = c .before .before .before .before .before .before .before .before .before .before .before .before .before .before .before .before .before .loop-test .taken in let e : h .corners ≡ s .args .n * 4 ^ h .i = h .inv .1 in let q = current (s .args .k) (s .args .v) (s .args .n) (s .args .points .now) (s .args .faces .now) (s .args .marks .now) (s .args .work .now) (s .pre) (h .i) (h .count) (h .points) (h .faces) (h .marks) (h .work) (h .inv .2) (h .inv .3) b .small in omega arith
+mul-corners c =
+    let s = c .before .before .before .before .before .before .before .before .before .before .before .before .before .before .before .before .before .before .before .before .before .before in
+    let h = c .before .before .before .before .before .before .before .before .before .before .before .before .before .before .before .before .before .before .loop in
+    let b = c .before .before .before .before .before .before .before .before .before .before .before .before .before .before .before .before .before .loop-test .taken in
+    let e : h .corners ≡ s .args .n * 4 ^ h .i = h .inv .1 in
+    let q = current (s .args .k) (s .args .v) (s .args .n) (s .args .points .now) (s .args .faces .now) (s .args .marks .now) (s .args .work .now) (s .pre) (h .i) (h .count) (h .points) (h .faces) (h .marks) (h .work) (h .inv .2) (h .inv .3) b .small in
+    omega arith
 
--- src/lib.rt:44:5
 loop-less : tie.Need-loop-less Inv-loop μ-loop
 loop-less c = omega arith
 
--- src/lib.rt:44:5
 loop-again : tie.Need-loop-again Inv-loop μ-loop
-loop-again c = let s = c .before .before .before .before .before .before .before .before .before .before .before .before .before .before .before .before .before .before .before .before .before .before in let h = c .before .before .before .before .before .before .before .before .before .before .before .before .before .before .before .before .before .before .loop in let b = c .before .before .before .before .before .before .before .before .before .before .before .before .before .before .before .before .before .loop-test .taken in let e : h .corners ≡ s .args .n * 4 ^ h .i = h .inv .1 in let r = c .before .before .before .before .before .before .before .before .before .before .before .before .round in let t = c .before .before .refine-mates in (omega arith, again (s .args .n) (h .i) _ e, after-mates (s .args .k) (s .args .v) (s .args .n) (s .args .points .now) (s .args .faces .now) (s .args .marks .now) (s .args .work .now) (s .pre) (h .i) (h .count) (h .points) (h .faces) (h .marks) (h .work) (h .inv .2) (h .inv .3) b _ _ _ _ _ (rw e at (r .ensures)) (r .kept .1 .1 .1 .0) _ (t .kept .0) (rw e at (t .ensures)), mated-next (s .args .k) (s .args .v) (s .args .n) (s .args .points .now) (s .args .faces .now) (s .args .marks .now) (s .args .work .now) (s .pre) (h .i) (h .count) (h .points) (h .faces) (h .marks) (h .work) (h .inv .2) (h .inv .3) b _ _ _ _ _ (rw e at (r .ensures)) (r .kept .1 .1 .1 .0) _ (t .kept .0) (rw e at (t .ensures)))
+loop-again c =
+    let s = c .before .before .before .before .before .before .before .before .before .before .before .before .before .before .before .before .before .before .before .before .before .before in
+    let h = c .before .before .before .before .before .before .before .before .before .before .before .before .before .before .before .before .before .before .loop in
+    let b = c .before .before .before .before .before .before .before .before .before .before .before .before .before .before .before .before .before .loop-test .taken in
+    let e : h .corners ≡ s .args .n * 4 ^ h .i = h .inv .1 in
+    let r = c .before .before .before .before .before .before .before .before .before .before .before .before .round in
+    let t = c .before .before .refine-mates in
+    let d = rw e at (t .ensures) in
+    (omega arith, again (s .args .n) (h .i) _ e, after-mates (s .args .k) (s .args .v) (s .args .n) (s .args .points .now) (s .args .faces .now) (s .args .marks .now) (s .args .work .now) (s .pre) (h .i) (h .count) (h .points) (h .faces) (h .marks) (h .work) (h .inv .2) (h .inv .3) b _ _ _ _ _ (rw e at (r .ensures)) (r .kept .1 .1 .1 .0) _ (t .kept .0) d, mated-next (s .args .k) (s .args .v) (s .args .n) (s .args .points .now) (s .args .faces .now) (s .args .marks .now) (s .args .work .now) (s .pre) (h .i) (h .count) (h .points) (h .faces) (h .marks) (h .work) (h .inv .2) (h .inv .3) b _ _ _ _ _ (rw e at (r .ensures)) (r .kept .1 .1 .1 .0) _ (t .kept .0) d)
 
--- src/lib.rt:29:1
 same-length-5 : tie.Need-same-length-5 Inv-loop μ-loop
 same-length-5 c = let s = c .before .before .before .before .before in let h = c .before .loop in kept-points (s .args .k) (s .args .v) (s .args .n) (s .args .points .now) (s .args .faces .now) (s .args .marks .now) (s .args .work .now) (s .pre) (h .i) (h .count) (h .points) (h .faces) (h .marks) (h .work) (h .inv .2) (h .inv .0)
 
--- src/lib.rt:29:1
 same-length-6 : tie.Need-same-length-6 Inv-loop μ-loop
 same-length-6 c = let s = c .before .before .before .before .before in let h = c .before .loop in kept-faces (s .args .k) (s .args .v) (s .args .n) (s .args .points .now) (s .args .faces .now) (s .args .marks .now) (s .args .work .now) (s .pre) (h .i) (h .count) (h .points) (h .faces) (h .marks) (h .work) (h .inv .2) (h .inv .0)
 
--- src/lib.rt:29:1
 same-length-7 : tie.Need-same-length-7 Inv-loop μ-loop
 same-length-7 c = let s = c .before .before .before .before .before in let h = c .before .loop in kept-marks (s .args .k) (s .args .v) (s .args .n) (s .args .points .now) (s .args .faces .now) (s .args .marks .now) (s .args .work .now) (s .pre) (h .i) (h .count) (h .points) (h .faces) (h .marks) (h .work) (h .inv .2) (h .inv .0)
 
--- src/lib.rt:29:1
 same-length-8 : tie.Need-same-length-8 Inv-loop μ-loop
 same-length-8 c = c .before .loop .inv .2 .kept
 
--- src/lib.rt:29:1
 returns-2 : tie.Need-returns-2 Inv-loop μ-loop
 returns-2 c = let s = c .before .before .before .before .before in let h = c .before .loop in let e : s .args .k ≡ h .i = (let a = h .inv .0 in let b = c .loop-test .left in omega arith) in rw e (h .inv .2)
 
