@@ -1,3 +1,4 @@
+-- `rounds::round` meets its contract. Assumes nothing.
 use mathlib.Core.Path.{sym, ap, _∙_}
 use Rattle.tables.specs.Net.{Net}
 use Rattle.tables.specs.Tables.{filled}
@@ -16,71 +17,54 @@ use Rattle.growth.proofs.number_edges.Reads as number-edges-reads
 use Rattle.growth.proofs.refine_faces.Reads as refine-faces-reads
 use Rattle.roundpoints.proofs.new_points.Reads as new-points-reads
 
--- src/lib.rt:21:38
 slice-reshare-prefix-number-edges : tie.Need-slice-reshare-prefix-number-edges
 slice-reshare-prefix-number-edges c = search needs
 
--- src/lib.rt:21:38
 slice-aggregate-number-edges : tie.Need-slice-aggregate-number-edges
 slice-aggregate-number-edges c = let s = c .before .before .before .before in sym (corners (s .args .v) (s .args .n) (s .args .points .now) (s .args .faces .now) (s .args .marks .now) (s .args .work .now) (s .pre))
 
--- src/lib.rt:21:9
 number-edges-requires : tie.Need-number-edges-requires
 number-edges-requires c κs = let s = c .before .before .before .before .before in mated (s .args .v) (s .args .n) (s .args .points .now) (s .args .faces .now) (s .args .marks .now) (s .args .work .now) (s .pre)
 
--- src/lib.rt:22:43
 slice-reshare-prefix-new-points : tie.Need-slice-reshare-prefix-new-points
 slice-reshare-prefix-new-points c = search needs
 
--- src/lib.rt:22:43
 slice-aggregate-new-points : tie.Need-slice-aggregate-new-points
 slice-aggregate-new-points c = let s = c .before .before .before .before .before .before .before .before .before .before in sym (corners (s .args .v) (s .args .n) (s .args .points .now) (s .args .faces .now) (s .args .marks .now) (s .args .work .now) (s .pre))
 
--- src/lib.rt:22:56
 slice-reshare-prefix-new-points-2 : tie.Need-slice-reshare-prefix-new-points-2
 slice-reshare-prefix-new-points-2 c = search needs
 
--- src/lib.rt:22:56
 slice-aggregate-new-points-2 : tie.Need-slice-aggregate-new-points-2
 slice-aggregate-new-points-2 c = let s = c .before .before .before .before .before .before .before .before .before .before .before in sym (marked (s .args .v) (s .args .n) (s .args .points .now) (s .args .faces .now) (s .args .marks .now) (s .args .work .now) (s .pre))
 
--- src/lib.rt:22:5
 new-points-requires : tie.Need-new-points-requires
 new-points-requires c κs = let s = c .before .before .before .before .before .before .before .before .before .before .before .before in let e = c .before .before .before .before .before .before .number-edges in ready (s .args .v) (s .args .n) (s .args .points .now) (s .args .faces .now) (s .args .marks .now) (s .args .work .now) (s .pre) _ (e .ensures .1)
 
--- src/lib.rt:23:17
 add-count : tie.Need-add-count
 add-count c = let s = c .before .before .before .before .before .before .before .before .before .before .before .before .before .before .before .before in let k = count-le (s .args .v) (s .args .n) (s .args .points .now) (s .args .faces .now) (s .args .marks .now) (s .args .work .now) (s .pre) in let g = c .before .before .before .before .before .before .before .before .before .before .number-edges .ensures .0 in let q = s .pre .small in rw g (omega arith)
 
--- src/lib.rt:23:17
 add-count-2 : tie.Need-add-count-2
 add-count-2 c = let s = c .before .before .before .before .before .before .before .before .before .before .before .before .before .before .before .before in let k = count-le (s .args .v) (s .args .n) (s .args .points .now) (s .args .faces .now) (s .args .marks .now) (s .args .work .now) (s .pre) in let g = c .before .before .before .before .before .before .before .before .before .before .number-edges .ensures .0 in let q = s .pre .small in rw g (omega arith)
 
--- src/lib.rt:24:5
 extend-marks-requires : tie.Need-extend-marks-requires
 extend-marks-requires c κs = let s = c .before .before .before .before .before .before .before .before .before .before .before .before .before .before .before .before .before in let k = count-le (s .args .v) (s .args .n) (s .args .points .now) (s .args .faces .now) (s .args .marks .now) (s .args .work .now) (s .pre) in let g = c .before .before .before .before .before .before .before .before .before .before .before .number-edges .ensures .0 in let q = s .pre .small in let r = s .pre .roomMarks in rw g (omega arith, omega arith)
 
--- src/lib.rt:25:5
 refine-faces-requires : tie.Need-refine-faces-requires
 refine-faces-requires c κs = let s = c .before .before .before .before .before .before .before .before .before .before .before .before .before .before .before .before .before .before .before .before .before .before in let e = c .before .before .before .before .before .before .before .before .before .before .before .before .before .before .before .before .number-edges in let p = c .before .before .before .before .before .before .before .before .before .new-points in net-ready (s .args .v) (s .args .n) (s .args .points .now) (s .args .faces .now) (s .args .marks .now) (s .args .work .now) (s .pre) _ (e .ensures .1) _ (p .ensures .1) _ (e .ensures .0)
 
--- src/lib.rt:10:1
 same-length : tie.Need-same-length
 same-length c = search needs
 
--- src/lib.rt:10:1
 same-length-2 : tie.Need-same-length-2
 same-length-2 c = search needs
 
--- src/lib.rt:10:1
 same-length-3 : tie.Need-same-length-3
 same-length-3 c = search needs
 
--- src/lib.rt:10:1
 same-length-4 : tie.Need-same-length-4
 same-length-4 c = search needs
 
--- src/lib.rt:10:1
 returns : tie.Need-returns
 returns c =
     let s = c .before .before .before .before .before .before .before .before .before .before .before .before .before .before .before .before .before .before .before .before .before .before .before .before .before in
