@@ -80,7 +80,7 @@ pub fn inner_exact(
     }
 }
 
-// The same by the general rule at the vertex that h leaves.
+// The same by the general rule at the vertex that h leaves. A function of its own, so that the common path stays short.
 fn inner_at_end(
     points: &[i32],
     faces: &[u32],
@@ -105,7 +105,7 @@ fn inner_at_end(
     )
 }
 
-// The same by the general rule at the vertex that g leaves.
+// The same by the general rule at the vertex that g leaves, likewise.
 fn inner_at_start(
     points: &[i32],
     faces: &[u32],
