@@ -35,7 +35,9 @@ mean-point-requires-2 c κs =
     let u = c .before .stencil-point2 .result in
     let v = c .stencil-point3 .result in
     let o = on-both (ReadablePoint w) _ _ (s .args .s) (c .before .before .before .s2 .given .1) (s .pre) in
-    (point-small w _ (o .0) (u .x) (u .y) (u .z) (c .before .stencil-point2 .ensures), point-small w _ (o .1) (v .x) (v .y) (v .z) (c .stencil-point3 .ensures))
+    let k = point-small w _ (o .0) (u .x) (u .y) (u .z) (c .before .stencil-point2 .ensures) in
+    let m = point-small w _ (o .1) (v .x) (v .y) (v .z) (c .stencil-point3 .ensures) in
+    search needs
 
 returns : tie.Need-returns
 returns c =
