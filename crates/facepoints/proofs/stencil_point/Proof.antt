@@ -1,8 +1,5 @@
 -- `stencil_point` meets its contract, by cases. Assumes nothing.
 use borrow.Author.Needs.{needs}
-use mir.Syntax.{w64}
-use mir.Val.{SFits}
-use mir.Facts.{toZ-ofZ}
 use Rattle.facepoints.specs.Stored.{storedAt, ReadablePoint}
 use Rattle.facepoints.proofs.Values.{on-interior, on-end, on-single, value-interior, value-end, value-single}
 use Rattle.facepoints.proofs.stencil_point.Statement.{statement}
