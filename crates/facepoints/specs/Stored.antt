@@ -15,3 +15,15 @@ pub record Readable (w : List ℕ) (a i : ℕ) : Type 0 where
   pub room : i + 6 ≤ length w
   pub high : getD w (i + 2 * a + 1) 0 < 2 ^ 31
   pub small : natAbs (storedAt w a i) ≤ 13305600 * 67108864
+
+-- so on each axis
+pub record ReadablePoint (w : List ℕ) (i : ℕ) : Type 0 where
+  pub on₀ : Readable w 0 i
+  pub on₁ : Readable w 1 i
+  pub on₂ : Readable w 2 i
+
+-- x, y and z are in the range of directions
+pub record DirectionRange (x y z : ℤ) : Type 0 where
+  pub on₀ : natAbs x ≤ 20 * (13305600 * 67108864)
+  pub on₁ : natAbs y ≤ 20 * (13305600 * 67108864)
+  pub on₂ : natAbs z ≤ 20 * (13305600 * 67108864)

@@ -1,11 +1,21 @@
-// Coordinates of face points, from the exact edge points at the places of a stencil.
+// Face points, from the exact edge points at the places of a stencil.
 ghost use mathlib.Core.Path.{_≡_};
+ghost use Prim.Native.Nat.{ℕ, _*_, _≤_};
+ghost use lib.IntN.{natAbs, _+ℤ_};
 ghost use Rattle.curve.specs.Weights.{kobbelt, interior, endEdge, singleEdge};
 ghost use Rattle.rounding.specs.Rounding.{round};
+ghost use Rattle.curvepoints.specs.Exact.{OnAxes};
 ghost use Rattle.stencils.specs.Stencils.{stencilZ, faceStencilZ, OnStencil, OnFaceStencil};
-ghost use Rattle.facepoints.specs.Stored.{storedAt, Readable};
+ghost use Rattle.facepoints.specs.Stored.{storedAt, Readable, ReadablePoint, DirectionRange};
 use stencils::FaceStencil;
 use stencils::Stencil;
+
+// A rounded point.
+pub struct Point {
+    pub x: i32,
+    pub y: i32,
+    pub z: i32,
+}
 
 // Coordinate a of the exact point at place i.
 fn stored(work: &[u32], i: usize, a: usize) -> i64
@@ -44,33 +54,86 @@ fn single_value(work: &[u32], p: usize, q: usize, a: usize) -> i64
     rules::direction_none(stored(work, p, a), stored(work, q, a))
 }
 
-// Coordinate a of a direction, over 16 times 7,257,600.
-fn stencil_value(work: &[u32], s: Stencil, a: usize) -> i64
-    requires { ⌜ OnStencil (Readable (now work) a) s ⌝ }
-    ensures { λ z. ⌜ z ≡ stencilZ (storedAt (now (work .entry)) a) s ⌝ }
+// The same on all axes: a direction over 16 times 7,257,600.
+fn interior_point(work: &[u32], p: usize, q: usize, r: usize, s: usize) -> curvepoints::Exact
+    requires { ⌜ ReadablePoint (now work) p × ReadablePoint (now work) q × ReadablePoint (now work) r × ReadablePoint (now work) s ⌝ }
+    ensures { λ e. ⌜ OnAxes (λ (a : ℕ). interior kobbelt (storedAt (now (work .entry)) a p) (storedAt (now (work .entry)) a q) (storedAt (now (work .entry)) a r) (storedAt (now (work .entry)) a s)) (e .x) (e .y) (e .z) ⌝ }
 {
-    match s {
-        Stencil::Interior(p, q, r, t) => interior_value(work, p, q, r, t, a),
-        Stencil::End(p, q, r) => end_value(work, p, q, r, a),
-        Stencil::Single(p, q) => single_value(work, p, q, a),
+    curvepoints::Exact {
+        x: interior_value(work, p, q, r, s, 0),
+        y: interior_value(work, p, q, r, s, 1),
+        z: interior_value(work, p, q, r, s, 2),
     }
 }
 
-// Coordinate a of a face point, over 32 times 7,257,600.
-fn face_value(work: &[u32], s: FaceStencil, a: usize) -> i64
-    requires { ⌜ OnFaceStencil (Readable (now work) a) s ⌝ }
-    ensures { λ z. ⌜ z ≡ faceStencilZ (storedAt (now (work .entry)) a) s ⌝ }
+fn end_point(work: &[u32], p: usize, q: usize, r: usize) -> curvepoints::Exact
+    requires { ⌜ ReadablePoint (now work) p × ReadablePoint (now work) q × ReadablePoint (now work) r ⌝ }
+    ensures { λ e. ⌜ OnAxes (λ (a : ℕ). endEdge kobbelt (storedAt (now (work .entry)) a p) (storedAt (now (work .entry)) a q) (storedAt (now (work .entry)) a r)) (e .x) (e .y) (e .z) ⌝ }
 {
-    match s {
-        FaceStencil::Alone(d) => 2 * stencil_value(work, d, a),
-        FaceStencil::Both(d, e) => stencil_value(work, d, a) + stencil_value(work, e, a),
+    curvepoints::Exact {
+        x: end_value(work, p, q, r, 0),
+        y: end_value(work, p, q, r, 1),
+        z: end_value(work, p, q, r, 2),
     }
 }
 
-// Coordinate a of a face point, rounded.
-pub fn face_coordinate(work: &[u32], s: FaceStencil, a: usize) -> i32
-    requires { ⌜ OnFaceStencil (Readable (now work) a) s ⌝ }
-    ensures { λ r. ⌜ r ≡ round (faceStencilZ (storedAt (now (work .entry)) a) s) 232243200 ⌝ }
+fn single_point(work: &[u32], p: usize, q: usize) -> curvepoints::Exact
+    requires { ⌜ ReadablePoint (now work) p × ReadablePoint (now work) q ⌝ }
+    ensures { λ e. ⌜ OnAxes (λ (a : ℕ). singleEdge kobbelt (storedAt (now (work .entry)) a p) (storedAt (now (work .entry)) a q)) (e .x) (e .y) (e .z) ⌝ }
 {
-    rounding::round_div(face_value(work, s, a), 232243200) as i32
+    curvepoints::Exact {
+        x: single_value(work, p, q, 0),
+        y: single_value(work, p, q, 1),
+        z: single_value(work, p, q, 2),
+    }
+}
+
+// A direction, by its kind.
+fn stencil_point(work: &[u32], s: Stencil) -> curvepoints::Exact
+    requires { ⌜ OnStencil (ReadablePoint (now work)) s ⌝ }
+    ensures { λ e. ⌜ OnAxes (λ (a : ℕ). stencilZ (storedAt (now (work .entry)) a) s) (e .x) (e .y) (e .z) ⌝ }
+{
+    match s {
+        Stencil::Interior(p, q, r, t) => interior_point(work, p, q, r, t),
+        Stencil::End(p, q, r) => end_point(work, p, q, r),
+        Stencil::Single(p, q) => single_point(work, p, q),
+    }
+}
+
+// A coordinate of the mean of two directions, rounded.
+fn rounded_mean(u: i64, v: i64) -> i32
+    requires { ⌜ (natAbs u ≤ 20 * (13305600 * 67108864)) × (natAbs v ≤ 20 * (13305600 * 67108864)) ⌝ }
+    ensures { λ r. ⌜ r ≡ round (u +ℤ v) 232243200 ⌝ }
+{
+    rounding::round_div(u + v, 232243200) as i32
+}
+
+// The mean of two directions, rounded.
+fn mean_point(u: curvepoints::Exact, v: curvepoints::Exact) -> Point
+    requires { ⌜ DirectionRange (u .x) (u .y) (u .z) × DirectionRange (v .x) (v .y) (v .z) ⌝ }
+    ensures { λ r. ⌜ (r .x ≡ round (u .x +ℤ v .x) 232243200) × (r .y ≡ round (u .y +ℤ v .y) 232243200) × (r .z ≡ round (u .z +ℤ v .z) 232243200) ⌝ }
+{
+    Point {
+        x: rounded_mean(u.x, v.x),
+        y: rounded_mean(u.y, v.y),
+        z: rounded_mean(u.z, v.z),
+    }
+}
+
+// A face point, rounded: one direction alone is its mean with itself.
+pub fn face_point(work: &[u32], s: FaceStencil) -> Point
+    requires { ⌜ OnFaceStencil (ReadablePoint (now work)) s ⌝ }
+    ensures { λ r. ⌜ OnAxes (λ (a : ℕ). round (faceStencilZ (storedAt (now (work .entry)) a) s) 232243200) (r .x) (r .y) (r .z) ⌝ }
+{
+    match s {
+        FaceStencil::Alone(d) => {
+            let u = stencil_point(work, d);
+            mean_point(u, u)
+        }
+        FaceStencil::Both(d, e) => {
+            let u = stencil_point(work, d);
+            let v = stencil_point(work, e);
+            mean_point(u, v)
+        }
+    }
 }

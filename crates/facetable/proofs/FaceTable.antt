@@ -10,10 +10,11 @@ use Rattle.lists.proofs.Tabulate.{length-tabulate, write-none, write-three}
 use Rattle.rounding.specs.Rounding.{round}
 use Rattle.topology.specs.Shape.{quads}
 use Rattle.tables.specs.Tables.{filled}
+use Rattle.curvepoints.specs.Exact.{OnAxes}
 use Rattle.stencils.specs.declared.FaceStencil.{FaceStencil}
-use Rattle.stencils.specs.Stencils.{faceStencilOf, faceStencilZ, OnFaceStencil}
+use Rattle.stencils.specs.Stencils.{place, faceStencilOf, faceStencilZ, OnFaceStencil}
 use Rattle.stencils.proofs.Stencils.{on-face-stencil}
-use Rattle.facepoints.specs.Stored.{storedAt, Readable}
+use Rattle.facepoints.specs.Stored.{storedAt, Readable, ReadablePoint}
 use Rattle.facetable.specs.FaceTable.{Loaded, faceCoordinate, faceCoordinates, putPoint, Written}
 
 pub length-point : (t : List ℤ) (i : ℕ) (x y z : ℤ) → length (putPoint t i x y z) ≡ length t
@@ -54,20 +55,18 @@ module _ (G : ℕ → ℕ → ℤ) where
   }
 
 -- ---- faces
-pub face-readable : (l w : List ℕ) (f a : ℕ) (s : FaceStencil) → Loaded l w → f < quads .faces (length l) → a < 3 → s ≡ faceStencilOf l f → OnFaceStencil (Readable w a) s
-face-readable l w f a s ok k h e =
-    rw e (on-face-stencil (ok .indexed .ready .vertices) l (ok .indexed .ready .net) (Readable w a) (λ g b. ok .readable a g h b) f k)
+pub face-readable : (l w : List ℕ) (f : ℕ) (s : FaceStencil) → Loaded l w → f < quads .faces (length l) → s ≡ faceStencilOf l f → OnFaceStencil (ReadablePoint w) s
+face-readable l w f s ok k e =
+    let r : (a : ℕ) → a < 3 → (g : ℕ) → g < length l → Readable w a (place l g) = λ a h g b. ok .readable a g h b in
+    rw e (on-face-stencil (ok .indexed .ready .vertices) l (ok .indexed .ready .net) (ReadablePoint w) (λ g b. record { on₀ = r 0 (omega arith) g b; on₁ = r 1 (omega arith) g b; on₂ = r 2 (omega arith) g b }) f k)
 
-pub face-is : (l w : List ℕ) (f a : ℕ) (s : FaceStencil) (x : ℤ) → s ≡ faceStencilOf l f → x ≡ round (faceStencilZ (storedAt w a) s) 232243200 → x ≡ faceCoordinate l w a f
+pub put-face-is : (l w : List ℕ) (f : ℕ) (s : FaceStencil) (t t′ : List ℤ) (x y z : ℤ) → s ≡ faceStencilOf l f → OnAxes (λ (a : ℕ). round (faceStencilZ (storedAt w a) s) 232243200) x y z
+    → t′ ≡ putPoint t f x y z → t′ ≡ putPoint t f (faceCoordinate l w 0 f) (faceCoordinate l w 1 f) (faceCoordinate l w 2 f)
 unfolding faceCoordinate
-face-is l w f a s x e v = v ∙ ap (λ (t : FaceStencil). round (faceStencilZ (storedAt w a) t) 232243200) e
+put-face-is l w f s t t′ x y z i k e = let a = k .on₀ in let b = k .on₁ in let c = k .on₂ in cc
 
 pub faces-all : (l w : List ℕ) (o t : List ℤ) (f : ℕ) → f ≡ quads .faces (length l) → Written (faceCoordinate l w) o t f → t ≡ filled (faceCoordinates l w) o
 unfolding filled faceCoordinates
 faces-all l w o t f e h =
     let F : ℕ → ℤ = λ k. faceCoordinate l w (k % 3) (k / 3) in
     h .points ∙ ap (λ (k : ℕ). tabulate (3 * k) F ++ drop (3 * k) o) e ∙ ap (λ (k : ℕ). tabulate (3 * quads .faces (length l)) F ++ drop k o) (sym (length-tabulate (3 * quads .faces (length l)) F))
-
-pub put-face-is : (l w : List ℕ) (f : ℕ) (t t′ : List ℤ) (x y z : ℤ) → t′ ≡ putPoint t f x y z → x ≡ faceCoordinate l w 0 f → y ≡ faceCoordinate l w 1 f → z ≡ faceCoordinate l w 2 f
-    → t′ ≡ putPoint t f (faceCoordinate l w 0 f) (faceCoordinate l w 1 f) (faceCoordinate l w 2 f)
-put-face-is l w f t t′ x y z e a b c = cc

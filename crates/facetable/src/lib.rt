@@ -23,10 +23,8 @@ fn put_face(out: &mut [i32], faces: &[u32], work: &[u32], f: usize)
     ensures { λ _. ⌜ now (out .exit) ≡ putPoint (now (out .entry)) f (faceCoordinate (now (faces .entry)) (now (work .entry)) 0 f) (faceCoordinate (now (faces .entry)) (now (work .entry)) 1 f) (faceCoordinate (now (faces .entry)) (now (work .entry)) 2 f) ⌝ }
 {
     let s = stencils::face_stencil(faces, work, f);
-    let x = facepoints::face_coordinate(work, s, 0);
-    let y = facepoints::face_coordinate(work, s, 1);
-    let z = facepoints::face_coordinate(work, s, 2);
-    put_point(&mut *out, f, x, y, z);
+    let p = facepoints::face_point(work, s);
+    put_point(&mut *out, f, p.x, p.y, p.z);
 }
 
 // Writes the points of all faces.

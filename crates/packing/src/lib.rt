@@ -3,7 +3,7 @@ ghost use mathlib.Core.Path.{_≡_};
 ghost use Prim.Native.Nat.{_+_, _^_, _≤_, _<_};
 ghost use lib.IntN.{natAbs};
 ghost use lib.ListN.{length, getD};
-ghost use Rattle.packing.specs.Packed.{biased, joined, packedAt, put, putThree};
+ghost use Rattle.packing.specs.Packed.{biased, packedAt, put, putThree};
 
 // z + 2^62.
 fn bias(z: i64) -> u64
@@ -13,21 +13,22 @@ fn bias(z: i64) -> u64
     (z + 4611686018427387904) as u64
 }
 
-// The number whose halves are lo and hi.
-fn unpacked(lo: u32, hi: u32) -> i64
-    requires { ⌜ hi < 2 ^ 31 ⌝ }
-    ensures { λ r. ⌜ r ≡ joined lo hi ⌝ }
+// x in 64 bits.
+fn wide(x: u32) -> u64
+    ensures { λ r. ⌜ (r ≡ x) × (r < 2 ^ 32) ⌝ }
 {
-    let u = hi as u64 * 4294967296 + lo as u64;
-    u as i64 - 4611686018427387904
+    x as u64
 }
 
-// The number at the place `at`.
+// The number at the place `at`. The halves are joined where they are read, so that the compiler makes one read of both.
 pub fn load(table: &[u32], at: usize) -> i64
     requires { ⌜ (at + 2 ≤ length (now table)) × (getD (now table) (at + 1) 0 < 2 ^ 31) ⌝ }
     ensures { λ r. ⌜ r ≡ packedAt (now (table .entry)) at ⌝ }
 {
-    unpacked(table[at], table[at + 1])
+    let lo = wide(table[at]);
+    let hi = wide(table[at + 1]);
+    let u = hi * 4294967296 + lo;
+    u as i64 - 4611686018427387904
 }
 
 // Writes z at the place `at`.
