@@ -49,16 +49,20 @@ across h = quads .next (quads .next h)
 unfoldable pub beyond : List ℕ → ℕ → ℕ
 beyond l h = across (mate quads l h)
 
--- "In each direction take two opposite sides and, beyond each, the opposite edge of the neighbour.": the direction of the side h, from the edge points e
-unfoldable pub direction : Weights → List ℕ → (ℕ → Fraction) → ℕ → Fraction
-direction w l e h =
+-- "In each direction take two opposite sides and, beyond each, the opposite edge of the neighbour.": the direction of the side h, from the edge points e, by the
+-- rules for two neighbours, for one and for none
+abbrev pub directionBy : {A B : Type 0} → (A → A → A → A → B) → (A → A → A → B) → (A → A → B) → List ℕ → (ℕ → A) → ℕ → B
+directionBy two one none l e h =
     cond (ltb (mate quads l h) (length l))
     (cond (ltb (mate quads l (across h)) (length l))
-    (directionTwo w (e (beyond l h)) (e h) (e (across h)) (e (beyond l (across h))))
-    (directionOne w (e (across h)) (e h) (e (beyond l h))))
+    (two (e (beyond l h)) (e h) (e (across h)) (e (beyond l (across h))))
+    (one (e (across h)) (e h) (e (beyond l h))))
     (cond (ltb (mate quads l (across h)) (length l))
-    (directionOne w (e h) (e (across h)) (e (beyond l (across h))))
-    (directionNone (e h) (e (across h))))
+    (one (e h) (e (across h)) (e (beyond l (across h))))
+    (none (e h) (e (across h))))
+
+unfoldable pub direction : Weights → List ℕ → (ℕ → Fraction) → ℕ → Fraction
+direction w l e h = directionBy (directionTwo w) (directionOne w) directionNone l e h
 
 -- whether the direction of the side h "has four inner edges"
 unfoldable pub inner : List ℕ → ℕ → Bool

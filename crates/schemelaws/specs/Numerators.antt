@@ -16,7 +16,7 @@ use Rattle.topology.specs.HalfEdge.{from, to, mate}
 use Rattle.topology.specs.Boundary.{boundaryFrom, along, back}
 use Rattle.topology.specs.Vertex.{valence, turns}
 use Rattle.scheme.specs.Rings.{oppositeCorner, fanEnd, fanPlace}
-use Rattle.scheme.specs.Points.{EdgeRule, insideSegment, startOfSegment, endOfSegment, wholeSegment, innerRule, edgeRule, across, beyond, FaceRule, firstAlone, secondAlone, bothDirections, faceRule}
+use Rattle.scheme.specs.Points.{EdgeRule, insideSegment, startOfSegment, endOfSegment, wholeSegment, innerRule, edgeRule, directionBy, FaceRule, firstAlone, secondAlone, bothDirections, faceRule}
 
 -- ---- over 60
 unfoldable pub extrapolatedAtZ : List ℕ → (ℕ → ℤ) → ℕ → ℤ
@@ -70,14 +70,7 @@ edgeZ l marks p h = edgeValueZ l p h (edgeRule l marks h)
 
 -- ---- over 16 times the denominator of the edge points e
 unfoldable pub directionZ : List ℕ → (ℕ → ℤ) → ℕ → ℤ
-directionZ l e h =
-    cond (ltb (mate quads l h) (length l))
-    (cond (ltb (mate quads l (across h)) (length l))
-    (interior kobbelt (e (beyond l h)) (e h) (e (across h)) (e (beyond l (across h))))
-    (endEdge kobbelt (e (across h)) (e h) (e (beyond l h))))
-    (cond (ltb (mate quads l (across h)) (length l))
-    (endEdge kobbelt (e h) (e (across h)) (e (beyond l (across h))))
-    (singleEdge kobbelt (e h) (e (across h))))
+directionZ l e h = directionBy (interior kobbelt) (endEdge kobbelt) (singleEdge kobbelt) l e h
 
 -- ---- over 32 times it: a direction that counts alone is doubled
 unfoldable pub faceValueZ : List ℕ → (ℕ → ℤ) → ℕ → FaceRule → ℤ

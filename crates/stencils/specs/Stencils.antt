@@ -1,15 +1,14 @@
 -- Stencils of face points: which stored edge points a direction of a face combines, and how. The work table has the mates, then the edge numbers,
 -- then the exact points of the edges, six numbers each.
-use mathlib.Core.Bool.{Bool, cond, _&&_}
+use mathlib.Core.Bool.{Bool, _&&_}
 use mathlib.Core.List.{List}
 use Prim.Native.Nat.{ℕ, _+_, _*_, _≤_}
-use lib.Dec.{ltb}
 use lib.IntN.{ℤ, pos, _+ℤ_, _*ℤ_}
 use lib.ListN.{length}
 use Rattle.curve.specs.Weights.{kobbelt, interior, endEdge, singleEdge}
 use Rattle.topology.specs.Shape.{quads}
-use Rattle.topology.specs.HalfEdge.{mate, edge}
-use Rattle.scheme.specs.Points.{across, beyond, inner, FaceRule, firstAlone, secondAlone, bothDirections, faceRule}
+use Rattle.topology.specs.HalfEdge.{edge}
+use Rattle.scheme.specs.Points.{beyond, directionBy, inner, FaceRule, firstAlone, secondAlone, bothDirections, faceRule}
 use Rattle.walks.specs.Ready.{Ready}
 use Rattle.growth.specs.Growth.{Numbered}
 use Rattle.stencils.specs.declared.Stencil.{Stencil}
@@ -29,14 +28,7 @@ place l h = 2 * length l + 6 * edge quads l h
 
 -- the direction of the side h
 unfoldable pub stencilOf : List ℕ → ℕ → Stencil
-stencilOf l h =
-    cond (ltb (mate quads l h) (length l))
-    (cond (ltb (mate quads l (across h)) (length l))
-    (Interior (place l (beyond l h)) (place l h) (place l (across h)) (place l (beyond l (across h))))
-    (End (place l (across h)) (place l h) (place l (beyond l h))))
-    (cond (ltb (mate quads l (across h)) (length l))
-    (End (place l h) (place l (across h)) (place l (beyond l (across h))))
-    (Single (place l h) (place l (across h))))
+stencilOf l h = directionBy Interior End Single l (place l) h
 
 -- whether h is inner, and the edge beyond it
 unfoldable pub innerTwice : List ℕ → ℕ → Bool
