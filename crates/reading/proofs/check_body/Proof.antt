@@ -5,7 +5,7 @@ use native.Mathlib.Omega.{arith}
 use lib.ListN.{length, drop, length-drop, drop-of-length-le}
 use lib.Seq.{drop-drop}
 use Rattle.decimal.specs.Decimal.{found}
-use Rattle.text.specs.Form.{badLine, corners, readNames, readVertex, readFace}
+use Rattle.text.specs.Form.{Head, Vertex, Face, Rows, rows, badLine, corners, readNames, readVertex, readFace}
 use Rattle.text.specs.Answers.{namesOf, namesUsed}
 use Rattle.reading.specs.Answers.{headIs}
 use Rattle.reading.proofs.Lines.{rows-length, given-at, taken, part-within, not-corners-at}
@@ -13,6 +13,66 @@ use Rattle.reading.proofs.Body.{block-good, block-rest, block-within, b
 use borrow.Author.Needs.{needs}
 use Rattle.reading.proofs.check_body.Statement.{statement}
 use Rattle.reading.proofs.check_body.Tie as tie
+
+-- ---- the vertex lines, from `at` on
+abbrev begin : tie.After-count-vertices → tie.Start
+begin v = v .before .before .before
+
+abbrev vertex-rows : tie.After-count-vertices → Rows Vertex
+vertex-rows v = let a = begin v .args in rows (readVertex (a .marks)) (a .vertices) (drop (a .at) (a .text .now))
+
+-- where the names stand
+abbrev names-at : tie.After-count-vertices → ℕ
+names-at v = begin v .args .at + v .count-vertices .result .used
+
+vertices-good : (v : tie.After-count-vertices) → v .count-vertices .result .good ≡ length (vertex-rows v .values)
+vertices-good v = let a = begin v .args in block-good (readVertex (a .marks)) (a .vertices) (a .text .now) (a .at) _ (v .count-vertices .ensures)
+
+vertices-rest : (v : tie.After-count-vertices) → vertex-rows v .rest ≡ drop (names-at v) (begin v .args .text .now)
+vertices-rest v = let a = begin v .args in block-rest (readVertex (a .marks)) (a .vertices) (a .text .now) (a .at) _ (v .count-vertices .ensures)
+
+vertices-within : (v : tie.After-count-vertices) → names-at v ≤ length (begin v .args .text .now)
+vertices-within v = let a = begin v .args in block-within (readVertex (a .marks)) (a .vertices) (a .text .now) (a .at) _ (v .count-vertices .ensures) (begin v .pre)
+
+-- ---- the names line
+abbrev vertices-of : tie.After-n → tie.After-count-vertices
+vertices-of n = n .before .before .before .before .before .before .before
+
+abbrev faces-at : tie.After-n → ℕ
+faces-at n = names-at (vertices-of n) + n .n .given .0 .0
+
+all-vertices : (n : tie.After-n) → length (vertex-rows (vertices-of n) .values) ≡ begin (vertices-of n) .args .vertices
+all-vertices n = sym (vertices-good (vertices-of n)) ∙ n .before .before .before .before .before .if1 .left
+
+names-good : (n : tie.After-n) → (let l = begin (vertices-of n) .args .text .now in readNames (drop (names-at (vertices-of n)) l) ≡ found corners (drop (faces-at n) l))
+names-good n =
+    let l = begin (vertices-of n) .args .text .now in
+    given-at namesOf readNames l _ _ _ (n .before .before .read-names .ensures .0) (n .n .given .1) ∙ ap (found corners) (drop-drop (n .n .given .0 .0) (names-at (vertices-of n)) l)
+
+names-within : (n : tie.After-n) → faces-at n ≤ length (begin (vertices-of n) .args .text .now)
+names-within n = part-within (begin (vertices-of n) .args .text .now) (names-at (vertices-of n)) _ (vertices-within (vertices-of n)) (taken namesUsed _ _ _ (n .before .before .read-names .ensures .1) (n .n .given .1))
+
+-- ---- the face lines
+abbrev names-of : tie.After-count-faces → tie.After-n
+names-of f = f .before .before .before
+
+abbrev args-of : tie.After-count-faces → tie.Start
+args-of f = begin (vertices-of (names-of f))
+
+abbrev face-rows : tie.After-count-faces → Rows Face
+face-rows f = rows readFace (args-of f .args .faces) (drop (faces-at (names-of f)) (args-of f .args .text .now))
+
+faces-good : (f : tie.After-count-faces) → f .count-faces .result .good ≡ length (face-rows f .values)
+faces-good f = block-good readFace (args-of f .args .faces) (args-of f .args .text .now) (faces-at (names-of f)) _ (f .count-faces .ensures)
+
+faces-rest : (f : tie.After-count-faces) → face-rows f .rest ≡ drop (faces-at (names-of f) + f .count-faces .result .used) (args-of f .args .text .now)
+faces-rest f = block-rest readFace (args-of f .args .faces) (args-of f .args .text .now) (faces-at (names-of f)) _ (f .count-faces .ensures)
+
+faces-within : (f : tie.After-count-faces) → faces-at (names-of f) + f .count-faces .result .used ≤ length (args-of f .args .text .now)
+faces-within f = block-within readFace (args-of f .args .faces) (args-of f .args .text .now) (faces-at (names-of f)) _ (f .count-faces .ensures) (names-within (names-of f))
+
+abbrev head : tie.Start → Head
+head s = headIs (s .args .vertices) (s .args .faces) (s .args .rounds) (s .args .marks)
 
 sub-count-vertices : tie.Need-sub-count-vertices
 sub-count-vertices c = search needs
@@ -27,21 +87,23 @@ count-vertices-requires : tie.Need-count-vertices-requires
 count-vertices-requires c κs = search needs
 
 add-t19 : tie.Need-add-t19
-add-t19 c = let g = block-good (readVertex (c .before .before .before .before .before .before .args .marks)) (c .before .before .before .before .before .before .args .vertices) (c .before .before .before .before .before .before .args .text .now) (c .before .before .before .before .before .before .args .at) _ (c .before .before .before .count-vertices .ensures) in let s = rows-length (readVertex (c .before .before .before .before .before .before .args .marks)) (c .before .before .before .before .before .before .args .vertices) (drop (c .before .before .before .before .before .before .args .at) (c .before .before .before .before .before .before .args .text .now)) in let f = c .before .before .before .before .before .before .fits .vertices .fits in omega arith
+add-t19 c = let v = c .before .before .before in let a = begin v .args in let g = vertices-good v in let s = rows-length (readVertex (a .marks)) (a .vertices) (drop (a .at) (a .text .now)) in let f = begin v .fits .vertices .fits in omega arith
 
 returns : tie.Need-returns
 returns c =
-    let g = block-good (readVertex (c .before .before .before .before .before .before .args .marks)) (c .before .before .before .before .before .before .args .vertices) (c .before .before .before .before .before .before .args .text .now) (c .before .before .before .before .before .before .args .at) _ (c .before .before .before .count-vertices .ensures) in
-    (ap (λ (k : ℕ). badLine (4 + k)) g ∙ body-vertex (headIs (c .before .before .before .before .before .before .args .vertices) (c .before .before .before .before .before .before .args .faces) (c .before .before .before .before .before .before .args .rounds) (c .before .before .before .before .before .before .args .marks)) (drop (c .before .before .before .before .before .before .args .at) (c .before .before .before .before .before .before .args .text .now)) (λ e. c .before .if1 .taken (g ∙ e)), omega arith)
+    let v = c .before .before .before in
+    let s = begin v in
+    let g = vertices-good v in
+    (ap (λ (k : ℕ). badLine (4 + k)) g ∙ body-vertex (head s) (drop (s .args .at) (s .args .text .now)) (λ e. c .before .if1 .taken (g ∙ e)), omega arith)
 
 add-i : tie.Need-add-i
-add-i c = let w = block-within (readVertex (c .before .before .before .before .before .before .args .marks)) (c .before .before .before .before .before .before .args .vertices) (c .before .before .before .before .before .before .args .text .now) (c .before .before .before .before .before .before .args .at) _ (c .before .before .before .count-vertices .ensures) (c .before .before .before .before .before .before .pre) in omega arith
+add-i c = let w = vertices-within (c .before .before .before) in omega arith
 
 sub-read-names : tie.Need-sub-read-names
-sub-read-names c = block-within (readVertex (c .before .before .before .before .before .before .args .marks)) (c .before .before .before .before .before .before .args .vertices) (c .before .before .before .before .before .before .args .text .now) (c .before .before .before .before .before .before .args .at) _ (c .before .before .before .count-vertices .ensures) (c .before .before .before .before .before .before .pre)
+sub-read-names c = vertices-within (c .before .before .before)
 
 part-read-names-start : tie.Need-part-read-names-start
-part-read-names-start c = block-within (readVertex (c .before .before .before .before .before .before .args .marks)) (c .before .before .before .before .before .before .args .vertices) (c .before .before .before .before .before .before .args .text .now) (c .before .before .before .before .before .before .args .at) _ (c .before .before .before .count-vertices .ensures) (c .before .before .before .before .before .before .pre)
+part-read-names-start c = vertices-within (c .before .before .before)
 
 part-read-names-end : tie.Need-part-read-names-end
 part-read-names-end c = search needs
@@ -56,16 +118,19 @@ add-t24 : tie.Need-add-t24
 add-t24 c = search needs
 
 returns-2 : tie.Need-returns-2
-returns-2 c = (body-names (headIs (c .before .before .before .before .before .before .before .before .before .args .vertices) (c .before .before .before .before .before .before .before .before .before .args .faces) (c .before .before .before .before .before .before .before .before .before .args .rounds) (c .before .before .before .before .before .before .before .before .before .args .marks)) (drop (c .before .before .before .before .before .before .before .before .before .args .at) (c .before .before .before .before .before .before .before .before .before .args .text .now)) (sym (block-good (readVertex (c .before .before .before .before .before .before .before .before .before .args .marks)) (c .before .before .before .before .before .before .before .before .before .args .vertices) (c .before .before .before .before .before .before .before .before .before .args .text .now) (c .before .before .before .before .before .before .before .before .before .args .at) _ (c .before .before .before .before .before .before .count-vertices .ensures)) ∙ c .before .before .before .before .if1 .left) _ (block-rest (readVertex (c .before .before .before .before .before .before .before .before .before .args .marks)) (c .before .before .before .before .before .before .before .before .before .args .vertices) (c .before .before .before .before .before .before .before .before .before .args .text .now) (c .before .before .before .before .before .before .before .before .before .args .at) _ (c .before .before .before .before .before .before .count-vertices .ensures)) (not-corners-at (c .before .before .before .before .before .before .before .before .before .args .text .now) (c .before .before .before .before .before .before .before .before .before .args .at + c .before .before .before .before .before .before .count-vertices .result .used) (c .before .read-names .result) (c .before .read-names .ensures .0) (c .match .keys2)), omega arith)
+returns-2 c =
+    let v = c .before .before .before .before .before .before in
+    let s = begin v in
+    (body-names (head s) (drop (s .args .at) (s .args .text .now)) (sym (vertices-good v) ∙ c .before .before .before .before .if1 .left) _ (vertices-rest v) (not-corners-at (s .args .text .now) (names-at v) (c .before .read-names .result) (c .before .read-names .ensures .0) (c .match .keys2)), omega arith)
 
 add-j : tie.Need-add-j
-add-j c = let w = part-within (c .before .before .before .before .before .before .before .before .before .before .before .args .text .now) (c .before .before .before .before .before .before .before .before .before .before .before .args .at + c .before .before .before .before .before .before .before .before .count-vertices .result .used) _ (block-within (readVertex (c .before .before .before .before .before .before .before .before .before .before .before .args .marks)) (c .before .before .before .before .before .before .before .before .before .before .before .args .vertices) (c .before .before .before .before .before .before .before .before .before .before .before .args .text .now) (c .before .before .before .before .before .before .before .before .before .before .before .args .at) _ (c .before .before .before .before .before .before .before .before .count-vertices .ensures) (c .before .before .before .before .before .before .before .before .before .before .before .pre)) (taken namesUsed _ _ _ (c .before .before .before .read-names .ensures .1) (c .before .n .given .1)) in omega arith
+add-j c = let w = names-within (c .before) in omega arith
 
 sub-count-faces : tie.Need-sub-count-faces
-sub-count-faces c = part-within (c .before .before .before .before .before .before .before .before .before .before .before .args .text .now) (c .before .before .before .before .before .before .before .before .before .before .before .args .at + c .before .before .before .before .before .before .before .before .count-vertices .result .used) _ (block-within (readVertex (c .before .before .before .before .before .before .before .before .before .before .before .args .marks)) (c .before .before .before .before .before .before .before .before .before .before .before .args .vertices) (c .before .before .before .before .before .before .before .before .before .before .before .args .text .now) (c .before .before .before .before .before .before .before .before .before .before .before .args .at) _ (c .before .before .before .before .before .before .before .before .count-vertices .ensures) (c .before .before .before .before .before .before .before .before .before .before .before .pre)) (taken namesUsed _ _ _ (c .before .before .before .read-names .ensures .1) (c .before .n .given .1))
+sub-count-faces c = names-within (c .before)
 
 part-count-faces-start : tie.Need-part-count-faces-start
-part-count-faces-start c = part-within (c .before .before .before .before .before .before .before .before .before .before .before .args .text .now) (c .before .before .before .before .before .before .before .before .before .before .before .args .at + c .before .before .before .before .before .before .before .before .count-vertices .result .used) _ (block-within (readVertex (c .before .before .before .before .before .before .before .before .before .before .before .args .marks)) (c .before .before .before .before .before .before .before .before .before .before .before .args .vertices) (c .before .before .before .before .before .before .before .before .before .before .before .args .text .now) (c .before .before .before .before .before .before .before .before .before .before .before .args .at) _ (c .before .before .before .before .before .before .before .before .count-vertices .ensures) (c .before .before .before .before .before .before .before .before .before .before .before .pre)) (taken namesUsed _ _ _ (c .before .before .before .read-names .ensures .1) (c .before .n .given .1))
+part-count-faces-start c = names-within (c .before)
 
 part-count-faces-end : tie.Need-part-count-faces-end
 part-count-faces-end c = search needs
@@ -77,15 +142,25 @@ add-t28 : tie.Need-add-t28
 add-t28 c = search needs
 
 add-t29 : tie.Need-add-t29
-add-t29 c = let g = block-good readFace (c .before .before .before .before .before .before .before .before .before .before .before .before .before .before .before .before .args .faces) (c .before .before .before .before .before .before .before .before .before .before .before .before .before .before .before .before .args .text .now) ((c .before .before .before .before .before .before .before .before .before .before .before .before .before .before .before .before .args .at + c .before .before .before .before .before .before .before .before .before .before .before .before .before .count-vertices .result .used) + (c .before .before .before .before .before .before .n .given .0 .0)) _ (c .before .before .before .count-faces .ensures) in let s = rows-length readFace (c .before .before .before .before .before .before .before .before .before .before .before .before .before .before .before .before .args .faces) (drop ((c .before .before .before .before .before .before .before .before .before .before .before .before .before .before .before .before .args .at + c .before .before .before .before .before .before .before .before .before .before .before .before .before .count-vertices .result .used) + (c .before .before .before .before .before .before .n .given .0 .0)) (c .before .before .before .before .before .before .before .before .before .before .before .before .before .before .before .before .args .text .now)) in let f = c .before .before .before .before .before .before .before .before .before .before .before .before .before .before .before .before .fits .vertices .fits in let e = c .before .before .before .before .before .before .before .before .before .before .before .before .before .before .before .before .fits .faces .fits in omega arith
+add-t29 c =
+    let f = c .before .before .before in
+    let s = args-of f in
+    let g = faces-good f in
+    let k = rows-length readFace (s .args .faces) (drop (faces-at (names-of f)) (s .args .text .now)) in
+    let a = s .fits .vertices .fits in
+    let b = s .fits .faces .fits in
+    omega arith
 
 returns-3 : tie.Need-returns-3
 returns-3 c =
-    let g = block-good readFace (c .before .before .before .before .before .before .before .before .before .before .before .before .before .before .before .before .args .faces) (c .before .before .before .before .before .before .before .before .before .before .before .before .before .before .before .before .args .text .now) ((c .before .before .before .before .before .before .before .before .before .before .before .before .before .before .before .before .args .at + c .before .before .before .before .before .before .before .before .before .before .before .before .before .count-vertices .result .used) + (c .before .before .before .before .before .before .n .given .0 .0)) _ (c .before .before .before .count-faces .ensures) in
-    (ap (λ (k : ℕ). badLine (5 + c .before .before .before .before .before .before .before .before .before .before .before .before .before .before .before .before .args .vertices + k)) g ∙ body-face (headIs (c .before .before .before .before .before .before .before .before .before .before .before .before .before .before .before .before .args .vertices) (c .before .before .before .before .before .before .before .before .before .before .before .before .before .before .before .before .args .faces) (c .before .before .before .before .before .before .before .before .before .before .before .before .before .before .before .before .args .rounds) (c .before .before .before .before .before .before .before .before .before .before .before .before .before .before .before .before .args .marks)) (drop (c .before .before .before .before .before .before .before .before .before .before .before .before .before .before .before .before .args .at) (c .before .before .before .before .before .before .before .before .before .before .before .before .before .before .before .before .args .text .now)) (sym (block-good (readVertex (c .before .before .before .before .before .before .before .before .before .before .before .before .before .before .before .before .args .marks)) (c .before .before .before .before .before .before .before .before .before .before .before .before .before .before .before .before .args .vertices) (c .before .before .before .before .before .before .before .before .before .before .before .before .before .before .before .before .args .text .now) (c .before .before .before .before .before .before .before .before .before .before .before .before .before .before .before .before .args .at) _ (c .before .before .before .before .before .before .before .before .before .before .before .before .before .count-vertices .ensures)) ∙ c .before .before .before .before .before .before .before .before .before .before .before .if1 .left) _ (block-rest (readVertex (c .before .before .before .before .before .before .before .before .before .before .before .before .before .before .before .before .args .marks)) (c .before .before .before .before .before .before .before .before .before .before .before .before .before .before .before .before .args .vertices) (c .before .before .before .before .before .before .before .before .before .before .before .before .before .before .before .before .args .text .now) (c .before .before .before .before .before .before .before .before .before .before .before .before .before .before .before .before .args .at) _ (c .before .before .before .before .before .before .before .before .before .before .before .before .before .count-vertices .ensures)) (drop ((c .before .before .before .before .before .before .before .before .before .before .before .before .before .before .before .before .args .at + c .before .before .before .before .before .before .before .before .before .before .before .before .before .count-vertices .result .used) + (c .before .before .before .before .before .before .n .given .0 .0)) (c .before .before .before .before .before .before .before .before .before .before .before .before .before .before .before .before .args .text .now)) (given-at namesOf readNames (c .before .before .before .before .before .before .before .before .before .before .before .before .before .before .before .before .args .text .now) _ _ _ (c .before .before .before .before .before .before .before .before .read-names .ensures .0) (c .before .before .before .before .before .before .n .given .1) ∙ ap (found corners) (drop-drop (c .before .before .before .before .before .before .n .given .0 .0) (c .before .before .before .before .before .before .before .before .before .before .before .before .before .before .before .before .args .at + c .before .before .before .before .before .before .before .before .before .before .before .before .before .count-vertices .result .used) (c .before .before .before .before .before .before .before .before .before .before .before .before .before .before .before .before .args .text .now))) (λ e. c .before .if2 .taken (g ∙ e)), omega arith)
+    let f = c .before .before .before in
+    let n = names-of f in
+    let s = args-of f in
+    let g = faces-good f in
+    (ap (λ (k : ℕ). badLine (5 + s .args .vertices + k)) g ∙ body-face (head s) (drop (s .args .at) (s .args .text .now)) (all-vertices n) _ (vertices-rest (vertices-of n)) (drop (faces-at n) (s .args .text .now)) (names-good n) (λ e. c .before .if2 .taken (g ∙ e)), omega arith)
 
 add-if3 : tie.Need-add-if3
-add-if3 c = let w = block-within readFace (c .before .before .before .before .before .before .before .before .before .before .before .before .before .before .before .before .args .faces) (c .before .before .before .before .before .before .before .before .before .before .before .before .before .before .before .before .args .text .now) ((c .before .before .before .before .before .before .before .before .before .before .before .before .before .before .before .before .args .at + c .before .before .before .before .before .before .before .before .before .before .before .before .before .count-vertices .result .used) + (c .before .before .before .before .before .before .n .given .0 .0)) _ (c .before .before .before .count-faces .ensures) (part-within (c .before .before .before .before .before .before .before .before .before .before .before .before .before .before .before .before .args .text .now) (c .before .before .before .before .before .before .before .before .before .before .before .before .before .before .before .before .args .at + c .before .before .before .before .before .before .before .before .before .before .before .before .before .count-vertices .result .used) _ (block-within (readVertex (c .before .before .before .before .before .before .before .before .before .before .before .before .before .before .before .before .args .marks)) (c .before .before .before .before .before .before .before .before .before .before .before .before .before .before .before .before .args .vertices) (c .before .before .before .before .before .before .before .before .before .before .before .before .before .before .before .before .args .text .now) (c .before .before .before .before .before .before .before .before .before .before .before .before .before .before .before .before .args .at) _ (c .before .before .before .before .before .before .before .before .before .before .before .before .before .count-vertices .ensures) (c .before .before .before .before .before .before .before .before .before .before .before .before .before .before .before .before .pre)) (taken namesUsed _ _ _ (c .before .before .before .before .before .before .before .before .read-names .ensures .1) (c .before .before .before .before .before .before .n .given .1))) in omega arith
+add-if3 c = let w = faces-within (c .before .before .before) in omega arith
 
 add-t31 : tie.Need-add-t31
 add-t31 c = search needs
@@ -95,16 +170,22 @@ add-t32 c = search needs
 
 returns-4 : tie.Need-returns-4
 returns-4 c =
-    let w = block-within readFace (c .before .before .before .before .before .before .before .before .before .before .before .before .before .before .before .before .before .args .faces) (c .before .before .before .before .before .before .before .before .before .before .before .before .before .before .before .before .before .args .text .now) ((c .before .before .before .before .before .before .before .before .before .before .before .before .before .before .before .before .before .args .at + c .before .before .before .before .before .before .before .before .before .before .before .before .before .before .count-vertices .result .used) + (c .before .before .before .before .before .before .before .n .given .0 .0)) _ (c .before .before .before .before .count-faces .ensures) (part-within (c .before .before .before .before .before .before .before .before .before .before .before .before .before .before .before .before .before .args .text .now) (c .before .before .before .before .before .before .before .before .before .before .before .before .before .before .before .before .before .args .at + c .before .before .before .before .before .before .before .before .before .before .before .before .before .before .count-vertices .result .used) _ (block-within (readVertex (c .before .before .before .before .before .before .before .before .before .before .before .before .before .before .before .before .before .args .marks)) (c .before .before .before .before .before .before .before .before .before .before .before .before .before .before .before .before .before .args .vertices) (c .before .before .before .before .before .before .before .before .before .before .before .before .before .before .before .before .before .args .text .now) (c .before .before .before .before .before .before .before .before .before .before .before .before .before .before .before .before .before .args .at) _ (c .before .before .before .before .before .before .before .before .before .before .before .before .before .before .count-vertices .ensures) (c .before .before .before .before .before .before .before .before .before .before .before .before .before .before .before .before .before .pre)) (taken namesUsed _ _ _ (c .before .before .before .before .before .before .before .before .before .read-names .ensures .1) (c .before .before .before .before .before .before .before .n .given .1))) in
-    let n : (((c .before .before .before .before .before .before .before .before .before .before .before .before .before .before .before .before .before .args .at + c .before .before .before .before .before .before .before .before .before .before .before .before .before .before .count-vertices .result .used) + (c .before .before .before .before .before .before .before .n .given .0 .0)) + c .before .before .before .before .count-faces .result .used ≡ length (c .before .before .before .before .before .before .before .before .before .before .before .before .before .before .before .before .before .args .text .now)) → ⊥ = c .if3 .taken in
-    let r = ap length (block-rest readFace (c .before .before .before .before .before .before .before .before .before .before .before .before .before .before .before .before .before .args .faces) (c .before .before .before .before .before .before .before .before .before .before .before .before .before .before .before .before .before .args .text .now) ((c .before .before .before .before .before .before .before .before .before .before .before .before .before .before .before .before .before .args .at + c .before .before .before .before .before .before .before .before .before .before .before .before .before .before .count-vertices .result .used) + (c .before .before .before .before .before .before .before .n .given .0 .0)) _ (c .before .before .before .before .count-faces .ensures)) in
-    let d = length-drop (((c .before .before .before .before .before .before .before .before .before .before .before .before .before .before .before .before .before .args .at + c .before .before .before .before .before .before .before .before .before .before .before .before .before .before .count-vertices .result .used) + (c .before .before .before .before .before .before .before .n .given .0 .0)) + c .before .before .before .before .count-faces .result .used) (c .before .before .before .before .before .before .before .before .before .before .before .before .before .before .before .before .before .args .text .now) in
-    (body-surplus (headIs (c .before .before .before .before .before .before .before .before .before .before .before .before .before .before .before .before .before .args .vertices) (c .before .before .before .before .before .before .before .before .before .before .before .before .before .before .before .before .before .args .faces) (c .before .before .before .before .before .before .before .before .before .before .before .before .before .before .before .before .before .args .rounds) (c .before .before .before .before .before .before .before .before .before .before .before .before .before .before .before .before .before .args .marks)) (drop (c .before .before .before .before .before .before .before .before .before .before .before .before .before .before .before .before .before .args .at) (c .before .before .before .before .before .before .before .before .before .before .before .before .before .before .before .before .before .args .text .now)) (sym (block-good (readVertex (c .before .before .before .before .before .before .before .before .before .before .before .before .before .before .before .before .before .args .marks)) (c .before .before .before .before .before .before .before .before .before .before .before .before .before .before .before .before .before .args .vertices) (c .before .before .before .before .before .before .before .before .before .before .before .before .before .before .before .before .before .args .text .now) (c .before .before .before .before .before .before .before .before .before .before .before .before .before .before .before .before .before .args .at) _ (c .before .before .before .before .before .before .before .before .before .before .before .before .before .before .count-vertices .ensures)) ∙ c .before .before .before .before .before .before .before .before .before .before .before .before .if1 .left) _ (block-rest (readVertex (c .before .before .before .before .before .before .before .before .before .before .before .before .before .before .before .before .before .args .marks)) (c .before .before .before .before .before .before .before .before .before .before .before .before .before .before .before .before .before .args .vertices) (c .before .before .before .before .before .before .before .before .before .before .before .before .before .before .before .before .before .args .text .now) (c .before .before .before .before .before .before .before .before .before .before .before .before .before .before .before .before .before .args .at) _ (c .before .before .before .before .before .before .before .before .before .before .before .before .before .before .count-vertices .ensures)) (drop ((c .before .before .before .before .before .before .before .before .before .before .before .before .before .before .before .before .before .args .at + c .before .before .before .before .before .before .before .before .before .before .before .before .before .before .count-vertices .result .used) + (c .before .before .before .before .before .before .before .n .given .0 .0)) (c .before .before .before .before .before .before .before .before .before .before .before .before .before .before .before .before .before .args .text .now)) (given-at namesOf readNames (c .before .before .before .before .before .before .before .before .before .before .before .before .before .before .before .before .before .args .text .now) _ _ _ (c .before .before .before .before .before .before .before .before .before .read-names .ensures .0) (c .before .before .before .before .before .before .before .n .given .1) ∙ ap (found corners) (drop-drop (c .before .before .before .before .before .before .before .n .given .0 .0) (c .before .before .before .before .before .before .before .before .before .before .before .before .before .before .before .before .before .args .at + c .before .before .before .before .before .before .before .before .before .before .before .before .before .before .count-vertices .result .used) (c .before .before .before .before .before .before .before .before .before .before .before .before .before .before .before .before .before .args .text .now))) (sym (block-good readFace (c .before .before .before .before .before .before .before .before .before .before .before .before .before .before .before .before .before .args .faces) (c .before .before .before .before .before .before .before .before .before .before .before .before .before .before .before .before .before .args .text .now) ((c .before .before .before .before .before .before .before .before .before .before .before .before .before .before .before .before .before .args .at + c .before .before .before .before .before .before .before .before .before .before .before .before .before .before .count-vertices .result .used) + (c .before .before .before .before .before .before .before .n .given .0 .0)) _ (c .before .before .before .before .count-faces .ensures)) ∙ c .before .before .if2 .left) (omega arith), omega arith)
+    let f = c .before .before .before .before in
+    let n = names-of f in
+    let s = args-of f in
+    let w = faces-within f in
+    let t : (faces-at n + f .count-faces .result .used ≡ length (s .args .text .now)) → ⊥ = c .if3 .taken in
+    let r = ap length (faces-rest f) in
+    let d = length-drop (faces-at n + f .count-faces .result .used) (s .args .text .now) in
+    (body-surplus (head s) (drop (s .args .at) (s .args .text .now)) (all-vertices n) _ (vertices-rest (vertices-of n)) (drop (faces-at n) (s .args .text .now)) (names-good n) (sym (faces-good f) ∙ c .before .before .if2 .left) (omega arith), omega arith)
 
 returns-5 : tie.Need-returns-5
 returns-5 c =
-    let e : length (c .before .before .before .before .before .before .before .before .before .before .before .before .before .before .before .before .before .args .text .now) ≤ ((c .before .before .before .before .before .before .before .before .before .before .before .before .before .before .before .before .before .args .at + c .before .before .before .before .before .before .before .before .before .before .before .before .before .before .count-vertices .result .used) + (c .before .before .before .before .before .before .before .n .given .0 .0)) + c .before .before .before .before .count-faces .result .used = omega (arith, c .if3 .left) in
-    (body-whole (headIs (c .before .before .before .before .before .before .before .before .before .before .before .before .before .before .before .before .before .args .vertices) (c .before .before .before .before .before .before .before .before .before .before .before .before .before .before .before .before .before .args .faces) (c .before .before .before .before .before .before .before .before .before .before .before .before .before .before .before .before .before .args .rounds) (c .before .before .before .before .before .before .before .before .before .before .before .before .before .before .before .before .before .args .marks)) (drop (c .before .before .before .before .before .before .before .before .before .before .before .before .before .before .before .before .before .args .at) (c .before .before .before .before .before .before .before .before .before .before .before .before .before .before .before .before .before .args .text .now)) (sym (block-good (readVertex (c .before .before .before .before .before .before .before .before .before .before .before .before .before .before .before .before .before .args .marks)) (c .before .before .before .before .before .before .before .before .before .before .before .before .before .before .before .before .before .args .vertices) (c .before .before .before .before .before .before .before .before .before .before .before .before .before .before .before .before .before .args .text .now) (c .before .before .before .before .before .before .before .before .before .before .before .before .before .before .before .before .before .args .at) _ (c .before .before .before .before .before .before .before .before .before .before .before .before .before .before .count-vertices .ensures)) ∙ c .before .before .before .before .before .before .before .before .before .before .before .before .if1 .left) _ (block-rest (readVertex (c .before .before .before .before .before .before .before .before .before .before .before .before .before .before .before .before .before .args .marks)) (c .before .before .before .before .before .before .before .before .before .before .before .before .before .before .before .before .before .args .vertices) (c .before .before .before .before .before .before .before .before .before .before .before .before .before .before .before .before .before .args .text .now) (c .before .before .before .before .before .before .before .before .before .before .before .before .before .before .before .before .before .args .at) _ (c .before .before .before .before .before .before .before .before .before .before .before .before .before .before .count-vertices .ensures)) (drop ((c .before .before .before .before .before .before .before .before .before .before .before .before .before .before .before .before .before .args .at + c .before .before .before .before .before .before .before .before .before .before .before .before .before .before .count-vertices .result .used) + (c .before .before .before .before .before .before .before .n .given .0 .0)) (c .before .before .before .before .before .before .before .before .before .before .before .before .before .before .before .before .before .args .text .now)) (given-at namesOf readNames (c .before .before .before .before .before .before .before .before .before .before .before .before .before .before .before .before .before .args .text .now) _ _ _ (c .before .before .before .before .before .before .before .before .before .read-names .ensures .0) (c .before .before .before .before .before .before .before .n .given .1) ∙ ap (found corners) (drop-drop (c .before .before .before .before .before .before .before .n .given .0 .0) (c .before .before .before .before .before .before .before .before .before .before .before .before .before .before .before .before .before .args .at + c .before .before .before .before .before .before .before .before .before .before .before .before .before .before .count-vertices .result .used) (c .before .before .before .before .before .before .before .before .before .before .before .before .before .before .before .before .before .args .text .now))) (sym (block-good readFace (c .before .before .before .before .before .before .before .before .before .before .before .before .before .before .before .before .before .args .faces) (c .before .before .before .before .before .before .before .before .before .before .before .before .before .before .before .before .before .args .text .now) ((c .before .before .before .before .before .before .before .before .before .before .before .before .before .before .before .before .before .args .at + c .before .before .before .before .before .before .before .before .before .before .before .before .before .before .count-vertices .result .used) + (c .before .before .before .before .before .before .before .n .given .0 .0)) _ (c .before .before .before .before .count-faces .ensures)) ∙ c .before .before .if2 .left) (block-rest readFace (c .before .before .before .before .before .before .before .before .before .before .before .before .before .before .before .before .before .args .faces) (c .before .before .before .before .before .before .before .before .before .before .before .before .before .before .before .before .before .args .text .now) ((c .before .before .before .before .before .before .before .before .before .before .before .before .before .before .before .before .before .args .at + c .before .before .before .before .before .before .before .before .before .before .before .before .before .before .count-vertices .result .used) + (c .before .before .before .before .before .before .before .n .given .0 .0)) _ (c .before .before .before .before .count-faces .ensures) ∙ drop-of-length-le (c .before .before .before .before .before .before .before .before .before .before .before .before .before .before .before .before .before .args .text .now) {i = ((c .before .before .before .before .before .before .before .before .before .before .before .before .before .before .before .before .before .args .at + c .before .before .before .before .before .before .before .before .before .before .before .before .before .before .count-vertices .result .used) + (c .before .before .before .before .before .before .before .n .given .0 .0)) + c .before .before .before .before .count-faces .result .used} e), part-within (c .before .before .before .before .before .before .before .before .before .before .before .before .before .before .before .before .before .args .text .now) (c .before .before .before .before .before .before .before .before .before .before .before .before .before .before .before .before .before .args .at + c .before .before .before .before .before .before .before .before .before .before .before .before .before .before .count-vertices .result .used) _ (block-within (readVertex (c .before .before .before .before .before .before .before .before .before .before .before .before .before .before .before .before .before .args .marks)) (c .before .before .before .before .before .before .before .before .before .before .before .before .before .before .before .before .before .args .vertices) (c .before .before .before .before .before .before .before .before .before .before .before .before .before .before .before .before .before .args .text .now) (c .before .before .before .before .before .before .before .before .before .before .before .before .before .before .before .before .before .args .at) _ (c .before .before .before .before .before .before .before .before .before .before .before .before .before .before .count-vertices .ensures) (c .before .before .before .before .before .before .before .before .before .before .before .before .before .before .before .before .before .pre)) (taken namesUsed _ _ _ (c .before .before .before .before .before .before .before .before .before .read-names .ensures .1) (c .before .before .before .before .before .before .before .n .given .1)))
+    let f = c .before .before .before .before in
+    let n = names-of f in
+    let s = args-of f in
+    let e : length (s .args .text .now) ≤ faces-at n + f .count-faces .result .used = omega (arith, c .if3 .left) in
+    (body-whole (head s) (drop (s .args .at) (s .args .text .now)) (all-vertices n) _ (vertices-rest (vertices-of n)) (drop (faces-at n) (s .args .text .now)) (names-good n) (sym (faces-good f) ∙ c .before .before .if2 .left) (faces-rest f ∙ drop-of-length-le (s .args .text .now) {i = faces-at n + f .count-faces .result .used} e), names-within n)
 
 pub check-body-spec : {M : Type 1} → statement M
 check-body-spec =
