@@ -15,35 +15,35 @@ abbrev pub finding : Verdict → Finding
 finding accepted = record { reason = 0; place = 0 }
 finding (refused r p) = record { reason = r; place = p }
 
--- the numbers handed out, and the work table as the function returns
-pub record Handed : Type 0 where
+-- the numbers that the function returns, and the work table as it leaves it
+pub record CheckExport : Type 0 where
   pub finding : Finding
   pub work : List ℕ
 
-abbrev pub handed : Finding → List ℕ → Handed
-handed f w = record { finding = f; work = w }
+abbrev pub checkExportOf : Finding → List ℕ → CheckExport
+checkExportOf f w = record { finding = f; work = w }
 
-abbrev pub exported : Checked → Handed
-exported c = handed (finding (c .verdict)) (c .work)
+abbrev pub checkExport : Checked → CheckExport
+checkExport c = checkExportOf (finding (c .verdict)) (c .work)
 
 -- reason 0: refined; both counts are 0 on a refusal
 abbrev pub report : Result → Report
 report (refinedTo v f) = record { reason = 0; place = 0; vertices = v; faces = f }
 report (refusedWith r p) = record { reason = r; place = p; vertices = 0; faces = 0 }
 
--- the numbers handed out, and the caller's tables as the function returns
-pub record Delivered : Type 0 where
+-- the numbers that the function returns, and the caller's tables as it leaves them
+pub record RefineExport : Type 0 where
   pub report : Report
   pub vertices : List ℤ
   pub faces : List ℕ
   pub marks : List ℕ
   pub work : List ℕ
 
-abbrev pub delivered : Report → List ℤ → List ℕ → List ℕ → List ℕ → Delivered
-delivered r vertices faces marks work = record { report = r; vertices = vertices; faces = faces; marks = marks; work = work }
+abbrev pub refineExportOf : Report → List ℤ → List ℕ → List ℕ → List ℕ → RefineExport
+refineExportOf r vertices faces marks work = record { report = r; vertices = vertices; faces = faces; marks = marks; work = work }
 
-abbrev pub exportedOutcome : Outcome → Delivered
-exportedOutcome o = delivered (report (o .result)) (o .vertices) (o .faces) (o .marks) (o .work)
+abbrev pub refineExport : Outcome → RefineExport
+refineExport o = refineExportOf (report (o .result)) (o .vertices) (o .faces) (o .marks) (o .work)
 
 -- "outputs of at least 12G coordinates, 4G corners and 4G marks, and a work table of at least 16G 32-bit numbers"
 abbrev pub needed : ℕ → Room

@@ -7,7 +7,7 @@ ghost use Rattle.verdict.specs.Call.{room, call};
 ghost use Rattle.validate.specs.Answer.{verdictOf, checked};
 ghost use Rattle.outcome.specs.Outcome.{buffers, outcome};
 ghost use Rattle.refine.specs.Answer.{resultOf};
-ghost use Rattle.capi.specs.Export.{finding, handed, exported, report, delivered, exportedOutcome, sizes};
+ghost use Rattle.capi.specs.Export.{finding, checkExportOf, checkExport, report, refineExportOf, refineExport, sizes};
 use validate::Answer;
 
 // The verdict on a call: reason 0, or the refusal's number and place.
@@ -53,8 +53,8 @@ pub extern "C" fn gedrovit_check(
     out_marks: usize,
     work: &mut [u32],
 ) -> Finding
-    ensures { λ r. ⌜ handed r (now (work .exit)) ≡
-        exported (checked (call rounds (net (now (vertices .entry)) (now (faces .entry)) (now (marks .entry))) (room «out_vertices» «out_faces» «out_marks» (length (now (work .entry))))) (now (work .entry))) ⌝ }
+    ensures { λ r. ⌜ checkExportOf r (now (work .exit)) ≡
+        checkExport (checked (call rounds (net (now (vertices .entry)) (now (faces .entry)) (now (marks .entry))) (room «out_vertices» «out_faces» «out_marks» (length (now (work .entry))))) (now (work .entry))) ⌝ }
 {
     let answer = validate::check(
         rounds,
@@ -100,8 +100,8 @@ pub extern "C" fn gedrovit_refine(
     out_marks: &mut [u8],
     work: &mut [u32],
 ) -> Report
-    ensures { λ r. ⌜ delivered r (now («out_vertices» .exit)) (now («out_faces» .exit)) (now («out_marks» .exit)) (now (work .exit)) ≡
-        exportedOutcome (outcome rounds (net (now (vertices .entry)) (now (faces .entry)) (now (marks .entry)))
+    ensures { λ r. ⌜ refineExportOf r (now («out_vertices» .exit)) (now («out_faces» .exit)) (now («out_marks» .exit)) (now (work .exit)) ≡
+        refineExport (outcome rounds (net (now (vertices .entry)) (now (faces .entry)) (now (marks .entry)))
         (buffers (now («out_vertices» .entry)) (now («out_faces» .entry)) (now («out_marks» .entry)) (now (work .entry)))) ⌝ }
 {
     let answer = refine::refine(

@@ -1,6 +1,6 @@
 -- `capi::gedrovit_refine` meets its contract. Assumes nothing.
 use mathlib.Core.Path.{ap}
-use Rattle.capi.specs.Export.{exportedOutcome}
+use Rattle.capi.specs.Export.{refineExport}
 use borrow.Author.Needs.{needs}
 use Rattle.capi.proofs.gedrovit_refine.Statement.{statement}
 use Rattle.capi.proofs.gedrovit_refine.Tie as tie
@@ -24,7 +24,7 @@ same-length-4 : tie.Need-same-length-4
 same-length-4 c = search needs
 
 returns : tie.Need-returns
-returns c = rw (c .report-of .ensures) (ap exportedOutcome (c .before .before .before .before .before .before .before .before .refine .ensures))
+returns c = rw (c .report-of .ensures) (ap refineExport (c .before .before .before .before .before .before .before .before .refine .ensures))
 
 pub gedrovit-refine-spec : {M : Type 1} → statement M
 gedrovit-refine-spec = tie.close (tie.spec refine-requires report-of-requires same-length same-length-2 same-length-3 same-length-4 returns)
