@@ -11,7 +11,8 @@ to = $(DESTDIR)$(PREFIX)
 header := package/include/gedrovit.h
 version := $(shell sed -n 's/^.define GEDROVIT_VERSION "\(.*\)"$$/\1/p' $(header))
 archive := target/staticlib/libcapi.a
-crates := capi $(shell sed -n 's/^capi://p' crates.txt)
+# the archive's crate and all crates under it
+crates := $(shell awk -F: -f tools/crates_under.awk -v top=capi crates.txt)
 sources := crates.txt $(shell find $(foreach crate,$(crates),$(wildcard crates/$(crate)/src crates/$(crate)/specs crates/$(crate)/proofs)) -type f)
 
 all: $(archive)

@@ -60,7 +60,6 @@ GROUPS = {
     },
     "Curve": {"rounding.Rounding": "", "curve.Weights": "kobbelt", "curve.Curve": "Kind, Open, Closed, Point"},
     "Reading": {**TOPOLOGY, "topology.Boundary": "withSides, againstSides", "lists.Tabulate": ""},
-    # Joins as soon as the crate `seam` is there.
     "Seam": {
         **TOPOLOGY,
         "topology.Boundary": "withSides, againstSides",
@@ -72,7 +71,6 @@ GROUPS = {
         "seam.Reading": "",
     },
 }
-# Joins as soon as the crate `outcome` is there.
 GROUPS["Outcome"] = {**GROUPS["Verdict"], **GROUPS["Round"], "tables.Tables": "", "outcome.Outcome": "refinedTo, refusedWith"}
 # Names that two modules of a group have; the group does not need the first module's.
 LEFT_OUT = {("Round", "topology.Boundary", "step"), ("Outcome", "topology.Boundary", "step"), ("Seam", "topology.Boundary", "step"), ("Seam", "curve.Curve", "step"), ("Seam", "curve.Curve", "steps")}
@@ -262,8 +260,6 @@ def headers(crates):
     """For each group its `use` lines, and the names that its facts unfold."""
     uses, unfolding = {}, {}
     for group, modules in GROUPS.items():
-        if any(not (crates / module.split(".")[0]).exists() for module in modules):
-            continue
         lines, unfolded = [LIBRARY], []
         for module, others in modules.items():
             crate, file = module.split(".")
@@ -288,8 +284,11 @@ def make_scratch(tree, folder):
     """Copies the definitions of the crates that facts name, and of the crates under them; returns the names of all."""
     under = dependencies(tree)
     wanted = {module.split(".")[0] for modules in GROUPS.values() for module in modules} & set(under)
-    for name in list(wanted):
-        wanted |= set(under[name])
+    waiting = list(wanted)
+    while waiting:
+        more = set(under.get(waiting.pop(), ())) & set(under) - wanted
+        wanted |= more
+        waiting += more
     lines = []
     for name in (name for name in under if name in wanted):
         source, target = tree / "crates" / name / "specs", folder / "crates" / name
