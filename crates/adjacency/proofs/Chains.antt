@@ -8,7 +8,7 @@ use native.Mathlib.Decide.{ℕ-discrete}
 use native.Mathlib.Omega.{arith}
 use lib.ListN.{length, getD, set, take, drop, length-set}
 use lib.Dec.{leb}
-use lib.Seq.{getD-set-same, getD-set-other, getD-drop, take-set-le, drop-set-lt, take-take, drop-drop}
+use lib.Seq.{getD-drop, getD-set-same, getD-set-other, take-set-le, drop-set-lt, take-take, drop-drop}
 use borrow.Author.Tests.{eq-eqb, eqb-true, leb-false}
 use Rattle.search.specs.Search.{first}
 use Rattle.search.proofs.Tests.{refuted, clash, or-left}
@@ -17,7 +17,8 @@ use Rattle.topology.specs.Shape.{Shape, quads}
 use Rattle.topology.specs.HalfEdge.{from, mate}
 use Rattle.topology.specs.Vertex.{leaves}
 use Rattle.refusals.specs.Refusals.{badCorner}
-use Rattle.adjacency.specs.Chains.{chainFrom, CornersBelow, Tables, Chained, MateTable, SameOutside}
+use Rattle.adjacency.specs.Chains.{chainFrom, CornersBelow, Tables, Chained, SameOutside}
+use Rattle.halfedges.specs.Tables.{MateTable}
 
 -- ---- the first half-edge from i on that leaves v
 
@@ -127,9 +128,6 @@ chained-cong l w w′ h f c = record {
   nexts = λ g a b. f (2 * length l + g) (omega arith) (omega arith) ∙ c .nexts g a b;
 }
 
-pub mates-cong : (l w w′ : List ℕ) → ((i : ℕ) → i < length l → getD w′ i 0 ≡ getD w i 0) → MateTable l w → MateTable l w′
-mates-cong l w w′ f m = record { mates = λ g a. f g a ∙ m .mates g a }
-
 same-rest : (m : ℕ) (w w′ : List ℕ) → drop m w′ ≡ drop m w → (i : ℕ) → m ≤ i → getD w′ i 0 ≡ getD w i 0
 same-rest m w w′ e i h =
     let d : m + (i - m) ≡ i = omega arith in
@@ -140,7 +138,7 @@ pub chained-drop : (l w w′ : List ℕ) (h : ℕ) → drop (length l) w′ ≡ 
 chained-drop l w w′ h e c = chained-cong l w w′ h (λ i a b. same-rest (length l) w w′ e i a) c
 
 pub tables-length : (l w w′ : List ℕ) → length w′ ≡ length w → Tables l w → Tables l w′
-tables-length l w w′ e t = record { fours = t .fours; small = t .small; corners = t .corners; room = omega (arith, t .room) }
+tables-length l w w′ e t = record { sides = t .sides; corners = t .corners; room = omega (arith, t .room) }
 
 -- ---- corners in range
 

@@ -1,2 +1,4 @@
 pub mod Chains
 pub mod Sides
+pub mod Queries
+pub mod Turning

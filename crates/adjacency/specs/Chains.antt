@@ -3,13 +3,14 @@
 use mathlib.Core.Path.{_≡_}
 use mathlib.Core.Bool.{Bool, _&&_}
 use mathlib.Core.List.{List}
-use Prim.Native.Nat.{ℕ, _+_, _-_, _*_, _%_, _^_, _≤_, _<_}
+use Prim.Native.Nat.{ℕ, _+_, _-_, _*_, _≤_, _<_}
 use lib.ListN.{length, getD, take, drop}
 use lib.Dec.{eqb}
 use Rattle.search.specs.Search.{firstFrom}
-use Rattle.topology.specs.Shape.{Shape, quads}
-use Rattle.topology.specs.HalfEdge.{from, to, mate}
+use Rattle.topology.specs.Shape.{Shape}
+use Rattle.topology.specs.HalfEdge.{from, to}
 use Rattle.topology.specs.Vertex.{leaves}
+use Rattle.halfedges.specs.Tables.{Quadrilaterals, MateTable}
 
 -- whether the half-edge g runs from the vertex a to the vertex b
 unfoldable pub side : Shape → List ℕ → ℕ → ℕ → ℕ → Bool
@@ -23,10 +24,9 @@ chainFrom l v i = firstFrom (leaves l v) (length l - i) i
 pub record CornersBelow (v : ℕ) (l : List ℕ) : Type 0 where
   pub below : (g : ℕ) → g < length l → getD l g 0 < v
 
--- corners l by fours, each below their number, and a table w with room for three numbers per half-edge
+-- corners l, each below their number, and a table w with room for three numbers per half-edge
 pub record Tables (l w : List ℕ) : Type 0 where
-  pub fours : length l % 4 ≡ 0
-  pub small : length l < 2 ^ 24
+  pub sides : Quadrilaterals (length l)
   pub corners : CornersBelow (length l) l
   pub room : 3 * length l ≤ length w
 
@@ -34,10 +34,6 @@ pub record Tables (l w : List ℕ) : Type 0 where
 pub record Chained (l w : List ℕ) (h : ℕ) : Type 0 where
   pub heads : (v : ℕ) → v < length l → getD w (length l + v) 0 ≡ chainFrom l v h
   pub nexts : (g : ℕ) → h ≤ g → g < length l → getD w (2 * length l + g) 0 ≡ chainFrom l (getD l g 0) (g + 1)
-
--- the mates
-pub record MateTable (l w : List ℕ) : Type 0 where
-  pub mates : (g : ℕ) → g < length l → getD w g 0 ≡ mate quads l g
 
 -- what w holds once chains and mates are built
 pub record Adjacency (l w : List ℕ) : Type 0 where

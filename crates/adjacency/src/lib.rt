@@ -1,35 +1,15 @@
-// The chains of the half-edges that leave each vertex, and the mates, built in the caller's work table; searches along the chains.
+// The chains of the half-edges that leave each vertex, and the mates, built in the caller's work table; what is found along the chains and by turning from
+// mate to mate.
 ghost use mathlib.Core.Path.{_≡_};
-ghost use Prim.Native.Nat.{_*_, _^_, _<_};
+ghost use Prim.Native.Nat.{_*_, _≤_, _<_};
 ghost use lib.ListN.{length, drop};
+ghost use lib.Dec.{eqb};
 ghost use Rattle.search.specs.Search.{first};
 ghost use Rattle.topology.specs.Shape.{quads};
 ghost use Rattle.topology.specs.HalfEdge.{mate};
-ghost use Rattle.refusals.specs.Refusals.{repeatedSide};
+ghost use Rattle.topology.specs.Boundary.{boundaryFrom};
+ghost use Rattle.topology.specs.Vertex.{valence, start, facesMet};
 ghost use Rattle.adjacency.specs.Chains.{side, Tables, Chained, Adjacency, SameOutside};
-
-// The half-edge after h round its face.
-pub fn next_side(h: usize) -> usize
-    requires { ⌜ h < 2 ^ 24 ⌝ }
-    ensures { λ r. ⌜ r ≡ quads .next h ⌝ }
-{
-    4 * (h / 4) + (h + 1) % 4
-}
-
-// The half-edge before h round its face.
-pub fn prev_side(h: usize) -> usize
-    requires { ⌜ h < 2 ^ 24 ⌝ }
-    ensures { λ r. ⌜ r ≡ quads .prev h ⌝ }
-{
-    4 * (h / 4) + (h + 3) % 4
-}
-
-// The face of h.
-pub fn face_of(h: usize) -> usize
-    ensures { λ r. ⌜ r ≡ quads .face h ⌝ }
-{
-    h / 4
-}
 
 // Makes every chain empty.
 fn clear_chains(faces: &[u32], work: &mut [u32])
@@ -72,7 +52,7 @@ pub fn find_side(faces: &[u32], work: &[u32], a: u32, b: u32) -> usize
     let n = faces.len();
     let mut g = work[n + a as usize] as usize;
     while g < n {
-        if faces[next_side(g)] == b {
+        if faces[halfedges::next_side(g)] == b {
             return g;
         }
         g = work[2 * n + g] as usize;
@@ -80,43 +60,14 @@ pub fn find_side(faces: &[u32], work: &[u32], a: u32, b: u32) -> usize
     g
 }
 
-// Whether a side of an earlier face runs from and to the same vertices as h.
-pub fn repeated_side(faces: &[u32], work: &[u32], h: usize) -> bool
-    requires { ⌜ Tables (now faces) (now work) ⌝ }
-    requires { ⌜ Chained (now faces) (now work) 0 ⌝ }
-    requires { ⌜ h < length (now faces) ⌝ }
-    ensures { λ r. ⌜ r ≡ repeatedSide quads (now (faces .entry)) h ⌝ }
-{
-    let b = faces[next_side(h)];
-    let g = find_side(faces, work, faces[h], b);
-    face_of(g) < face_of(h)
-}
-
-// The first half-edge that repeats a side of an earlier face, or the number of half-edges.
-pub fn first_repeated(faces: &[u32], work: &[u32]) -> usize
-    requires { ⌜ Tables (now faces) (now work) ⌝ }
-    requires { ⌜ Chained (now faces) (now work) 0 ⌝ }
-    ensures { λ r. ⌜ r ≡ first (repeatedSide quads (now (faces .entry))) (length (now (faces .entry))) ⌝ }
-{
-    let n = faces.len();
-    let mut h = 0;
-    while h < n {
-        if repeated_side(faces, work, h) {
-            return h;
-        }
-        h += 1;
-    }
-    h
-}
-
 // The mate of h, or the number of half-edges.
-pub fn mate_of(faces: &[u32], work: &[u32], h: usize) -> usize
+fn find_mate(faces: &[u32], work: &[u32], h: usize) -> usize
     requires { ⌜ Tables (now faces) (now work) ⌝ }
     requires { ⌜ Chained (now faces) (now work) 0 ⌝ }
     requires { ⌜ h < length (now faces) ⌝ }
     ensures { λ r. ⌜ r ≡ mate quads (now (faces .entry)) h ⌝ }
 {
-    let b = faces[next_side(h)];
+    let b = faces[halfedges::next_side(h)];
     find_side(faces, work, b, faces[h])
 }
 
@@ -130,7 +81,76 @@ pub fn build_mates(faces: &[u32], work: &mut [u32])
     let n = faces.len();
     let mut h = 0;
     while h < n {
-        work[h] = mate_of(faces, &*work, h) as u32;
+        work[h] = find_mate(faces, &*work, h) as u32;
         h += 1;
     }
+}
+
+// The boundary half-edge that leaves the vertex p, or the number of half-edges.
+pub fn boundary_from(faces: &[u32], work: &[u32], p: usize) -> usize
+    requires { ⌜ Adjacency (now faces) (now work) ⌝ }
+    requires { ⌜ p < length (now faces) ⌝ }
+    ensures { λ r. ⌜ r ≡ boundaryFrom quads (now (faces .entry)) p ⌝ }
+{
+    let n = faces.len();
+    let mut g = work[n + p] as usize;
+    while g < n {
+        if work[g] as usize == n {
+            return g;
+        }
+        g = work[2 * n + g] as usize;
+    }
+    g
+}
+
+// The number of faces at the vertex p.
+pub fn valence_at(faces: &[u32], work: &[u32], p: usize) -> usize
+    requires { ⌜ Adjacency (now faces) (now work) ⌝ }
+    requires { ⌜ p < length (now faces) ⌝ }
+    ensures { λ r. ⌜ r ≡ valence (now (faces .entry)) p ⌝ }
+{
+    let n = faces.len();
+    let mut g = work[n + p] as usize;
+    let mut m = 0;
+    while g < n {
+        g = work[2 * n + g] as usize;
+        m += 1;
+    }
+    m
+}
+
+// Where turning round the vertex p starts.
+pub fn start_at(faces: &[u32], work: &[u32], p: usize) -> usize
+    requires { ⌜ Adjacency (now faces) (now work) ⌝ }
+    requires { ⌜ p < length (now faces) ⌝ }
+    ensures { λ r. ⌜ r ≡ start quads (now (faces .entry)) p ⌝ }
+{
+    let n = faces.len();
+    let g = boundary_from(faces, work, p);
+    if g < n {
+        return g;
+    }
+    work[n + p] as usize
+}
+
+// Whether turning from h meets d faces. It takes at most d turns.
+pub fn meets_all(faces: &[u32], work: &[u32], h: usize, d: usize) -> bool
+    requires { ⌜ Adjacency (now faces) (now work) ⌝ }
+    requires { ⌜ (h < length (now faces)) × (d ≤ length (now faces)) ⌝ }
+    ensures { λ r. ⌜ r ≡ eqb (facesMet quads (now (faces .entry)) h) d ⌝ }
+{
+    let n = faces.len();
+    let mut g = h;
+    let mut k = 0;
+    while k < d {
+        g = work[halfedges::prev_side(g)] as usize;
+        k += 1;
+        if g == n {
+            return k == d;
+        }
+        if g == h {
+            return k == d;
+        }
+    }
+    false
 }

@@ -13,8 +13,8 @@ use Rattle.topology.specs.HalfEdge.{from, to, mate}
 use Rattle.topology.specs.Boundary.{OnBoundary, along, back}
 use Rattle.topology.specs.Manifold.{Manifold}
 use Rattle.topology.proofs.Boundary.{along-on, back-on}
-use Rattle.scheme.specs.Points.{EdgeRule, insideSegment, startOfSegment, endOfSegment, wholeSegment, marked, edgeRule, edgeValue, edgePoint}
-use Rattle.scheme.specs.Step.{axis}
+use Rattle.scheme.specs.Points.{EdgeRule, insideSegment, startOfSegment, endOfSegment, wholeSegment, edgeRule, edgeValue, edgePoint}
+use Rattle.nets.specs.Net.{marked, axis}
 use Rattle.curvepoints.specs.Exact.{InTable, Points, OnAxes, ExactEdge, ExactPoint}
 use Rattle.curvepoints.proofs.Sizes.{exact-interior, exact-end, exact-single, on-axes}
 

@@ -6,8 +6,8 @@ ghost use Rattle.curve.specs.Weights.{kobbelt};
 ghost use Rattle.topology.specs.Shape.{quads};
 ghost use Rattle.topology.specs.HalfEdge.{from, to};
 ghost use Rattle.topology.specs.Boundary.{OnBoundary, along, back};
-ghost use Rattle.scheme.specs.Points.{marked, edgePoint};
-ghost use Rattle.scheme.specs.Step.{axis};
+ghost use Rattle.scheme.specs.Points.{edgePoint};
+ghost use Rattle.nets.specs.Net.{marked, axis};
 ghost use Rattle.walks.specs.Ready.{Ready};
 ghost use Rattle.curvepoints.specs.Exact.{Points, Marks, ExactPoint};
 
@@ -17,7 +17,7 @@ pub fn vertex_after(faces: &[u32], work: &[u32], h: usize) -> usize
     requires { ⌜ OnBoundary quads (now faces) h ⌝ }
     ensures { λ r. ⌜ r ≡ to quads (now (faces .entry)) (along quads (now (faces .entry)) h) ⌝ }
 {
-    corners::end_of(faces, walks::along_side(faces, work, h))
+    halfedges::end_of(faces, walks::along_side(faces, work, h))
 }
 
 // The start of the boundary half-edge before h.
@@ -26,7 +26,7 @@ pub fn vertex_before(faces: &[u32], work: &[u32], h: usize) -> usize
     requires { ⌜ OnBoundary quads (now faces) h ⌝ }
     ensures { λ r. ⌜ r ≡ from (now (faces .entry)) (back quads (now (faces .entry)) h) ⌝ }
 {
-    corners::start_of(faces, walks::back_side(faces, work, h))
+    halfedges::start_of(faces, walks::back_side(faces, work, h))
 }
 
 // Whether vertex v is marked.
@@ -50,8 +50,8 @@ pub fn boundary_edge(
     requires { ⌜ OnBoundary quads (now faces) h ⌝ }
     ensures { λ e. ⌜ ExactPoint (λ (a : ℕ). edgePoint kobbelt (now (faces .entry)) (now (marks .entry)) (axis (now (points .entry)) a) h) (e .x) (e .y) (e .z) ⌝ }
 {
-    let p = corners::start_of(faces, h);
-    let q = corners::end_of(faces, h);
+    let p = halfedges::start_of(faces, h);
+    let q = halfedges::end_of(faces, h);
     if is_marked(marks, p) {
         if is_marked(marks, q) {
             return curvepoints::single_exact(points, p, q);

@@ -2,7 +2,7 @@
 ghost use mathlib.Core.Path.{_≡_};
 ghost use Prim.Native.Nat.{_*_, _/_, _^_, _≤_};
 ghost use lib.ListN.{length};
-ghost use Rattle.tables.specs.Net.{net};
+ghost use Rattle.nets.specs.Net.{net};
 ghost use Rattle.verdict.specs.Call.{room, call};
 ghost use Rattle.validate.specs.Answer.{verdictOf, checked};
 ghost use Rattle.outcome.specs.Outcome.{buffers, outcome};

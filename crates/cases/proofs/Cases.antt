@@ -19,9 +19,11 @@ use Rattle.topology.specs.Boundary.{isBoundaryFrom, isBoundaryInto, boundaryFro
 use Rattle.topology.specs.Vertex.{leaves, valence, turn, start, stops, facesMet}
 use Rattle.refusals.specs.Refusals.{badMark, badCorner, isolated, repeatedSide, nonManifold, badValence, markedRing}
 use Rattle.verdict.specs.Verdict.{limitsVerdict, roomVerdict, netVerdict, facesVerdict, adjacencyVerdict, vertexVerdict, badCoordinate}
-use Rattle.scheme.specs.Rings.{oppositeCorner, fanEnd, extrapolatedAt, fanNeighbour, fanCorner, fanPlace, ringVirtual, fanVirtual, virtualAt}
-use Rattle.scheme.specs.Points.{marked, edgeRule, edgeValue, edgePoint, across, beyond, direction, inner, fourInner, faceRule, faceValue, facePoint}
-use Rattle.scheme.specs.Step.{edgeAt, refinedCoordinate, axis}
+use Rattle.scheme.specs.Rings.{extrapolatedAt, fanNeighbour, fanCorner, ringVirtual, fanVirtual, virtualAt}
+use Rattle.topology.specs.Quads.{oppositeCorner, fanEnd, fanPlace, across, beyond}
+use Rattle.nets.specs.Net.{marked, axis}
+use Rattle.scheme.specs.Points.{edgeRule, edgeValue, edgePoint, direction, inner, fourInner, faceRule, faceValue, facePoint}
+use Rattle.scheme.specs.Step.{edgeAt, refinedCoordinate}
 use Rattle.cases.specs.Cases.{Case, cases, AllHold}
 
 abbrev eqList : List ℤ → List ℤ → Bool

@@ -5,12 +5,12 @@ use Prim.Native.Nat.{ℕ, zero, suc, _<_}
 use lib.IntN.{ℤ, pos, negsuc, _*ℤ_}
 use lib.ListN.{length, getD}
 use Rattle.curve.specs.Weights.{kobbelt}
-use Rattle.tables.specs.Net.{Net}
+use Rattle.nets.specs.Net.{Net, axis}
 use Rattle.verdict.specs.Call.{Room}
 use Rattle.verdict.specs.Verdict.{Verdict, accepted, refused, limitsVerdict, netVerdict}
 use Rattle.fractions.specs.Fraction.{Fraction}
 use Rattle.scheme.specs.Points.{facePoint}
-use Rattle.scheme.specs.Step.{refinedCoordinate, axis}
+use Rattle.scheme.specs.Step.{refinedCoordinate}
 use Rattle.curve.specs.Curve.{Open, Closed, rounded, step, Point, curve}
 
 pub record Case : Type 0 where

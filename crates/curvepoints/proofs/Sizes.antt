@@ -16,7 +16,7 @@ use Rattle.curve.proofs.Kobbelt.{tame}
 use Rattle.fractions.specs.Fraction.{Fraction, whole}
 use Rattle.rules.specs.Rules.{interiorPoint, endPoint, midpoint}
 use Rattle.rules.proofs.Ties.{equals-boundary-interior, equals-boundary-end, equals-boundary-single}
-use Rattle.scheme.specs.Step.{axis}
+use Rattle.nets.specs.Net.{axis}
 use Rattle.curvepoints.specs.Exact.{OnAxes, ExactEdge, ExactPoint}
 
 pub axis-bound : (p : List ℤ) (a v : ℕ) → Bounded 67108864 p → natAbs (axis p a v) ≤ 67108864

@@ -4,7 +4,7 @@ ghost use Prim.Native.Nat.{ℕ, _<_};
 ghost use lib.IntN.{pos, _*ℤ_};
 ghost use Rattle.integers.specs.Bounded.{Bounded};
 ghost use Rattle.curve.specs.Weights.{kobbelt, interior, endEdge, singleEdge};
-ghost use Rattle.scheme.specs.Step.{axis};
+ghost use Rattle.nets.specs.Net.{axis};
 ghost use Rattle.curvepoints.specs.Exact.{InTable, OnAxes};
 
 // An exact point: its coordinates over 7,257,600.

@@ -22,9 +22,10 @@ use Rattle.topology.specs.Boundary.{boundaryFrom}
 use Rattle.topology.specs.Vertex.{turn, turns}
 use Rattle.topology.specs.Manifold.{Manifold}
 use Rattle.topology.proofs.Mates.{mate-back}
-use Rattle.scheme.specs.Rings.{oppositeCorner, ringVirtual, virtualAt}
+use Rattle.scheme.specs.Rings.{ringVirtual, virtualAt}
+use Rattle.topology.specs.Quads.{oppositeCorner}
 use Rattle.scheme.specs.Points.{innerRule, edgeRule, edgeValue, edgePoint}
-use Rattle.scheme.specs.Step.{axis}
+use Rattle.nets.specs.Net.{axis}
 use Rattle.walks.specs.Ready.{Across}
 use Rattle.walks.proofs.Around.{ring-here}
 use Rattle.curvepoints.specs.Exact.{OnAxes, ExactEdge, ExactPoint}

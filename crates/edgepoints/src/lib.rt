@@ -9,7 +9,7 @@ ghost use Rattle.topology.specs.Shape.{quads};
 ghost use Rattle.topology.specs.HalfEdge.{mate};
 ghost use Rattle.scheme.specs.Points.{innerRule, edgeValue, edgePoint};
 ghost use Rattle.scheme.specs.Rings.{virtualAt};
-ghost use Rattle.scheme.specs.Step.{axis};
+ghost use Rattle.nets.specs.Net.{axis};
 ghost use Rattle.walks.specs.Ready.{Ready, Across};
 ghost use Rattle.curvepoints.specs.Exact.{Points, Marks, ExactEdge, ExactPoint};
 ghost use Rattle.ringpoints.specs.Gathered.{Over453600};
@@ -51,8 +51,8 @@ pub fn inner_on(
     requires { ⌜ (h < length (now faces)) × (g ≡ mate quads (now faces) h) × (g < length (now faces)) × Across (now faces) h o × Across (now faces) g r ⌝ }
     ensures { λ z. ⌜ ExactEdge (edgeValue kobbelt (now (faces .entry)) (axis (now (points .entry)) a) h innerRule) z ⌝ }
 {
-    let p = extrapolation::coordinate_wide(points, corners::start_of(faces, h), a);
-    let q = extrapolation::coordinate_wide(points, corners::end_of(faces, h), a);
+    let p = extrapolation::coordinate_wide(points, halfedges::start_of(faces, h), a);
+    let q = extrapolation::coordinate_wide(points, halfedges::end_of(faces, h), a);
     let u = virtual_on(points, faces, work, h, o, a);
     let w = virtual_on(points, faces, work, g, r, a);
     inner_sum(p, q, u, w)
@@ -144,8 +144,8 @@ pub fn inner_edge(
     if r >= n {
         return inner_at_start(points, faces, work, h, g, o);
     }
-    let p = corners::start_of(faces, h);
-    let q = corners::end_of(faces, h);
+    let p = halfedges::start_of(faces, h);
+    let q = halfedges::end_of(faces, h);
     curvepoints::interior_exact(points, o, p, q, r)
 }
 
@@ -162,7 +162,7 @@ pub fn edge_point(
     ensures { λ e. ⌜ ExactPoint (λ (a : ℕ). edgePoint kobbelt (now (faces .entry)) (now (marks .entry)) (axis (now (points .entry)) a) h) (e .x) (e .y) (e .z) ⌝ }
 {
     let n = faces.len();
-    let g = work[h] as usize;
+    let g = halfedges::mate_side(faces, work, h);
     if g == n {
         return boundarypoints::boundary_edge(points, faces, marks, work, h);
     }

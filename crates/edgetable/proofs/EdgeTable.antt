@@ -25,7 +25,8 @@ use Rattle.topology.specs.Shape.{quads}
 use Rattle.topology.specs.HalfEdge.{mate, firstMet, edge, edgeCount}
 use Rattle.topology.proofs.Mates.{edge-lt, edges-le, edge-new, edge-same}
 use Rattle.scheme.specs.Points.{edgePoint}
-use Rattle.scheme.specs.Step.{axis, refinedCoordinate}
+use Rattle.scheme.specs.Step.{refinedCoordinate}
+use Rattle.nets.specs.Net.{axis}
 use Rattle.schemelaws.specs.Numerators.{edgeZ}
 use Rattle.schemelaws.proofs.Ties.{equals-edge}
 use Rattle.schemelaws.proofs.Coordinates.{edge-either, refined-old, refined-edge}
@@ -110,10 +111,10 @@ module _ (l marks : List ℕ) (p₀ : List ℤ) (w₀ : List ℕ) (ok : Round l 
         record {
           vertices = ok .indexed .ready .vertices;
           net = ok .indexed .ready .net;
-          fours = ok .indexed .ready .fours;
-          small = ok .indexed .ready .small;
+          fours = ok .indexed .ready .table .sides .fours;
+          small = ok .indexed .ready .table .sides .few;
           room = omega arith;
-          mated = record { mates = λ g b. done .front g (omega arith) ∙ ok .indexed .ready .mated .mates g b };
+          mated = record { mates = λ g b. done .front g (omega arith) ∙ ok .indexed .ready .table .mated .mates g b };
         }
 
     pub points-now : Points l (take (3 * length marks) p)

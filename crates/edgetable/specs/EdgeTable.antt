@@ -10,7 +10,8 @@ use Rattle.topology.specs.Shape.{quads}
 use Rattle.topology.specs.HalfEdge.{edge}
 use Rattle.topology.specs.Manifold.{Manifold}
 use Rattle.refinement.specs.Refined.{refinedVertices}
-use Rattle.scheme.specs.Step.{axis, refinedCoordinate}
+use Rattle.scheme.specs.Step.{refinedCoordinate}
+use Rattle.nets.specs.Net.{axis}
 use Rattle.schemelaws.specs.Numerators.{edgeZ}
 use Rattle.packing.specs.Packed.{Holds}
 use Rattle.stencils.specs.Stencils.{Indexed, place}

@@ -18,8 +18,9 @@ use Rattle.topology.specs.Boundary.{OnBoundary, boundaryFrom}
 use Rattle.topology.specs.Vertex.{valence}
 use Rattle.topology.specs.Manifold.{Manifold}
 use Rattle.topology.proofs.Boundary.{boundaryFrom-is}
-use Rattle.scheme.specs.Rings.{oppositeCorner, fanEnd, extrapolatedAt}
-use Rattle.scheme.specs.Step.{axis}
+use Rattle.scheme.specs.Rings.{extrapolatedAt}
+use Rattle.topology.specs.Quads.{oppositeCorner, fanEnd}
+use Rattle.nets.specs.Net.{axis}
 use Rattle.curvepoints.proofs.Sizes.{axis-bound}
 use Rattle.extrapolation.specs.Ends.{Over60}
 use Rattle.extrapolation.proofs.Turned.{faces-range}

@@ -7,8 +7,8 @@ use Rattle.integers.specs.Sum.{sum}
 use Rattle.fractions.specs.Fraction.{Fraction, Equals}
 use Rattle.topology.specs.HalfEdge.{from}
 use Rattle.topology.specs.Vertex.{valence}
-use Rattle.scheme.specs.Rings.{fanEnd}
-use Rattle.scheme.specs.Step.{axis}
+use Rattle.topology.specs.Quads.{fanEnd}
+use Rattle.nets.specs.Net.{axis}
 
 -- the fan that starts with s has k inner edges, and the sum of their far ends is z
 pub record InnerEnds (l : List ℕ) (t : List ℤ) (a s k : ℕ) (z : ℤ) : Type 0 where

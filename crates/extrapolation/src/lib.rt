@@ -2,24 +2,14 @@
 ghost use mathlib.Core.Path.{_≡_};
 ghost use Prim.Native.Nat.{_*_, _≤_, _<_};
 ghost use lib.IntN.{pos, natAbs, _-ℤ_, _*ℤ_};
-ghost use lib.ListN.{length};
 ghost use Rattle.topology.specs.Shape.{quads};
 ghost use Rattle.topology.specs.HalfEdge.{from};
 ghost use Rattle.topology.specs.Boundary.{OnBoundary};
 ghost use Rattle.scheme.specs.Rings.{extrapolatedAt};
-ghost use Rattle.scheme.specs.Step.{axis};
-ghost use Rattle.corners.specs.Fours.{Fours};
+ghost use Rattle.nets.specs.Net.{axis};
 ghost use Rattle.walks.specs.Ready.{Ready};
 ghost use Rattle.curvepoints.specs.Exact.{InTable, Points};
 ghost use Rattle.extrapolation.specs.Ends.{InnerEnds, Over60};
-
-// The corner before the vertex of h in its face.
-pub fn corner_before(faces: &[u32], h: usize) -> usize
-    requires { ⌜ Fours (now faces) × (h < length (now faces)) ⌝ }
-    ensures { λ r. ⌜ r ≡ from (now (faces .entry)) (quads .prev h) ⌝ }
-{
-    corners::start_of(faces, adjacency::prev_side(h))
-}
 
 // Coordinate a of vertex v.
 pub fn coordinate_wide(points: &[i32], v: usize, a: usize) -> i64
@@ -47,14 +37,14 @@ pub fn inner_ends(points: &[i32], faces: &[u32], work: &[u32], s: usize, a: usiz
     let mut i: usize = 0;
     let mut total: i64 = 0;
     loop {
-        let m = walks::turn_side(faces, work, g);
+        let m = halfedges::turn_side(faces, work, g);
         if m == n {
             return Ends {
                 count: i,
                 total: total,
             };
         }
-        let v = corner_before(faces, g);
+        let v = halfedges::corner_before(faces, g);
         total = total + coordinate_wide(points, v, a);
         g = m;
         i += 1;
@@ -75,11 +65,11 @@ pub fn extrapolated_point(points: &[i32], faces: &[u32], work: &[u32], s: usize,
     requires { ⌜ Points (now faces) (now points) × OnBoundary quads (now faces) s × (a < 3) ⌝ }
     ensures { λ r. ⌜ Over60 (extrapolatedAt (now (faces .entry)) (axis (now (points .entry)) a) (from (now (faces .entry)) s)) r ⌝ }
 {
-    let p = coordinate_wide(points, corners::start_of(faces, s), a);
+    let p = coordinate_wide(points, halfedges::start_of(faces, s), a);
     let e = inner_ends(points, faces, work, s, a);
     let k = e.count;
     if k == 0 {
-        let q = coordinate_wide(points, corners::opposite_corner(faces, s), a);
+        let q = coordinate_wide(points, halfedges::opposite_corner(faces, s), a);
         return reflected(p, q, 60);
     }
     let total = e.total;

@@ -19,8 +19,9 @@ use Rattle.topology.proofs.Turn.{turn-to}
 use Rattle.topology.proofs.Boundary.{boundaryFrom-is, along-from}
 use Rattle.topology.proofs.Walks.{fan-from, back-turns}
 use Rattle.integers.specs.Bounded.{Bounded}
-use Rattle.scheme.specs.Rings.{oppositeCorner, fanEnd, extrapolatedAt, fanNeighbour, fanCorner}
-use Rattle.scheme.specs.Step.{axis}
+use Rattle.scheme.specs.Rings.{extrapolatedAt, fanNeighbour, fanCorner}
+use Rattle.topology.specs.Quads.{oppositeCorner, fanEnd}
+use Rattle.nets.specs.Net.{axis}
 use Rattle.extrapolation.specs.Ends.{Over60}
 use Rattle.extrapolation.proofs.Turned.{faces-range}
 use Rattle.ringpoints.specs.Gathered.{Filled}

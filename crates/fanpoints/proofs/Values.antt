@@ -21,8 +21,9 @@ use Rattle.topology.specs.Boundary.{boundaryFrom}
 use Rattle.topology.specs.Vertex.{valence, turns}
 use Rattle.topology.specs.Manifold.{Manifold}
 use Rattle.topology.proofs.Boundary.{boundaryFrom-on, boundaryFrom-at}
-use Rattle.scheme.specs.Rings.{fanNeighbour, fanCorner, fanPlace, ringVirtual, fanVirtual, virtualAt}
-use Rattle.scheme.specs.Step.{axis}
+use Rattle.scheme.specs.Rings.{fanNeighbour, fanCorner, ringVirtual, fanVirtual, virtualAt}
+use Rattle.topology.specs.Quads.{fanPlace}
+use Rattle.nets.specs.Net.{axis}
 use Rattle.walks.proofs.Around.{fan-here}
 use Rattle.ringpoints.specs.Gathered.{Over453600}
 use Rattle.ringpoints.proofs.Bounds.{fan-bound}

@@ -7,7 +7,7 @@ use Rattle.fractions.specs.Fraction.{Equals}
 use Rattle.topology.specs.HalfEdge.{from}
 use Rattle.topology.specs.Vertex.{valence}
 use Rattle.scheme.specs.Rings.{fanNeighbour, fanCorner}
-use Rattle.scheme.specs.Step.{axis}
+use Rattle.nets.specs.Net.{axis}
 
 -- L and K begin with the ring of the vertex that the boundary half-edge s leaves; only extrapolated points exceed the largest coordinate, which is 2^26.
 -- Open, and may differ between correct programs: the places after the ring

@@ -9,7 +9,7 @@ ghost use Rattle.topology.specs.HalfEdge.{from, mate};
 ghost use Rattle.topology.specs.Boundary.{OnBoundary};
 ghost use Rattle.topology.specs.Vertex.{valence};
 ghost use Rattle.scheme.specs.Rings.{fanNeighbour, fanCorner, virtualAt};
-ghost use Rattle.scheme.specs.Step.{axis};
+ghost use Rattle.nets.specs.Net.{axis};
 ghost use Rattle.walks.specs.Ready.{Ready};
 ghost use Rattle.curvepoints.specs.Exact.{Points};
 ghost use Rattle.ringpoints.specs.Gathered.{Filled, Over453600};
@@ -33,7 +33,7 @@ pub fn close_fan(
 {
     let e = walks::back_side(faces, work, s);
     let d = walks::along_side(faces, work, s);
-    let c = corners::start_of(faces, e);
+    let c = halfedges::start_of(faces, e);
     l[m] = ringpoints::sixty(points, c, a);
     l[m + 1] = extrapolation::extrapolated_point(points, faces, work, s, a);
     k[m] = extrapolation::extrapolated_point(points, faces, work, e, a);

@@ -14,7 +14,7 @@ use Rattle.topology.specs.Manifold.{Oriented}
 use Rattle.topology.proofs.Mates.{edges-le}
 use Rattle.refinement.specs.Refined.{refinedVertices, refinedMarks}
 use Rattle.refinement.specs.Mates.{mates}
-use Rattle.adjacency.specs.Chains.{MateTable}
+use Rattle.halfedges.specs.Tables.{MateTable}
 use Rattle.tables.specs.Tables.{filled}
 use Rattle.tables.proofs.Laws.{filled-at, drop-filled}
 use Rattle.growth.specs.Growth.{edges, Numbered, extended}

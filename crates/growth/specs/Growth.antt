@@ -10,7 +10,7 @@ use Rattle.lists.specs.Tabulate.{tabulate}
 use Rattle.topology.specs.Shape.{Shape, quads}
 use Rattle.topology.specs.HalfEdge.{edgeCount, edge}
 use Rattle.topology.specs.Manifold.{Oriented}
-use Rattle.adjacency.specs.Chains.{MateTable}
+use Rattle.halfedges.specs.Tables.{MateTable}
 
 -- the edge numbers as a table
 unfoldable pub edges : Shape → List ℕ → List ℕ

@@ -12,7 +12,7 @@ use Rattle.topology.proofs.Mates.{mate-le}
 use Rattle.refinement.specs.Refined.{refined}
 use Rattle.refinement.specs.Mates.{mates, refinedMate, refinedMates}
 use Rattle.refinement.proofs.Tables.{length-mates, getD-mates, mates-refined}
-use Rattle.adjacency.specs.Chains.{MateTable}
+use Rattle.halfedges.specs.Tables.{MateTable}
 use Rattle.tables.specs.Tables.{filled}
 use Rattle.tables.proofs.Laws.{filled-at, drop-filled}
 use Rattle.mates.specs.Tables.{MatesIn}

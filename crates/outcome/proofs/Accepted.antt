@@ -5,8 +5,9 @@ use Prim.Native.Nat.{ℕ, _*_, _/_}
 use native.Mathlib.Omega.{arith}
 use lib.ListN.{length}
 use Rattle.curve.specs.Weights.{kobbelt}
-use Rattle.tables.specs.Net.{Net}
-use Rattle.tables.proofs.Laws.{take-filled, same-net}
+use Rattle.nets.specs.Net.{Net}
+use Rattle.tables.proofs.Laws.{take-filled}
+use Rattle.nets.proofs.Laws.{same-net}
 use Rattle.verdict.specs.Call.{Call}
 use Rattle.verdict.specs.Verdict.{Verdict, accepted, refused, verdict, workAfter}
 use Rattle.verdict.proofs.Accepted.{accepted-limits, accepted-net}

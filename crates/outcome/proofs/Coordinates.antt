@@ -2,7 +2,7 @@
 use mathlib.Core.Path.{sym, subst}
 use Prim.Native.Nat.{ℕ, _≤_}
 use native.Mathlib.Omega.{arith}
-use Rattle.tables.specs.Net.{Net}
+use Rattle.nets.specs.Net.{Net}
 use Rattle.verdict.proofs.Accepted.{accepted-limits, accepted-fewer, accepted-coordinate}
 use Rattle.schemelaws.specs.Nets.{Within}
 use Rattle.schemelaws.proofs.Growth.{steps-within}

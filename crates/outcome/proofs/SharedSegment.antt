@@ -4,7 +4,7 @@ use mathlib.Core.Logic.{_↔_}
 use Prim.Native.Nat.{ℕ, _≤_}
 use Rattle.curve.specs.Weights.{kobbelt}
 use Rattle.curve.specs.Curve.{curve}
-use Rattle.tables.specs.Net.{Net}
+use Rattle.nets.specs.Net.{Net}
 use Rattle.verdict.specs.Verdict.{accepted, verdict}
 use Rattle.verdict.proofs.Accepted.{accepted-manifold, accepted-fewer}
 use Rattle.seam.specs.Reading.{Reads}

@@ -7,7 +7,7 @@ use Rattle.curve.specs.Weights.{kobbelt}
 use Rattle.curve.specs.Curve.{Kind, Point, curve}
 use Rattle.curve.specs.Near.{CloseToExact}
 use Rattle.topology.specs.Boundary.{Way}
-use Rattle.tables.specs.Net.{Net, frontNet}
+use Rattle.nets.specs.Net.{Net, frontNet}
 use Rattle.seam.specs.Reading.{Reads}
 use Rattle.outcome.specs.Outcome.{Buffers, Result, refinedTo, refusedWith, Outcome, outcome}
 

@@ -7,7 +7,7 @@ use lib.IntN.{ℤ, pos}
 use lib.ListN.{length, getD}
 use Rattle.lists.proofs.Tabulate.{tabulate-cong}
 use Rattle.curve.specs.Weights.{kobbelt}
-use Rattle.tables.specs.Net.{Net}
+use Rattle.nets.specs.Net.{Net}
 use Rattle.tables.specs.Tables.{filled}
 use Rattle.topology.specs.Shape.{quads}
 use Rattle.verdict.specs.Verdict.{Verdict, accepted, refused, limitsVerdict, callVerdict, netVerdict, verdict, workAfter}

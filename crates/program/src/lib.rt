@@ -5,7 +5,7 @@ ghost use mathlib.Core.Path.{_≡_};
 ghost use Prim.Native.Nat.{_≤_};
 ghost use lib.ListN.{length};
 ghost use Rattle.curve.specs.Weights.{kobbelt};
-ghost use Rattle.tables.specs.Net.{net};
+ghost use Rattle.nets.specs.Net.{net};
 ghost use Rattle.verdict.specs.Verdict.{accepted, netVerdict, limitsVerdict};
 ghost use Rattle.scheme.specs.Step.{steps};
 ghost use Rattle.reading.specs.Loaded.{programRoom};

@@ -9,9 +9,10 @@ use lib.IntN.{ℤ}
 use lib.ListN.{length, take, drop}
 use Rattle.lists.proofs.Parts.{drop-later}
 use Rattle.curve.specs.Weights.{kobbelt}
-use Rattle.tables.specs.Net.{Net, frontNet}
+use Rattle.nets.specs.Net.{Net, frontNet}
 use Rattle.tables.specs.Tables.{filled, cleared}
-use Rattle.tables.proofs.Laws.{length-filled, take-filled, filled-over, cleared-over, same-net}
+use Rattle.tables.proofs.Laws.{length-filled, take-filled, filled-over, cleared-over}
+use Rattle.nets.proofs.Laws.{same-net}
 use Rattle.topology.specs.Shape.{quads}
 use Rattle.verdict.specs.Call.{Call, finalFaces}
 use Rattle.verdict.specs.Verdict.{accepted, refused, callVerdict, netVerdict, verdict}
@@ -22,7 +23,7 @@ use Rattle.scheme.specs.Step.{steps}
 use Rattle.schemelaws.specs.Nets.{Refinable}
 use Rattle.schemelaws.proofs.Steps.{step-faces, step-count, refinable-steps}
 use Rattle.refinement.proofs.Corners.{length-refined}
-use Rattle.adjacency.specs.Chains.{MateTable}
+use Rattle.halfedges.specs.Tables.{MateTable}
 use Rattle.validate.proofs.Laws.{joined}
 use Rattle.outcome.specs.Outcome.{Buffers, refinedTo, callOf, outcome}
 use Rattle.refine.specs.declared.Answer.the-variants.{Refined, Refused}

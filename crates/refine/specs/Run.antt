@@ -3,12 +3,12 @@ use mathlib.Core.Path.{_≡_}
 use Prim.Native.Nat.{ℕ, _*_}
 use lib.ListN.{length}
 use Rattle.curve.specs.Weights.{kobbelt}
-use Rattle.tables.specs.Net.{Net}
+use Rattle.nets.specs.Net.{Net}
 use Rattle.tables.specs.Tables.{filled, cleared}
 use Rattle.verdict.specs.Call.{finalFaces}
 use Rattle.verdict.specs.Verdict.{accepted, verdict}
 use Rattle.scheme.specs.Step.{steps}
-use Rattle.adjacency.specs.Chains.{MateTable}
+use Rattle.halfedges.specs.Tables.{MateTable}
 use Rattle.outcome.specs.Outcome.{Buffers, callOf}
 
 -- the call of k rounds is accepted, and its work table starts with the mates

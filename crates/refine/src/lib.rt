@@ -1,6 +1,6 @@
 // The refining call.
 ghost use mathlib.Core.Path.{_≡_};
-ghost use Rattle.tables.specs.Net.{net};
+ghost use Rattle.nets.specs.Net.{net};
 ghost use Rattle.outcome.specs.Outcome.{buffers, outcome};
 ghost use Rattle.refine.specs.Answer.{answered};
 ghost use Rattle.refine.specs.Run.{Admitted, Ran};

@@ -16,8 +16,8 @@ use Rattle.topology.specs.Vertex.{valence, turn, turns}
 use Rattle.topology.specs.Manifold.{Manifold}
 use Rattle.topology.proofs.Rings.{fan-not-back}
 use Rattle.topology.proofs.Walks.{fan-from, fan-from-le}
-use Rattle.scheme.specs.Rings.{oppositeCorner}
-use Rattle.scheme.specs.Step.{axis}
+use Rattle.topology.specs.Quads.{oppositeCorner}
+use Rattle.nets.specs.Net.{axis}
 use Rattle.walks.proofs.Around.{ring-here, ring-here-range}
 use Rattle.extrapolation.proofs.Turned.{Turned}
 use Rattle.ringpoints.specs.Gathered.{Circuit, Filled}

@@ -21,8 +21,9 @@ use Rattle.topology.specs.HalfEdge.{from, to}
 use Rattle.topology.specs.Boundary.{boundaryFrom}
 use Rattle.topology.specs.Vertex.{valence, turn, turns}
 use Rattle.topology.specs.Manifold.{Manifold}
-use Rattle.scheme.specs.Rings.{oppositeCorner, ringVirtual}
-use Rattle.scheme.specs.Step.{axis}
+use Rattle.scheme.specs.Rings.{ringVirtual}
+use Rattle.topology.specs.Quads.{oppositeCorner}
+use Rattle.nets.specs.Net.{axis}
 use Rattle.curvepoints.proofs.Sizes.{axis-bound}
 use Rattle.walks.proofs.Around.{ring-here, ring-here-range}
 use Rattle.ringpoints.specs.Gathered.{Filled, Over453600}

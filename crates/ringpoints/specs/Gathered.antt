@@ -9,8 +9,8 @@ use Rattle.fractions.specs.Fraction.{Fraction, Equals}
 use Rattle.topology.specs.Shape.{quads}
 use Rattle.topology.specs.HalfEdge.{from, to}
 use Rattle.topology.specs.Vertex.{valence, turns}
-use Rattle.scheme.specs.Rings.{oppositeCorner}
-use Rattle.scheme.specs.Step.{axis}
+use Rattle.topology.specs.Quads.{oppositeCorner}
+use Rattle.nets.specs.Net.{axis}
 
 -- turning from h meets each face at its vertex once: round a full ring, or through an open fan from its start
 pub record Circuit (l : List ℕ) (h : ℕ) : Type 0 where

@@ -11,7 +11,7 @@ ghost use Rattle.topology.specs.HalfEdge.{from};
 ghost use Rattle.topology.specs.Boundary.{boundaryFrom};
 ghost use Rattle.topology.specs.Vertex.{valence};
 ghost use Rattle.scheme.specs.Rings.{ringVirtual};
-ghost use Rattle.scheme.specs.Step.{axis};
+ghost use Rattle.nets.specs.Net.{axis};
 ghost use Rattle.walks.specs.Ready.{Ready};
 ghost use Rattle.curvepoints.specs.Exact.{InTable, Points};
 ghost use Rattle.ringpoints.specs.Gathered.{Circuit, Filled, Over453600};
@@ -44,11 +44,11 @@ pub fn gather(
     let mut g = h;
     let mut i: usize = 0;
     loop {
-        let u = corners::end_of(faces, g);
+        let u = halfedges::end_of(faces, g);
         l[i] = sixty(points, u, a);
-        let w = corners::opposite_corner(faces, g);
+        let w = halfedges::opposite_corner(faces, g);
         k[i] = sixty(points, w, a);
-        g = walks::turn_side(faces, work, g);
+        g = halfedges::turn_side(faces, work, g);
         i += 1;
         if g == n {
             return i;

@@ -17,9 +17,9 @@ use Rattle.fractions.specs.Fraction.{Fraction}
 use Rattle.curve.specs.Weights.{kobbelt}
 use Rattle.search.specs.Search.{count}
 use Rattle.search.proofs.Count.{count-le}
-use Rattle.tables.specs.Net.{Net, frontNet}
+use Rattle.nets.specs.Net.{Net, frontNet}
 use Rattle.tables.specs.Tables.{filled}
-use Rattle.tables.proofs.Laws.{same-net}
+use Rattle.nets.proofs.Laws.{same-net}
 use Rattle.topology.specs.Shape.{quads}
 use Rattle.topology.specs.HalfEdge.{mate, firstMet, edgeCount}
 use Rattle.topology.proofs.Mates.{count-new, count-old}
@@ -41,10 +41,10 @@ small-of f x y z k = record { on₀ = k .on₀ .small; on₁ = k .on₁ .small; 
 
 module _ (l marks : List ℕ) (p : List ℤ) (w : List ℕ) (h e : ℕ) (ok : Turn l marks p w h e) where
   pub first-met : h < getD w h 0 → h < mate quads l h
-  first-met b = let m = ok .ready .mated .mates h (ok .lt) in omega arith
+  first-met b = let m = ok .ready .table .mated .mates h (ok .lt) in omega arith
 
   pub met-before : getD w h 0 ≤ h → mate quads l h ≤ h
-  met-before b = let m = ok .ready .mated .mates h (ok .lt) in omega arith
+  met-before b = let m = ok .ready .table .mated .mates h (ok .lt) in omega arith
 
 -- ---- a turn of the pass over the edges
 module _ (l marks : List ℕ) (p₀ : List ℤ) (w₀ : List ℕ) (ok : Round l marks p₀ w₀) (p : List ℤ) (w : List ℕ) (e h : ℕ) (done : Edges l marks p₀ w₀ p w e)

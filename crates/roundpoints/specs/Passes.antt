@@ -9,7 +9,7 @@ use Rattle.curve.specs.Weights.{kobbelt}
 use Rattle.topology.specs.Shape.{quads}
 use Rattle.topology.specs.HalfEdge.{mate}
 use Rattle.scheme.specs.Points.{edgePoint}
-use Rattle.scheme.specs.Step.{axis}
+use Rattle.nets.specs.Net.{axis}
 use Rattle.walks.specs.Ready.{Ready}
 use Rattle.curvepoints.specs.Exact.{Points, Marks, ExactPoint}
 use Rattle.packing.specs.Packed.{putThree}

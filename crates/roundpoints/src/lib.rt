@@ -5,7 +5,7 @@ ghost use Rattle.curve.specs.Weights.{kobbelt};
 ghost use Rattle.topology.specs.Shape.{quads};
 ghost use Rattle.topology.specs.HalfEdge.{edgeCount};
 ghost use Rattle.scheme.specs.Step.{step};
-ghost use Rattle.tables.specs.Net.{frontNet};
+ghost use Rattle.nets.specs.Net.{frontNet};
 ghost use Rattle.tables.specs.Tables.{filled};
 ghost use Rattle.edgetable.specs.EdgeTable.{Round, Edges};
 ghost use Rattle.roundpoints.specs.Passes.{Turn, Turned, Scratch};

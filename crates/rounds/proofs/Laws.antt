@@ -14,9 +14,10 @@ use Rattle.lists.specs.Tabulate.{tabulate}
 use Rattle.lists.proofs.Tabulate.{tabulate-cong}
 use Rattle.lists.proofs.Parts.{drop-later}
 use Rattle.curve.specs.Weights.{kobbelt}
-use Rattle.tables.specs.Net.{Net, frontNet}
+use Rattle.nets.specs.Net.{Net, frontNet}
 use Rattle.tables.specs.Tables.{filled}
-use Rattle.tables.proofs.Laws.{length-filled, same-net}
+use Rattle.tables.proofs.Laws.{length-filled}
+use Rattle.nets.proofs.Laws.{same-net}
 use Rattle.topology.specs.Shape.{quads}
 use Rattle.topology.specs.HalfEdge.{edgeCount}
 use Rattle.topology.specs.Manifold.{Oriented, Manifold}
@@ -26,8 +27,8 @@ use Rattle.scheme.specs.Step.{step}
 use Rattle.schemelaws.specs.Nets.{Within, Refinable}
 use Rattle.integers.specs.Bounded.{Bounded}
 use Rattle.schemelaws.proofs.Steps.{refinable-manifold, step-faces, step-marks, step-count}
-use Rattle.adjacency.specs.Chains.{MateTable}
-use Rattle.adjacency.proofs.Chains.{mates-cong}
+use Rattle.halfedges.specs.Tables.{MateTable}
+use Rattle.halfedges.proofs.Tables.{mates-cong}
 use Rattle.growth.specs.Growth.{edges, extended, Mated, Numbered}
 use Rattle.growth.specs.Growth as Growth
 use Rattle.growth.proofs.Edges.{length-both}

@@ -10,9 +10,10 @@ use lib.Seq.{length-take-le}
 use lib.Dec.{lit≤}
 use Rattle.lists.proofs.Parts.{drop-later}
 use Rattle.curve.specs.Weights.{kobbelt}
-use Rattle.tables.specs.Net.{Net, frontNet}
+use Rattle.nets.specs.Net.{Net, frontNet}
 use Rattle.tables.specs.Tables.{filled}
-use Rattle.tables.proofs.Laws.{length-filled, take-filled, filled-over, same-net}
+use Rattle.tables.proofs.Laws.{length-filled, take-filled, filled-over}
+use Rattle.nets.proofs.Laws.{same-net}
 use Rattle.topology.specs.Shape.{quads}
 use Rattle.refinement.specs.Refined.{refined}
 use Rattle.refinement.proofs.Corners.{length-refined}
@@ -20,7 +21,7 @@ use Rattle.scheme.specs.Step.{step, steps}
 use Rattle.schemelaws.specs.Nets.{Refinable}
 use Rattle.schemelaws.proofs.Steps.{step-faces, step-count, step-length, refinable-steps}
 use Rattle.schemelaws.proofs.Growth.{steps-input}
-use Rattle.adjacency.specs.Chains.{MateTable}
+use Rattle.halfedges.specs.Tables.{MateTable}
 use Rattle.refinement.specs.Mates.{refinedMates}
 use Rattle.mates.specs.Tables.{MatesIn}
 use Rattle.rounds.specs.Round.{Current, Refines}

@@ -1,11 +1,12 @@
 // The first place of refusals 5 to 8, found by scanning tables.
-ghost use Prim.Native.Nat.{_+_, _*_, _%_, _^_, _≤_, _<_};
+ghost use Prim.Native.Nat.{_+_, _*_, _≤_, _<_};
 ghost use mathlib.Core.Path.{_≡_};
 ghost use lib.ListN.{length, drop};
 ghost use Rattle.search.specs.Search.{first};
 ghost use Rattle.verdict.specs.Verdict.{badCoordinate};
 ghost use Rattle.topology.specs.Shape.{quads};
 ghost use Rattle.refusals.specs.Refusals.{badMark, badCorner, isolated};
+ghost use Rattle.halfedges.specs.Tables.{Quadrilaterals};
 ghost use Rattle.scan.specs.Flags.{Flagged};
 
 // The first coordinate out of range, or their number.
@@ -93,30 +94,30 @@ pub fn first_isolated(faces: &[u32], nv: usize, work: &mut [u32]) -> usize
     first_unflagged(faces, n + 1, &*work)
 }
 
-// Whether the corner of half-edge h is not below nv, or equals another corner of its face.
+// Whether the corner of half-edge h is not below nv, or equals another corner of its face. k counts the sides passed.
 fn bad_corner(faces: &[u32], nv: usize, h: usize) -> bool
-    requires { ⌜ (length (now faces) % 4 ≡ 0) × (length (now faces) < 2 ^ 24) × (h < length (now faces)) ⌝ }
+    requires { ⌜ Quadrilaterals (length (now faces)) × (h < length (now faces)) ⌝ }
     ensures { λ r. ⌜ r ≡ badCorner quads nv (now (faces .entry)) h ⌝ }
 {
     let a = faces[h];
     if a as usize >= nv {
         return true;
     }
-    let g = adjacency::next_side(h);
-    if faces[g] == a {
-        return true;
+    let mut g = halfedges::next_side(h);
+    let mut k: usize = 0;
+    while g != h {
+        if faces[g] == a {
+            return true;
+        }
+        g = halfedges::next_side(g);
+        k += 1;
     }
-    let i = adjacency::next_side(g);
-    if faces[i] == a {
-        return true;
-    }
-    let j = adjacency::next_side(i);
-    faces[j] == a
+    false
 }
 
 // The first half-edge with a bad corner, or their number.
 pub fn first_bad_corner(faces: &[u32], nv: usize) -> usize
-    requires { ⌜ (length (now faces) % 4 ≡ 0) × (length (now faces) < 2 ^ 24) ⌝ }
+    requires { ⌜ Quadrilaterals (length (now faces)) ⌝ }
     ensures { λ r. ⌜ r ≡ first (badCorner quads nv (now (faces .entry))) (length (now (faces .entry))) ⌝ }
 {
     let mut h = 0;

@@ -15,7 +15,8 @@ use Rattle.rules.proofs.Ties.{interior-rounded, end-rounded, single-rounded}
 use Rattle.topology.specs.Shape.{quads}
 use Rattle.topology.specs.HalfEdge.{from, to, mate}
 use Rattle.topology.specs.Boundary.{OnBoundary, along, back}
-use Rattle.scheme.specs.Points.{marked, edgeRule, edgeValue, edgePoint}
+use Rattle.scheme.specs.Points.{edgeRule, edgeValue, edgePoint}
+use Rattle.nets.specs.Net.{marked}
 
 module _ (w : Weights) (some : 0 < scale w) (l marks : List ℕ) (p : ℕ → ℤ) (h : ℕ) (o : OnBoundary quads l h) where
   no-mate : ltb (mate quads l h) (length l) ≡ false

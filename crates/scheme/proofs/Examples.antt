@@ -11,15 +11,16 @@ use Rattle.rings.specs.Ring.{virtual}
 use Rattle.rules.specs.Rules.{interiorPoint, endPoint, midpoint, extrapolated, extrapolatedCorner}
 use Rattle.search.specs.Search.{firstFrom, first, count, iterate}
 use Rattle.curve.specs.Weights.{kobbelt}
-use Rattle.tables.specs.Net.{Net}
+use Rattle.nets.specs.Net.{Net, marked, axis}
 use Rattle.topology.specs.Shape.{quads}
 use Rattle.topology.specs.HalfEdge.{from, to, opposed, mate, firstMet, edgeCount, edge}
 use Rattle.topology.specs.Boundary.{isBoundaryFrom, isBoundaryInto, boundaryFrom, boundaryInto, along, back}
 use Rattle.topology.specs.Vertex.{leaves, valence, turn}
 use Rattle.refinement.specs.Refined.{corner, refined, refinedMarks}
-use Rattle.scheme.specs.Rings.{oppositeCorner, fanEnd, extrapolatedAt, fanNeighbour, fanCorner, fanPlace, ringVirtual, fanVirtual, virtualAt}
-use Rattle.scheme.specs.Points.{marked, edgeRule, edgeValue, edgePoint, across, beyond, direction, inner, fourInner, faceRule, faceValue, facePoint}
-use Rattle.scheme.specs.Step.{edgeAt, refinedCoordinate, axis, step}
+use Rattle.scheme.specs.Rings.{extrapolatedAt, fanNeighbour, fanCorner, ringVirtual, fanVirtual, virtualAt}
+use Rattle.topology.specs.Quads.{oppositeCorner, fanEnd, fanPlace, across, beyond}
+use Rattle.scheme.specs.Points.{edgeRule, edgeValue, edgePoint, direction, inner, fourInner, faceRule, faceValue, facePoint}
+use Rattle.scheme.specs.Step.{edgeAt, refinedCoordinate, step}
 
 abbrev plane : ℤ → ℤ → List ℤ → List ℤ
 plane x y l = x ∷ y ∷ pos 0 ∷ l

@@ -2,20 +2,18 @@
 use mathlib.Core.Bool.{Bool, cond, _&&_}
 use mathlib.Core.List.{List}
 use Prim.Native.Nat.{ℕ, _*_, _+_}
-use lib.Dec.{eqb, ltb}
+use lib.Dec.{ltb}
 use lib.IntN.{ℤ}
-use lib.ListN.{length, getD}
+use lib.ListN.{length}
 use Rattle.curve.specs.Weights.{Weights}
 use Rattle.fractions.specs.Fraction.{Fraction, whole}
 use Rattle.rules.specs.Rules.{interiorPoint, endPoint, midpoint, innerEdge, directionTwo, directionOne, directionNone, meanOfBoth}
 use Rattle.topology.specs.Shape.{quads}
 use Rattle.topology.specs.HalfEdge.{from, to, mate}
 use Rattle.topology.specs.Boundary.{along, back}
+use Rattle.topology.specs.Quads.{across, beyond}
+use Rattle.nets.specs.Net.{marked}
 use Rattle.scheme.specs.Rings.{virtualAt}
-
--- "1 corner, 0 not"
-unfoldable pub marked : List ℕ → ℕ → Bool
-marked marks v = eqb (getD marks v 0) 1
 
 -- ---- edges: which rule makes the point on the edge of h, by adjacency and marks alone
 -- "A loop is cut at its marked vertices into open stretches": whether a boundary edge lies inside its segment, starts it, ends it, or is all of it
@@ -42,13 +40,6 @@ unfoldable pub edgePoint : Weights → List ℕ → List ℕ → (ℕ → ℤ) �
 edgePoint w l marks p h = edgeValue w l p h (edgeRule l marks h)
 
 -- ---- faces
--- the side opposite h in its face; and "beyond each, the opposite edge of the neighbour"
-unfoldable pub across : ℕ → ℕ
-across h = quads .next (quads .next h)
-
-unfoldable pub beyond : List ℕ → ℕ → ℕ
-beyond l h = across (mate quads l h)
-
 -- "In each direction take two opposite sides and, beyond each, the opposite edge of the neighbour.": the direction of the side h, from the edge points e, by the
 -- rules for two neighbours, for one and for none
 abbrev pub directionBy : {A B : Type 0} → (A → A → A → A → B) → (A → A → A → B) → (A → A → B) → List ℕ → (ℕ → A) → ℕ → B

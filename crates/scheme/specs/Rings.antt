@@ -1,11 +1,10 @@
 -- The rings of vertices of a net with four-sided faces l, and the virtual and extrapolated points on one coordinate p of its vertices.
 use mathlib.Core.Bool.{cond}
 use mathlib.Core.List.{List}
-use Prim.Native.Nat.{ℕ, zero, suc, _+_, _-_}
+use Prim.Native.Nat.{ℕ, suc, _+_, _-_}
 use lib.Dec.{eqb, ltb}
 use lib.IntN.{ℤ}
 use lib.ListN.{length}
-use Rattle.search.specs.Search.{first}
 use Rattle.curve.specs.Weights.{Weights}
 use Rattle.fractions.specs.Fraction.{Fraction, whole}
 use Rattle.rings.specs.Ring.{wrap, virtual}
@@ -14,15 +13,7 @@ use Rattle.topology.specs.Shape.{quads}
 use Rattle.topology.specs.HalfEdge.{from, to}
 use Rattle.topology.specs.Boundary.{boundaryFrom}
 use Rattle.topology.specs.Vertex.{valence, turns}
-
--- the corner of the face of h that lies opposite the vertex of h
-unfoldable pub oppositeCorner : List ℕ → ℕ → ℕ
-oppositeCorner l h = to quads l (quads .next h)
-
--- the far end of edge i of the open fan that starts with the half-edge s: of m faces, edges 0 to m
-unfoldable pub fanEnd : List ℕ → ℕ → ℕ → ℕ
-fanEnd l s zero = to quads l s
-fanEnd l s (suc i) = from l (quads .prev (turns quads l i s))
+use Rattle.topology.specs.Quads.{oppositeCorner, fanEnd, fanPlace}
 
 -- "For a boundary vertex P in m faces, P* = 2P minus the mean of the far ends of its m - 1 inner edges; for m = 1, P* = 2P minus the opposite corner of its face."
 unfoldable pub extrapolatedAt : List ℕ → (ℕ → ℤ) → ℕ → Fraction
@@ -43,10 +34,6 @@ fanCorner l p v i =
     cond (eqb i (valence l v)) (extrapolatedAt l p (fanEnd l (boundaryFrom quads l v) (valence l v)))
     (cond (eqb i (valence l v + 1)) (extrapolatedAt l p (fanEnd l (boundaryFrom quads l v) 0))
     (whole (p (oppositeCorner l (turns quads l i (boundaryFrom quads l v))))))
-
--- the place of the half-edge h in the fan of the boundary vertex v
-unfoldable pub fanPlace : List ℕ → ℕ → ℕ → ℕ
-fanPlace l v h = first (λ (i : ℕ). eqb (turns quads l i (boundaryFrom quads l v)) h) (valence l v)
 
 -- the virtual point at the vertex that h leaves, on the edge of h: the ring is taken from h on, or the fan from its start
 unfoldable pub ringVirtual : Weights → List ℕ → (ℕ → ℤ) → ℕ → Fraction

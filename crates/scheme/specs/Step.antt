@@ -3,11 +3,11 @@ use mathlib.Core.Bool.{cond}
 use mathlib.Core.List.{List}
 use Prim.Native.Nat.{ℕ, zero, suc, _+_, _-_, _*_, _/_, _%_}
 use lib.Dec.{eqb, ltb}
-use lib.IntN.{ℤ, pos}
-use lib.ListN.{length, getD}
+use lib.IntN.{ℤ}
+use lib.ListN.{length}
 use Rattle.lists.specs.Tabulate.{tabulate}
 use Rattle.search.specs.Search.{first}
-use Rattle.tables.specs.Net.{Net}
+use Rattle.nets.specs.Net.{Net, axis}
 use Rattle.curve.specs.Weights.{Weights}
 use Rattle.fractions.specs.Fraction.{toWhole}
 use Rattle.topology.specs.Shape.{quads}
@@ -25,10 +25,6 @@ refinedCoordinate w v l marks p i =
     cond (ltb i v) (p i)
     (cond (ltb i (v + edgeCount quads l)) (toWhole (edgePoint w l marks p (edgeAt l (i - v))))
     (toWhole (facePoint w l marks p (i - (v + edgeCount quads l)))))
-
--- coordinate a of the vertices of a table
-unfoldable pub axis : List ℤ → ℕ → ℕ → ℤ
-axis vs a i = getD vs (3 * i + a) (pos 0)
 
 unfoldable pub step : Weights → Net → Net
 step w m =

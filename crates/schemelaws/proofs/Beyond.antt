@@ -12,8 +12,7 @@ use Rattle.topology.specs.Vertex.{turn, turns, unturn, Ring}
 use Rattle.topology.specs.Manifold.{Manifold}
 use Rattle.topology.proofs.Mates.{mate-is, mate-back}
 use Rattle.topology.proofs.Turn.{turn-inj, turn-unturn}
-use Rattle.scheme.specs.Rings.{oppositeCorner}
-use Rattle.scheme.specs.Points.{across, beyond}
+use Rattle.topology.specs.Quads.{oppositeCorner, across, beyond}
 
 module _ (v : ℕ) (l : List ℕ) (ok : Manifold quads v l) where
   -- ---- the four sides of a face

@@ -23,8 +23,8 @@ use Rattle.topology.specs.HalfEdge.{from, mate}
 use Rattle.topology.specs.Boundary.{boundaryFrom}
 use Rattle.topology.specs.Vertex.{valence}
 use Rattle.topology.specs.Manifold.{Manifold}
-use Rattle.scheme.specs.Rings.{fanEnd, fanPlace}
-use Rattle.scheme.specs.Points.{EdgeRule, insideSegment, startOfSegment, endOfSegment, wholeSegment, innerRule, edgeRule, across, beyond, FaceRule, firstAlone, secondAlone, bothDirections, faceRule}
+use Rattle.topology.specs.Quads.{fanEnd, fanPlace, across, beyond}
+use Rattle.scheme.specs.Points.{EdgeRule, insideSegment, startOfSegment, endOfSegment, wholeSegment, innerRule, edgeRule, FaceRule, firstAlone, secondAlone, bothDirections, faceRule}
 use Rattle.schemelaws.specs.Numerators.{extrapolatedAtZ, fanNeighbourZ, fanCornerZ, ringNeighbourZ, ringCornerZ, ringVirtualZ, fanVirtualZ, virtualAtZ, edgeValueZ, edgeZ, directionZ, faceValueZ, faceZ}
 use Rattle.schemelaws.proofs.Vertices.{fan-at, fan-le, first-end, last-end, ring-ge, ring-le}
 use Rattle.schemelaws.proofs.Ties.{rule-inner, across-lt, side₀-lt, side₁-lt}

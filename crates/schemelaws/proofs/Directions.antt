@@ -29,8 +29,8 @@ use Rattle.topology.proofs.Shape.{face-prev, next-not, next-next-not, four-side
 use Rattle.topology.proofs.Mates.{to-prev, mate-is}
 use Rattle.topology.proofs.Rings.{ring-mates, ring-turns}
 use Rattle.topology.proofs.Faces.{share-one}
-use Rattle.scheme.specs.Rings.{oppositeCorner}
-use Rattle.scheme.specs.Points.{edgePoint, across, beyond, direction}
+use Rattle.topology.specs.Quads.{oppositeCorner, across, beyond}
+use Rattle.scheme.specs.Points.{edgePoint, direction}
 use Rattle.schemelaws.specs.Numerators.{ringNeighbourZ, ringCornerZ, virtualAtZ, edgeZ, directionZ}
 use Rattle.schemelaws.specs.Agreement.{Inside, SideOf, Leaves, Regular}
 use Rattle.schemelaws.proofs.Vertices.{ring-of, ring-ge, ring-le, neighbours-periodic, corners-periodic}

@@ -14,7 +14,7 @@ use Rattle.topology.specs.Shape.{quads}
 use Rattle.topology.specs.HalfEdge.{from, to, opposed, mate}
 use Rattle.topology.specs.Boundary.{isBoundaryFrom, boundaryFrom}
 use Rattle.topology.specs.Vertex.{leaves, valence}
-use Rattle.scheme.specs.Rings.{oppositeCorner}
+use Rattle.topology.specs.Quads.{oppositeCorner}
 use Rattle.schemelaws.specs.Agreement.{Inside, Regular}
 
 abbrev torus : List ℕ

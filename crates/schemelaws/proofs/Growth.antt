@@ -6,11 +6,11 @@ use lib.IntN.{ℤ, natAbs}
 use lib.ListN.{length}
 use Rattle.curve.specs.Weights.{kobbelt}
 use Rattle.rules.proofs.Growth.{grown, rounded-grown, grown-kept, limit, limit-input, limit-output}
-use Rattle.tables.specs.Net.{Net}
+use Rattle.nets.specs.Net.{Net, axis}
 use Rattle.topology.specs.Shape.{quads}
 use Rattle.topology.specs.Manifold.{Manifold}
 use Rattle.refinement.specs.Refined.{refinedVertices}
-use Rattle.scheme.specs.Step.{refinedCoordinate, axis, step, steps}
+use Rattle.scheme.specs.Step.{refinedCoordinate, step, steps}
 use Rattle.schemelaws.specs.Numerators.{edgeZ, faceZ}
 use Rattle.schemelaws.specs.Nets.{Within, Refinable}
 use Rattle.schemelaws.proofs.Coordinates.{refined-cases, refined-old, refined-edge, refined-face}

@@ -28,8 +28,8 @@ use Rattle.topology.specs.Vertex.{valence, turns}
 use Rattle.topology.specs.Manifold.{Manifold}
 use Rattle.topology.proofs.Mates.{mate-le, mate-back}
 use Rattle.topology.proofs.Boundary.{to-lt, along-on, back-on}
-use Rattle.scheme.specs.Rings.{oppositeCorner, fanEnd, fanPlace}
-use Rattle.scheme.specs.Points.{EdgeRule, insideSegment, startOfSegment, endOfSegment, wholeSegment, innerRule, edgeRule, across, beyond, FaceRule, firstAlone, secondAlone, bothDirections, faceRule}
+use Rattle.topology.specs.Quads.{oppositeCorner, fanEnd, fanPlace, across, beyond}
+use Rattle.scheme.specs.Points.{EdgeRule, insideSegment, startOfSegment, endOfSegment, wholeSegment, innerRule, edgeRule, FaceRule, firstAlone, secondAlone, bothDirections, faceRule}
 use Rattle.schemelaws.specs.Numerators.{extrapolatedAtZ, fanNeighbourZ, fanCornerZ, ringNeighbourZ, ringCornerZ, ringVirtualZ, fanVirtualZ, virtualAtZ, edgeValueZ, edgeZ, directionZ, faceValueZ, faceZ}
 use Rattle.schemelaws.proofs.Vertices.{opposite-below, boundary-below, fan-at, fan-le, fanEnd-below, fanOpposite-below, first-end, last-end, place-at, place-inner, ring-of, ring-ge, ring-le, turns-lt, neighbours-periodic, corners-periodic}
 use Rattle.schemelaws.proofs.Ties.{rule-inner, across-lt, side₀-lt, side₁-lt}

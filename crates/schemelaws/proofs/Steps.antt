@@ -7,7 +7,7 @@ use native.Mathlib.Omega.{arith}
 use lib.IntN.{pos}
 use lib.ListN.{length, getD, List·getD-eq-default}
 use Rattle.lists.proofs.Tabulate.{length-tabulate, getD-tabulate}
-use Rattle.tables.specs.Net.{Net}
+use Rattle.nets.specs.Net.{Net, axis}
 use Rattle.curve.specs.Weights.{Weights}
 use Rattle.topology.specs.Shape.{quads}
 use Rattle.topology.specs.Manifold.{Manifold}
@@ -17,7 +17,7 @@ use Rattle.refinement.specs.Refined.{refinedVertices, refined, refinedMarks, ve
 use Rattle.refinement.proofs.Corners.{length-refined}
 use Rattle.refinement.proofs.Manifold.{unrefused-refined, vertices-after-ge}
 use Rattle.refinement.proofs.Marks.{length-marks, mark-old, mark-new, no-6-refined, no-12-refined}
-use Rattle.scheme.specs.Step.{refinedCoordinate, axis, step, steps}
+use Rattle.scheme.specs.Step.{refinedCoordinate, step, steps}
 use Rattle.schemelaws.specs.Nets.{Refinable}
 use Rattle.schemelaws.proofs.Coordinates.{refined-old}
 

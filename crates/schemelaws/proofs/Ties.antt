@@ -20,8 +20,10 @@ use Rattle.topology.specs.HalfEdge.{from, to, mate}
 use Rattle.topology.specs.Boundary.{boundaryFrom, along, back}
 use Rattle.topology.specs.Vertex.{valence, turns}
 use Rattle.topology.specs.Manifold.{Manifold}
-use Rattle.scheme.specs.Rings.{oppositeCorner, fanEnd, extrapolatedAt, fanNeighbour, fanCorner, fanPlace, ringVirtual, fanVirtual, virtualAt}
-use Rattle.scheme.specs.Points.{EdgeRule, insideSegment, startOfSegment, endOfSegment, wholeSegment, innerRule, marked, edgeRule, edgeValue, edgePoint, across, beyond, direction, FaceRule, firstAlone, secondAlone, bothDirections, faceRule, faceValue, facePoint}
+use Rattle.scheme.specs.Rings.{extrapolatedAt, fanNeighbour, fanCorner, ringVirtual, fanVirtual, virtualAt}
+use Rattle.topology.specs.Quads.{oppositeCorner, fanEnd, fanPlace, across, beyond}
+use Rattle.nets.specs.Net.{marked}
+use Rattle.scheme.specs.Points.{EdgeRule, insideSegment, startOfSegment, endOfSegment, wholeSegment, innerRule, edgeRule, edgeValue, edgePoint, direction, FaceRule, firstAlone, secondAlone, bothDirections, faceRule, faceValue, facePoint}
 use Rattle.schemelaws.specs.Numerators.{extrapolatedAtZ, fanNeighbourZ, fanCornerZ, ringNeighbourZ, ringCornerZ, ringVirtualZ, fanVirtualZ, virtualAtZ, edgeValueZ, edgeZ, directionZ, faceValueZ, faceZ}
 use Rattle.schemelaws.proofs.Vertices.{fan-at, fan-le, first-end, last-end, ring-ge, ring-le}
 

@@ -19,7 +19,7 @@ use Rattle.topology.specs.Manifold.{Manifold}
 use Rattle.topology.proofs.Boundary.{boundaryFrom-le, boundaryFrom-on, boundaryFrom-at, boundaryFrom-is, to-lt, along-on, back-on, ring-start, ring-range}
 use Rattle.topology.proofs.Rings.{ring-at}
 use Rattle.topology.proofs.Walks.{fan-from, fan-from-le, back-turns}
-use Rattle.scheme.specs.Rings.{oppositeCorner, fanEnd, fanPlace}
+use Rattle.topology.specs.Quads.{oppositeCorner, fanEnd, fanPlace}
 use Rattle.schemelaws.specs.Numerators.{ringNeighbourZ, ringCornerZ}
 
 module _ (v : ℕ) (l : List ℕ) (ok : Manifold quads v l) where

@@ -8,7 +8,7 @@ use Rattle.topology.specs.Shape.{quads}
 use Rattle.topology.specs.HalfEdge.{from, to}
 use Rattle.topology.specs.Boundary.{boundaryFrom}
 use Rattle.topology.specs.Vertex.{valence}
-use Rattle.scheme.specs.Rings.{oppositeCorner}
+use Rattle.topology.specs.Quads.{oppositeCorner}
 
 -- a vertex lies inside if no boundary half-edge leaves it
 abbrev pub Inside : List ℕ → ℕ → Type 0

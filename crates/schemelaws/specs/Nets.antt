@@ -5,7 +5,7 @@ use Prim.Native.Nat.{ℕ, _*_, _%_, _≤_, _<_}
 use lib.IntN.{ℤ, pos, natAbs}
 use lib.ListN.{length, getD}
 use Rattle.search.specs.Search.{first}
-use Rattle.tables.specs.Net.{Net}
+use Rattle.nets.specs.Net.{Net}
 use Rattle.topology.specs.Shape.{quads}
 use Rattle.refusals.specs.Refusals.{badMark, markedRing, Unrefused}
 

@@ -15,7 +15,7 @@ use Rattle.topology.specs.Shape.{quads}
 use Rattle.topology.specs.HalfEdge.{from, to, mate}
 use Rattle.topology.specs.Boundary.{boundaryFrom, along, back}
 use Rattle.topology.specs.Vertex.{valence, turns}
-use Rattle.scheme.specs.Rings.{oppositeCorner, fanEnd, fanPlace}
+use Rattle.topology.specs.Quads.{oppositeCorner, fanEnd, fanPlace}
 use Rattle.scheme.specs.Points.{EdgeRule, insideSegment, startOfSegment, endOfSegment, wholeSegment, innerRule, edgeRule, directionBy, FaceRule, firstAlone, secondAlone, bothDirections, faceRule}
 
 -- ---- over 60

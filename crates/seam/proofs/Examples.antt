@@ -9,7 +9,7 @@ use lib.ListN.{length}
 use Rattle.lists.specs.Tabulate.{tabulate}
 use Rattle.rounding.specs.Rounding.{round}
 use Rattle.search.specs.Search.{firstFrom, first, count, any, iterate}
-use Rattle.tables.specs.Net.{Net}
+use Rattle.nets.specs.Net.{Net, marked, axis, pointOf}
 use Rattle.curve.specs.Weights.{kobbelt}
 use Rattle.curve.specs.Curve.{Open, Closed, Point, curve}
 use Rattle.topology.specs.Shape.{quads}
@@ -21,9 +21,9 @@ use Rattle.refusals.specs.Refusals.{badCorner, isolated, repeatedSide, nonManif
 use Rattle.refusals.proofs.Manifold.{manifold-if}
 use Rattle.refinement.specs.Refined.{corner, refined, refinedMarks}
 use Rattle.rules.specs.Rules.{interiorPoint, endPoint, midpoint}
-use Rattle.scheme.specs.Points.{marked, edgeRule, edgeValue, edgePoint}
-use Rattle.scheme.specs.Step.{edgeAt, refinedCoordinate, axis, step}
-use Rattle.seam.specs.Reading.{pointOf, nextVertex, vertexAt, points, Reads}
+use Rattle.scheme.specs.Points.{edgeRule, edgeValue, edgePoint}
+use Rattle.scheme.specs.Step.{edgeAt, refinedCoordinate, step}
+use Rattle.seam.specs.Reading.{nextVertex, vertexAt, points, Reads}
 use Rattle.seam.specs.Seam.{Admissible, Seam}
 use Rattle.seam.proofs.Seam.{seam}
 

@@ -12,15 +12,14 @@ use Rattle.lists.proofs.Tabulate.{length-tabulate}
 use Rattle.search.specs.Search.{first, iterate}
 use Rattle.search.proofs.Tests.{clash}
 use Rattle.search.proofs.First.{first-holds, first-before}
-use Rattle.tables.specs.Net.{Net}
+use Rattle.nets.specs.Net.{Net, marked, pointOf}
 use Rattle.curve.specs.Curve.{Kind, Open, Closed, Point}
 use Rattle.topology.specs.Shape.{quads}
 use Rattle.topology.specs.HalfEdge.{from}
 use Rattle.topology.specs.Boundary.{boundaryFrom, Way, step}
 use Rattle.topology.proofs.Boundary.{boundaryFrom-on, boundaryFrom-at, from-inj}
 use Rattle.topology.proofs.Loops.{loop-three, steps-meet}
-use Rattle.scheme.specs.Points.{marked}
-use Rattle.seam.specs.Reading.{pointOf, vertexAt, points, OpenReading, ClosedReading, Reads}
+use Rattle.seam.specs.Reading.{vertexAt, points, OpenReading, ClosedReading, Reads}
 use Rattle.seam.specs.Seam.{Admissible}
 use Rattle.seam.proofs.Vertices.{halfEdge-on, vertex-at}
 

@@ -8,7 +8,7 @@ use lib.ListN.{length, getD}
 use lib.Dec.{eqb}
 use Rattle.search.specs.Search.{iterate}
 use Rattle.search.proofs.Quarters.{parity}
-use Rattle.tables.specs.Net.{Net}
+use Rattle.nets.specs.Net.{Net, marked, pointOf}
 use Rattle.curve.specs.Curve.{Kind, Open, Closed, Rules, Point, openStep, closedStep, step as curveStep}
 use Rattle.curve.proofs.Symmetry.{Symmetric}
 use Rattle.topology.specs.Shape.{quads}
@@ -17,8 +17,7 @@ use Rattle.topology.specs.Boundary.{OnBoundary, boundaryFrom, along, back, Way,
 use Rattle.topology.proofs.Boundary.{along-on, along-from, back-to, along-back}
 use Rattle.topology.proofs.Loops.{passed-on, step-undone}
 use Rattle.refinement.proofs.Marks.{mark-old, mark-new}
-use Rattle.scheme.specs.Points.{marked}
-use Rattle.seam.specs.Reading.{pointOf, nextVertex, vertexAt, points, OpenReading, ClosedReading, Reads}
+use Rattle.seam.specs.Reading.{nextVertex, vertexAt, points, OpenReading, ClosedReading, Reads}
 use Rattle.seam.specs.BoundaryStep.{boundaryRule, boundaryPoint, BoundaryStep}
 use Rattle.seam.specs.Seam.{Admissible}
 use Rattle.seam.proofs.Interleaved.{Interleaved, open-list, closed-list}

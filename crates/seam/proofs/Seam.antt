@@ -4,7 +4,7 @@ use mathlib.Core.Logic.{_↔_}
 use mathlib.Core.List.{List}
 use Prim.Native.Nat.{ℕ, zero, suc, _<_}
 use native.Mathlib.Omega.{arith}
-use Rattle.tables.specs.Net.{Net}
+use Rattle.nets.specs.Net.{Net}
 use Rattle.curve.specs.Weights.{Weights, kobbelt, scale}
 use Rattle.curve.specs.Curve.{Kind, rounded, Point, each, step as curveStep, steps as curveSteps, curve}
 use Rattle.curve.proofs.Symmetry.{rounded-symmetric, each-symmetric}

@@ -6,7 +6,7 @@ use Prim.Native.Nat.{ℕ, _+_, _<_}
 use native.Mathlib.Omega.{arith}
 use lib.IntN.{ℤ}
 use lib.ListN.{length}
-use Rattle.tables.specs.Net.{Net}
+use Rattle.nets.specs.Net.{Net, marked, axis, pointOf}
 use Rattle.curve.specs.Weights.{Weights, scale}
 use Rattle.curve.specs.Curve.{Rules, rounded, Point, each}
 use Rattle.fractions.specs.Fraction.{toWhole}
@@ -15,12 +15,11 @@ use Rattle.topology.specs.HalfEdge.{from, to, edge}
 use Rattle.topology.specs.Boundary.{OnBoundary, along, back}
 use Rattle.topology.proofs.Mates.{edge-lt}
 use Rattle.refinement.proofs.Manifold.{manifold-refined}
-use Rattle.scheme.specs.Points.{marked, edgePoint}
-use Rattle.scheme.specs.Step.{edgeAt, axis, step}
+use Rattle.scheme.specs.Points.{edgePoint}
+use Rattle.scheme.specs.Step.{edgeAt, step}
 use Rattle.scheme.proofs.BoundaryEdges.{inside-rounded, start-rounded, finish-rounded, whole-rounded}
 use Rattle.schemelaws.proofs.Coordinates.{edgeAt-edge, refined-old, refined-edge-at}
 use Rattle.schemelaws.proofs.Steps.{step-faces, step-marks, step-count, step-axis}
-use Rattle.seam.specs.Reading.{pointOf}
 use Rattle.seam.specs.BoundaryStep.{boundaryRule, boundaryPoint, BoundaryStep}
 use Rattle.seam.specs.Seam.{Admissible}
 

@@ -8,15 +8,14 @@ use Rattle.lists.specs.Tabulate.{tabulate}
 use Rattle.lists.proofs.Tabulate.{tabulate-cong}
 use Rattle.search.specs.Search.{iterate}
 use Rattle.search.proofs.Iterate.{iterate-add}
-use Rattle.tables.specs.Net.{Net}
+use Rattle.nets.specs.Net.{Net, marked, pointOf}
 use Rattle.curve.specs.Curve.{Point}
 use Rattle.curve.proofs.Rotation.{rotate, flip}
 use Rattle.topology.specs.Shape.{quads}
 use Rattle.topology.specs.HalfEdge.{from}
 use Rattle.topology.specs.Boundary.{boundaryFrom, Way, other, step}
 use Rattle.topology.proofs.Loops.{steps-undone}
-use Rattle.scheme.specs.Points.{marked}
-use Rattle.seam.specs.Reading.{pointOf, nextVertex, vertexAt, points, OpenReading, ClosedReading}
+use Rattle.seam.specs.Reading.{nextVertex, vertexAt, points, OpenReading, ClosedReading}
 use Rattle.seam.specs.Seam.{Admissible}
 use Rattle.seam.proofs.Vertices.{vertex-from, halfEdge-on, vertex-at, boundary-at}
 

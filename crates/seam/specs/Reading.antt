@@ -6,17 +6,11 @@ use Prim.Native.Nat.{ℕ, suc, _<_}
 use lib.ListN.{length}
 use Rattle.lists.specs.Tabulate.{tabulate}
 use Rattle.search.specs.Search.{iterate}
-use Rattle.tables.specs.Net.{Net}
+use Rattle.nets.specs.Net.{Net, pointOf, marked}
 use Rattle.curve.specs.Curve.{Kind, Open, Closed, Point}
 use Rattle.topology.specs.Shape.{quads}
 use Rattle.topology.specs.HalfEdge.{from, to}
 use Rattle.topology.specs.Boundary.{boundaryFrom, boundaryInto, Way, withSides, againstSides}
-use Rattle.scheme.specs.Points.{marked}
-use Rattle.scheme.specs.Step.{axis}
-
--- the point of vertex v
-unfoldable pub pointOf : Net → ℕ → Point
-pointOf m v = record { x = axis (m .vertices) 0 v; y = axis (m .vertices) 1 v; z = axis (m .vertices) 2 v }
 
 -- the vertex after v along the boundary of the faces l: "each boundary vertex ends one boundary edge and starts one, the way the sides run"; "Either may be
 -- read with the sides or against them."

@@ -4,7 +4,7 @@ use mathlib.Core.Logic.{_↔_}
 use mathlib.Core.List.{List}
 use Prim.Native.Nat.{ℕ}
 use lib.ListN.{length}
-use Rattle.tables.specs.Net.{Net}
+use Rattle.nets.specs.Net.{Net}
 use Rattle.curve.specs.Weights.{kobbelt}
 use Rattle.curve.specs.Curve.{Kind, Point, curve}
 use Rattle.curve.specs.Near.{CloseToExact}

@@ -13,7 +13,8 @@ use Rattle.topology.specs.Shape.{quads}
 use Rattle.topology.specs.HalfEdge.{mate}
 use Rattle.topology.specs.Manifold.{Manifold}
 use Rattle.topology.proofs.Mates.{edge-lt, edges-le}
-use Rattle.scheme.specs.Points.{across, beyond, inner, fourInner, FaceRule, firstAlone, secondAlone, bothDirections, faceRule}
+use Rattle.scheme.specs.Points.{inner, fourInner, FaceRule, firstAlone, secondAlone, bothDirections, faceRule}
+use Rattle.topology.specs.Quads.{across, beyond}
 use Rattle.schemelaws.specs.Numerators.{directionZ, faceValueZ, faceZ}
 use Rattle.schemelaws.proofs.Ties.{across-lt, side₀-lt, side₁-lt}
 use Rattle.stencils.specs.declared.Stencil.{Stencil}

@@ -8,7 +8,8 @@ use lib.ListN.{length}
 use Rattle.curve.specs.Weights.{kobbelt, interior, endEdge, singleEdge}
 use Rattle.topology.specs.Shape.{quads}
 use Rattle.topology.specs.HalfEdge.{edge}
-use Rattle.scheme.specs.Points.{beyond, directionBy, inner, FaceRule, firstAlone, secondAlone, bothDirections, faceRule}
+use Rattle.scheme.specs.Points.{directionBy, inner, FaceRule, firstAlone, secondAlone, bothDirections, faceRule}
+use Rattle.topology.specs.Quads.{beyond}
 use Rattle.walks.specs.Ready.{Ready}
 use Rattle.growth.specs.Growth.{Numbered}
 use Rattle.stencils.specs.declared.Stencil.{Stencil}

@@ -3,8 +3,8 @@ ghost use mathlib.Core.Path.{_≡_};
 ghost use Prim.Native.Nat.{_<_};
 ghost use lib.ListN.{length};
 ghost use Rattle.topology.specs.Shape.{quads};
-ghost use Rattle.topology.specs.HalfEdge.{mate};
-ghost use Rattle.scheme.specs.Points.{across, fourInner};
+ghost use Rattle.scheme.specs.Points.{fourInner};
+ghost use Rattle.topology.specs.Quads.{across};
 ghost use Rattle.stencils.specs.Stencils.{Indexed, place, innerTwice, stencilOf, faceStencilOf};
 
 // A direction of a face: the places of the points that its rule takes, in the rule's order.
@@ -18,15 +18,6 @@ pub enum Stencil {
 pub enum FaceStencil {
     Alone(Stencil),
     Both(Stencil, Stencil),
-}
-
-// The mate of h, or none.
-fn mate_side(faces: &[u32], work: &[u32], h: usize) -> usize
-    requires { ⌜ Indexed (now faces) (now work) ⌝ }
-    requires { ⌜ h < length (now faces) ⌝ }
-    ensures { λ r. ⌜ r ≡ mate quads (now (faces .entry)) h ⌝ }
-{
-    work[h] as usize
 }
 
 // The place of the point on the edge of h.
@@ -46,7 +37,7 @@ fn far_place(faces: &[u32], work: &[u32], m: usize) -> usize
     requires { ⌜ m < length (now faces) ⌝ }
     ensures { λ r. ⌜ r ≡ place (now (faces .entry)) (across m) ⌝ }
 {
-    edge_place(faces, work, corners::across_side(m))
+    edge_place(faces, work, halfedges::across_side(m))
 }
 
 // The direction of the side h.
@@ -56,9 +47,9 @@ pub fn direction_stencil(faces: &[u32], work: &[u32], h: usize) -> Stencil
     ensures { λ r. ⌜ r ≡ stencilOf (now (faces .entry)) h ⌝ }
 {
     let n = faces.len();
-    let g = corners::across_side(h);
-    let m = mate_side(faces, work, h);
-    let k = mate_side(faces, work, g);
+    let g = halfedges::across_side(h);
+    let m = halfedges::mate_side(faces, work, h);
+    let k = halfedges::mate_side(faces, work, g);
     let q = edge_place(faces, work, h);
     let r = edge_place(faces, work, g);
     if m < n {
@@ -83,9 +74,9 @@ fn inner_twice(faces: &[u32], work: &[u32], h: usize) -> bool
     ensures { λ r. ⌜ r ≡ innerTwice (now (faces .entry)) h ⌝ }
 {
     let n = faces.len();
-    let m = mate_side(faces, work, h);
+    let m = halfedges::mate_side(faces, work, h);
     if m < n {
-        return mate_side(faces, work, corners::across_side(m)) < n;
+        return halfedges::mate_side(faces, work, halfedges::across_side(m)) < n;
     }
     false
 }
@@ -97,7 +88,7 @@ fn four_inner(faces: &[u32], work: &[u32], h: usize) -> bool
     ensures { λ r. ⌜ r ≡ fourInner (now (faces .entry)) h ⌝ }
 {
     if inner_twice(faces, work, h) {
-        return inner_twice(faces, work, corners::across_side(h));
+        return inner_twice(faces, work, halfedges::across_side(h));
     }
     false
 }

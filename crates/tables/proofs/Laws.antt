@@ -1,14 +1,12 @@
--- Laws of cleared and filled tables, and of the loops that make them; nets of equal tables. Assumes nothing.
+-- Laws of cleared and filled tables, and of the loops that make them. Assumes nothing.
 use mathlib.Core.Path.{_≡_, sym, ap, _∙_}
 use mathlib.Core.List.{List, _++_}
 use Prim.Native.Nat.{ℕ, _+_, _-_, _≤_, _<_}
 use native.Mathlib.Omega.{arith}
 use borrow.Author.Fill.{fill-more}
-use lib.IntN.{ℤ}
 use lib.ListN.{length, getD, take, drop, set, replicate, length-append, length-drop, length-replicate, List·getD-append}
 use lib.Seq.{take-at, drop-at, drop-append-add, drop-drop}
 use Rattle.lists.proofs.Prefix.{copy-one}
-use Rattle.tables.specs.Net.{Net}
 use Rattle.tables.specs.Tables.{filled, cleared}
 
 -- a turn of each loop
@@ -52,7 +50,3 @@ drop-filled s d n h =
 pub filled-over : {A : Type 0} (s t d : List A) → length s ≤ length t → filled t (filled s d) ≡ filled t d
 unfolding filled
 filled-over {A} s t d h = ap (λ (x : List A). t ++ x) (drop-filled s d (length t) h)
-
--- ---- nets of equal tables
-pub same-net : {p p′ : List ℤ} {f f′ m m′ : List ℕ} → p ≡ p′ → f ≡ f′ → m ≡ m′ → _≡_ {A = Net} (record { vertices = p; faces = f; marks = m }) (record { vertices = p′; faces = f′; marks = m′ })
-same-net p q r = λ i. record { vertices = p i; faces = q i; marks = r i }

@@ -3,3 +3,4 @@ pub mod HalfEdge
 pub mod Boundary
 pub mod Vertex
 pub mod Manifold
+pub mod Quads

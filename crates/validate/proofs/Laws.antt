@@ -14,7 +14,7 @@ use Rattle.search.proofs.First.{first-le}
 use Rattle.topology.specs.Shape.{quads}
 use Rattle.refusals.specs.Refusals.{isolated, repeatedSide, nonManifold, badValence, markedRing}
 use Rattle.refusals.proofs.Places.{isolated-soon}
-use Rattle.tables.specs.Net.{Net}
+use Rattle.nets.specs.Net.{Net}
 use Rattle.tables.specs.Tables.{cleared}
 use Rattle.tables.proofs.Laws.{cleared-over}
 use Rattle.lists.proofs.Parts.{drop-later}

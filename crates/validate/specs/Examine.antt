@@ -5,7 +5,7 @@ use Prim.Native.Nat.{ℕ, _*_, _%_, _≤_}
 use lib.ListN.{length, drop}
 use Rattle.search.specs.Search.{first}
 use Rattle.refusals.specs.Refusals.{isolated}
-use Rattle.adjacency.specs.Chains.{MateTable}
+use Rattle.halfedges.specs.Tables.{MateTable}
 use Rattle.verdict.specs.Verdict.{Verdict, accepted}
 use Rattle.validate.specs.declared.Answer.{Answer}
 use Rattle.validate.specs.Answer.{verdictOf}

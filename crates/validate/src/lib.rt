@@ -1,7 +1,7 @@
 // The check that finds the first refusal of a call, or none.
 ghost use mathlib.Core.Path.{_≡_};
 ghost use lib.ListN.{length};
-ghost use Rattle.tables.specs.Net.{net};
+ghost use Rattle.nets.specs.Net.{net};
 ghost use Rattle.verdict.specs.Call.{room, call};
 ghost use Rattle.verdict.specs.Verdict.{vertexVerdict, adjacencyVerdict, facesVerdict, netVerdict};
 ghost use Rattle.adjacency.specs.Chains.{Tables, Adjacency, CornersBelow};
@@ -19,15 +19,15 @@ fn examine_vertices(faces: &[u32], marks: &[u8], work: &[u32]) -> Answer
     requires { ⌜ Joined (now faces) (length (now marks)) ⌝ }
     ensures { λ r. ⌜ verdictOf r ≡ vertexVerdict (length (now (marks .entry))) (now (faces .entry)) (now (marks .entry)) ⌝ }
 {
-    let p = vertices::first_non_manifold(faces, marks.len(), work);
+    let p = manifold::first_non_manifold(faces, marks.len(), work);
     if p < marks.len() {
         return Answer::Refused(10, p);
     }
-    let q = vertices::first_bad_valence(faces, marks.len(), work);
+    let q = manifold::first_bad_valence(faces, marks.len(), work);
     if q < marks.len() {
         return Answer::Refused(11, q);
     }
-    let s = vertices::first_marked_ring(faces, marks, work);
+    let s = manifold::first_marked_ring(faces, marks, work);
     if s < marks.len() {
         return Answer::Refused(12, s);
     }
@@ -41,9 +41,9 @@ fn examine_adjacency(faces: &[u32], marks: &[u8], work: &mut [u32]) -> Answer
     ensures { λ r. ⌜ Examined (adjacencyVerdict (length (now (marks .entry))) (now (faces .entry)) (now (marks .entry))) (now (faces .entry)) (now (work .entry)) r (now (work .exit)) ⌝ }
 {
     adjacency::build_chains(faces, &mut *work);
-    let h = adjacency::first_repeated(faces, &*work);
+    let h = manifold::first_repeated(faces, &*work);
     if h < faces.len() {
-        return Answer::Refused(9, adjacency::face_of(h));
+        return Answer::Refused(9, halfedges::face_of(h));
     }
     adjacency::build_mates(faces, &mut *work);
     examine_vertices(faces, marks, &*work)
@@ -83,7 +83,7 @@ pub fn examine_net(vertices: &[i32], faces: &[u32], marks: &[u8], work: &mut [u3
     }
     let h = scan::first_bad_corner(faces, marks.len());
     if h < faces.len() {
-        return Answer::Refused(7, adjacency::face_of(h));
+        return Answer::Refused(7, halfedges::face_of(h));
     }
     examine_faces(faces, marks, &mut *work)
 }

@@ -15,7 +15,7 @@ use Rattle.topology.specs.Manifold.{Manifold}
 use Rattle.topology.proofs.Shape.{quads-lawful}
 use Rattle.refusals.proofs.Manifold.{manifold-if}
 use Rattle.refusals.specs.Refusals.{badMark, badCorner, isolated, repeatedSide, nonManifold, badValence, markedRing}
-use Rattle.tables.specs.Net.{Net}
+use Rattle.nets.specs.Net.{Net}
 use Rattle.verdict.specs.Call.{Room, Call}
 use Rattle.verdict.specs.Verdict.{Verdict, accepted, refused, orElse, refusedIf, refusedAt, roomVerdict, limitsVerdict, callVerdict, badCoordinate, vertexVerdict, adjacencyVerdict, facesVerdict, netVerdict, verdict}
 use Rattle.verdict.proofs.Examples

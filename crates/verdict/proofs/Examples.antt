@@ -9,7 +9,7 @@ use Rattle.topology.specs.HalfEdge.{from, to, opposed, mate}
 use Rattle.topology.specs.Boundary.{isBoundaryFrom, boundaryFrom}
 use Rattle.topology.specs.Vertex.{leaves, valence, turn, start, stops, facesMet}
 use Rattle.refusals.specs.Refusals.{badMark, badCorner, isolated, repeatedSide, nonManifold, badValence, markedRing}
-use Rattle.tables.specs.Net.{Net}
+use Rattle.nets.specs.Net.{Net}
 use Rattle.verdict.specs.Call.{Room}
 use Rattle.verdict.specs.Verdict.{Verdict, accepted, refused, roomVerdict, limitsVerdict, badCoordinate, vertexVerdict, adjacencyVerdict, facesVerdict, netVerdict}
 

@@ -1,7 +1,7 @@
 -- A call as the caller makes it.
 use Prim.Native.Nat.{ℕ, _*_, _/_, _^_}
 use lib.ListN.{length}
-use Rattle.tables.specs.Net.{Net}
+use Rattle.nets.specs.Net.{Net}
 
 -- how many numbers the output tables and the work table hold
 pub record Room : Type 0 where

@@ -4,7 +4,7 @@ use mathlib.Core.List.{List}
 use Prim.Native.Nat.{ℕ, zero, suc, _+_, _-_, _≤_, _<_}
 use native.Mathlib.Decide.{decLt}
 use native.Mathlib.Omega.{arith}
-use lib.ListN.{length, getD}
+use lib.ListN.{length}
 use Rattle.search.specs.Search.{iterate}
 use Rattle.search.proofs.Iterate.{iterate-add, iterate-cancel}
 use Rattle.topology.specs.Shape.{quads}
@@ -102,8 +102,8 @@ module _ (v : ℕ) (l : List ℕ) (ok : Manifold quads v l) (h : ℕ) (b : h < l
 
 -- three turns a, c, d, the last to the side after the mate g of h; from there the next turn is back to h
 pub across-is : (v : ℕ) (l : List ℕ) → Manifold quads v l → (h : ℕ) → h < length l → (a c d g r : ℕ) → a ≡ turn quads l h → a < length l → c ≡ turn quads l a → c < length l
-    → d ≡ turn quads l c → g ≡ mate quads l h → g < length l → d ≡ quads .next g → r ≡ getD l (quads .next c) 0 → Across l h r
-unfolding iterate to from turn
+    → d ≡ turn quads l c → g ≡ mate quads l h → g < length l → d ≡ quads .next g → r ≡ to quads l c → Across l h r
+unfolding iterate turn
 across-is v l ok h b a c d g r ta la tc lc td eg lg ed is =
     let m : mate quads l h < length l = omega arith in
     let ld : d < length l = rw ed (ok .oriented .shape .next-lt g lg) in
@@ -117,7 +117,7 @@ across-is v l ok h b a c d g r ta la tc lc td eg lg ed is =
     record {
       inner = λ x. four-inner v l ok h b i₁ i₂ i₃ t₄;
       four = λ x. four-valence v l ok h b i₁ i₂ i₃ t₄;
-      across = λ x. is ∙ ap (λ (g : ℕ). getD l (quads .next g) 0) t₂;
+      across = λ x. is ∙ ap (to quads l) t₂;
     }
 
 pub across-none : (l : List ℕ) (h : ℕ) → Across l h (length l)

@@ -16,7 +16,7 @@ use Rattle.topology.specs.Vertex.{valence, turn, turns, unturn}
 use Rattle.topology.specs.Manifold.{Manifold}
 use Rattle.topology.proofs.Turn.{unturn-turn, unturn-lt, unturn-from, turned-mate}
 use Rattle.topology.proofs.Boundary.{boundaryFrom-le, boundaryFrom-is, boundaryFrom-on}
-use Rattle.scheme.specs.Rings.{fanPlace}
+use Rattle.topology.specs.Quads.{fanPlace}
 use Rattle.walks.specs.Ready.{FanStart}
 use Rattle.walks.proofs.Around.{fan-here, fan-here-range, fan-differ}
 

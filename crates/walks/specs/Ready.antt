@@ -1,24 +1,21 @@
 -- What walks assume of the caller's tables during a round, and what they find.
 use mathlib.Core.Path.{_≡_}
 use mathlib.Core.List.{List}
-use Prim.Native.Nat.{ℕ, _%_, _≤_, _<_}
+use Prim.Native.Nat.{ℕ, _<_}
 use lib.ListN.{length}
 use Rattle.topology.specs.Shape.{quads}
 use Rattle.topology.specs.HalfEdge.{from, to}
 use Rattle.topology.specs.Boundary.{boundaryFrom}
 use Rattle.topology.specs.Vertex.{valence, turns}
 use Rattle.topology.specs.Manifold.{Manifold}
-use Rattle.adjacency.specs.Chains.{MateTable}
-use Rattle.scheme.specs.Rings.{fanPlace}
+use Rattle.halfedges.specs.Tables.{Connectivity}
+use Rattle.topology.specs.Quads.{fanPlace}
 
 -- corners l of a manifold net with four-sided faces, and a table w with their mates in front
 pub record Ready (l w : List ℕ) : Type 0 where
   pub vertices : ℕ
   pub net : Manifold quads vertices l
-  pub fours : length l % 4 ≡ 0
-  pub small : length l ≤ 262144
-  pub room : length l ≤ length w
-  pub mated : MateTable l w
+  pub table : Connectivity l w
 
 -- the boundary half-edge that leaves the vertex of h, or none; and where there is one, the place of h in the fan that starts with it.
 -- Open, and may differ between correct programs: the place where there is none

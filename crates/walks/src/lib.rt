@@ -5,18 +5,7 @@ ghost use lib.ListN.{length};
 ghost use Rattle.topology.specs.Shape.{quads};
 ghost use Rattle.topology.specs.HalfEdge.{mate};
 ghost use Rattle.topology.specs.Boundary.{along, back};
-ghost use Rattle.topology.specs.Vertex.{turn};
 ghost use Rattle.walks.specs.Ready.{Ready, FanStart, Across};
-
-// The half-edge that leaves the vertex of h in the face beyond the side before h, or none.
-pub fn turn_side(faces: &[u32], work: &[u32], h: usize) -> usize
-    requires { ⌜ Ready (now faces) (now work) ⌝ }
-    requires { ⌜ h < length (now faces) ⌝ }
-    ensures { λ r. ⌜ r ≡ turn quads (now (faces .entry)) h ⌝ }
-{
-    let e = adjacency::prev_side(h);
-    work[e] as usize
-}
 
 // A boundary half-edge, or none, and a place in its fan.
 pub struct Start {
@@ -34,11 +23,11 @@ pub fn fan_start(faces: &[u32], work: &[u32], h: usize) -> Start
     let mut g = h;
     let mut i: usize = 0;
     while i < 6 {
-        let m = work[g] as usize;
+        let m = halfedges::mate_side(faces, work, g);
         if m == n {
             return Start { side: g, place: i };
         }
-        g = adjacency::next_side(m);
+        g = halfedges::next_side(m);
         i += 1;
     }
     Start { side: n, place: 0 }
@@ -50,7 +39,7 @@ pub fn along_side(faces: &[u32], work: &[u32], h: usize) -> usize
     requires { ⌜ h < length (now faces) ⌝ }
     ensures { λ r. ⌜ r ≡ along quads (now (faces .entry)) h ⌝ }
 {
-    let s = fan_start(faces, work, adjacency::next_side(h));
+    let s = fan_start(faces, work, halfedges::next_side(h));
     s.side
 }
 
@@ -64,9 +53,9 @@ pub fn back_side(faces: &[u32], work: &[u32], h: usize) -> usize
     let mut g = h;
     let mut i: usize = 0;
     while i < 6 {
-        let m = turn_side(faces, work, g);
+        let m = halfedges::turn_side(faces, work, g);
         if m == n {
-            return adjacency::prev_side(g);
+            return halfedges::prev_side(g);
         }
         g = m;
         i += 1;
@@ -81,17 +70,17 @@ pub fn regular_across(faces: &[u32], work: &[u32], h: usize, g: usize) -> usize
     ensures { λ r. ⌜ Across (now (faces .entry)) h r ⌝ }
 {
     let n = faces.len();
-    let a = turn_side(faces, work, h);
+    let a = halfedges::turn_side(faces, work, h);
     if a == n {
         return n;
     }
-    let b = turn_side(faces, work, a);
+    let b = halfedges::turn_side(faces, work, a);
     if b == n {
         return n;
     }
-    let c = turn_side(faces, work, b);
-    if c != adjacency::next_side(g) {
+    let c = halfedges::turn_side(faces, work, b);
+    if c != halfedges::next_side(g) {
         return n;
     }
-    faces[adjacency::next_side(b)] as usize
+    halfedges::end_of(faces, b)
 }

@@ -19,15 +19,15 @@ abbrev μ-loop : tie.MeasureT-loop
 loop-holds : tie.Need-loop-holds Inv-loop μ-loop
 loop-holds c = (omega arith, refl, mated-start _ _, refl)
 
-mate-of-requires : tie.Need-mate-of-requires Inv-loop μ-loop
-mate-of-requires c κs =
+find-mate-requires : tie.Need-find-mate-requires Inv-loop μ-loop
+find-mate-requires c κs =
     let s = c .before .before .before .before .before in
     let l = s .args .faces .now in
     let inv = c .before .before .loop .inv in
     (tables-length l (s .args .work .now) (c .before .before .loop .work) (inv .1) (s .pre .0), (chained-drop l (s .args .work .now) (c .before .before .loop .work) 0 (inv .3) (s .pre .1), c .before .loop-test .taken))
 
 cast-work : tie.Need-cast-work Inv-loop μ-loop
-cast-work c = omega (arith, c .mate-of .ensures, mate-le quads (c .before .before .before .before .before .before .args .faces .now) (c .before .before .before .loop .h))
+cast-work c = omega (arith, c .find-mate .ensures, mate-le quads (c .before .before .before .before .before .before .args .faces .now) (c .before .before .before .loop .h))
 
 mul-work : tie.Need-mul-work Inv-loop μ-loop
 mul-work c = omega arith
@@ -45,7 +45,7 @@ loop-again : tie.Need-loop-again Inv-loop μ-loop
 loop-again c =
     let inv = c .before .before .before .loop .inv in
     let r = c .before .before .before .before .before .before .pre .0 .room in
-    (omega arith, simp length-set (inv .1), mated-next _ _ _ _ (omega arith) (c .mate-of .ensures) (inv .2), drop-set-lt _ _ _ _ (c .before .before .loop-test .taken) ∙ inv .3)
+    (omega arith, simp length-set (inv .1), mated-next _ _ _ _ (omega arith) (c .find-mate .ensures) (inv .2), drop-set-lt _ _ _ _ (c .before .before .loop-test .taken) ∙ inv .3)
 
 same-length : tie.Need-same-length Inv-loop μ-loop
 same-length c = c .before .loop .inv .1
@@ -71,7 +71,7 @@ build-mates-spec =
     Inv-loop
     μ-loop
     loop-holds
-    mate-of-requires
+    find-mate-requires
     cast-work
     mul-work
     slice-write-work

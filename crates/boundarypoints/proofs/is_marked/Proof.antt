@@ -1,7 +1,7 @@
 -- `is_marked` meets its contract. Assumes nothing.
 use mathlib.Core.Path.{refl}
 use borrow.Author.Needs.{needs}
-use Rattle.scheme.specs.Points.{marked}
+use Rattle.nets.specs.Net.{marked}
 use Rattle.boundarypoints.proofs.is_marked.Statement.{statement}
 use Rattle.boundarypoints.proofs.is_marked.Tie as tie
 

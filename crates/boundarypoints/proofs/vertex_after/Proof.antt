@@ -16,7 +16,7 @@ end-of-requires c κs =
     let r = s .pre .0 in
     let e = c .along-side .ensures in
     let b = along-on quads (r .vertices) (s .args .faces .now) (r .net) (s .args .h) (s .pre .1) .lt in
-    (record { fours = r .fours; small = r .small }, rw e b)
+    (r .table .sides, rw e b)
 
 returns : tie.Need-returns
 returns c = c .end-of .ensures ∙ ap (to quads (c .before .before .before .before .args .faces .now)) (c .before .along-side .ensures)

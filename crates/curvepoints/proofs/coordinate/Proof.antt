@@ -1,6 +1,6 @@
 -- `coordinate` meets its contract. Assumes nothing.
 use borrow.Author.Needs.{needs}
-use Rattle.scheme.specs.Step.{axis}
+use Rattle.nets.specs.Net.{axis}
 use Rattle.curvepoints.proofs.coordinate.Statement.{statement}
 use Rattle.curvepoints.proofs.coordinate.Tie as tie
 

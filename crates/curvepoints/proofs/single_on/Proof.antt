@@ -6,7 +6,7 @@ use mir.Syntax.{w32, w64}
 use mir.Val.{SFits}
 use mir.Facts.{toZ-ofZ}
 use Rattle.curve.specs.Weights.{kobbelt, singleEdge}
-use Rattle.scheme.specs.Step.{axis}
+use Rattle.nets.specs.Net.{axis}
 use Rattle.curvepoints.proofs.Sizes.{read-range, scaled-fits, single-bound}
 use Rattle.curve.proofs.Kobbelt.{single-read}
 use Rattle.curvepoints.proofs.single_on.Statement.{statement}

@@ -32,7 +32,7 @@ start-of-requires : tie.Need-start-of-requires
 start-of-requires c κs = c .before .before .before .before .before .before .pre .1 .1 .0
 
 end-of-requires : tie.Need-end-of-requires
-end-of-requires c κs = let s = c .before .before .before .before .before .before .before in (record { fours = s .pre .0 .fours; small = s .pre .0 .small }, s .pre .1 .1 .0)
+end-of-requires c κs = let s = c .before .before .before .before .before .before .before in (s .pre .0 .table .sides, s .pre .1 .1 .0)
 
 -- both vertices straight across are in the table
 across-room : (c : tie.Else2) → ((c .before .before .before .regular-across .result < length (c .before .before .before .before .before .before .args .faces .now)) × (c .before .regular-across2 .result < length (c .before .before .before .before .before .before .args .faces .now)))

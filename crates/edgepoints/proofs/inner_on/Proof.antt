@@ -11,7 +11,7 @@ use mir.Facts.{toZ-ofZ}
 use Rattle.topology.specs.Shape.{quads}
 use Rattle.topology.specs.HalfEdge.{from, to, mate}
 use Rattle.topology.proofs.Mates.{mate-back}
-use Rattle.scheme.specs.Step.{axis}
+use Rattle.nets.specs.Net.{axis}
 use Rattle.boundarypoints.proofs.Edges.{start-room, end-room}
 use Rattle.curvepoints.proofs.Sizes.{axis-bound}
 use Rattle.edgepoints.proofs.Inner.{inner-made}
@@ -30,7 +30,7 @@ coordinate-wide-requires c κs =
 end-of-requires : tie.Need-end-of-requires
 end-of-requires c κs =
     let s = c .before .before .before .before in
-    (record { fours = s .pre .0 .fours; small = s .pre .0 .small }, s .pre .1 .1 .0)
+    (s .pre .0 .table .sides, s .pre .1 .1 .0)
 
 coordinate-wide-requires-2 : tie.Need-coordinate-wide-requires-2
 coordinate-wide-requires-2 c κs =

@@ -11,8 +11,8 @@ use mir.Facts.{toZ-ofZ}
 use Rattle.topology.specs.Shape.{quads}
 use Rattle.topology.specs.HalfEdge.{from, to}
 use Rattle.topology.specs.Vertex.{valence}
-use Rattle.scheme.specs.Rings.{oppositeCorner}
-use Rattle.scheme.specs.Step.{axis}
+use Rattle.topology.specs.Quads.{oppositeCorner}
+use Rattle.nets.specs.Net.{axis}
 use Rattle.curvepoints.proofs.Sizes.{axis-bound}
 use Rattle.extrapolation.proofs.Turned.{faces-range}
 use Rattle.extrapolation.proofs.Values.{ends-bound, corner-made, mean-made}
@@ -38,7 +38,7 @@ own c = c .coordinate-wide .ensures ∙ ap (λ (v : ℕ). axis (c .before .befor
 opposite-corner-requires : tie.Need-opposite-corner-requires
 opposite-corner-requires c κs =
     let s = c .before .before .before .before .before .before in
-    (record { fours = s .pre .0 .fours; small = s .pre .0 .small }, s .pre .1 .1 .lt)
+    (s .pre .0 .table .sides, s .pre .1 .1 .lt)
 
 coordinate-wide-requires-2 : tie.Need-coordinate-wide-requires-2
 unfolding oppositeCorner to

@@ -13,8 +13,8 @@ use Rattle.integers.proofs.Range.{fits-abs}
 use Rattle.integers.proofs.Sum.{sum-none, sum-more}
 use Rattle.topology.specs.Shape.{quads}
 use Rattle.topology.specs.HalfEdge.{from}
-use Rattle.scheme.specs.Rings.{fanEnd}
-use Rattle.scheme.specs.Step.{axis}
+use Rattle.topology.specs.Quads.{fanEnd}
+use Rattle.nets.specs.Net.{axis}
 use Rattle.extrapolation.proofs.Turned.{Turned, fan-walk-start, fan-walk-inside, fan-walk-few, fan-walk-step, fan-walk-end}
 use Rattle.extrapolation.proofs.Values.{farEnd, ends-bound}
 use Rattle.extrapolation.proofs.inner_ends.Statement.{statement}
@@ -48,7 +48,7 @@ so-far : (c : tie.At-loop Inv-loop μ-loop) → toZ w64 (c .loop .total) ≡ sum
 so-far c = let b = few c in let f = fits (c .before .before .before) (c .loop .i) (omega arith) in ap (toZ w64) (c .loop .inv .1) ∙ toZ-ofZ f
 
 turn-side-requires : tie.Need-turn-side-requires Inv-loop μ-loop
-turn-side-requires c κs = (c .before .before .before .pre .0, inside c)
+turn-side-requires c κs = (c .before .before .before .pre .0 .table, inside c)
 
 returns : tie.Need-returns Inv-loop μ-loop
 returns c =
@@ -59,7 +59,7 @@ returns c =
     record { count = e; total = so-far q ∙ ap (λ (m : ℕ). sum m (term s)) e }
 
 corner-before-requires : tie.Need-corner-before-requires Inv-loop μ-loop
-corner-before-requires c κs = let q = c .before .before in let r = q .before .before .before .pre .0 in (record { fours = r .fours; small = r .small }, inside q)
+corner-before-requires c κs = let q = c .before .before in let r = q .before .before .before .pre .0 in (r .table .sides, inside q)
 
 coordinate-wide-requires : tie.Need-coordinate-wide-requires Inv-loop μ-loop
 coordinate-wide-requires c κs =

@@ -4,7 +4,7 @@ use mathlib.Core.List.{List}
 use Prim.Native.Nat.{ℕ, _*_, _/_}
 use native.Mathlib.Omega.{arith}
 use lib.ListN.{length}
-use Rattle.tables.specs.Net.{Net}
+use Rattle.nets.specs.Net.{Net}
 use Rattle.tables.specs.Tables.{cleared}
 use Rattle.verdict.specs.Call.{finalFaces}
 use Rattle.verdict.specs.Verdict.{accepted, callVerdict, netVerdict}

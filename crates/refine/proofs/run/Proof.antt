@@ -1,6 +1,6 @@
 -- `refine::run` meets its contract: copies, rounds, clearing. Assumes nothing.
 use native.Mathlib.Omega.{arith}
-use Rattle.tables.specs.Net.{Net}
+use Rattle.nets.specs.Net.{Net}
 use Rattle.outcome.specs.Outcome.{Buffers}
 use Rattle.refine.proofs.Laws.{room-vertices, room-faces, room-marks, room-work, last-le, prepared, ran}
 use borrow.Author.Needs.{needs}

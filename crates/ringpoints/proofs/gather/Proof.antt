@@ -3,15 +3,15 @@ use mathlib.Core.Path.{ap, _∙_}
 use Prim.Native.Nat.{ℕ, _+_, _-_, _≤_, _<_}
 use native.Mathlib.Omega.{arith}
 use borrow.Author.Needs.{needs}
-use lib.IntN.{ℤ, pos, _*ℤ_}
+use lib.IntN.{pos, _*ℤ_}
 use lib.ListN.{length, set}
 use mir.Syntax.{w64}
 use mir.Val.{SFits}
 use mir.Facts.{toZ-ofZ}
 use Rattle.topology.specs.Shape.{quads}
 use Rattle.topology.specs.HalfEdge.{to}
-use Rattle.scheme.specs.Rings.{oppositeCorner}
-use Rattle.scheme.specs.Step.{axis}
+use Rattle.topology.specs.Quads.{oppositeCorner}
+use Rattle.nets.specs.Net.{axis}
 use Rattle.extrapolation.proofs.Turned.{Turned}
 use Rattle.ringpoints.specs.Gathered.{Filled}
 use Rattle.ringpoints.proofs.Circuit.{circuit-start, circuit-inside, circuit-few, circuit-none, circuit-back, circuit-more, filled-none, filled-more}
@@ -36,7 +36,7 @@ few : (c : tie.At-loop Inv-loop μ-loop) → c .loop .i ≤ 7
 few c = let s = c .before .before .before in circuit-few (s .args .faces .now) (s .args .h) (s .pre .1 .0 .2) (c .loop .g) (c .loop .i) (c .loop .inv .0)
 
 end-of-requires : tie.Need-end-of-requires Inv-loop μ-loop
-end-of-requires c κs = let r = c .before .before .before .pre .0 in (record { fours = r .fours; small = r .small }, inside c)
+end-of-requires c κs = let r = c .before .before .before .pre .0 in (r .table .sides, inside c)
 
 sixty-requires : tie.Need-sixty-requires Inv-loop μ-loop
 unfolding to
@@ -53,7 +53,7 @@ element-set-from-k : tie.Need-element-set-from-k Inv-loop μ-loop
 element-set-from-k c = let b = few (c .before .before) in let e = c .before .before .loop .inv .1 .eight-l in omega arith
 
 opposite-corner-requires : tie.Need-opposite-corner-requires Inv-loop μ-loop
-opposite-corner-requires c κs = let q = c .before .before in let r = q .before .before .before .pre .0 in (record { fours = r .fours; small = r .small }, inside q)
+opposite-corner-requires c κs = let q = c .before .before in let r = q .before .before .before .pre .0 in (r .table .sides, inside q)
 
 sixty-requires-2 : tie.Need-sixty-requires-2 Inv-loop μ-loop
 unfolding oppositeCorner to
@@ -71,7 +71,7 @@ element-set-from-k-2 : tie.Need-element-set-from-k-2 Inv-loop μ-loop
 element-set-from-k-2 c = let b = few (c .before .before .before .before) in let e = c .before .before .before .before .loop .inv .1 .eight-k in omega arith
 
 turn-side-requires : tie.Need-turn-side-requires Inv-loop μ-loop
-turn-side-requires c κs = let q = c .before .before .before .before in (q .before .before .before .pre .0, inside q)
+turn-side-requires c κs = let q = c .before .before .before .before in (q .before .before .before .pre .0 .table, inside q)
 
 add-i : tie.Need-add-i Inv-loop μ-loop
 add-i c = let b = few (c .before .before .before .before .before) in omega arith

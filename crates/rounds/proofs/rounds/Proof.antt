@@ -2,10 +2,10 @@
 use mathlib.Core.Path.{_≡_}
 use Prim.Native.Nat.{_+_, _-_, _*_, _^_, _≤_}
 use native.Mathlib.Omega.{arith}
-use Rattle.adjacency.specs.Chains.{MateTable}
+use Rattle.halfedges.specs.Tables.{MateTable}
 use Rattle.curve.specs.Weights.{kobbelt}
 use Rattle.scheme.specs.Step.{steps}
-use Rattle.tables.specs.Net.{frontNet}
+use Rattle.nets.specs.Net.{frontNet}
 use Rattle.rounds.specs.Rounds.{After}
 use Rattle.rounds.proofs.Steps.{again, after-none, mated-none, kept-points, kept-faces, kept-marks, current, after-next, ready-mates, after-mates, mated-next}
 use Rattle.rounds.proofs.rounds.Statement.{statement}

@@ -1,101 +1,108 @@
--- `scan::bad_corner` meets its contract: each return is one law of the definition. Assumes nothing.
+-- `scan::bad_corner` meets its contract: the corners of the face are met side by side until one is back at h. Assumes nothing.
 use mathlib.Core.Path.{_≡_, sym, ap, _∙_}
-use mathlib.Core.List.{List}
-use Prim.Native.Nat.{ℕ, _%_, _<_}
+use Prim.Native.Nat.{_-_, _<_}
 use native.Mathlib.Omega.{arith}
-use lib.Dec.{eqb}
 use lib.ListN.{length}
-use Rattle.search.specs.Search.{iterate}
-use Rattle.topology.specs.Shape.{quads}
+use borrow.Author.Needs.{needs}
+use Rattle.topology.specs.Shape.{quads, Lawful}
 use Rattle.topology.specs.HalfEdge.{from}
 use Rattle.topology.proofs.Shape.{quads-lawful}
-use Rattle.scan.proofs.Corners.{corner-range, corner-equal, corner-good}
-use borrow.Author.Needs.{needs}
+use Rattle.scan.proofs.Corners.{Circling, corner-range, circling-start, circling-lt, circling-hit, circling-next, circling-end}
 use Rattle.scan.proofs.bad_corner.Statement.{statement}
 use Rattle.scan.proofs.bad_corner.Tie as tie
 
--- the sides of the face of h
-record Inside (n h : ℕ) : Type 0 where
-  one : quads .next h < n
-  two : quads .next (quads .next h) < n
-  three : quads .next (quads .next (quads .next h)) < n
+abbrev Inv-loop : tie.InvT-loop
+Inv-loop faces nv h a g₀ k₀ g k = Circling quads faces h g k
 
-inside : (l : List ℕ) (h : ℕ) → length l % 4 ≡ 0 → h < length l → Inside (length l) h
-inside l h w b =
-    let q = quads-lawful (length l) w in
-    let c = q .next-lt h b in
-    let d = q .next-lt (quads .next h) c in
-    record { one = c; two = d; three = q .next-lt (quads .next (quads .next h)) d }
+abbrev μ-loop : tie.MeasureT-loop
+μ-loop faces nv h a g₀ k₀ g k = 4 - k
 
-mul-a : tie.Need-mul-a
+lawful : (s : tie.Start Inv-loop μ-loop) → Lawful quads (length (s .args .faces .now))
+lawful s = quads-lawful (length (s .args .faces .now)) (s .pre .0 .fours)
+
+mul-a : tie.Need-mul-a Inv-loop μ-loop
 mul-a c = search needs
 
-shared-slice-read-a : tie.Need-shared-slice-read-a
+shared-slice-read-a : tie.Need-shared-slice-read-a Inv-loop μ-loop
 shared-slice-read-a c = search needs
 
-cast-if1 : tie.Need-cast-if1
+cast-if1 : tie.Need-cast-if1 Inv-loop μ-loop
 cast-if1 c = omega (arith, c .shared-slice-known2 .given (c .before .before .args .h))
 
-returns : tie.Need-returns
+returns : tie.Need-returns Inv-loop μ-loop
 unfolding from
-returns c = let s = c .before .before .before in sym (corner-range (s .args .nv) (s .args .faces .now) (s .args .h) (c .if1 .taken))
+returns c = let s = c .before .before .before in sym (corner-range quads (s .args .nv) (s .args .faces .now) (lawful s) (s .args .h) (s .pre .1) (c .if1 .taken))
 
-next-side-requires : tie.Need-next-side-requires
+next-side-requires : tie.Need-next-side-requires Inv-loop μ-loop
 next-side-requires c κs = search needs
 
-mul-if2 : tie.Need-mul-if2
-mul-if2 c = let s = c .before .before .before .before in let l = s .args .faces .now in let h = s .args .h in let k = inside l h (s .pre .0) (s .pre .2) in let e = c .next-side .ensures in omega arith
+loop-holds : tie.Need-loop-holds Inv-loop μ-loop
+loop-holds c =
+    let s = c .before .before .before .before in
+    let e = c .next-side .ensures in
+    rw e (circling-start quads (s .args .nv) (s .args .faces .now) (lawful s) (s .args .h) (s .pre .1))
 
-shared-slice-read-if2 : tie.Need-shared-slice-read-if2
-shared-slice-read-if2 c = let s = c .before .before .before .before .before in let l = s .args .faces .now in let h = s .args .h in let k = inside l h (s .pre .0) (s .pre .2) in let e = c .before .next-side .ensures in omega arith
+inside : (c : tie.At-loop Inv-loop μ-loop) → c .loop .g < length (c .before .before .before .before .before .args .faces .now)
+inside c =
+    let s = c .before .before .before .before .before in
+    circling-lt quads (s .args .nv) (s .args .faces .now) (lawful s) (s .args .h) (s .pre .1) (c .loop .g) (c .loop .k) (c .loop .inv)
 
-returns-2 : tie.Need-returns-2
-unfolding from iterate
-returns-2 c = let s = c .before .before .before .before .before .before in let l = s .args .faces .now in let h = s .args .h in let k = inside l h (s .pre .0) (s .pre .2) in let e = c .before .before .next-side .ensures in sym (corner-equal (s .args .nv) l h 0 (omega arith) (sym (ap (from l) e) ∙ c .if2 .taken))
+mul-if2 : tie.Need-mul-if2 Inv-loop μ-loop
+mul-if2 c = let b = inside (c .before) in search needs
 
-next-side-requires-2 : tie.Need-next-side-requires-2
-next-side-requires-2 c κs = let s = c .before .before .before .before .before .before in let l = s .args .faces .now in let h = s .args .h in let k = inside l h (s .pre .0) (s .pre .2) in let e = c .before .before .next-side .ensures in omega arith
+shared-slice-read-if2 : tie.Need-shared-slice-read-if2 Inv-loop μ-loop
+shared-slice-read-if2 c = inside (c .before .before)
 
-mul-if3 : tie.Need-mul-if3
-mul-if3 c = let s = c .before .before .before .before .before .before .before in let l = s .args .faces .now in let h = s .args .h in let k = inside l h (s .pre .0) (s .pre .2) in let e = c .before .before .before .next-side .ensures in let f = c .next-side2 .ensures ∙ ap (quads .next) (c .before .before .before .next-side .ensures) in omega arith
-
-shared-slice-read-if3 : tie.Need-shared-slice-read-if3
-shared-slice-read-if3 c = let s = c .before .before .before .before .before .before .before .before in let l = s .args .faces .now in let h = s .args .h in let k = inside l h (s .pre .0) (s .pre .2) in let e = c .before .before .before .before .next-side .ensures in let f = c .before .next-side2 .ensures ∙ ap (quads .next) (c .before .before .before .before .next-side .ensures) in omega arith
-
-returns-3 : tie.Need-returns-3
-unfolding from iterate
-returns-3 c = let s = c .before .before .before .before .before .before .before .before .before in let l = s .args .faces .now in let h = s .args .h in let k = inside l h (s .pre .0) (s .pre .2) in let e = c .before .before .before .before .before .next-side .ensures in let f = c .before .before .next-side2 .ensures ∙ ap (quads .next) (c .before .before .before .before .before .next-side .ensures) in sym (corner-equal (s .args .nv) l h 1 (omega arith) (sym (ap (from l) f) ∙ c .if3 .taken))
-
-next-side-requires-3 : tie.Need-next-side-requires-3
-next-side-requires-3 c κs = let s = c .before .before .before .before .before .before .before .before .before in let l = s .args .faces .now in let h = s .args .h in let k = inside l h (s .pre .0) (s .pre .2) in let e = c .before .before .before .before .before .next-side .ensures in let f = c .before .before .next-side2 .ensures ∙ ap (quads .next) (c .before .before .before .before .before .next-side .ensures) in omega arith
-
-mul-result : tie.Need-mul-result
-mul-result c = let s = c .before .before .before .before .before .before .before .before .before .before in let l = s .args .faces .now in let h = s .args .h in let k = inside l h (s .pre .0) (s .pre .2) in let e = c .before .before .before .before .before .before .next-side .ensures in let f = c .before .before .before .next-side2 .ensures ∙ ap (quads .next) (c .before .before .before .before .before .before .next-side .ensures) in let g = c .next-side3 .ensures ∙ ap (quads .next) (c .before .before .before .next-side2 .ensures ∙ ap (quads .next) (c .before .before .before .before .before .before .next-side .ensures)) in omega arith
-
-shared-slice-read-result : tie.Need-shared-slice-read-result
-shared-slice-read-result c = let s = c .before .before .before .before .before .before .before .before .before .before .before in let l = s .args .faces .now in let h = s .args .h in let k = inside l h (s .pre .0) (s .pre .2) in let e = c .before .before .before .before .before .before .before .next-side .ensures in let f = c .before .before .before .before .next-side2 .ensures ∙ ap (quads .next) (c .before .before .before .before .before .before .before .next-side .ensures) in let g = c .before .next-side3 .ensures ∙ ap (quads .next) (c .before .before .before .before .next-side2 .ensures ∙ ap (quads .next) (c .before .before .before .before .before .before .before .next-side .ensures)) in omega arith
-
-returns-4 : tie.Need-returns-4
+returns-2 : tie.Need-returns-2 Inv-loop μ-loop
 unfolding from
-returns-4 c = let s = c .before .before .before .before .before .before .before .before .before .before .before in let l = s .args .faces .now in let h = s .args .h in let k = inside l h (s .pre .0) (s .pre .2) in let e = c .before .before .before .before .before .before .before .next-side .ensures in let f = c .before .before .before .before .next-side2 .ensures ∙ ap (quads .next) (c .before .before .before .before .before .before .before .next-side .ensures) in let g = c .before .next-side3 .ensures ∙ ap (quads .next) (c .before .before .before .before .next-side2 .ensures ∙ ap (quads .next) (c .before .before .before .before .before .before .before .next-side .ensures)) in ap (λ (i : ℕ). eqb (from l i) (from l h)) g ∙ sym (corner-good (s .args .nv) l h (c .before .before .before .before .before .before .before .before .if1 .left) (λ x. c .before .before .before .before .before .if2 .left (ap (from l) e ∙ x)) (λ x. c .before .before .if3 .left (ap (from l) f ∙ x)))
+returns-2 c =
+    let q = c .before .before .before in
+    let s = q .before .before .before .before .before in
+    sym (circling-hit quads (s .args .nv) (s .args .faces .now) (lawful s) (s .args .h) (s .pre .1) (q .loop .g) (q .loop .k) (q .loop .inv) (c .before .before .loop-test .taken) (c .if2 .taken))
+
+next-side-requires-2 : tie.Need-next-side-requires-2 Inv-loop μ-loop
+next-side-requires-2 c κs = let b = inside (c .before .before .before) in let q = c .before .before .before .before .before .before .before .before .pre .0 .few in omega arith
+
+add-k : tie.Need-add-k Inv-loop μ-loop
+unfolding quads
+add-k c = let f = c .before .before .before .before .loop .inv .few in omega arith
+
+loop-less : tie.Need-loop-less Inv-loop μ-loop
+unfolding quads
+loop-less c = let f = c .before .before .before .before .loop .inv .few in omega arith
+
+loop-again : tie.Need-loop-again Inv-loop μ-loop
+unfolding from
+loop-again c =
+    let q = c .before .before .before .before in
+    let s = q .before .before .before .before .before in
+    let e = c .next-side2 .ensures in
+    rw e (circling-next quads (s .args .nv) (s .args .faces .now) (lawful s) (s .args .h) (s .pre .1) (q .loop .g) (q .loop .k) (q .loop .inv) (c .before .before .before .loop-test .taken) (c .before .if2 .left))
+
+returns-3 : tie.Need-returns-3 Inv-loop μ-loop
+unfolding from
+returns-3 c =
+    let q = c .before in
+    let s = q .before .before .before .before .before in
+    sym (circling-end quads (s .args .nv) (s .args .faces .now) (lawful s) (s .args .h) (s .pre .1) (q .loop .g) (q .loop .k) (q .loop .inv) (c .loop-test .left) (c .before .before .before .if1 .left))
 
 pub bad-corner-spec : {M : Type 1} → statement M
 bad-corner-spec =
     tie.close
     (tie.spec
+    Inv-loop
+    μ-loop
     mul-a
     shared-slice-read-a
     cast-if1
     returns
     next-side-requires
+    loop-holds
     mul-if2
     shared-slice-read-if2
     returns-2
     next-side-requires-2
-    mul-if3
-    shared-slice-read-if3
-    returns-3
-    next-side-requires-3
-    mul-result
-    shared-slice-read-result
-    returns-4)
+    add-k
+    loop-less
+    loop-again
+    returns-3)

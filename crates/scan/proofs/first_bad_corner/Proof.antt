@@ -21,7 +21,7 @@ loop-holds : tie.Need-loop-holds Inv-loop μ-loop
 loop-holds c = (omega arith, λ k h. absurd (omega arith))
 
 bad-corner-requires : tie.Need-bad-corner-requires Inv-loop μ-loop
-bad-corner-requires c κs = let p = c .before .before .before .pre in (p .0, p .1, c .loop-test .taken)
+bad-corner-requires c κs = (c .before .before .before .pre, c .loop-test .taken)
 
 returns : tie.Need-returns Inv-loop μ-loop
 returns c = let s = c .before .before .before .before .before in let l = s .args .faces .now in hit (badCorner quads (s .args .nv) l) (length l) (c .before .before .before .loop .h) (c .before .before .loop-test .taken) (c .before .before .before .loop .inv .1) (sym (c .before .bad-corner .ensures) ∙ c .if1 .taken)

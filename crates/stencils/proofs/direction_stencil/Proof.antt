@@ -11,7 +11,7 @@ mate-side-requires : tie.Need-mate-side-requires
 mate-side-requires c κs = search needs
 
 mate-side-requires-2 : tie.Need-mate-side-requires-2
-mate-side-requires-2 c κs = let s = c .before .before .before .before in (s .pre .0, far-lt _ _ _ _ (s .pre .0) (s .pre .1) (c .before .across-side .ensures))
+mate-side-requires-2 c κs = let s = c .before .before .before .before in (s .pre .0 .ready .table, far-lt _ _ _ _ (s .pre .0) (s .pre .1) (c .before .across-side .ensures))
 
 edge-place-requires : tie.Need-edge-place-requires
 edge-place-requires c κs = search needs

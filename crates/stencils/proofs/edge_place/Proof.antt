@@ -25,10 +25,10 @@ mul-result : tie.Need-mul-result
 mul-result c = search needs
 
 mul-result-2 : tie.Need-mul-result-2
-mul-result-2 c = omega (arith, number-le _ _ _ (c .before .pre .0) (c .before .pre .1), c .before .pre .0 .ready .small)
+mul-result-2 c = omega (arith, number-le _ _ _ (c .before .pre .0) (c .before .pre .1), c .before .pre .0 .ready .table .sides .few)
 
 add-result : tie.Need-add-result
-add-result c = omega (arith, number-le _ _ _ (c .before .pre .0) (c .before .pre .1), c .before .pre .0 .ready .small)
+add-result c = omega (arith, number-le _ _ _ (c .before .pre .0) (c .before .pre .1), c .before .pre .0 .ready .table .sides .few)
 
 returns : tie.Need-returns
 unfolding place

@@ -6,25 +6,25 @@ use Rattle.stencils.proofs.face_stencil.Statement.{statement}
 use Rattle.stencils.proofs.face_stencil.Tie as tie
 
 mul-h : tie.Need-mul-h
-mul-h c = let s = c .before .before in let b = side₀-lt (s .args .faces .now) (s .args .f) (s .pre .1) in let n = s .pre .0 .ready .small in omega arith
+mul-h c = let s = c .before .before in let b = side₀-lt (s .args .faces .now) (s .args .f) (s .pre .1) in let n = s .pre .0 .ready .table .sides .few in omega arith
 
 direction-stencil-requires : tie.Need-direction-stencil-requires
-direction-stencil-requires c κs = let s = c .before .before in let b = side₀-lt (s .args .faces .now) (s .args .f) (s .pre .1) in let n = s .pre .0 .ready .small in (s .pre .0, b)
+direction-stencil-requires c κs = let s = c .before .before in let b = side₀-lt (s .args .faces .now) (s .args .f) (s .pre .1) in let n = s .pre .0 .ready .table .sides .few in (s .pre .0, b)
 
 add-direction-stencil : tie.Need-add-direction-stencil
-add-direction-stencil c = let s = c .before .before .before in let b = side₁-lt (s .args .faces .now) (s .args .f) (s .pre .1) in let n = s .pre .0 .ready .small in omega arith
+add-direction-stencil c = let s = c .before .before .before in let b = side₁-lt (s .args .faces .now) (s .args .f) (s .pre .1) in let n = s .pre .0 .ready .table .sides .few in omega arith
 
 direction-stencil-requires-2 : tie.Need-direction-stencil-requires-2
-direction-stencil-requires-2 c κs = let s = c .before .before .before in let b = side₁-lt (s .args .faces .now) (s .args .f) (s .pre .1) in let n = s .pre .0 .ready .small in (s .pre .0, b)
+direction-stencil-requires-2 c κs = let s = c .before .before .before in let b = side₁-lt (s .args .faces .now) (s .args .f) (s .pre .1) in let n = s .pre .0 .ready .table .sides .few in (s .pre .0, b)
 
 four-inner-requires : tie.Need-four-inner-requires
-four-inner-requires c κs = let s = c .before .before .before .before in let b = side₀-lt (s .args .faces .now) (s .args .f) (s .pre .1) in let n = s .pre .0 .ready .small in (s .pre .0, b)
+four-inner-requires c κs = let s = c .before .before .before .before in let b = side₀-lt (s .args .faces .now) (s .args .f) (s .pre .1) in let n = s .pre .0 .ready .table .sides .few in (s .pre .0, b)
 
 add-four-inner : tie.Need-add-four-inner
-add-four-inner c = let s = c .before .before .before .before .before .before in let b = side₁-lt (s .args .faces .now) (s .args .f) (s .pre .1) in let n = s .pre .0 .ready .small in omega arith
+add-four-inner c = let s = c .before .before .before .before .before .before in let b = side₁-lt (s .args .faces .now) (s .args .f) (s .pre .1) in let n = s .pre .0 .ready .table .sides .few in omega arith
 
 four-inner-requires-2 : tie.Need-four-inner-requires-2
-four-inner-requires-2 c κs = let s = c .before .before .before .before .before .before in let b = side₁-lt (s .args .faces .now) (s .args .f) (s .pre .1) in let n = s .pre .0 .ready .small in (s .pre .0, b)
+four-inner-requires-2 c κs = let s = c .before .before .before .before .before .before in let b = side₁-lt (s .args .faces .now) (s .args .f) (s .pre .1) in let n = s .pre .0 .ready .table .sides .few in (s .pre .0, b)
 
 returns : tie.Need-returns
 returns c = face-both-inner _ _ _ _ _ _ (c .before .before .before .before .before .direction-stencil .ensures) (c .before .before .before .before .direction-stencil2 .ensures) (c .before .before .before .four-inner .ensures) (c .before .four-inner2 .ensures) (c .before .before .if1 .taken) (c .if2 .taken)
@@ -33,10 +33,10 @@ returns-2 : tie.Need-returns-2
 returns-2 c = face-first _ _ _ _ _ _ (c .before .before .before .before .before .direction-stencil .ensures) (c .before .before .before .before .direction-stencil2 .ensures) (c .before .before .before .four-inner .ensures) (c .before .four-inner2 .ensures) (c .before .before .if1 .taken) (c .if2 .left)
 
 add-four-inner-2 : tie.Need-add-four-inner-2
-add-four-inner-2 c = let s = c .before .before .before .before .before .before in let b = side₁-lt (s .args .faces .now) (s .args .f) (s .pre .1) in let n = s .pre .0 .ready .small in omega arith
+add-four-inner-2 c = let s = c .before .before .before .before .before .before in let b = side₁-lt (s .args .faces .now) (s .args .f) (s .pre .1) in let n = s .pre .0 .ready .table .sides .few in omega arith
 
 four-inner-requires-3 : tie.Need-four-inner-requires-3
-four-inner-requires-3 c κs = let s = c .before .before .before .before .before .before in let b = side₁-lt (s .args .faces .now) (s .args .f) (s .pre .1) in let n = s .pre .0 .ready .small in (s .pre .0, b)
+four-inner-requires-3 c κs = let s = c .before .before .before .before .before .before in let b = side₁-lt (s .args .faces .now) (s .args .f) (s .pre .1) in let n = s .pre .0 .ready .table .sides .few in (s .pre .0, b)
 
 returns-3 : tie.Need-returns-3
 returns-3 c = face-second _ _ _ _ _ _ (c .before .before .before .before .before .direction-stencil .ensures) (c .before .before .before .before .direction-stencil2 .ensures) (c .before .before .before .four-inner .ensures) (c .before .four-inner3 .ensures) (c .before .before .if1 .left) (c .if3 .taken)

@@ -4,7 +4,7 @@ use Prim.Native.Nat.{ℕ, _*_, _/_}
 use native.Mathlib.Omega.{arith}
 use lib.ListN.{length}
 use Rattle.tables.specs.Tables.{cleared}
-use Rattle.tables.specs.Net.{Net}
+use Rattle.nets.specs.Net.{Net}
 use Rattle.verdict.specs.Call.{Room}
 use Rattle.verdict.specs.Verdict.{accepted, limitsVerdict}
 use Rattle.verdict.proofs.Accepted.{WithinLimits, within-if}

@@ -9,7 +9,7 @@ use Rattle.walks.proofs.along_side.Statement.{statement}
 use Rattle.walks.proofs.along_side.Tie as tie
 
 next-side-requires : tie.Need-next-side-requires
-next-side-requires c κs = let q = c .before .before .pre .0 .small in omega arith
+next-side-requires c κs = let q = c .before .before .pre .0 .table .sides .few in omega arith
 
 fan-start-requires : tie.Need-fan-start-requires
 fan-start-requires c κs =

@@ -20,11 +20,11 @@ loop-holds : tie.Need-loop-holds Inv-loop μ-loop
 loop-holds c = let s = c .before .before in let r = s .pre .0 in (omega arith, winding-start (r .vertices) (s .args .faces .now) (r .net) (s .args .h) (s .pre .1))
 
 turn-side-requires : tie.Need-turn-side-requires Inv-loop μ-loop
-turn-side-requires c κs = (c .before .before .before .before .pre .0, c .before .loop .inv .1 .lt)
+turn-side-requires c κs = (c .before .before .before .before .pre .0 .table, c .before .loop .inv .1 .lt)
 
 prev-side-requires : tie.Need-prev-side-requires Inv-loop μ-loop
 prev-side-requires c κs =
-    let q = c .before .before .before .before .before .before .pre .0 .small in let b = c .before .before .before .loop .inv .1 .lt in omega arith
+    let q = c .before .before .before .before .before .before .pre .0 .table .sides .few in let b = c .before .before .before .loop .inv .1 .lt in omega arith
 
 returns : tie.Need-returns Inv-loop μ-loop
 returns c =

@@ -1,8 +1,8 @@
 -- `fan_start` meets its contract: the walk ends at the first half-edge of the fan, which has at most six. Assumes nothing.
-use mathlib.Core.Path.{_≡_, sym, ap, _∙_}
-use Prim.Native.Nat.{_-_, _<_, _≤_}
+use mathlib.Core.Path.{_≡_, sym, ap, subst, _∙_}
+use Prim.Native.Nat.{ℕ, _-_, _<_, _≤_}
 use native.Mathlib.Omega.{arith}
-use lib.ListN.{length, getD}
+use lib.ListN.{length}
 use Rattle.topology.specs.Shape.{quads}
 use Rattle.topology.specs.HalfEdge.{mate}
 use Rattle.topology.proofs.Mates.{mate-le}
@@ -19,35 +19,24 @@ abbrev μ-loop : tie.MeasureT-loop
 loop-holds : tie.Need-loop-holds Inv-loop μ-loop
 loop-holds c = let s = c .before .before in let r = s .pre .0 in (omega arith, unwinding-start (r .vertices) (s .args .faces .now) (r .net) (s .args .h) (s .pre .1))
 
-mul-m : tie.Need-mul-m Inv-loop μ-loop
-mul-m c = let q = c .before .before .before .before .pre .0 .small in let b = c .before .loop .inv .1 .lt in omega arith
-
-shared-slice-read-m : tie.Need-shared-slice-read-m Inv-loop μ-loop
-shared-slice-read-m c = let q = c .before .before .before .before .before .pre .0 .room in let b = c .before .before .loop .inv .1 .lt in omega arith
-
-cast-m : tie.Need-cast-m Inv-loop μ-loop
-cast-m c = omega (arith, c .shared-slice-known3 .given (c .before .before .loop .g))
-
--- the number read is the mate of g
-read : (c : tie.After-shared-slice-known3 Inv-loop μ-loop)
-    → getD (c .before .before .before .before .before .args .work .now) (c .before .before .loop .g) 0 ≡ mate quads (c .before .before .before .before .before .args .faces .now) (c .before .before .loop .g)
-read c = c .before .before .before .before .before .pre .0 .mated .mates (c .before .before .loop .g) (c .before .before .loop .inv .1 .lt)
+mate-side-requires : tie.Need-mate-side-requires Inv-loop μ-loop
+mate-side-requires c κs = (c .before .before .before .before .pre .0 .table, c .before .loop .inv .1 .lt)
 
 returns : tie.Need-returns Inv-loop μ-loop
 returns c =
     let s = c .before .before .before .before .before .before in
     let q = c .before .before .before in
     let r = s .pre .0 in
-    unwinding-hit (r .vertices) (s .args .faces .now) (r .net) (s .args .h) (s .pre .1) (q .loop .g) (q .loop .i) (q .loop .inv .1) (sym (read (c .before)) ∙ c .if1 .taken)
+    unwinding-hit (r .vertices) (s .args .faces .now) (r .net) (s .args .h) (s .pre .1) (q .loop .g) (q .loop .i) (q .loop .inv .1) (sym (c .before .mate-side .ensures) ∙ c .if1 .taken)
 
-mated : (c : tie.Else1 Inv-loop μ-loop) → mate quads (c .before .before .before .before .before .before .args .faces .now) (c .before .before .before .loop .g) < length (c .before .before .before .before .before .before .args .faces .now)
+mated : (c : tie.Else1 Inv-loop μ-loop) → c .before .mate-side .result < length (c .before .before .before .before .before .before .args .faces .now)
 mated c =
-    let e = read (c .before) in
+    let e = c .before .mate-side .ensures in
     let m = mate-le quads (c .before .before .before .before .before .before .args .faces .now) (c .before .before .before .loop .g) in
     omega (arith, c .if1 .left)
 
 next-side-requires : tie.Need-next-side-requires Inv-loop μ-loop
-next-side-requires c κs = let q = c .before .before .before .before .before .before .pre .0 .small in let e = read (c .before) in let m = mated c in omega arith
+next-side-requires c κs = let q = c .before .before .before .before .before .before .pre .0 .table .sides .few in let m = mated c in omega arith
 
 add-i : tie.Need-add-i Inv-loop μ-loop
 add-i c = omega arith
@@ -60,8 +49,10 @@ loop-again c =
     let s = c .before .before .before .before .before .before .before in
     let q = c .before .before .before .before in
     let r = s .pre .0 in
-    let e : c .next-side .result ≡ quads .next (mate quads (s .args .faces .now) (q .loop .g)) = c .next-side .ensures ∙ ap (quads .next) (read (c .before .before)) in
-    (omega arith, rw e (unwinding-step (r .vertices) (s .args .faces .now) (r .net) (s .args .h) (s .pre .1) (q .loop .g) (q .loop .i) (q .loop .inv .1) (mated (c .before))))
+    let m = c .before .before .mate-side .ensures in
+    let e : c .next-side .result ≡ quads .next (mate quads (s .args .faces .now) (q .loop .g)) = c .next-side .ensures ∙ ap (quads .next) m in
+    let b : mate quads (s .args .faces .now) (q .loop .g) < length (s .args .faces .now) = subst (λ (x : ℕ). x < length (s .args .faces .now)) m (mated (c .before)) in
+    (omega arith, rw e (unwinding-step (r .vertices) (s .args .faces .now) (r .net) (s .args .h) (s .pre .1) (q .loop .g) (q .loop .i) (q .loop .inv .1) b))
 
 returns-2 : tie.Need-returns-2 Inv-loop μ-loop
 returns-2 c =
@@ -71,4 +62,4 @@ returns-2 c =
     unwinding-end (r .vertices) (s .args .faces .now) (r .net) (s .args .h) (s .pre .1) (q .loop .g) (q .loop .i) (q .loop .inv .1) (omega arith)
 
 pub fan-start-spec : {M : Type 1} → statement M
-fan-start-spec = tie.close (tie.spec Inv-loop μ-loop loop-holds mul-m shared-slice-read-m cast-m returns next-side-requires add-i loop-less loop-again returns-2)
+fan-start-spec = tie.close (tie.spec Inv-loop μ-loop loop-holds mate-side-requires returns next-side-requires add-i loop-less loop-again returns-2)

@@ -1,8 +1,8 @@
 -- `regular_across` meets its contract: three turns to the side after the mate make a ring of four. Assumes nothing.
-use mathlib.Core.Path.{_≡_, ap, _∙_}
+use mathlib.Core.Path.{_≡_, _∙_}
 use Prim.Native.Nat.{ℕ, _<_}
 use native.Mathlib.Omega.{arith}
-use lib.ListN.{length, getD}
+use lib.ListN.{length}
 use mathlib.Core.List.{List}
 use Rattle.topology.specs.Shape.{quads}
 use Rattle.topology.specs.Vertex.{turn}
@@ -15,7 +15,7 @@ turned-lt : (l : List ℕ) (h a : ℕ) → a ≡ turn quads l h → (a ≡ lengt
 turned-lt l h a e n = let m = turn-le quads l h in omega arith
 
 turn-side-requires : tie.Need-turn-side-requires
-turn-side-requires c κs = let s = c .before .before in (s .pre .0, s .pre .1 .0)
+turn-side-requires c κs = let s = c .before .before in (s .pre .0 .table, s .pre .1 .0)
 
 returns : tie.Need-returns
 returns c = across-none _ _
@@ -24,7 +24,7 @@ first-lt : (c : tie.Else1) → c .before .turn-side .result < length (c .before 
 first-lt c = turned-lt (c .before .before .before .before .args .faces .now) (c .before .before .before .before .args .h) (c .before .turn-side .result) (c .before .turn-side .ensures) (c .if1 .left)
 
 turn-side-requires-2 : tie.Need-turn-side-requires-2
-turn-side-requires-2 c κs = (c .before .before .before .before .pre .0, first-lt c)
+turn-side-requires-2 c κs = (c .before .before .before .before .pre .0 .table, first-lt c)
 
 returns-2 : tie.Need-returns-2
 returns-2 c = across-none _ _
@@ -34,44 +34,28 @@ second-lt c =
     turned-lt (c .before .before .before .before .before .before .args .faces .now) (c .before .before .before .turn-side .result) (c .before .turn-side2 .result) (c .before .turn-side2 .ensures) (c .if2 .left)
 
 turn-side-requires-3 : tie.Need-turn-side-requires-3
-turn-side-requires-3 c κs = (c .before .before .before .before .before .before .pre .0, second-lt c)
+turn-side-requires-3 c κs = (c .before .before .before .before .before .before .pre .0 .table, second-lt c)
 
 next-side-requires : tie.Need-next-side-requires
-next-side-requires c κs = let s = c .before .before .before .before .before .before .before in let q = s .pre .0 .small in let b = s .pre .1 .2 in omega arith
+next-side-requires c κs = let s = c .before .before .before .before .before .before .before in let q = s .pre .0 .table .sides .few in let b = s .pre .1 .2 in omega arith
 
 returns-3 : tie.Need-returns-3
 returns-3 c = across-none _ _
 
-next-side-requires-2 : tie.Need-next-side-requires-2
-next-side-requires-2 c κs = let q = c .before .before .before .before .before .before .before .before .before .pre .0 .small in let b = second-lt (c .before .before .before) in omega arith
-
-next-lt : (c : tie.After-next-side2) → c .next-side2 .result < length (c .before .before .before .before .before .before .before .before .before .before .args .faces .now)
-next-lt c =
-    let s = c .before .before .before .before .before .before .before .before .before .before in
-    let e = c .next-side2 .ensures in
-    let b = s .pre .0 .net .oriented .shape .next-lt _ (second-lt (c .before .before .before .before)) in
-    omega arith
-
-mul-result : tie.Need-mul-result
-mul-result c = let q = c .before .before .before .before .before .before .before .before .before .before .pre .0 .small in let b = next-lt c in omega arith
-
-shared-slice-read-result : tie.Need-shared-slice-read-result
-shared-slice-read-result c = next-lt (c .before)
-
-cast-result : tie.Need-cast-result
-cast-result c = omega (arith, c .shared-slice-known3 .given (c .before .next-side2 .result))
+end-of-requires : tie.Need-end-of-requires
+end-of-requires c κs = (c .before .before .before .before .before .before .before .before .before .pre .0 .table .sides, second-lt (c .before .before .before))
 
 returns-4 : tie.Need-returns-4
 returns-4 c =
-    let s = c .before .before .before .before .before .before .before .before .before .before .before in
+    let s = c .before .before .before .before .before .before .before .before .before .before in
     let r = s .pre .0 in
     let l = s .args .faces .now in
-    let x₁ = c .before .before .before .before .before .before .before .before in
-    let x₂ = c .before .before .before .before .before .before in
-    let x₃ = c .before .before .before .before in
+    let x₁ = c .before .before .before .before .before .before .before in
+    let x₂ = c .before .before .before .before .before in
+    let x₃ = c .before .before .before in
     across-is (r .vertices) l (r .net) (s .args .h) (s .pre .1 .0) (x₁ .turn-side .result) (x₂ .turn-side2 .result) (x₃ .turn-side3 .result) (s .args .g) _
-    (x₁ .turn-side .ensures) (first-lt (c .before .before .before .before .before .before .before)) (x₂ .turn-side2 .ensures) (second-lt (c .before .before .before .before .before))
-    (x₃ .turn-side3 .ensures) (s .pre .1 .1) (s .pre .1 .2) (c .before .before .if3 .left ∙ c .before .before .before .next-side .ensures) (ap (λ (g : ℕ). getD l g 0) (c .before .next-side2 .ensures))
+    (x₁ .turn-side .ensures) (first-lt (c .before .before .before .before .before .before)) (x₂ .turn-side2 .ensures) (second-lt (c .before .before .before .before))
+    (x₃ .turn-side3 .ensures) (s .pre .1 .1) (s .pre .1 .2) (c .before .if3 .left ∙ c .before .before .next-side .ensures) (c .end-of .ensures)
 
 pub regular-across-spec : {M : Type 1} → statement M
 regular-across-spec =
@@ -84,8 +68,5 @@ regular-across-spec =
     turn-side-requires-3
     next-side-requires
     returns-3
-    next-side-requires-2
-    mul-result
-    shared-slice-read-result
-    cast-result
+    end-of-requires
     returns-4)

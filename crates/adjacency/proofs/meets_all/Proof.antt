@@ -1,0 +1,68 @@
+-- `meets_all` meets its contract: k turns from h lead to g, and turning has not stopped before. Assumes nothing.
+use Prim.Native.Nat.{ℕ, _-_, _≤_}
+use mathlib.Core.Path.{sym, ap}
+use native.Mathlib.Omega.{arith}
+use lib.Dec.{eqb}
+use Rattle.topology.specs.Shape.{quads}
+use Rattle.adjacency.proofs.Turning.{Turned, turned-start, turned-next, met-none, met-back, met-more}
+use Rattle.adjacency.proofs.meets_all.Statement.{statement}
+use Rattle.adjacency.proofs.meets_all.Tie as tie
+
+abbrev Inv-loop : tie.InvT-loop
+Inv-loop faces work h d n g₀ k₀ g k = (k ≤ d) × Turned faces h k g
+
+abbrev μ-loop : tie.MeasureT-loop
+μ-loop faces work h d n g₀ k₀ g k = d - k
+
+loop-holds : tie.Need-loop-holds Inv-loop μ-loop
+loop-holds c = (omega arith, turned-start _ _ (c .before .before .pre .1 .0))
+
+prev-side-requires : tie.Need-prev-side-requires Inv-loop μ-loop
+prev-side-requires c κs = omega arith
+
+mul-g : tie.Need-mul-g Inv-loop μ-loop
+unfolding quads
+mul-g c = omega arith
+
+shared-slice-read-g : tie.Need-shared-slice-read-g Inv-loop μ-loop
+unfolding quads
+shared-slice-read-g c = omega arith
+
+cast-g : tie.Need-cast-g Inv-loop μ-loop
+cast-g c = omega (arith, c .shared-slice-known3 .given (c .before .prev-side .result))
+
+add-k : tie.Need-add-k Inv-loop μ-loop
+add-k c = omega arith
+
+returns : tie.Need-returns Inv-loop μ-loop
+returns c = ap (λ (m : ℕ). eqb m (c .before .before .before .before .before .before .before .args .d)) (met-none _ _ _ _ _ _ (c .before .before .before .before .before .before .before .pre .0) (c .before .before .before .before .loop .inv .1) (c .before .before .prev-side .ensures) (omega arith) (c .if1 .taken))
+
+returns-2 : tie.Need-returns-2 Inv-loop μ-loop
+returns-2 c = ap (λ (m : ℕ). eqb m (c .before .before .before .before .before .before .before .before .args .d)) (met-back _ _ _ _ _ _ (c .before .before .before .before .before .before .before .before .pre .0) (c .before .before .before .before .before .loop .inv .1) (c .before .before .before .prev-side .ensures) (omega arith) (c .if2 .taken))
+
+loop-less : tie.Need-loop-less Inv-loop μ-loop
+loop-less c = omega arith
+
+loop-again : tie.Need-loop-again Inv-loop μ-loop
+loop-again c = (omega arith, turned-next _ _ _ _ _ _ (c .before .before .before .before .before .before .before .before .pre .0) (c .before .before .before .before .before .loop .inv .1) (c .before .before .before .prev-side .ensures) (c .before .if1 .left) (c .if2 .left))
+
+returns-3 : tie.Need-returns-3 Inv-loop μ-loop
+returns-3 c = sym (met-more _ _ _ _ _ (c .before .loop .inv .1) (c .loop-test .left) (omega arith))
+
+pub meets-all-spec : {M : Type 1} → statement M
+meets-all-spec =
+    tie.close
+    (tie.spec
+    Inv-loop
+    μ-loop
+    loop-holds
+    prev-side-requires
+    mul-g
+    shared-slice-read-g
+    cast-g
+    add-k
+    returns
+    returns-2
+    loop-less
+    loop-again
+    returns-3)

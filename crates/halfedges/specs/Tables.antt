@@ -1,0 +1,22 @@
+-- What functions ask of the caller's tables of half-edges: corners l of four-sided faces, and the mates at the front of a table w.
+use mathlib.Core.Path.{_≡_}
+use mathlib.Core.List.{List}
+use Prim.Native.Nat.{ℕ, _%_, _≤_, _<_}
+use lib.ListN.{length, getD}
+use Rattle.topology.specs.Shape.{quads}
+use Rattle.topology.specs.HalfEdge.{mate}
+
+-- n half-edges make four-sided faces, at most 65,536 of them: as many as are refined once more
+pub record Quadrilaterals (n : ℕ) : Type 0 where
+  pub fours : n % 4 ≡ 0
+  pub few : n ≤ 262144
+
+-- w starts with the mates
+pub record MateTable (l w : List ℕ) : Type 0 where
+  pub mates : (g : ℕ) → g < length l → getD w g 0 ≡ mate quads l g
+
+-- corners and mates
+pub record Connectivity (l w : List ℕ) : Type 0 where
+  pub sides : Quadrilaterals (length l)
+  pub room : length l ≤ length w
+  pub mated : MateTable l w

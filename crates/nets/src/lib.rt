@@ -1,0 +1,1 @@
+// Nets as tables: definitions in specs/. No function.

@@ -1,3 +1,0 @@
-pub mod Chains
-pub mod Turning
-pub mod Refused
