@@ -31,6 +31,7 @@ use Rattle.schemelaws.specs.Numerators.{edgeZ}
 use Rattle.schemelaws.proofs.Ties.{equals-edge}
 use Rattle.schemelaws.proofs.Coordinates.{edge-either, refined-old, refined-edge}
 use Rattle.schemelaws.proofs.Sizes.{edge-size}
+use Rattle.halfedges.proofs.Tables.{mates-cong}
 use Rattle.walks.specs.Ready.{Ready}
 use Rattle.curvepoints.specs.Exact.{Points, Marks, ExactEdge, ExactPoint}
 use Rattle.packing.specs.Packed.{putThree, Holds}
@@ -107,14 +108,15 @@ module _ (l marks : List ℕ) (p₀ : List ℤ) (w₀ : List ℕ) (ok : Round l 
     pub ready-now : Ready l w
     ready-now =
         let n = done .kept in
-        let r = ok .indexed .ready .room in
+        let r = ok .indexed .ready .table .room in
         record {
           vertices = ok .indexed .ready .vertices;
           net = ok .indexed .ready .net;
-          fours = ok .indexed .ready .table .sides .fours;
-          small = ok .indexed .ready .table .sides .few;
-          room = omega arith;
-          mated = record { mates = λ g b. done .front g (omega arith) ∙ ok .indexed .ready .table .mated .mates g b };
+          table = record {
+            sides = ok .indexed .ready .table .sides;
+            room = omega arith;
+            mated = mates-cong l w₀ w (λ g b. done .front g (omega arith)) (ok .indexed .ready .table .mated);
+          };
         }
 
     pub points-now : Points l (take (3 * length marks) p)

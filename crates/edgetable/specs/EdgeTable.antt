@@ -9,7 +9,7 @@ use Rattle.curve.specs.Weights.{kobbelt}
 use Rattle.topology.specs.Shape.{quads}
 use Rattle.topology.specs.HalfEdge.{edge}
 use Rattle.topology.specs.Manifold.{Manifold}
-use Rattle.refinement.specs.Refined.{refinedVertices}
+use Rattle.refinedfaces.specs.Refined.{refinedVertices}
 use Rattle.scheme.specs.Step.{refinedCoordinate}
 use Rattle.nets.specs.Net.{axis}
 use Rattle.schemelaws.specs.Numerators.{edgeZ}

@@ -8,7 +8,7 @@ use lib.Dec.{ltb}
 use lib.IntN.{ℤ}
 use lib.ListN.{length, take}
 use Rattle.curve.specs.Weights.{kobbelt}
-use Rattle.tables.specs.Net as tables
+use Rattle.nets.specs.Net as tables
 use Rattle.tables.proofs.Laws.{take-filled}
 use Rattle.verdict.specs.Verdict.{Verdict, accepted, refused, orElse, limitsVerdict, netVerdict}
 use Rattle.verdict.proofs.Accepted.{or-both}

@@ -12,12 +12,12 @@ use Rattle.tables.specs.Tables.{filled}
 use Rattle.topology.specs.Shape.{quads}
 use Rattle.verdict.specs.Verdict.{Verdict, accepted, refused, limitsVerdict, callVerdict, netVerdict, verdict, workAfter}
 use Rattle.verdict.proofs.Accepted.{WithinLimits, within-if, accepted-net}
-use Rattle.refinement.proofs.Corners.{length-refined}
+use Rattle.refinedfaces.proofs.Corners.{length-refined}
 use Rattle.scheme.specs.Step.{steps}
 use Rattle.schemelaws.specs.Nets.{Refinable}
 use Rattle.schemelaws.proofs.Steps.{step-faces, step-count, refinable-steps}
 use Rattle.tables.proofs.Laws.{filled-at}
-use Rattle.growth.proofs.Round.{vertices-refined}
+use Rattle.roundfaces.proofs.Round.{vertices-refined}
 use Rattle.validate.proofs.Laws.{joined}
 use Rattle.outcome.specs.Outcome.{Buffers, Result, refinedTo, refusedWith, Outcome, callOf, outcomeBy, outcome}
 use Rattle.outcome.proofs.Accepted.{by-result, accepted-refinable}

@@ -12,7 +12,7 @@ use Rattle.lists.specs.Tabulate.{tabulate}
 use Rattle.lists.proofs.Tabulate.{length-tabulate, tabulate-cong, tabulate-getD}
 use Rattle.search.proofs.First.{first-before}
 use Rattle.curve.specs.Weights.{kobbelt}
-use Rattle.tables.specs.Net as tables
+use Rattle.nets.specs.Net as tables
 use Rattle.tables.specs.Tables.{filled}
 use Rattle.topology.specs.HalfEdge.{from}
 use Rattle.refusals.specs.Refusals.{badMark}

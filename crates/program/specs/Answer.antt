@@ -5,7 +5,7 @@ use Prim.Native.Nat.{ℕ}
 use lib.Dec.{ltb}
 use lib.ListN.{length}
 use Rattle.curve.specs.Weights.{kobbelt}
-use Rattle.tables.specs.Net as tables
+use Rattle.nets.specs.Net as tables
 use Rattle.verdict.specs.Call.{vertexCount, faceCount}
 use Rattle.verdict.specs.Verdict.{Verdict, accepted, refused, orElse, netVerdict}
 use Rattle.scheme.specs.Step.{steps}

@@ -5,7 +5,7 @@ use Prim.Native.Nat.{ℕ, _≤_}
 use lib.IntN.{ℤ}
 use lib.ListN.{length}
 use Rattle.curve.specs.Weights.{kobbelt}
-use Rattle.tables.specs.Net as tables
+use Rattle.nets.specs.Net as tables
 use Rattle.tables.specs.Tables.{filled}
 use Rattle.verdict.specs.Call.{Call, vertexCount, faceCount}
 use Rattle.verdict.specs.Verdict.{accepted, verdict}

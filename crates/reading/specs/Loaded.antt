@@ -5,7 +5,7 @@ use Prim.Native.Nat.{ℕ, _*_}
 use lib.Dec.{ltb}
 use lib.IntN.{ℤ}
 use lib.ListN.{length}
-use Rattle.tables.specs.Net as tables
+use Rattle.nets.specs.Net as tables
 use Rattle.tables.specs.Tables.{filled}
 use Rattle.verdict.specs.Call.{Room}
 use Rattle.verdict.specs.Verdict.{Verdict, accepted, refused, orElse, refusedIf, limitsVerdict}

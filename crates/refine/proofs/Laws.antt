@@ -22,7 +22,7 @@ use Rattle.verdict.proofs.Accepted.{WithinLimits, accepted-limits, accepted-net
 use Rattle.scheme.specs.Step.{steps}
 use Rattle.schemelaws.specs.Nets.{Refinable}
 use Rattle.schemelaws.proofs.Steps.{step-faces, step-count, refinable-steps}
-use Rattle.refinement.proofs.Corners.{length-refined}
+use Rattle.refinedfaces.proofs.Corners.{length-refined}
 use Rattle.halfedges.specs.Tables.{MateTable}
 use Rattle.validate.proofs.Laws.{joined}
 use Rattle.outcome.specs.Outcome.{Buffers, refinedTo, callOf, outcome}

@@ -23,7 +23,7 @@ use Rattle.nets.proofs.Laws.{same-net}
 use Rattle.topology.specs.Shape.{quads}
 use Rattle.topology.specs.HalfEdge.{mate, firstMet, edgeCount}
 use Rattle.topology.proofs.Mates.{count-new, count-old}
-use Rattle.refinement.specs.Refined.{refinedVertices}
+use Rattle.refinedfaces.specs.Refined.{refinedVertices}
 use Rattle.scheme.specs.Step.{step}
 use Rattle.schemelaws.specs.Numerators.{edgeZ}
 use Rattle.schemelaws.proofs.Coordinates.{refined-face}

@@ -21,20 +21,19 @@ use Rattle.nets.proofs.Laws.{same-net}
 use Rattle.topology.specs.Shape.{quads}
 use Rattle.topology.specs.HalfEdge.{edgeCount}
 use Rattle.topology.specs.Manifold.{Oriented, Manifold}
-use Rattle.refinement.specs.Refined.{refinedVertices, refined, refinedMarks}
-use Rattle.refinement.specs.Mates.{mates, refinedMates}
+use Rattle.refinedfaces.specs.Refined.{refinedVertices, refined, refinedMarks}
+use Rattle.refinedfaces.specs.Mates.{mates, refinedMates}
 use Rattle.scheme.specs.Step.{step}
 use Rattle.schemelaws.specs.Nets.{Within, Refinable}
 use Rattle.integers.specs.Bounded.{Bounded}
 use Rattle.schemelaws.proofs.Steps.{refinable-manifold, step-faces, step-marks, step-count}
-use Rattle.halfedges.specs.Tables.{MateTable}
+use Rattle.halfedges.specs.Tables.{Quadrilaterals, MateTable}
 use Rattle.halfedges.proofs.Tables.{mates-cong}
-use Rattle.growth.specs.Growth.{edges, extended, Mated, Numbered}
-use Rattle.growth.specs.Growth as Growth
-use Rattle.growth.proofs.Edges.{length-both}
-use Rattle.growth.proofs.Round.{oriented-wider, numbered-mates, numbered-edges, numbered-rest, numbered-cong, vertices-refined, marks-refined, marks-cong}
-use Rattle.mates.specs.Tables.{MatesIn}
-use Rattle.mates.proofs.Round.{mates-in, mated-refined, mates-rest}
+use Rattle.roundfaces.specs.Faces.{edges, extended, Mated, Numbered, FacesIn}
+use Rattle.roundfaces.proofs.Edges.{length-both}
+use Rattle.roundfaces.proofs.Round.{oriented-wider, numbered-mates, numbered-edges, numbered-rest, numbered-cong, vertices-refined, marks-refined, marks-cong}
+use Rattle.roundmates.specs.Mates.{MatesIn}
+use Rattle.roundmates.proofs.Round.{mates-in, mated-refined, mates-rest}
 use Rattle.walks.specs.Ready.{Ready}
 use Rattle.stencils.specs.Stencils.{Indexed}
 use Rattle.edgetable.specs.EdgeTable.{Round}
@@ -66,13 +65,19 @@ module _ (v n : ℕ) (points : List ℤ) (faces marks w : List ℕ) (c : Current
   oriented : Oriented quads v (take n faces)
   oriented = subst (λ (k : ℕ). Oriented quads k (take n faces)) marked (refinable-manifold (frontNet v n points faces marks) (c .refinable) .oriented)
 
+  sides : Quadrilaterals (length (take n faces))
+  sides = let e = corners in let s = c .small in record { fours = c .refinable .fours; few = omega arith }
+
   pub mated : Mated (take n faces) w
   mated =
       let e = corners in
-      let s = c .small in
       let r = c .roomWork in
       let q = c .vertices in
-      record { oriented = oriented-wider v (length (take n faces)) (take n faces) (omega arith) oriented; small = omega arith; room = omega arith; mated = c .mated }
+      record {
+        oriented = oriented-wider v (length (take n faces)) (take n faces) (omega arith) oriented;
+        table = record { sides = sides; room = omega arith; mated = c .mated };
+        room = omega arith;
+      }
 
   -- the new number of vertices
   pub count-le : v + edgeCount quads (take n faces) + n / 4 ≤ 4 * n
@@ -94,8 +99,7 @@ module _ (v n : ℕ) (points : List ℤ) (faces marks w : List ℕ) (c : Current
     mates-ready =
         let e = corners in
         let r = c .roomWork in
-        let s = c .small in
-        subst (λ (j : ℕ). MatesIn j w′) e (mates-in (take n faces) w′ (c .refinable .fours) (omega arith) (omega arith) t)
+        subst (λ (j : ℕ). MatesIn j w′) e (mates-in (take n faces) w′ sides (omega arith) t)
 
     module _ (w″ : List ℕ) (h : w″ ≡ filled (refinedMates quads (take n w′)) w′) where
       pub mates-next : MateTable (step kobbelt (frontNet v n points faces marks) .faces) w″
@@ -115,7 +119,6 @@ module _ (v n : ℕ) (points : List ℤ) (faces marks w : List ℕ) (c : Current
     pub ready : Round (take n faces) (take v marks) points w₁
     ready =
         let e = corners in
-        let s = c .small in
         let r = c .roomWork in
         let p = c .roomPoints in
         let k = length₁ in
@@ -128,10 +131,7 @@ module _ (v n : ℕ) (points : List ℤ) (faces marks w : List ℕ) (c : Current
             ready = record {
               vertices = length (take v marks);
               net = net;
-              fours = c .refinable .fours;
-              small = omega arith;
-              room = omega arith;
-              mated = rw e₁ (numbered-mates (take n faces) w);
+              table = record { sides = sides; room = omega arith; mated = rw e₁ (numbered-mates (take n faces) w) };
             };
             numbered = rw e₁ (numbered-edges (take n faces) w);
             room = omega arith;
@@ -161,13 +161,12 @@ module _ (v n : ℕ) (points : List ℤ) (faces marks w : List ℕ) (c : Current
       rest₂ : drop (8 * length (take n faces)) w₂ ≡ drop (8 * length (take n faces)) w₁
       rest₂ = drop-same (8 * length (take n faces)) w₂ w₁ (e₂ .kept) (e₂ .behind)
 
-      pub net-ready : (count : ℕ) → count ≡ edgeCount quads (take n faces) → Growth.Net n v count faces w₂
+      pub net-ready : (count : ℕ) → count ≡ edgeCount quads (take n faces) → FacesIn n v count faces w₂
       net-ready count h =
           let e = corners in
-          let f = c .refinable .fours in
           let r = c .roomWork in
           let k = length₂ in
-          record { fours = omega arith; small = c .small; vertices = c .vertices; room = c .roomFaces; behind = omega arith; numbered = numbered₂; counted = h }
+          record { sides = subst Quadrilaterals e sides; vertices = c .vertices; room = c .roomFaces; behind = omega arith; numbered = numbered₂; counted = h }
 
       same-marks : refinedMarks quads v (take n faces) (take v marks) ≡ refinedMarks quads v (take n faces) marks
       same-marks = marks-cong quads v (take n faces) (take v marks) marks (λ p h. getD-take v marks p 0 h)

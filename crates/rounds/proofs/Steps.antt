@@ -15,15 +15,15 @@ use Rattle.tables.specs.Tables.{filled}
 use Rattle.tables.proofs.Laws.{length-filled, take-filled, filled-over}
 use Rattle.nets.proofs.Laws.{same-net}
 use Rattle.topology.specs.Shape.{quads}
-use Rattle.refinement.specs.Refined.{refined}
-use Rattle.refinement.proofs.Corners.{length-refined}
+use Rattle.refinedfaces.specs.Refined.{refined}
+use Rattle.refinedfaces.proofs.Corners.{length-refined}
 use Rattle.scheme.specs.Step.{step, steps}
 use Rattle.schemelaws.specs.Nets.{Refinable}
 use Rattle.schemelaws.proofs.Steps.{step-faces, step-count, step-length, refinable-steps}
 use Rattle.schemelaws.proofs.Growth.{steps-input}
 use Rattle.halfedges.specs.Tables.{MateTable}
-use Rattle.refinement.specs.Mates.{refinedMates}
-use Rattle.mates.specs.Tables.{MatesIn}
+use Rattle.refinedfaces.specs.Mates.{refinedMates}
+use Rattle.roundmates.specs.Mates.{MatesIn}
 use Rattle.rounds.specs.Round.{Current, Refines}
 use Rattle.rounds.specs.Rounds.{Prepared, After}
 use Rattle.rounds.proofs.Laws.{count-le, count-is, mates-ready, mates-next, mates-past}

@@ -17,11 +17,11 @@ pub fn round(
     requires { ⌜ Current v n (now points) (now faces) (now marks) (now work) ⌝ }
     ensures { λ r. ⌜ Refines v n r (now (points .entry)) (now (points .exit)) (now (faces .entry)) (now (faces .exit)) (now (marks .entry)) (now (marks .exit)) (now (work .entry)) (now (work .exit)) ⌝ }
 {
-    let edges = growth::number_edges(&faces[..n], &mut *work);
+    let edges = roundfaces::number_edges(&faces[..n], &mut *work);
     roundpoints::new_points(&mut *points, &faces[..n], &marks[..v], &mut *work);
     let count = v + edges + n / 4;
-    growth::extend_marks(&mut *marks, v, count);
-    growth::refine_faces(&mut *faces, &*work, n, v, edges);
+    roundfaces::extend_marks(&mut *marks, v, count);
+    roundfaces::refine_faces(&mut *faces, &*work, n, v, edges);
     count
 }
 
@@ -54,7 +54,7 @@ pub fn rounds(
         if i == k {
             return count;
         }
-        mates::refine_mates(&mut *work, corners);
+        roundmates::refine_mates(&mut *work, corners);
         corners *= 4;
     }
     count

@@ -12,7 +12,7 @@ use Rattle.curve.specs.Weights.{Weights}
 use Rattle.fractions.specs.Fraction.{toWhole}
 use Rattle.topology.specs.Shape.{quads}
 use Rattle.topology.specs.HalfEdge.{edgeCount, edge}
-use Rattle.refinement.specs.Refined.{refinedVertices, refined, refinedMarks}
+use Rattle.refinedfaces.specs.Refined.{refinedVertices, refined, refinedMarks}
 use Rattle.scheme.specs.Points.{edgePoint, facePoint}
 
 -- the half-edge at which edge e is first met

@@ -23,7 +23,7 @@ use Rattle.topology.specs.Shape.{quads}
 use Rattle.topology.specs.HalfEdge.{from, to, mate, edgeCount, edge}
 use Rattle.topology.specs.Manifold.{Oriented, Manifold}
 use Rattle.topology.proofs.Mates.{mate-is, mate-back, mate-not, edge-lt, edge-mate, edge-same, edge-onto}
-use Rattle.refinement.specs.Refined.{refinedVertices}
+use Rattle.refinedfaces.specs.Refined.{refinedVertices}
 use Rattle.scheme.specs.Points.{edgePoint, facePoint}
 use Rattle.scheme.specs.Step.{edgeAt, refinedCoordinate}
 use Rattle.schemelaws.specs.Numerators.{virtualAtZ, edgeValueZ, edgeZ, faceZ}

@@ -9,7 +9,7 @@ use Rattle.rules.proofs.Growth.{grown, rounded-grown, grown-kept, limit, limit-
 use Rattle.nets.specs.Net.{Net, axis}
 use Rattle.topology.specs.Shape.{quads}
 use Rattle.topology.specs.Manifold.{Manifold}
-use Rattle.refinement.specs.Refined.{refinedVertices}
+use Rattle.refinedfaces.specs.Refined.{refinedVertices}
 use Rattle.scheme.specs.Step.{refinedCoordinate, step, steps}
 use Rattle.schemelaws.specs.Numerators.{edgeZ, faceZ}
 use Rattle.schemelaws.specs.Nets.{Within, Refinable}

@@ -19,7 +19,7 @@ use Rattle.topology.specs.Vertex.{leaves, valence, turn, start, stops, facesMet
 use Rattle.topology.proofs.Shape.{quads-lawful}
 use Rattle.refusals.specs.Refusals.{badCorner, isolated, repeatedSide, nonManifold, badValence}
 use Rattle.refusals.proofs.Manifold.{manifold-if}
-use Rattle.refinement.specs.Refined.{corner, refined, refinedMarks}
+use Rattle.refinedfaces.specs.Refined.{corner, refined, refinedMarks}
 use Rattle.rules.specs.Rules.{interiorPoint, endPoint, midpoint}
 use Rattle.scheme.specs.Points.{edgeRule, edgeValue, edgePoint}
 use Rattle.scheme.specs.Step.{edgeAt, refinedCoordinate, step}

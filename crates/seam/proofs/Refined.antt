@@ -16,7 +16,7 @@ use Rattle.topology.specs.HalfEdge.{from, to, edge}
 use Rattle.topology.specs.Boundary.{OnBoundary, boundaryFrom, along, back, Way, withSides, againstSides, other, step, passed}
 use Rattle.topology.proofs.Boundary.{along-on, along-from, back-to, along-back}
 use Rattle.topology.proofs.Loops.{passed-on, step-undone}
-use Rattle.refinement.proofs.Marks.{mark-old, mark-new}
+use Rattle.refinedfaces.proofs.Marks.{mark-old, mark-new}
 use Rattle.seam.specs.Reading.{nextVertex, vertexAt, points, OpenReading, ClosedReading, Reads}
 use Rattle.seam.specs.BoundaryStep.{boundaryRule, boundaryPoint, BoundaryStep}
 use Rattle.seam.specs.Seam.{Admissible}

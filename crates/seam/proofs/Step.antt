@@ -14,7 +14,7 @@ use Rattle.topology.specs.Shape.{quads}
 use Rattle.topology.specs.HalfEdge.{from, to, edge}
 use Rattle.topology.specs.Boundary.{OnBoundary, along, back}
 use Rattle.topology.proofs.Mates.{edge-lt}
-use Rattle.refinement.proofs.Manifold.{manifold-refined}
+use Rattle.refinedfaces.proofs.Manifold.{manifold-refined}
 use Rattle.scheme.specs.Points.{edgePoint}
 use Rattle.scheme.specs.Step.{edgeAt, step}
 use Rattle.scheme.proofs.BoundaryEdges.{inside-rounded, start-rounded, finish-rounded, whole-rounded}

@@ -11,11 +11,11 @@ use Rattle.topology.specs.Boundary.{OnBoundary, boundaryFrom, back, Way, withSi
 use Rattle.topology.specs.Manifold.{Manifold}
 use Rattle.topology.proofs.Boundary.{boundaryFrom-on, boundaryFrom-at, boundaryFrom-is, along-from}
 use Rattle.topology.proofs.Loops.{steps-on}
-use Rattle.refinement.specs.Refined.{refinedVertices, refined}
-use Rattle.refinement.proofs.Manifold.{manifold-refined}
-use Rattle.refinement.proofs.Boundary.{first-half, first-from, boundaryFrom-old}
-use Rattle.refinement.proofs.Corners.{length-refined}
-use Rattle.refinement.proofs.Loops.{steps-vertex, steps-edge}
+use Rattle.refinedfaces.specs.Refined.{refinedVertices, refined}
+use Rattle.refinedfaces.proofs.Manifold.{manifold-refined}
+use Rattle.refinedfaces.proofs.Boundary.{first-half, first-from, boundaryFrom-old}
+use Rattle.refinedfaces.proofs.Corners.{length-refined}
+use Rattle.refinedfaces.proofs.Loops.{steps-vertex, steps-edge}
 use Rattle.seam.specs.Reading.{nextVertex, vertexAt}
 
 module _ (v : ℕ) (l : List ℕ) (ok : Manifold quads v l) where

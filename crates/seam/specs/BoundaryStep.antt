@@ -9,7 +9,7 @@ use Rattle.curve.specs.Curve.{Rules, Point}
 use Rattle.topology.specs.Shape.{quads}
 use Rattle.topology.specs.HalfEdge.{from, to, edge}
 use Rattle.topology.specs.Boundary.{OnBoundary, along, back}
-use Rattle.refinement.specs.Refined.{refined, refinedMarks}
+use Rattle.refinedfaces.specs.Refined.{refined, refinedMarks}
 
 -- the point on the edge qr of consecutive p, q, r, s, where q and r are marked or not: "A loop is cut at its marked vertices into open stretches"
 unfoldable pub boundaryRule : {A : Type 0} → Rules A → Bool → Bool → A → A → A → A → A

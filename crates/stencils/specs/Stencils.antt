@@ -11,7 +11,7 @@ use Rattle.topology.specs.HalfEdge.{edge}
 use Rattle.scheme.specs.Points.{directionBy, inner, FaceRule, firstAlone, secondAlone, bothDirections, faceRule}
 use Rattle.topology.specs.Quads.{beyond}
 use Rattle.walks.specs.Ready.{Ready}
-use Rattle.growth.specs.Growth.{Numbered}
+use Rattle.roundfaces.specs.Faces.{Numbered}
 use Rattle.stencils.specs.declared.Stencil.{Stencil}
 use Rattle.stencils.specs.declared.Stencil.the-variants.{Interior, End, Single}
 use Rattle.stencils.specs.declared.FaceStencil.{FaceStencil}

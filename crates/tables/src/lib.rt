@@ -1,8 +1,8 @@
-// Clearing and copying the caller's tables.
-ghost use Prim.Native.Nat.{_≤_};
+// Clearing, copying and filling the caller's tables.
+ghost use Prim.Native.Nat.{_+_, _≤_};
 ghost use mathlib.Core.Path.{_≡_};
 ghost use lib.ListN.{length};
-ghost use Rattle.tables.specs.Tables.{filled, cleared};
+ghost use Rattle.tables.specs.Tables.{filled, cleared, putFour};
 
 // Sets the first n numbers to zero.
 pub fn clear(work: &mut [u32], n: usize)
@@ -50,4 +50,15 @@ pub fn copy_u8(src: &[u8], dst: &mut [u8])
         dst[i] = src[i];
         i += 1;
     }
+}
+
+// Writes four numbers from the place `at` on, the last first.
+pub fn put_four(table: &mut [u32], at: usize, a: u32, b: u32, c: u32, d: u32)
+    requires { ⌜ at + 4 ≤ length (now table) ⌝ }
+    ensures { λ _. ⌜ now (table .exit) ≡ putFour (now (table .entry)) at a b c d ⌝ }
+{
+    table[at + 3] = d;
+    table[at + 2] = c;
+    table[at + 1] = b;
+    table[at] = a;
 }

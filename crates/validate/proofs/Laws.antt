@@ -38,9 +38,8 @@ joined l v e = record { few = go (decLt (length l) v); none = e }
 
 pub tables : (l w w′ : List ℕ) (v : ℕ) → CheckTables l w → Joined l v → CornersBelow v l → length w′ ≡ length w → Tables l w′
 tables l w w′ v t j r e =
-    let a = t .few in
     let b = t .room in
-    record { fours = t .fours; small = omega arith; corners = corners-below-le v (length l) l (j .few) r; room = omega arith }
+    record { sides = t .sides; corners = corners-below-le v (length l) l (j .few) r; room = omega arith }
 
 -- a search that passes all found nothing
 pub all : (t : ℕ → Bool) (n i : ℕ) → i ≡ first t n → n ≤ i → first t n ≡ n
@@ -75,7 +74,7 @@ check-tables k nv nm l w r e =
     let q = r .quadrilaterals in
     let f = r .faces in
     let t = r .roomWork in
-    record { fours = q; few = omega arith; room = omega arith }
+    record { sides = record { fours = q; few = omega arith }; room = omega arith }
 
 pub passed : {v : Verdict} (f : ℕ) → v ≡ limitsOf f → f ≡ 0 → v ≡ accepted
 passed f e z = e ∙ rw (eq-eqb f 0 z) refl

@@ -5,15 +5,14 @@ use Prim.Native.Nat.{ℕ, _*_, _%_, _≤_}
 use lib.ListN.{length, drop}
 use Rattle.search.specs.Search.{first}
 use Rattle.refusals.specs.Refusals.{isolated}
-use Rattle.halfedges.specs.Tables.{MateTable}
+use Rattle.halfedges.specs.Tables.{Quadrilaterals, MateTable}
 use Rattle.verdict.specs.Verdict.{Verdict, accepted}
 use Rattle.validate.specs.declared.Answer.{Answer}
 use Rattle.validate.specs.Answer.{verdictOf}
 
--- corners l by fours, not too many, and a work table w with room for four numbers per half-edge
+-- corners l, and a work table w with room for four numbers per half-edge
 pub record CheckTables (l w : List ℕ) : Type 0 where
-  pub fours : length l % 4 ≡ 0
-  pub few : length l ≤ 16384
+  pub sides : Quadrilaterals (length l)
   pub room : 4 * length l ≤ length w
 
 -- each of v vertices is in a face

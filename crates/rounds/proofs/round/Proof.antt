@@ -12,9 +12,9 @@ use Rattle.rounds.proofs.round.Statement.{statement}
 use Rattle.rounds.proofs.round.Tie as tie
 use Rattle.rounds.proofs.round.Reads as reads
 use Rattle.rounds.proofs.round.Lts as lts
-use Rattle.growth.proofs.extend_marks.Reads as extend-marks-reads
-use Rattle.growth.proofs.number_edges.Reads as number-edges-reads
-use Rattle.growth.proofs.refine_faces.Reads as refine-faces-reads
+use Rattle.roundfaces.proofs.extend_marks.Reads as extend-marks-reads
+use Rattle.roundfaces.proofs.number_edges.Reads as number-edges-reads
+use Rattle.roundfaces.proofs.refine_faces.Reads as refine-faces-reads
 use Rattle.roundpoints.proofs.new_points.Reads as new-points-reads
 
 slice-reshare-prefix-number-edges : tie.Need-slice-reshare-prefix-number-edges

@@ -29,7 +29,7 @@ unfolding netVerdict
 returns-2 c = let s = c .before .before .before .before .before .before .before in let vs = s .args .vertices .now in let m = s .args .marks .now in record { verdict = at-pass 5 (badCoordinate vs) (length vs) (λ i. i / 3) _ _ _ (c .before .before .before .first-bad-coordinate .ensures) (c .before .before .if1 .left) (at-hit 6 (badMark m) (length m) (λ p. p) _ _ (c .before .first-bad-mark .ensures) (c .if2 .taken)); mated = λ e. never 6 _ e; rest = refl }
 
 first-bad-corner-requires : tie.Need-first-bad-corner-requires
-first-bad-corner-requires c κs = let s = c .before .before .before .before .before .before .before in let f = s .pre .few in (s .pre .fours, omega arith)
+first-bad-corner-requires c κs = let s = c .before .before .before .before .before .before .before in s .pre .sides
 
 face-of-requires : tie.Need-face-of-requires
 face-of-requires c κs = search needs

@@ -1,5 +1,0 @@
-pub mod Written
-pub mod Edges
-pub mod Faces
-pub mod Marks
-pub mod Round

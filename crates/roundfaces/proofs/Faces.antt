@@ -1,0 +1,96 @@
+-- Laws of corners refined in place.
+use mathlib.Core.Path.{_≡_, refl, sym, ap, _∙_, subst}
+use mathlib.Core.List.{List}
+use Prim.Native.Nat.{ℕ, _+_, _-_, _*_, _/_, _%_, _≤_, _<_}
+use native.Mathlib.Nat.{add-assoc, add-zero}
+use native.Mathlib.Omega.{arith}
+use lib.ListN.{length, getD, take}
+use lib.Seq.{length-take-le, getD-take}
+use Rattle.search.proofs.Quarters.{below-four}
+use Rattle.topology.specs.Shape.{Shape, quads}
+use Rattle.topology.specs.HalfEdge.{from, edgeCount, edge}
+use Rattle.topology.proofs.Shape.{four-sides}
+use Rattle.topology.proofs.Mates.{edges-le}
+use Rattle.refinedfaces.specs.Refined.{corner, refined}
+use Rattle.tables.specs.Tables.{filled, putFour, Written}
+use Rattle.roundfaces.specs.Faces.{cornerBy, FaceIn, FacesIn}
+use Rattle.roundfaces.proofs.Edges.{edge-le}
+use Rattle.tables.proofs.Written.{written-as, written-face, Refining, refining-all}
+
+-- the numbers that a face's corners and edges give
+module _ (n v count f : ℕ) (c w : List ℕ) where
+  number : ℕ → ℕ → ℕ
+  number = cornerBy quads v count (λ (h : ℕ). getD c h 0) (λ (h : ℕ). getD w (n + h) 0)
+
+  faces-four : (i : ℕ) → i < 4 → quads .face (4 * f + i) ≡ f
+  unfolding quads
+  faces-four i b = omega arith
+
+  side : (i : ℕ) → getD w (n + 4 * f + i) 0 ≡ getD w (n + (4 * f + i)) 0
+  side i = ap (λ (k : ℕ). getD w k 0) (add-assoc n (4 * f) i)
+
+  pub corners-written : (c₁ c₂ c₃ c₄ : List ℕ) → 16 * f + 16 ≤ length c
+      → c₁ ≡ putFour c (16 * f + 12) (getD c (4 * f + 3) 0) (v + getD w (n + 4 * f + 3) 0) (v + count + f) (v + getD w (n + 4 * f + 2) 0)
+      → c₂ ≡ putFour c₁ (16 * f + 8) (getD c (4 * f + 2) 0) (v + getD w (n + 4 * f + 2) 0) (v + count + f) (v + getD w (n + 4 * f + 1) 0)
+      → c₃ ≡ putFour c₂ (16 * f + 4) (getD c (4 * f + 1) 0) (v + getD w (n + 4 * f + 1) 0) (v + count + f) (v + getD w (n + 4 * f) 0)
+      → c₄ ≡ putFour c₃ (16 * f) (getD c (4 * f) 0) (v + getD w (n + 4 * f) 0) (v + count + f) (v + getD w (n + 4 * f + 3) 0)
+      → Written (16 * f) (16 * f + 16) (λ (k : ℕ). cornerBy quads v count (λ (h : ℕ). getD c h 0) (λ (h : ℕ). getD w (n + h) 0) (k / 4) (k % 4)) c c₄
+  unfolding cornerBy number
+  corners-written c₁ c₂ c₃ c₄ b p₁ p₂ p₃ p₄ =
+      let z : quads .face (4 * f) ≡ f = rw add-zero at (faces-four 0 (omega arith)) in
+      let s = four-sides f in
+      written-face number f c c₁ c₂ c₃ c₄ b
+      (rw (faces-four 3 (omega arith), s .prev₃, ← side 3, ← side 2) p₁)
+      (rw (faces-four 2 (omega arith), s .prev₂, ← side 2, ← side 1) p₂)
+      (rw (faces-four 1 (omega arith), s .prev₁, ← side 1) p₃)
+      (rw (z, s .prev₀, ← side 3) p₄)
+
+-- an edge number is small
+pub side-le : (n v count f : ℕ) (c w : List ℕ) (i : ℕ) → i < 4 → FaceIn n v count f c w → getD w (n + 4 * f + i) 0 ≤ n
+side-le n v count f c w i b ok = let e = side n v count f c w i in let r = ok .lt in rw e (ok .below (4 * f + i) (omega arith))
+
+-- ---- the loop
+
+corner-by : (S : Shape) (v : ℕ) (l : List ℕ) (c e : ℕ → ℕ) (h : ℕ) → c h ≡ from l h → e h ≡ edge S l h → e (S .prev h) ≡ edge S l (S .prev h) → (j : ℕ) → j < 4
+    → cornerBy S v (edgeCount S l) c e h j ≡ corner S v l h j
+unfolding corner cornerBy
+corner-by S v l c e h p q r = below-four (λ j. cornerBy S v (edgeCount S l) c e h j ≡ corner S v l h j) p (ap (λ (x : ℕ). v + x) q) refl (ap (λ (x : ℕ). v + x) r)
+
+module _ (n v count : ℕ) (faces w : List ℕ) (ok : FacesIn n v count faces w) where
+  l : List ℕ
+  l = take n faces
+
+  length-l : length l ≡ n
+  unfolding l
+  length-l = let r = ok .room in length-take-le n faces (omega arith)
+
+  number-at : (g : ℕ) → g < n → getD w (n + g) 0 ≡ edge quads l g
+  unfolding l
+  number-at g b = let e = length-l in subst (λ (m : ℕ). getD w (m + g) 0 ≡ edge quads l g) e (ok .numbered .numbers g b)
+
+  pub face-in : (c : List ℕ) (f : ℕ) → length c ≡ length faces → 4 * f + 4 ≤ n → FaceIn n v count f c w
+  face-in c f e b = record {
+    sides = ok .sides;
+    lt = b;
+    vertices = ok .vertices;
+    edges = let a = ok .counted in let k = edges-le quads l in let m = length-l in unfold l in omega arith;
+    room = let r = ok .room in omega arith;
+    numbers = ok .behind;
+    below = λ g a. let x = number-at g a in let y = edge-le quads l g in omega arith;
+  }
+
+  -- the corners of face f - 1 are still the old ones
+  pub corners-as : (c c′ : List ℕ) (f : ℕ) → 0 < f → Refining n (λ (k : ℕ). corner quads v (take n faces) (k / 4) (k % 4)) faces c f
+      → Written (16 * (f - 1)) (16 * (f - 1) + 16) (λ (k : ℕ). cornerBy quads v count (λ (h : ℕ). getD c h 0) (λ (h : ℕ). getD w (n + h) 0) (k / 4) (k % 4)) c c′
+      → Written (16 * (f - 1)) (16 * (f - 1) + 16) (λ (k : ℕ). corner quads v (take n faces) (k / 4) (k % 4)) c c′
+  unfolding l from quads
+  corners-as c c′ f p x y =
+      let b = x .le in
+      written-as (16 * (f - 1)) (16 * (f - 1) + 16) _ _ c c′ (λ k h g. rw (ok .counted) (corner-by quads v l (λ (h : ℕ). getD c h 0) (λ (h : ℕ). getD w (n + h) 0) (k / 4)
+      (x .written .before (k / 4) (omega arith) ∙ sym (getD-take n faces (k / 4) 0 (omega arith)))
+      (number-at (k / 4) (omega arith))
+      (number-at (quads .prev (k / 4)) (omega arith)) (k % 4) (omega arith))) y
+
+  pub corners-all : (c : List ℕ) (f : ℕ) → f ≤ 0 → Refining n (λ (k : ℕ). corner quads v (take n faces) (k / 4) (k % 4)) faces c f → c ≡ filled (refined quads v (take n faces)) faces
+  unfolding refined l
+  corners-all c f z x = let m = length-l in rw m (refining-all n (λ (k : ℕ). corner quads v (take n faces) (k / 4) (k % 4)) faces c f (ok .room) z x)

@@ -1,0 +1,4 @@
+pub mod Edges
+pub mod Faces
+pub mod Marks
+pub mod Round

@@ -1,0 +1,57 @@
+-- One round's topology in the caller's tables. A net of n half-edges has its corners at the front of one table; another table w has the mate of h at h and
+-- the number of its edge at n + h. The refined corners take the place of the old ones.
+use mathlib.Core.Path.{_≡_}
+use mathlib.Core.Bool.{cond}
+use mathlib.Core.List.{List}
+use Prim.Native.Nat.{ℕ, zero, suc, _+_, _*_, _≤_, _<_}
+use lib.ListN.{length, getD, take}
+use lib.Dec.{ltb}
+use Rattle.lists.specs.Tabulate.{tabulate}
+use Rattle.topology.specs.Shape.{Shape, quads}
+use Rattle.topology.specs.HalfEdge.{edgeCount, edge}
+use Rattle.topology.specs.Manifold.{Oriented}
+use Rattle.halfedges.specs.Tables.{Quadrilaterals, Connectivity}
+
+-- the edge numbers as a table
+unfoldable pub edges : Shape → List ℕ → List ℕ
+edges S l = tabulate (length l) (edge S l)
+
+-- an oriented net with corners l, its mates at the front of w, and room behind them for its edge numbers
+pub record Mated (l w : List ℕ) : Type 0 where
+  pub oriented : Oriented quads (length l) l
+  pub table : Connectivity l w
+  pub room : 2 * length l ≤ length w
+
+-- the edges of the half-edges below h are numbered
+pub record Numbered (l w : List ℕ) (h : ℕ) : Type 0 where
+  pub numbers : (g : ℕ) → g < h → getD w (length l + g) 0 ≡ edge quads l g
+
+-- corner j of the refined face h, from the corners c and the edge numbers e
+unfoldable pub cornerBy : Shape → ℕ → ℕ → (ℕ → ℕ) → (ℕ → ℕ) → ℕ → ℕ → ℕ
+cornerBy S v count c e h zero = c h
+cornerBy S v count c e h (suc zero) = v + e h
+cornerBy S v count c e h (suc (suc zero)) = v + count + S .face h
+cornerBy S v count c e h (suc (suc (suc j))) = v + e (S .prev h)
+
+-- a face f of a net of n half-edges and v vertices, with corners and edge numbers in tables that have room for the refined ones
+pub record FaceIn (n v count f : ℕ) (faces w : List ℕ) : Type 0 where
+  pub sides : Quadrilaterals n
+  pub lt : 4 * f + 4 ≤ n
+  pub vertices : v ≤ n
+  pub edges : count ≤ n
+  pub room : 4 * n ≤ length faces
+  pub numbers : 2 * n ≤ length w
+  pub below : (g : ℕ) → g < n → getD w (n + g) 0 ≤ n
+
+-- a net of n half-edges, v vertices and `count` edges, its corners at the front of `faces`, the edges numbered in w, and room for the refined corners
+pub record FacesIn (n v count : ℕ) (faces w : List ℕ) : Type 0 where
+  pub sides : Quadrilaterals n
+  pub vertices : v ≤ n
+  pub room : 4 * n ≤ length faces
+  pub behind : 2 * n ≤ length w
+  pub numbered : Numbered (take n faces) w n
+  pub counted : count ≡ edgeCount quads (take n faces)
+
+-- the first v marks, and 0 up to `count`
+unfoldable pub extended : ℕ → ℕ → List ℕ → List ℕ
+extended v count marks = tabulate count (λ (p : ℕ). cond (ltb p v) (getD marks p 0) 0)

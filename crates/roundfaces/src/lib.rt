@@ -1,0 +1,94 @@
+// One round's topology on the caller's tables, in place: edge numbers, refined faces and refined marks.
+ghost use mathlib.Core.Path.{_≡_};
+ghost use Prim.Native.Nat.{ℕ, _+_, _*_, _/_, _%_, _≤_, _<_};
+ghost use mathlib.Core.List.{_++_};
+ghost use lib.ListN.{length, getD, set, take};
+ghost use Rattle.search.specs.Search.{count};
+ghost use Rattle.topology.specs.Shape.{quads};
+ghost use Rattle.topology.specs.HalfEdge.{firstMet, edgeCount, edge};
+ghost use Rattle.refinedfaces.specs.Refined.{refined};
+ghost use Rattle.refinedfaces.specs.Mates.{mates};
+ghost use Rattle.tables.specs.Tables.{filled, Written};
+ghost use Rattle.roundfaces.specs.Faces.{edges, Mated, Numbered, cornerBy, FaceIn, FacesIn, extended};
+
+// Numbers the edge of half-edge h, where `edges` are met before; the answer is how many are met then.
+fn number_side(faces: &[u32], work: &mut [u32], h: usize, edges: usize) -> usize
+    requires { ⌜ Mated (now faces) (now work) ⌝ }
+    requires { ⌜ Numbered (now faces) (now work) h ⌝ }
+    requires { ⌜ (h < length (now faces)) × (edges ≡ count (firstMet quads (now faces)) h) ⌝ }
+    ensures { λ r. ⌜ r ≡ count (firstMet quads (now (faces .entry))) (h + 1) ⌝ }
+    ensures { λ _. ⌜ now (work .exit) ≡ set (now (work .entry)) (length (now (faces .entry)) + h) (edge quads (now (faces .entry)) h) ⌝ }
+{
+    let n = faces.len();
+    let mate = work[h] as usize;
+    if h < mate {
+        work[n + h] = edges as u32;
+        return edges + 1;
+    }
+    work[n + h] = work[n + mate];
+    edges
+}
+
+// Numbers the edges as they are first met; the answer is their number. The mates must be there and stay.
+pub fn number_edges(faces: &[u32], work: &mut [u32]) -> usize
+    requires { ⌜ Mated (now faces) (now work) ⌝ }
+    ensures { λ r. ⌜ r ≡ edgeCount quads (now (faces .entry)) ⌝ }
+    ensures { λ _. ⌜ now (work .exit) ≡ filled (mates quads (now (faces .entry)) ++ edges quads (now (faces .entry))) (now (work .entry)) ⌝ }
+{
+    let n = faces.len();
+    let mut edges = 0;
+    let mut h = 0;
+    while h < n {
+        edges = number_side(faces, &mut *work, h, edges);
+        h += 1;
+    }
+    edges
+}
+
+// Writes the refined faces of face f, the last first, from the corners a to d of the face and the points p to s of its sides.
+fn refine_face(faces: &mut [u32], work: &[u32], n: usize, v: usize, edges: usize, f: usize)
+    requires { ⌜ FaceIn n v edges f (now faces) (now work) ⌝ }
+    ensures { λ _. ⌜ Written (16 * f) (16 * f + 16) (λ (k : ℕ). cornerBy quads v edges (λ (h : ℕ). getD (now (faces .entry)) h 0) (λ (h : ℕ). getD (now (work .entry)) (n + h) 0) (k / 4) (k % 4)) (now (faces .entry)) (now (faces .exit)) ⌝ }
+{
+    let h = 4 * f;
+    let at = 16 * f;
+    let first = v as u32;
+    let point = (v + edges + f) as u32;
+    let e = n + h;
+    let p = first + work[e];
+    let q = first + work[e + 1];
+    let r = first + work[e + 2];
+    let s = first + work[e + 3];
+    let a = faces[h];
+    let b = faces[h + 1];
+    let c = faces[h + 2];
+    let d = faces[h + 3];
+    tables::put_four(&mut *faces, at + 12, d, s, point, r);
+    tables::put_four(&mut *faces, at + 8, c, r, point, q);
+    tables::put_four(&mut *faces, at + 4, b, q, point, p);
+    tables::put_four(&mut *faces, at, a, p, point, s);
+}
+
+// Refines the faces in place, from the last to the first.
+pub fn refine_faces(faces: &mut [u32], work: &[u32], n: usize, v: usize, edges: usize)
+    requires { ⌜ FacesIn n v edges (now faces) (now work) ⌝ }
+    ensures { λ _. ⌜ now (faces .exit) ≡ filled (refined quads v (take n (now (faces .entry)))) (now (faces .entry)) ⌝ }
+{
+    let mut f = n / 4;
+    while f > 0 {
+        f -= 1;
+        refine_face(&mut *faces, work, n, v, edges, f);
+    }
+}
+
+// Extends the marks of v vertices by 0, to `count` marks.
+pub fn extend_marks(marks: &mut [u8], v: usize, count: usize)
+    requires { ⌜ (v ≤ count) × (count ≤ length (now marks)) ⌝ }
+    ensures { λ _. ⌜ now (marks .exit) ≡ filled (extended v count (now (marks .entry))) (now (marks .entry)) ⌝ }
+{
+    let mut p = v;
+    while p < count {
+        marks[p] = 0;
+        p += 1;
+    }
+}
