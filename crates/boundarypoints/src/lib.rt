@@ -12,7 +12,7 @@ ghost use Rattle.walks.specs.Ready.{Ready};
 ghost use Rattle.curvepoints.specs.Exact.{Points, Marks, ExactPoint};
 
 // The end of the boundary half-edge after h.
-pub fn vertex_after(faces: &[u32], work: &[u32], h: usize) -> usize
+fn vertex_after(faces: &[u32], work: &[u32], h: usize) -> usize
     requires { ⌜ Ready (now faces) (now work) ⌝ }
     requires { ⌜ OnBoundary quads (now faces) h ⌝ }
     ensures { λ r. ⌜ r ≡ to quads (now (faces .entry)) (along quads (now (faces .entry)) h) ⌝ }
@@ -21,7 +21,7 @@ pub fn vertex_after(faces: &[u32], work: &[u32], h: usize) -> usize
 }
 
 // The start of the boundary half-edge before h.
-pub fn vertex_before(faces: &[u32], work: &[u32], h: usize) -> usize
+fn vertex_before(faces: &[u32], work: &[u32], h: usize) -> usize
     requires { ⌜ Ready (now faces) (now work) ⌝ }
     requires { ⌜ OnBoundary quads (now faces) h ⌝ }
     ensures { λ r. ⌜ r ≡ from (now (faces .entry)) (back quads (now (faces .entry)) h) ⌝ }
@@ -30,7 +30,7 @@ pub fn vertex_before(faces: &[u32], work: &[u32], h: usize) -> usize
 }
 
 // Whether vertex v is marked.
-pub fn is_marked(marks: &[u8], v: usize) -> bool
+fn is_marked(marks: &[u8], v: usize) -> bool
     requires { ⌜ v < length (now marks) ⌝ }
     ensures { λ r. ⌜ r ≡ marked (now (marks .entry)) v ⌝ }
 {

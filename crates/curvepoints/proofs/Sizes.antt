@@ -6,7 +6,8 @@ use native.Mathlib.Omega.{arith}
 use lib.IntN.{ℤ, pos, natAbs, _*ℤ_}
 use mir.Syntax.{w64}
 use mir.Val.{SFits}
-use Rattle.integers.specs.Bounded.{Bounded}
+use Rattle.integers.proofs.Within.{within-any}
+use Rattle.integers.specs.Within.{Within}
 use Rattle.integers.proofs.AbsoluteValue.{abs-mul}
 use Rattle.integers.proofs.Range.{fits-abs}
 use Rattle.curve.specs.Weights.{kobbelt, interior, endEdge, singleEdge}
@@ -19,12 +20,12 @@ use Rattle.rules.proofs.Ties.{equals-boundary-interior, equals-boundary-end, eq
 use Rattle.nets.specs.Net.{axis}
 use Rattle.curvepoints.specs.Exact.{OnAxes, ExactEdge, ExactPoint}
 
-pub axis-bound : (p : List ℤ) (a v : ℕ) → Bounded 67108864 p → natAbs (axis p a v) ≤ 67108864
+pub axis-bound : (p : List ℤ) (a v : ℕ) → Within 67108864 p → natAbs (axis p a v) ≤ 67108864
 unfolding axis
-axis-bound p a v b = b .at (3 * v + a)
+axis-bound p a v b = within-any 67108864 p b (3 * v + a)
 
 -- what is read is in the curve's range
-pub read-range : (p : List ℤ) (a v : ℕ) → Bounded 67108864 p → (r : ℤ) → r ≡ axis p a v → InRange r
+pub read-range : (p : List ℤ) (a v : ℕ) → Within 67108864 p → (r : ℤ) → r ≡ axis p a v → InRange r
 read-range p a v b r e = let h = axis-bound p a v b in let d = ap natAbs e in omega arith
 
 pub scaled-fits : (n : ℤ) → natAbs n ≤ 20 * 67108864 → SFits w64 (pos 453600 *ℤ n)
@@ -33,7 +34,7 @@ scaled-fits n h = let a = abs-mul (pos 453600) n in fits-abs w64 _ (omega arith)
 pub scaled-bound : (n : ℤ) → natAbs n ≤ 20 * 67108864 → natAbs (pos 453600 *ℤ n) ≤ 13305600 * 67108864
 scaled-bound n h = let a = abs-mul (pos 453600) n in omega arith
 
-module _ (t : List ℤ) (b : Bounded 67108864 t) (a : ℕ) where
+module _ (t : List ℤ) (b : Within 67108864 t) (a : ℕ) where
   pub interior-bound : (p q r s : ℕ) → natAbs (interior kobbelt (axis t a p) (axis t a q) (axis t a r) (axis t a s)) ≤ 20 * 67108864
   interior-bound p q r s =
       interior-size kobbelt tame (axis t a p) (axis t a q) (axis t a r) (axis t a s) 67108864 (axis-bound t a p b) (axis-bound t a q b) (axis-bound t a r b) (axis-bound t a s b)

@@ -7,7 +7,7 @@ use lib.IntN.{ℤ, pos, natAbs, _+ℤ_, _*ℤ_}
 use lib.ListN.{length}
 use borrow.Author.Tests.{lt-ltb, le-ltb}
 use Rattle.search.proofs.Iterate.{iterate-add}
-use Rattle.integers.specs.Bounded.{Bounded}
+use Rattle.integers.specs.Within.{Within}
 use Rattle.integers.proofs.AbsoluteValue.{abs-add, abs-sub, abs-mul}
 use Rattle.curve.specs.Weights.{kobbelt, interior}
 use Rattle.fractions.specs.Fraction.{whole, Equals}
@@ -49,7 +49,7 @@ inner-size P Q u w a b c d =
     let h = abs-sub (pos 4082400 *ℤ (P +ℤ Q)) (u +ℤ w) in
     omega arith
 
-module _ (l : List ℕ) (t : List ℤ) (b : Bounded 67108864 t) (a h : ℕ) where
+module _ (l : List ℕ) (t : List ℤ) (b : Within 67108864 t) (a h : ℕ) where
   pub inner-made : (P Q u w z : ℤ) (g : ℕ) → g ≡ mate quads l h → P ≡ axis t a (from l h) → Q ≡ axis t a (to quads l h) → Over453600 (virtualAt kobbelt l (axis t a) h) u
       → Over453600 (virtualAt kobbelt l (axis t a) g) w → z ≡ innerEdgeZ P Q u w → ExactEdge (edgeValue kobbelt l (axis t a) h innerRule) z
   unfolding edgeValue
@@ -82,13 +82,13 @@ module _ (v : ℕ) (l : List ℕ) (ok : Manifold quads v l) (h : ℕ) (c : h < l
       (record { again = λ i. ap (λ (m : ℕ). p (to quads l m)) (round .again i) }) (record { again = λ i. ap (λ (m : ℕ). p (oppositeCorner l m)) (round .again i) })
       (λ i. equals-whole (p (to quads l (turns quads l i h)))) (λ i. equals-whole (p (oppositeCorner l (turns quads l i h)))) 0)
 
-  pub across-made : (t : List ℤ) → Bounded 67108864 t → (a : ℕ) (z : ℤ) → z ≡ axis t a r → Over453600 (virtualAt kobbelt l (axis t a) h) (pos 453600 *ℤ z)
+  pub across-made : (t : List ℤ) → Within 67108864 t → (a : ℕ) (z : ℤ) → z ≡ axis t a r → Over453600 (virtualAt kobbelt l (axis t a) h) (pos 453600 *ℤ z)
   across-made t b a z e =
       let k = axis-bound t a r b in
       let m = abs-mul (pos 453600) (axis t a r) in
       rw e (record { value = equals-scaled 453600 (across-value (axis t a)); small = omega arith })
 
-pub regular-made : (v : ℕ) (l : List ℕ) → Manifold quads v l → (t : List ℤ) → Bounded 67108864 t → (h g o r p q : ℕ) → h < length l → g ≡ mate quads l h → g < length l
+pub regular-made : (v : ℕ) (l : List ℕ) → Manifold quads v l → (t : List ℤ) → Within 67108864 t → (h g o r p q : ℕ) → h < length l → g ≡ mate quads l h → g < length l
     → o < length l → Across l h o → r < length l → Across l g r → p ≡ from l h → q ≡ to quads l h → (x y z : ℤ)
     → OnAxes (λ (a : ℕ). pos 453600 *ℤ interior kobbelt (axis t a o) (axis t a p) (axis t a q) (axis t a r)) x y z
     → ExactPoint (λ (a : ℕ). edgeValue kobbelt l (axis t a) h innerRule) x y z

@@ -15,7 +15,7 @@ ghost use Rattle.curvepoints.specs.Exact.{Points, Marks, ExactEdge, ExactPoint}
 ghost use Rattle.ringpoints.specs.Gathered.{Over453600};
 
 // The numerator of an inner edge's point, from the ends p and q of the edge and the virtual points u and w over 453,600.
-pub fn inner_sum(p: i64, q: i64, u: i64, w: i64) -> i64
+fn inner_sum(p: i64, q: i64, u: i64, w: i64) -> i64
     requires { ⌜ (natAbs p ≤ 67108864) × (natAbs q ≤ 67108864) × (natAbs u ≤ 2570400 * 67108864) × (natAbs w ≤ 2570400 * 67108864) ⌝ }
     ensures { λ r. ⌜ r ≡ innerEdgeZ p q u w ⌝ }
 {
@@ -23,7 +23,7 @@ pub fn inner_sum(p: i64, q: i64, u: i64, w: i64) -> i64
 }
 
 // Coordinate a of the virtual point at the vertex that h leaves, on the inner edge of h. At a full ring of four it is the vertex o straight across.
-pub fn virtual_on(points: &[i32], faces: &[u32], work: &[u32], h: usize, o: usize, a: usize) -> i64
+fn virtual_on(points: &[i32], faces: &[u32], work: &[u32], h: usize, o: usize, a: usize) -> i64
     requires { ⌜ Ready (now faces) (now work) ⌝ }
     requires { ⌜ Points (now faces) (now points) × (a < 3) ⌝ }
     requires { ⌜ (h < length (now faces)) × (mate quads (now faces) h < length (now faces)) × Across (now faces) h o ⌝ }
@@ -36,7 +36,7 @@ pub fn virtual_on(points: &[i32], faces: &[u32], work: &[u32], h: usize, o: usiz
 }
 
 // Coordinate a of the point on the inner edge of h, whose mate is g. The vertices straight across are o and r, or none.
-pub fn inner_on(
+fn inner_on(
     points: &[i32],
     faces: &[u32],
     work: &[u32],
@@ -59,7 +59,7 @@ pub fn inner_on(
 }
 
 // The point on the inner edge of h, whose mate is g, from its two virtual points. The vertices straight across are o and r, or none.
-pub fn inner_exact(
+fn inner_exact(
     points: &[i32],
     faces: &[u32],
     work: &[u32],
@@ -123,13 +123,7 @@ fn inner_at_start(
 }
 
 // The point on the inner edge of h, whose mate is g. Where both ends have full rings of four, the virtual points are the vertices straight across.
-pub fn inner_edge(
-    points: &[i32],
-    faces: &[u32],
-    work: &[u32],
-    h: usize,
-    g: usize,
-) -> curvepoints::Exact
+fn inner_edge(points: &[i32], faces: &[u32], work: &[u32], h: usize, g: usize) -> curvepoints::Exact
     requires { ⌜ Ready (now faces) (now work) ⌝ }
     requires { ⌜ Points (now faces) (now points) ⌝ }
     requires { ⌜ (h < length (now faces)) × (g ≡ mate quads (now faces) h) × (g < length (now faces)) ⌝ }

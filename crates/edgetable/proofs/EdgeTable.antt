@@ -10,7 +10,8 @@ use lib.ListN.{length, getD, set, take, drop}
 use lib.Seq.{take-set-le, getD-take, length-take-le}
 use mir.Syntax.{w32}
 use mir.Val.{SFits}
-use Rattle.integers.specs.Bounded.{Bounded}
+use Rattle.integers.proofs.Within.{within-any}
+use Rattle.integers.specs.Within.{Within}
 use Rattle.integers.proofs.Range.{fits-abs}
 use Rattle.lists.specs.Tabulate.{tabulate}
 use Rattle.lists.proofs.Tabulate.{length-tabulate, getD-tabulate}
@@ -71,7 +72,7 @@ module _ (l marks : List ℕ) (p₀ : List ℤ) (w₀ : List ℕ) (ok : Round l 
 
   old-small : (a i : ℕ) → natAbs (oldAxis marks p₀ a i) ≤ 67108864
   unfolding oldAxis axis
-  old-small a i = ok .bounded .at (3 * i + a)
+  old-small a i = within-any 67108864 _ (ok .bounded) (3 * i + a)
 
   edge-small : (a g : ℕ) → g < length l → natAbs (edgeZ l marks (oldAxis marks p₀ a) g) ≤ 13305600 * 67108864
   edge-small a g k = edge-size (length marks) l (ok .net) (oldAxis marks p₀ a) 67108864 (λ x b. old-small a x) marks g k
@@ -126,7 +127,7 @@ module _ (l marks : List ℕ) (p₀ : List ℤ) (w₀ : List ℕ) (ok : Round l 
         let m : length (take (3 * length marks) p) ≡ 3 * length marks = ap length f ∙ n in
         record {
           room = λ h b. let k = ok .net .oriented .below h b in omega arith;
-          bounded = subst (Bounded 67108864) (sym f) (ok .bounded);
+          bounded = subst (Within 67108864) (sym f) (ok .bounded);
         }
 
     pub marks-now : Marks l marks

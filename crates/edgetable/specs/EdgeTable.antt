@@ -4,7 +4,7 @@ use mathlib.Core.List.{List}
 use Prim.Native.Nat.{ℕ, _+_, _*_, _≤_, _<_}
 use lib.IntN.{ℤ, natAbs}
 use lib.ListN.{length, getD, take}
-use Rattle.integers.specs.Bounded.{Bounded}
+use Rattle.integers.specs.Within.{Within}
 use Rattle.curve.specs.Weights.{kobbelt}
 use Rattle.topology.specs.Shape.{quads}
 use Rattle.topology.specs.HalfEdge.{edge}
@@ -29,7 +29,7 @@ pub record Round (l marks : List ℕ) (p : List ℤ) (w : List ℕ) : Type 0 whe
   pub net : Manifold quads (length marks) l
   pub vertices : length marks ≤ length l
   pub room : 3 * refinedVertices quads (length marks) l ≤ length p
-  pub bounded : Bounded 67108864 (take (3 * length marks) p)
+  pub bounded : Within 67108864 (take (3 * length marks) p)
 
 -- coordinate a of the old vertices, and of the refined ones
 unfoldable pub oldAxis : List ℕ → List ℤ → ℕ → ℕ → ℤ

@@ -6,7 +6,7 @@ use native.Mathlib.Omega.{arith}
 use lib.IntN.{ℤ, pos, natAbs, _-ℤ_, _*ℤ_}
 use borrow.Author.Tests.{eq-eqb, ne-eqb}
 use Rattle.integers.specs.Sum.{sum}
-use Rattle.integers.specs.Bounded.{Bounded}
+use Rattle.integers.specs.Within.{Within}
 use Rattle.integers.proofs.Sum.{abs-sum}
 use Rattle.integers.proofs.Polynomial.{var, lit, _⊟_, same}
 use Rattle.rules.specs.Numerators.{extrapolatedZ, extrapolatedCornerZ}
@@ -33,7 +33,7 @@ minus-zero z = same (var 0 ⊟ lit (pos 0)) (var 0) (z ∷ []) refl
 abbrev pub farEnd : List ℕ → List ℤ → ℕ → ℕ → ℕ → ℤ
 farEnd l t a s i = axis t a (fanEnd l s (suc i))
 
-pub ends-bound : (l : List ℕ) (t : List ℤ) (a s m : ℕ) → Bounded 67108864 t → natAbs (sum m (farEnd l t a s)) ≤ m * 67108864
+pub ends-bound : (l : List ℕ) (t : List ℤ) (a s m : ℕ) → Within 67108864 t → natAbs (sum m (farEnd l t a s)) ≤ m * 67108864
 ends-bound l t a s m b = abs-sum m (farEnd l t a s) 67108864 (λ i c. axis-bound t a (fanEnd l s (suc i)) b)
 
 mean-size : (P : ℤ) (r : ℕ) (f : ℕ → ℤ) (d : ℕ) → 1 ≤ r → r ≤ 5 → natAbs P ≤ d → ((i : ℕ) → i < r → natAbs (f i) ≤ d) → natAbs (extrapolatedZ P r f) ≤ 180 * d
@@ -46,7 +46,7 @@ corner-size P Q d a b =
     subst (λ (z : ℤ). natAbs z ≤ 180 * d) (ap (λ (z : ℤ). extrapolatedCornerZ P Q -ℤ z) (extrapolated-corner-constant (pos 0)) ∙ minus-zero (extrapolatedCornerZ P Q))
     (extrapolated-corner-near P Q (pos 0) (pos 0) d (rw (minus-zero P) a) (rw (minus-zero Q) b))
 
-module _ (v : ℕ) (l : List ℕ) (ok : Manifold quads v l) (t : List ℤ) (b : Bounded 67108864 t) (a s : ℕ) (o : OnBoundary quads l s) where
+module _ (v : ℕ) (l : List ℕ) (ok : Manifold quads v l) (t : List ℤ) (b : Within 67108864 t) (a s : ℕ) (o : OnBoundary quads l s) where
   starts : boundaryFrom quads l (from l s) ≡ s
   starts = boundaryFrom-is quads v l ok (from l s) s o refl
 

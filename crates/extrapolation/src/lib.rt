@@ -27,7 +27,7 @@ pub struct Ends {
 }
 
 // The inner edges of the fan that starts with s.
-pub fn inner_ends(points: &[i32], faces: &[u32], work: &[u32], s: usize, a: usize) -> Ends
+fn inner_ends(points: &[i32], faces: &[u32], work: &[u32], s: usize, a: usize) -> Ends
     requires { ⌜ Ready (now faces) (now work) ⌝ }
     requires { ⌜ Points (now faces) (now points) × OnBoundary quads (now faces) s × (a < 3) ⌝ }
     ensures { λ r. ⌜ InnerEnds (now (faces .entry)) (now (points .entry)) a s (r .count) (r .total) ⌝ }
@@ -52,7 +52,7 @@ pub fn inner_ends(points: &[i32], faces: &[u32], work: &[u32], s: usize, a: usiz
 }
 
 // 120 p less c times q.
-pub fn reflected(p: i64, q: i64, c: usize) -> i64
+fn reflected(p: i64, q: i64, c: usize) -> i64
     requires { ⌜ (natAbs p ≤ 67108864) × (natAbs q ≤ 5 * 67108864) × (c ≤ 60) ⌝ }
     ensures { λ r. ⌜ r ≡ pos 120 *ℤ p -ℤ pos c *ℤ q ⌝ }
 {

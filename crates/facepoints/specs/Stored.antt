@@ -3,6 +3,7 @@ use mathlib.Core.List.{List}
 use Prim.Native.Nat.{ℕ, _+_, _*_, _^_, _≤_, _<_}
 use lib.IntN.{ℤ, natAbs}
 use lib.ListN.{length, getD}
+use Rattle.curve.specs.Weights.{kobbelt, interior, endEdge, singleEdge}
 use Rattle.packing.specs.Packed.{packedAt}
 
 -- coordinate a of the exact point at place i
@@ -27,3 +28,13 @@ pub record DirectionRange (x y z : ℤ) : Type 0 where
   pub on₀ : natAbs x ≤ 20 * (13305600 * 67108864)
   pub on₁ : natAbs y ≤ 20 * (13305600 * 67108864)
   pub on₂ : natAbs z ≤ 20 * (13305600 * 67108864)
+
+-- the three rules on axis a of the numbers stored at the places p, q, ..
+abbrev pub interiorStored : List ℕ → (p q r s a : ℕ) → ℤ
+interiorStored w p q r s a = interior kobbelt (storedAt w a p) (storedAt w a q) (storedAt w a r) (storedAt w a s)
+
+abbrev pub endStored : List ℕ → (p q r a : ℕ) → ℤ
+endStored w p q r a = endEdge kobbelt (storedAt w a p) (storedAt w a q) (storedAt w a r)
+
+abbrev pub singleStored : List ℕ → (p q a : ℕ) → ℤ
+singleStored w p q a = singleEdge kobbelt (storedAt w a p) (storedAt w a q)

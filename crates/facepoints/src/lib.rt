@@ -2,11 +2,10 @@
 ghost use mathlib.Core.Path.{_≡_};
 ghost use Prim.Native.Nat.{ℕ, _*_, _≤_};
 ghost use lib.IntN.{natAbs, _+ℤ_};
-ghost use Rattle.curve.specs.Weights.{kobbelt, interior, endEdge, singleEdge};
 ghost use Rattle.rounding.specs.Rounding.{round};
 ghost use Rattle.curvepoints.specs.Exact.{OnAxes};
 ghost use Rattle.stencils.specs.Stencils.{stencilZ, faceStencilZ, OnStencil, OnFaceStencil};
-ghost use Rattle.facepoints.specs.Stored.{storedAt, Readable, ReadablePoint, DirectionRange};
+ghost use Rattle.facepoints.specs.Stored.{storedAt, Readable, ReadablePoint, DirectionRange, interiorStored, endStored, singleStored};
 use stencils::FaceStencil;
 use stencils::Stencil;
 
@@ -28,7 +27,7 @@ fn stored(work: &[u32], i: usize, a: usize) -> i64
 // A direction between two neighbours.
 fn interior_value(work: &[u32], p: usize, q: usize, r: usize, s: usize, a: usize) -> i64
     requires { ⌜ Readable (now work) a p × Readable (now work) a q × Readable (now work) a r × Readable (now work) a s ⌝ }
-    ensures { λ z. ⌜ z ≡ interior kobbelt (storedAt (now (work .entry)) a p) (storedAt (now (work .entry)) a q) (storedAt (now (work .entry)) a r) (storedAt (now (work .entry)) a s) ⌝ }
+    ensures { λ z. ⌜ z ≡ interiorStored (now (work .entry)) p q r s a ⌝ }
 {
     rules::direction_two(
         stored(work, p, a),
@@ -41,7 +40,7 @@ fn interior_value(work: &[u32], p: usize, q: usize, r: usize, s: usize, a: usize
 // A direction beside one neighbour: p is on the boundary.
 fn end_value(work: &[u32], p: usize, q: usize, r: usize, a: usize) -> i64
     requires { ⌜ Readable (now work) a p × Readable (now work) a q × Readable (now work) a r ⌝ }
-    ensures { λ z. ⌜ z ≡ endEdge kobbelt (storedAt (now (work .entry)) a p) (storedAt (now (work .entry)) a q) (storedAt (now (work .entry)) a r) ⌝ }
+    ensures { λ z. ⌜ z ≡ endStored (now (work .entry)) p q r a ⌝ }
 {
     rules::direction_one(stored(work, p, a), stored(work, q, a), stored(work, r, a))
 }
@@ -49,7 +48,7 @@ fn end_value(work: &[u32], p: usize, q: usize, r: usize, a: usize) -> i64
 // A direction beside no neighbour.
 fn single_value(work: &[u32], p: usize, q: usize, a: usize) -> i64
     requires { ⌜ Readable (now work) a p × Readable (now work) a q ⌝ }
-    ensures { λ z. ⌜ z ≡ singleEdge kobbelt (storedAt (now (work .entry)) a p) (storedAt (now (work .entry)) a q) ⌝ }
+    ensures { λ z. ⌜ z ≡ singleStored (now (work .entry)) p q a ⌝ }
 {
     rules::direction_none(stored(work, p, a), stored(work, q, a))
 }
@@ -57,7 +56,7 @@ fn single_value(work: &[u32], p: usize, q: usize, a: usize) -> i64
 // The same on all axes: a direction over 16 times 7,257,600.
 fn interior_point(work: &[u32], p: usize, q: usize, r: usize, s: usize) -> curvepoints::Exact
     requires { ⌜ ReadablePoint (now work) p × ReadablePoint (now work) q × ReadablePoint (now work) r × ReadablePoint (now work) s ⌝ }
-    ensures { λ e. ⌜ OnAxes (λ (a : ℕ). interior kobbelt (storedAt (now (work .entry)) a p) (storedAt (now (work .entry)) a q) (storedAt (now (work .entry)) a r) (storedAt (now (work .entry)) a s)) (e .x) (e .y) (e .z) ⌝ }
+    ensures { λ e. ⌜ OnAxes (interiorStored (now (work .entry)) p q r s) (e .x) (e .y) (e .z) ⌝ }
 {
     curvepoints::Exact {
         x: interior_value(work, p, q, r, s, 0),
@@ -68,7 +67,7 @@ fn interior_point(work: &[u32], p: usize, q: usize, r: usize, s: usize) -> curve
 
 fn end_point(work: &[u32], p: usize, q: usize, r: usize) -> curvepoints::Exact
     requires { ⌜ ReadablePoint (now work) p × ReadablePoint (now work) q × ReadablePoint (now work) r ⌝ }
-    ensures { λ e. ⌜ OnAxes (λ (a : ℕ). endEdge kobbelt (storedAt (now (work .entry)) a p) (storedAt (now (work .entry)) a q) (storedAt (now (work .entry)) a r)) (e .x) (e .y) (e .z) ⌝ }
+    ensures { λ e. ⌜ OnAxes (endStored (now (work .entry)) p q r) (e .x) (e .y) (e .z) ⌝ }
 {
     curvepoints::Exact {
         x: end_value(work, p, q, r, 0),
@@ -79,7 +78,7 @@ fn end_point(work: &[u32], p: usize, q: usize, r: usize) -> curvepoints::Exact
 
 fn single_point(work: &[u32], p: usize, q: usize) -> curvepoints::Exact
     requires { ⌜ ReadablePoint (now work) p × ReadablePoint (now work) q ⌝ }
-    ensures { λ e. ⌜ OnAxes (λ (a : ℕ). singleEdge kobbelt (storedAt (now (work .entry)) a p) (storedAt (now (work .entry)) a q)) (e .x) (e .y) (e .z) ⌝ }
+    ensures { λ e. ⌜ OnAxes (singleStored (now (work .entry)) p q) (e .x) (e .y) (e .z) ⌝ }
 {
     curvepoints::Exact {
         x: single_value(work, p, q, 0),

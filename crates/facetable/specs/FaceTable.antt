@@ -27,6 +27,10 @@ faceCoordinates l w = tabulate (3 * quads .faces (length l)) (λ (k : ℕ). face
 unfoldable pub putPoint : List ℤ → ℕ → ℤ → ℤ → ℤ → List ℤ
 putPoint t i x y z = set (set (set t (3 * i) x) (3 * i + 1) y) (3 * i + 2) z
 
+-- t with the rounded point of face f
+abbrev pub putFace : List ℤ → List ℕ → List ℕ → ℕ → List ℤ
+putFace t l w f = putPoint t f (faceCoordinate l w 0 f) (faceCoordinate l w 1 f) (faceCoordinate l w 2 f)
+
 -- t is o with the first i points over its front: coordinate a of point j is G a j
 pub record Written (G : ℕ → ℕ → ℤ) (o t : List ℤ) (i : ℕ) : Type 0 where
   pub kept : length t ≡ length o

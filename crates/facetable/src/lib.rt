@@ -4,7 +4,7 @@ ghost use Prim.Native.Nat.{_+_, _*_, _≤_, _<_};
 ghost use lib.ListN.{length};
 ghost use Rattle.topology.specs.Shape.{quads};
 ghost use Rattle.tables.specs.Tables.{filled};
-ghost use Rattle.facetable.specs.FaceTable.{Loaded, faceCoordinate, faceCoordinates, putPoint};
+ghost use Rattle.facetable.specs.FaceTable.{Loaded, faceCoordinates, putPoint, putFace};
 
 // Writes the coordinates of vertex i.
 pub fn put_point(table: &mut [i32], i: usize, x: i32, y: i32, z: i32)
@@ -20,7 +20,7 @@ pub fn put_point(table: &mut [i32], i: usize, x: i32, y: i32, z: i32)
 fn put_face(out: &mut [i32], faces: &[u32], work: &[u32], f: usize)
     requires { ⌜ Loaded (now faces) (now work) ⌝ }
     requires { ⌜ (f < quads .faces (length (now faces))) × (3 * f + 3 ≤ length (now out)) ⌝ }
-    ensures { λ _. ⌜ now (out .exit) ≡ putPoint (now (out .entry)) f (faceCoordinate (now (faces .entry)) (now (work .entry)) 0 f) (faceCoordinate (now (faces .entry)) (now (work .entry)) 1 f) (faceCoordinate (now (faces .entry)) (now (work .entry)) 2 f) ⌝ }
+    ensures { λ _. ⌜ now (out .exit) ≡ putFace (now (out .entry)) (now (faces .entry)) (now (work .entry)) f ⌝ }
 {
     let s = stencils::face_stencil(faces, work, f);
     let p = facepoints::face_point(work, s);

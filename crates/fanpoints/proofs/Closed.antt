@@ -18,7 +18,7 @@ use Rattle.topology.specs.Manifold.{Manifold}
 use Rattle.topology.proofs.Turn.{turn-to}
 use Rattle.topology.proofs.Boundary.{boundaryFrom-is, along-from}
 use Rattle.topology.proofs.Walks.{fan-from, back-turns}
-use Rattle.integers.specs.Bounded.{Bounded}
+use Rattle.integers.specs.Within.{Within}
 use Rattle.scheme.specs.Rings.{extrapolatedAt, fanNeighbour, fanCorner}
 use Rattle.topology.specs.Quads.{oppositeCorner, fanEnd}
 use Rattle.nets.specs.Net.{axis}
@@ -69,7 +69,7 @@ by-place P m f p q i b = go (decLt i m) (ℕ-discrete i m)
     go (no c) (yes d) = subst P (sym d) p
     go (no c) (no d) = let e : m + 1 ≡ i = omega arith in subst P e q
 
-module _ (v : ℕ) (l : List ℕ) (ok : Manifold quads v l) (t : List ℤ) (bounded : Bounded 67108864 t) (a s : ℕ) (o : OnBoundary quads l s)
+module _ (v : ℕ) (l : List ℕ) (ok : Manifold quads v l) (t : List ℤ) (bounded : Within 67108864 t) (a s : ℕ) (o : OnBoundary quads l s)
     (L K : List ℤ) (f : Filled l t a s (valence l (from l s)) L K) (x p q r : ℤ) (ex : x ≡ pos 60 *ℤ axis t a (from l (back quads l s)))
     (ep : Over60 (extrapolatedAt l (axis t a) (from l s)) p) (eq : Over60 (extrapolatedAt l (axis t a) (from l (back quads l s))) q) (er : Over60 (extrapolatedAt l (axis t a) (from l (along quads l s))) r) where
   abbrev m : ℕ
@@ -138,7 +138,7 @@ module _ (v : ℕ) (l : List ℕ) (ok : Manifold quads v l) (t : List ℤ) (boun
       inside i b = let y = corners-bound l t bounded a s m L K f i b in let z = ap natAbs (stored-before K m q r room-k i b) in omega arith
 
 -- with the numbers that the code finds
-pub closed-at : (v : ℕ) (l : List ℕ) (ok : Manifold quads v l) (t : List ℤ) (bounded : Bounded 67108864 t) (a s : ℕ) (o : OnBoundary quads l s) (L K : List ℤ)
+pub closed-at : (v : ℕ) (l : List ℕ) (ok : Manifold quads v l) (t : List ℤ) (bounded : Within 67108864 t) (a s : ℕ) (o : OnBoundary quads l s) (L K : List ℤ)
     (m e d c : ℕ) (x p q r : ℤ) → m ≡ valence l (from l s) → Filled l t a s m L K → e ≡ back quads l s → d ≡ along quads l s → c ≡ from l e → x ≡ pos 60 *ℤ axis t a c
     → Over60 (extrapolatedAt l (axis t a) (from l s)) p → Over60 (extrapolatedAt l (axis t a) (from l e)) q → Over60 (extrapolatedAt l (axis t a) (from l d)) r
     → FanRing l t a s (set (set L m x) (m + 1) p) (set (set K m q) (m + 1) r)

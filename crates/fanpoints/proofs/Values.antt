@@ -13,7 +13,8 @@ use Rattle.search.specs.Search.{iterate}
 use Rattle.search.proofs.First.{first-holds, first-reach}
 use Rattle.curve.specs.Weights.{kobbelt}
 use Rattle.rings.specs.Ring.{wrap, virtual}
-use Rattle.rings.specs.RingWeights.{ringOf, virtualNumerator, BoundedFirst}
+use Rattle.rings.specs.RingWeights.{ringOf, virtualNumerator}
+use Rattle.integers.specs.Within.{WithinFirst}
 use Rattle.rings.proofs.Ties.{equals-numerator}
 use Rattle.topology.specs.Shape.{quads}
 use Rattle.topology.specs.HalfEdge.{from, mate}
@@ -30,10 +31,10 @@ use Rattle.ringpoints.proofs.Bounds.{fan-bound}
 use Rattle.fanpoints.specs.FanRing.{FanRing}
 
 module _ (l : List ℕ) (t : List ℤ) (a s : ℕ) (L K : List ℤ) (f : FanRing l t a s L K) where
-  pub neighbours-first : (n : ℕ) → n ≡ valence l (from l s) + 2 → BoundedFirst n (2 ^ 40) L
+  pub neighbours-first : (n : ℕ) → n ≡ valence l (from l s) + 2 → WithinFirst n (2 ^ 40) L
   neighbours-first n e = record { at = λ i b. let x = f .neighbours₃ i (omega arith) in omega arith }
 
-  pub corners-first : (n : ℕ) → n ≡ valence l (from l s) + 2 → BoundedFirst n (2 ^ 40) K
+  pub corners-first : (n : ℕ) → n ≡ valence l (from l s) + 2 → WithinFirst n (2 ^ 40) K
   corners-first n e = record { at = λ i b. let x = f .corners₃ i (omega arith) in omega arith }
 
   module _ (j : ℕ) (some : 0 < j) (below : j < valence l (from l s)) (few : valence l (from l s) ≤ 6) where

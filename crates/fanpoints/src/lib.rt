@@ -3,20 +3,19 @@ ghost use mathlib.Core.Path.{_≡_};
 ghost use Prim.Native.Nat.{_+_, _<_};
 ghost use lib.ListN.{length};
 ghost use Rattle.curve.specs.Weights.{kobbelt};
-ghost use Rattle.rings.specs.Ring.{wrap, virtual};
 ghost use Rattle.topology.specs.Shape.{quads};
 ghost use Rattle.topology.specs.HalfEdge.{from, mate};
 ghost use Rattle.topology.specs.Boundary.{OnBoundary};
 ghost use Rattle.topology.specs.Vertex.{valence};
-ghost use Rattle.scheme.specs.Rings.{fanNeighbour, fanCorner, virtualAt};
+ghost use Rattle.scheme.specs.Rings.{virtualAt};
 ghost use Rattle.nets.specs.Net.{axis};
 ghost use Rattle.walks.specs.Ready.{Ready};
 ghost use Rattle.curvepoints.specs.Exact.{Points};
 ghost use Rattle.ringpoints.specs.Gathered.{Filled, Over453600};
-ghost use Rattle.fanpoints.specs.FanRing.{FanRing};
+ghost use Rattle.fanpoints.specs.FanRing.{FanRing, fanVirtualFrom};
 
 // Closes the gathered fan of m faces that starts with s to a ring: its last neighbour c, the vertex's own extrapolated point, and those of c and b.
-pub fn close_fan(
+fn close_fan(
     points: &[i32],
     faces: &[u32],
     work: &[u32],
@@ -41,11 +40,11 @@ pub fn close_fan(
 }
 
 // Coordinate a of the virtual point on inner edge j of the fan that starts with s.
-pub fn fan_virtual(points: &[i32], faces: &[u32], work: &[u32], s: usize, j: usize, a: usize) -> i64
+fn fan_virtual(points: &[i32], faces: &[u32], work: &[u32], s: usize, j: usize, a: usize) -> i64
     requires { ⌜ Ready (now faces) (now work) ⌝ }
     requires { ⌜ Points (now faces) (now points) × (a < 3) × OnBoundary quads (now faces) s ⌝ }
     requires { ⌜ (0 < j) × (j < valence (now faces) (from (now faces) s)) ⌝ }
-    ensures { λ r. ⌜ Over453600 (virtual kobbelt (valence (now (faces .entry)) (from (now (faces .entry)) s) + 2) (wrap (valence (now (faces .entry)) (from (now (faces .entry)) s) + 2) (fanNeighbour (now (faces .entry)) (axis (now (points .entry)) a) (from (now (faces .entry)) s))) (wrap (valence (now (faces .entry)) (from (now (faces .entry)) s) + 2) (fanCorner (now (faces .entry)) (axis (now (points .entry)) a) (from (now (faces .entry)) s))) j) r ⌝ }
+    ensures { λ r. ⌜ Over453600 (fanVirtualFrom (now (faces .entry)) (axis (now (points .entry)) a) s j) r ⌝ }
 {
     let mut l = [0; 8];
     let mut k = [0; 8];

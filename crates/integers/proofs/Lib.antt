@@ -6,3 +6,4 @@ pub mod Linear
 pub mod Polynomial
 pub mod Order
 pub mod Sum
+pub mod Within

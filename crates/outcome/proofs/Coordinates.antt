@@ -4,7 +4,7 @@ use Prim.Native.Nat.{ℕ, _≤_}
 use native.Mathlib.Omega.{arith}
 use Rattle.nets.specs.Net.{Net}
 use Rattle.verdict.proofs.Accepted.{accepted-limits, accepted-fewer, accepted-coordinate}
-use Rattle.schemelaws.specs.Nets.{Within}
+use Rattle.integers.specs.Within.{Within}
 use Rattle.schemelaws.proofs.Growth.{steps-within}
 use Rattle.outcome.specs.Outcome.{callOf}
 use Rattle.outcome.specs.SharedSegment.{Request, AcceptedFor, netAfter}

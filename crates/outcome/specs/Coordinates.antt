@@ -1,6 +1,6 @@
 -- The range of refined coordinates, over what calls give.
 use Prim.Native.Nat.{ℕ, _≤_}
-use Rattle.schemelaws.specs.Nets.{Within}
+use Rattle.integers.specs.Within.{Within}
 use Rattle.outcome.specs.SharedSegment.{Request, AcceptedFor, netAfter}
 
 -- "Also proved: every coordinate stays within 268,435,456."

@@ -32,7 +32,7 @@ pub fn load(table: &[u32], at: usize) -> i64
 }
 
 // Writes z at the place `at`.
-pub fn store(table: &mut [u32], at: usize, z: i64)
+fn store(table: &mut [u32], at: usize, z: i64)
     requires { ⌜ (at + 2 ≤ length (now table)) × (natAbs z < 2 ^ 62) ⌝ }
     ensures { λ _. ⌜ now (table .exit) ≡ put (now (table .entry)) at z ⌝ }
 {

@@ -20,7 +20,8 @@ use Rattle.verdict.specs.Call.{Call, vertexCount, faceCount}
 use Rattle.verdict.specs.Verdict.{accepted, verdict}
 use Rattle.verdict.proofs.Accepted.{accepted-limits, accepted-net, accepted-coordinate}
 use Rattle.scheme.specs.Step.{steps}
-use Rattle.schemelaws.specs.Nets.{Refinable, Within}
+use Rattle.schemelaws.specs.Nets.{Refinable}
+use Rattle.integers.specs.Within.{Within}
 use Rattle.schemelaws.proofs.Steps.{refinable-manifold, refinable-steps}
 use Rattle.schemelaws.proofs.Growth.{steps-within}
 use Rattle.validate.proofs.Laws.{joined}

@@ -7,13 +7,13 @@ use native.Mathlib.Omega.{arith}
 use lib.IntN.{ℤ, pos, natAbs, _*ℤ_}
 use lib.ListN.{length, getD}
 use Rattle.search.proofs.Iterate.{iterate-add}
-use Rattle.integers.specs.Bounded.{Bounded}
+use Rattle.integers.specs.Within.{Within, WithinFirst}
 use Rattle.integers.proofs.AbsoluteValue.{abs-mul}
 use Rattle.curve.specs.Weights.{kobbelt}
 use Rattle.fractions.specs.Fraction.{Fraction, whole, Equals}
 use Rattle.fractions.proofs.Laws.{equals-whole, equals-scaled, equals-cong}
 use Rattle.rings.specs.Ring.{Periodic, virtual}
-use Rattle.rings.specs.RingWeights.{ringOf, virtualNumerator, BoundedFirst}
+use Rattle.rings.specs.RingWeights.{ringOf, virtualNumerator}
 use Rattle.rings.proofs.Periodic.{wrap-same}
 use Rattle.rings.proofs.Ties.{equals-numerator}
 use Rattle.topology.specs.Shape.{quads}
@@ -33,20 +33,20 @@ use Rattle.ringpoints.proofs.Bounds.{ring-bound}
 pub sixty-value : (x z : ℤ) → z ≡ pos 60 *ℤ x → Equals (whole x) z 60
 sixty-value x z e = equals-cong (sym e) refl (equals-scaled 60 (equals-whole x))
 
-pub sixty-bound : (t : List ℤ) (a u : ℕ) (z : ℤ) → Bounded 67108864 t → z ≡ pos 60 *ℤ axis t a u → natAbs z ≤ 60 * 67108864
+pub sixty-bound : (t : List ℤ) (a u : ℕ) (z : ℤ) → Within 67108864 t → z ≡ pos 60 *ℤ axis t a u → natAbs z ≤ 60 * 67108864
 sixty-bound t a u z b e = let x = axis-bound t a u b in let m = abs-mul (pos 60) (axis t a u) in let d = ap natAbs e in omega arith
 
-module _ (l : List ℕ) (t : List ℤ) (b : Bounded 67108864 t) (a h n : ℕ) (L K : List ℤ) (f : Filled l t a h n L K) where
+module _ (l : List ℕ) (t : List ℤ) (b : Within 67108864 t) (a h n : ℕ) (L K : List ℤ) (f : Filled l t a h n L K) where
   pub neighbours-bound : (i : ℕ) → i < n → natAbs (getD L i (pos 0)) ≤ 60 * 67108864
   neighbours-bound i c = sixty-bound t a (to quads l (turns quads l i h)) (getD L i (pos 0)) b (f .neighbours i c)
 
   pub corners-bound : (i : ℕ) → i < n → natAbs (getD K i (pos 0)) ≤ 60 * 67108864
   corners-bound i c = sixty-bound t a (oppositeCorner l (turns quads l i h)) (getD K i (pos 0)) b (f .corners i c)
 
-  pub neighbours-first : BoundedFirst n (2 ^ 40) L
+  pub neighbours-first : WithinFirst n (2 ^ 40) L
   neighbours-first = record { at = λ i c. let x = neighbours-bound i c in omega arith }
 
-  pub corners-first : BoundedFirst n (2 ^ 40) K
+  pub corners-first : WithinFirst n (2 ^ 40) K
   corners-first = record { at = λ i c. let x = corners-bound i c in omega arith }
 
   pub ring-made : (v : ℕ) → Manifold quads v l → h < length l → boundaryFrom quads l (from l h) ≡ length l → n ≡ valence l (from l h)

@@ -3,9 +3,9 @@ ghost use mathlib.Core.Path.{_≡_};
 ghost use Prim.Native.Nat.{_*_, _/_, _^_, _≤_, _<_};
 ghost use lib.IntN.{pos, natAbs, _*ℤ_};
 ghost use lib.ListN.{length};
-ghost use Rattle.integers.specs.Bounded.{Bounded};
+ghost use Rattle.integers.specs.Within.{Within, WithinFirst};
 ghost use Rattle.curve.specs.Weights.{kobbelt};
-ghost use Rattle.rings.specs.RingWeights.{ringOf, virtualNumerator, BoundedFirst};
+ghost use Rattle.rings.specs.RingWeights.{ringOf, virtualNumerator};
 ghost use Rattle.topology.specs.Shape.{quads};
 ghost use Rattle.topology.specs.HalfEdge.{from};
 ghost use Rattle.topology.specs.Boundary.{boundaryFrom};
@@ -18,7 +18,7 @@ ghost use Rattle.ringpoints.specs.Gathered.{Circuit, Filled, Over453600}
 
 // Coordinate a of vertex v, times 60.
 pub fn sixty(points: &[i32], v: usize, a: usize) -> i64
-    requires { ⌜ (a < 3) × InTable (now points) v × Bounded 67108864 (now points) ⌝ }
+    requires { ⌜ (a < 3) × InTable (now points) v × Within 67108864 (now points) ⌝ }
     ensures { λ r. ⌜ r ≡ pos 60 *ℤ axis (now (points .entry)) a v ⌝ }
 {
     60 * extrapolation::coordinate_wide(points, v, a)
@@ -60,7 +60,7 @@ pub fn gather(
 }
 
 // 840 / n times v.
-pub fn times_share(n: usize, v: i64) -> i64
+fn times_share(n: usize, v: i64) -> i64
     requires { ⌜ (3 ≤ n) × (n ≤ 8) × (natAbs v ≤ 320 * 2 ^ 40) ⌝ }
     ensures { λ r. ⌜ r ≡ pos (840 / n) *ℤ v ⌝ }
 {
@@ -70,7 +70,7 @@ pub fn times_share(n: usize, v: i64) -> i64
 
 // The virtual point over 453,600 on edge j of a ring of n over 60. In a ring of four it is the neighbour straight across.
 pub fn virtual_over(l: &[i64; 8], k: &[i64; 8], n: usize, j: usize) -> i64
-    requires { ⌜ (3 ≤ n) × (n ≤ 8) × (j < n) × BoundedFirst n (2 ^ 40) (now l) × BoundedFirst n (2 ^ 40) (now k) ⌝ }
+    requires { ⌜ (3 ≤ n) × (n ≤ 8) × (j < n) × WithinFirst n (2 ^ 40) (now l) × WithinFirst n (2 ^ 40) (now k) ⌝ }
     ensures { λ r. ⌜ r ≡ virtualNumerator n (ringOf n (now (l .entry))) (ringOf n (now (k .entry))) j ⌝ }
 {
     if n == 4 {

@@ -14,7 +14,8 @@ use Rattle.lists.proofs.Table.{everyBelow, below-at}
 use Rattle.lists.proofs.Tabulate.{getD-tabulate}
 use Rattle.integers.specs.Sum.{sum}
 use Rattle.curve.specs.Weights.{kobbelt}
-use Rattle.rings.specs.RingWeights.{virtualZ, weightL, weightK, entry, ringOf, BoundedFirst}
+use Rattle.rings.specs.RingWeights.{virtualZ, weightL, weightK, entry, ringOf}
+use Rattle.integers.specs.Within.{WithinFirst}
 use Rattle.rings.proofs.Periodic.{wrap-periodic}
 use Rattle.rings.proofs.Virtual.{virtual-weighted}
 use Rattle.rings.proofs.Norm.{total, total-monotone, sizes, once, weighted-abs, inside-norm}
@@ -60,9 +61,9 @@ virtual-terms n l k j h =
     virtual-weighted kobbelt n (ringOf n l) (ringOf n k) (wrap-periodic n (λ (i : ℕ). getD l i (pos 0))) (wrap-periodic n (λ (i : ℕ). getD k i (pos 0))) j h
 
 -- the sum of the first m terms is small
-pub terms-small : (n : ℕ) (l k : List ℤ) (j m B : ℕ) → 3 ≤ n → n ≤ 8 → m ≤ n → BoundedFirst n B l → BoundedFirst n B k → natAbs (sum m (term n l k j)) ≤ 320 * B
+pub terms-small : (n : ℕ) (l k : List ℤ) (j m B : ℕ) → 3 ≤ n → n ≤ 8 → m ≤ n → WithinFirst n B l → WithinFirst n B k → natAbs (sum m (term n l k j)) ≤ 320 * B
 terms-small n l k j m B h₀ h₁ h₂ sl sk =
-    let on : (v : List ℤ) → BoundedFirst n B v → (d : ℕ) → d < m → natAbs (ringOf n v (j + d)) ≤ once d * B = λ v s d z. rw (one-mul B) (s .at ((j + d) % n) (mod-lt (j + d) (omega arith))) in
+    let on : (v : List ℤ) → WithinFirst n B v → (d : ℕ) → d < m → natAbs (ringOf n v (j + d)) ≤ once d * B = λ v s d z. rw (one-mul B) (s .at ((j + d) % n) (mod-lt (j + d) (omega arith))) in
     let a = weighted-abs m (weightL kobbelt n) (weightK kobbelt n) (λ (d : ℕ). ringOf n l (j + d)) (λ (d : ℕ). ringOf n k (j + d)) once once B (on l sl) (on k sk) in
     let b = total-monotone (sizes kobbelt n once once) m n h₂ in
     let c = inside-norm n h₀ h₁ in

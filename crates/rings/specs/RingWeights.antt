@@ -1,9 +1,9 @@
 -- The virtual point in whole numbers: over near · n, which is 9n, as a formula and as a sum of weights; and a ring held in a list.
 use mathlib.Core.Bool.{cond}
 use mathlib.Core.List.{List}
-use Prim.Native.Nat.{ℕ, _+_, _-_, _/_, _≤_, _<_}
+use Prim.Native.Nat.{ℕ, _+_, _-_, _/_}
 use lib.Dec.{eqb, ltb}
-use lib.IntN.{ℤ, pos, natAbs, _+ℤ_, _-ℤ_, _*ℤ_}
+use lib.IntN.{ℤ, pos, _+ℤ_, _-ℤ_, _*ℤ_}
 use lib.ListN.{getD}
 use Rattle.integers.specs.Sum.{sum}
 use Rattle.curve.specs.Weights.{Weights, kobbelt}
@@ -39,7 +39,3 @@ entry w n o = cond (ltb o 8) (cond (ltb o n) (weightL w n o) (pos 0)) (cond (ltb
 -- the ring of the first n values of a list
 abbrev pub ringOf : ℕ → List ℤ → ℕ → ℤ
 ringOf n l = wrap n (λ (i : ℕ). getD l i (pos 0))
-
--- the first n values of a list are within B of zero
-pub record BoundedFirst (n B : ℕ) (l : List ℤ) : Type 0 where
-  pub at : (i : ℕ) → i < n → natAbs (getD l i (pos 0)) ≤ B

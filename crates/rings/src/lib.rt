@@ -3,7 +3,8 @@ ghost use mathlib.Core.Path.{_≡_};
 ghost use Prim.Native.Nat.{_+_, _*_, _<_, _≤_, _^_};
 ghost use lib.IntN.{natAbs, _+ℤ_, _*ℤ_};
 ghost use Rattle.curve.specs.Weights.{kobbelt};
-ghost use Rattle.rings.specs.RingWeights.{virtualZ, weightL, weightK, entry, ringOf, BoundedFirst};
+ghost use Rattle.rings.specs.RingWeights.{virtualZ, weightL, weightK, entry, ringOf};
+ghost use Rattle.integers.specs.Within.{WithinFirst};
 
 // Numerators over 9n, for n from 3 to 8: a row has eight for the neighbours, from the edge on, then eight for the opposite corners.
 const WEIGHTS: [i32; 96] = [
@@ -132,7 +133,7 @@ fn ring_term(n: usize, d: usize, x: i64, y: i64) -> i64
 
 // The same, the two points read from the ring, d places on from edge j.
 fn term_from(l: &[i64; 8], k: &[i64; 8], n: usize, j: usize, d: usize) -> i64
-    requires { ⌜ (3 ≤ n) × (n ≤ 8) × (j < n) × (d < n) × BoundedFirst n (2 ^ 40) (now l) × BoundedFirst n (2 ^ 40) (now k) ⌝ }
+    requires { ⌜ (3 ≤ n) × (n ≤ 8) × (j < n) × (d < n) × WithinFirst n (2 ^ 40) (now l) × WithinFirst n (2 ^ 40) (now k) ⌝ }
     ensures { λ r. ⌜ r ≡ weightL kobbelt n d *ℤ ringOf n (now (l .entry)) (j + d) +ℤ weightK kobbelt n d *ℤ ringOf n (now (k .entry)) (j + d) ⌝ }
 {
     let i = (j + d) % n;
@@ -143,7 +144,7 @@ fn term_from(l: &[i64; 8], k: &[i64; 8], n: usize, j: usize, d: usize) -> i64
 
 // The virtual point times 9n, on edge j of a ring of n.
 pub fn virtual_from(l: &[i64; 8], k: &[i64; 8], n: usize, j: usize) -> i64
-    requires { ⌜ (3 ≤ n) × (n ≤ 8) × (j < n) × BoundedFirst n (2 ^ 40) (now l) × BoundedFirst n (2 ^ 40) (now k) ⌝ }
+    requires { ⌜ (3 ≤ n) × (n ≤ 8) × (j < n) × WithinFirst n (2 ^ 40) (now l) × WithinFirst n (2 ^ 40) (now k) ⌝ }
     ensures { λ r. ⌜ (r ≡ virtualZ kobbelt n (ringOf n (now (l .entry))) (ringOf n (now (k .entry))) j) × (natAbs r ≤ 320 * 2 ^ 40) ⌝ }
 {
     let mut acc: i64 = 0;

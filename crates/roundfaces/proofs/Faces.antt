@@ -13,7 +13,7 @@ use Rattle.topology.proofs.Shape.{four-sides}
 use Rattle.topology.proofs.Mates.{edges-le}
 use Rattle.refinedfaces.specs.Refined.{corner, refined}
 use Rattle.tables.specs.Tables.{filled, putFour, Written}
-use Rattle.roundfaces.specs.Faces.{cornerBy, FaceIn, FacesIn}
+use Rattle.roundfaces.specs.Faces.{cornerBy, refinedBy, FaceIn, FacesIn}
 use Rattle.roundfaces.proofs.Edges.{edge-le}
 use Rattle.tables.proofs.Written.{written-as, written-face, Refining, refining-all}
 
@@ -34,7 +34,7 @@ module _ (n v count f : ℕ) (c w : List ℕ) where
       → c₂ ≡ putFour c₁ (16 * f + 8) (getD c (4 * f + 2) 0) (v + getD w (n + 4 * f + 2) 0) (v + count + f) (v + getD w (n + 4 * f + 1) 0)
       → c₃ ≡ putFour c₂ (16 * f + 4) (getD c (4 * f + 1) 0) (v + getD w (n + 4 * f + 1) 0) (v + count + f) (v + getD w (n + 4 * f) 0)
       → c₄ ≡ putFour c₃ (16 * f) (getD c (4 * f) 0) (v + getD w (n + 4 * f) 0) (v + count + f) (v + getD w (n + 4 * f + 3) 0)
-      → Written (16 * f) (16 * f + 16) (λ (k : ℕ). cornerBy quads v count (λ (h : ℕ). getD c h 0) (λ (h : ℕ). getD w (n + h) 0) (k / 4) (k % 4)) c c₄
+      → Written (16 * f) (16 * f + 16) (refinedBy n v count c w) c c₄
   unfolding cornerBy number
   corners-written c₁ c₂ c₃ c₄ b p₁ p₂ p₃ p₄ =
       let z : quads .face (4 * f) ≡ f = rw add-zero at (faces-four 0 (omega arith)) in
@@ -81,7 +81,7 @@ module _ (n v count : ℕ) (faces w : List ℕ) (ok : FacesIn n v count faces w)
 
   -- the corners of face f - 1 are still the old ones
   pub corners-as : (c c′ : List ℕ) (f : ℕ) → 0 < f → Refining n (λ (k : ℕ). corner quads v (take n faces) (k / 4) (k % 4)) faces c f
-      → Written (16 * (f - 1)) (16 * (f - 1) + 16) (λ (k : ℕ). cornerBy quads v count (λ (h : ℕ). getD c h 0) (λ (h : ℕ). getD w (n + h) 0) (k / 4) (k % 4)) c c′
+      → Written (16 * (f - 1)) (16 * (f - 1) + 16) (refinedBy n v count c w) c c′
       → Written (16 * (f - 1)) (16 * (f - 1) + 16) (λ (k : ℕ). corner quads v (take n faces) (k / 4) (k % 4)) c c′
   unfolding l from quads
   corners-as c c′ f p x y =

@@ -3,7 +3,7 @@
 use mathlib.Core.Path.{_≡_}
 use mathlib.Core.Bool.{cond}
 use mathlib.Core.List.{List}
-use Prim.Native.Nat.{ℕ, zero, suc, _+_, _*_, _≤_, _<_}
+use Prim.Native.Nat.{ℕ, zero, suc, _+_, _*_, _/_, _%_, _≤_, _<_}
 use lib.ListN.{length, getD, take}
 use lib.Dec.{ltb}
 use Rattle.lists.specs.Tabulate.{tabulate}
@@ -32,6 +32,10 @@ cornerBy S v count c e h zero = c h
 cornerBy S v count c e h (suc zero) = v + e h
 cornerBy S v count c e h (suc (suc zero)) = v + count + S .face h
 cornerBy S v count c e h (suc (suc (suc j))) = v + e (S .prev h)
+
+-- number k of the refined corners, from the corners c and the edge numbers in w
+abbrev pub refinedBy : (n v count : ℕ) → List ℕ → List ℕ → ℕ → ℕ
+refinedBy n v count c w k = cornerBy quads v count (λ (h : ℕ). getD c h 0) (λ (h : ℕ). getD w (n + h) 0) (k / 4) (k % 4)
 
 -- a face f of a net of n half-edges and v vertices, with corners and edge numbers in tables that have room for the refined ones
 pub record FaceIn (n v count f : ℕ) (faces w : List ℕ) : Type 0 where

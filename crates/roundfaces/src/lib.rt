@@ -1,15 +1,15 @@
 // One round's topology on the caller's tables, in place: edge numbers, refined faces and refined marks.
 ghost use mathlib.Core.Path.{_≡_};
-ghost use Prim.Native.Nat.{ℕ, _+_, _*_, _/_, _%_, _≤_, _<_};
+ghost use Prim.Native.Nat.{_+_, _*_, _/_, _≤_, _<_};
 ghost use mathlib.Core.List.{_++_};
-ghost use lib.ListN.{length, getD, set, take};
+ghost use lib.ListN.{length, set, take};
 ghost use Rattle.search.specs.Search.{count};
 ghost use Rattle.topology.specs.Shape.{quads};
 ghost use Rattle.topology.specs.HalfEdge.{firstMet, edgeCount, edge};
 ghost use Rattle.refinedfaces.specs.Refined.{refined};
 ghost use Rattle.refinedfaces.specs.Mates.{mates};
 ghost use Rattle.tables.specs.Tables.{filled, Written};
-ghost use Rattle.roundfaces.specs.Faces.{edges, Mated, Numbered, cornerBy, FaceIn, FacesIn, extended};
+ghost use Rattle.roundfaces.specs.Faces.{edges, Mated, Numbered, refinedBy, FaceIn, FacesIn, extended};
 
 // Numbers the edge of half-edge h, where `edges` are met before; the answer is how many are met then.
 fn number_side(faces: &[u32], work: &mut [u32], h: usize, edges: usize) -> usize
@@ -48,7 +48,7 @@ pub fn number_edges(faces: &[u32], work: &mut [u32]) -> usize
 // Writes the refined faces of face f, the last first, from the corners a to d of the face and the points p to s of its sides.
 fn refine_face(faces: &mut [u32], work: &[u32], n: usize, v: usize, edges: usize, f: usize)
     requires { ⌜ FaceIn n v edges f (now faces) (now work) ⌝ }
-    ensures { λ _. ⌜ Written (16 * f) (16 * f + 16) (λ (k : ℕ). cornerBy quads v edges (λ (h : ℕ). getD (now (faces .entry)) h 0) (λ (h : ℕ). getD (now (work .entry)) (n + h) 0) (k / 4) (k % 4)) (now (faces .entry)) (now (faces .exit)) ⌝ }
+    ensures { λ _. ⌜ Written (16 * f) (16 * f + 16) (refinedBy n v edges (now (faces .entry)) (now (work .entry))) (now (faces .entry)) (now (faces .exit)) ⌝ }
 {
     let h = 4 * f;
     let at = 16 * f;

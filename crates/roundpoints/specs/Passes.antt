@@ -9,7 +9,8 @@ use Rattle.curve.specs.Weights.{kobbelt}
 use Rattle.topology.specs.Shape.{quads}
 use Rattle.topology.specs.HalfEdge.{mate}
 use Rattle.scheme.specs.Points.{edgePoint}
-use Rattle.nets.specs.Net.{axis}
+use Rattle.nets.specs.Net.{frontNet, axis}
+use Rattle.scheme.specs.Step.{step}
 use Rattle.walks.specs.Ready.{Ready}
 use Rattle.curvepoints.specs.Exact.{Points, Marks, ExactPoint}
 use Rattle.packing.specs.Packed.{putThree}
@@ -40,3 +41,7 @@ pub record Scratch (l w w′ : List ℕ) : Type 0 where
   pub kept : length w′ ≡ length w
   pub front : (k : ℕ) → k < 2 * length l → getD w′ k 0 ≡ getD w k 0
   pub behind : (k : ℕ) → 8 * length l ≤ k → getD w′ k 0 ≡ getD w k 0
+
+-- the vertices after a round of the net with corners l and marks, whose vertices stand at the front of p
+abbrev pub newVertices : (l marks : List ℕ) → List ℤ → List ℤ
+newVertices l marks p = step kobbelt (frontNet (length marks) (length l) p l marks) .vertices

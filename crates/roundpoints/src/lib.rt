@@ -1,14 +1,10 @@
 // The new points of a round on the caller's tables: one for each edge, then one for each face.
 ghost use mathlib.Core.Path.{_≡_};
-ghost use lib.ListN.{length};
-ghost use Rattle.curve.specs.Weights.{kobbelt};
 ghost use Rattle.topology.specs.Shape.{quads};
 ghost use Rattle.topology.specs.HalfEdge.{edgeCount};
-ghost use Rattle.scheme.specs.Step.{step};
-ghost use Rattle.nets.specs.Net.{frontNet};
 ghost use Rattle.tables.specs.Tables.{filled};
 ghost use Rattle.edgetable.specs.EdgeTable.{Round, Edges};
-ghost use Rattle.roundpoints.specs.Passes.{Turn, Turned, Scratch};
+ghost use Rattle.roundpoints.specs.Passes.{Turn, Turned, Scratch, newVertices};
 
 // Makes the point of the edge of half-edge h if the edge is first met there, where `edges` are met before; the answer is how many are met then.
 fn edge_side(
@@ -36,7 +32,7 @@ fn edge_side(
 }
 
 // Makes the points of all edges; the answer is their number.
-pub fn edge_points(points: &mut [i32], faces: &[u32], marks: &[u8], work: &mut [u32]) -> usize
+fn edge_points(points: &mut [i32], faces: &[u32], marks: &[u8], work: &mut [u32]) -> usize
     requires { ⌜ Round (now faces) (now marks) (now points) (now work) ⌝ }
     ensures { λ r. ⌜ r ≡ edgeCount quads (now (faces .entry)) ⌝ }
     ensures { λ r. ⌜ Edges (now (faces .entry)) (now (marks .entry)) (now (points .entry)) (now (work .entry)) (now (points .exit)) (now (work .exit)) (edgeCount quads (now (faces .entry))) ⌝ }
@@ -54,7 +50,7 @@ pub fn edge_points(points: &mut [i32], faces: &[u32], marks: &[u8], work: &mut [
 // Makes the new points of a round.
 pub fn new_points(points: &mut [i32], faces: &[u32], marks: &[u8], work: &mut [u32])
     requires { ⌜ Round (now faces) (now marks) (now points) (now work) ⌝ }
-    ensures { λ _. ⌜ now (points .exit) ≡ filled (step kobbelt (frontNet (length (now (marks .entry))) (length (now (faces .entry))) (now (points .entry)) (now (faces .entry)) (now (marks .entry))) .vertices) (now (points .entry)) ⌝ }
+    ensures { λ _. ⌜ now (points .exit) ≡ filled (newVertices (now (faces .entry)) (now (marks .entry)) (now (points .entry))) (now (points .entry)) ⌝ }
     ensures { λ _. ⌜ Scratch (now (faces .entry)) (now (work .entry)) (now (work .exit)) ⌝ }
 {
     let edges = edge_points(&mut *points, faces, marks, &mut *work);

@@ -1,17 +1,12 @@
 -- How the parts of a round fit together. Assumes nothing.
-use mathlib.Core.Path.{_≡_, refl, sym, ap, ap₂, _∙_, subst}
-use mathlib.Core.Bool.{Bool, true, false, cond}
+use mathlib.Core.Path.{_≡_, sym, ap, _∙_, subst}
 use mathlib.Core.List.{List, _++_}
-use Prim.Native.Nat.{ℕ, _+_, _-_, _*_, _/_, _%_, _≤_, _<_}
-use native.Mathlib.Decide.{decLt}
+use Prim.Native.Nat.{ℕ, _+_, _-_, _*_, _/_, _≤_}
 use native.Mathlib.Omega.{arith}
-use lib.Dec.{ltb, lit≤}
-use lib.IntN.{ℤ, pos, natAbs}
-use lib.ListN.{length, getD, take, drop, length-take, length-drop, List·getD-eq-default}
+use lib.Dec.{lit≤}
+use lib.IntN.{ℤ}
+use lib.ListN.{length, getD, take, drop, length-drop}
 use lib.Seq.{take-all, length-take-le, getD-take, getD-drop, ext-getD}
-use borrow.Author.Tests.{lt-ltb, le-ltb}
-use Rattle.lists.specs.Tabulate.{tabulate}
-use Rattle.lists.proofs.Tabulate.{tabulate-cong}
 use Rattle.lists.proofs.Parts.{drop-later}
 use Rattle.curve.specs.Weights.{kobbelt}
 use Rattle.nets.specs.Net.{Net, frontNet}
@@ -20,12 +15,11 @@ use Rattle.tables.proofs.Laws.{length-filled}
 use Rattle.nets.proofs.Laws.{same-net}
 use Rattle.topology.specs.Shape.{quads}
 use Rattle.topology.specs.HalfEdge.{edgeCount}
-use Rattle.topology.specs.Manifold.{Oriented, Manifold}
+use Rattle.topology.specs.Manifold.{Oriented}
 use Rattle.refinedfaces.specs.Refined.{refinedVertices, refined, refinedMarks}
 use Rattle.refinedfaces.specs.Mates.{mates, refinedMates}
 use Rattle.scheme.specs.Step.{step}
-use Rattle.schemelaws.specs.Nets.{Within, Refinable}
-use Rattle.integers.specs.Bounded.{Bounded}
+use Rattle.integers.proofs.Within.{within-le}
 use Rattle.schemelaws.proofs.Steps.{refinable-manifold, step-faces, step-marks, step-count}
 use Rattle.halfedges.specs.Tables.{Quadrilaterals, MateTable}
 use Rattle.halfedges.proofs.Tables.{mates-cong}
@@ -34,8 +28,6 @@ use Rattle.roundfaces.proofs.Edges.{length-both}
 use Rattle.roundfaces.proofs.Round.{oriented-wider, numbered-mates, numbered-edges, numbered-rest, numbered-cong, vertices-refined, marks-refined, marks-cong}
 use Rattle.roundmates.specs.Mates.{MatesIn}
 use Rattle.roundmates.proofs.Round.{mates-in, mated-refined, mates-rest}
-use Rattle.walks.specs.Ready.{Ready}
-use Rattle.stencils.specs.Stencils.{Indexed}
 use Rattle.edgetable.specs.EdgeTable.{Round}
 use Rattle.roundpoints.specs.Passes.{Scratch}
 use Rattle.rounds.specs.Round.{Current, Refines}
@@ -43,14 +35,6 @@ use Rattle.rounds.specs.Round.{Current, Refines}
 -- the rest of a list, by places
 drop-same : (k : ℕ) (u w : List ℕ) → length u ≡ length w → ((i : ℕ) → k ≤ i → getD u i 0 ≡ getD w i 0) → drop k u ≡ drop k w
 drop-same k u w e h = ext-getD 0 (drop k u) (drop k w) (length-drop k u ∙ ap (λ (x : ℕ). x - k) e ∙ sym (length-drop k w)) (λ i b. getD-drop k u i 0 ∙ h (k + i) (omega arith) ∙ sym (getD-drop k w i 0))
-
--- past its end a list reads zero
-bounded-if : (A B : ℕ) (t : List ℤ) → A ≤ B → Within A t → Bounded B t
-bounded-if A B t h b = record { at = λ k. go k (decLt k (length t)) }
-  where
-    go : (k : ℕ) → Dec (k < length t) → natAbs (getD t k (pos 0)) ≤ B
-    go k (yes l) = let s = b .at k l in omega arith
-    go k (no l) = let e : getD t k (pos 0) ≡ pos 0 = List·getD-eq-default t (pos 0) (omega arith) in rw e (omega arith)
 
 module _ (v n : ℕ) (points : List ℤ) (faces marks w : List ℕ) (c : Current v n points faces marks w) where
   abbrev l : List ℕ
@@ -139,7 +123,7 @@ module _ (v n : ℕ) (points : List ℤ) (faces marks w : List ℕ) (c : Current
           net = net;
           vertices = omega arith;
           room = omega arith;
-          bounded = rw m (bounded-if 66276137 67108864 (take (3 * v) points) (lit≤ tt) (c .within));
+          bounded = rw m (within-le 66276137 67108864 (take (3 * v) points) (lit≤ tt) (c .within));
         }
 
     -- the net that the new points are made from

@@ -1,5 +1,5 @@
 -- The tables from round to round. Assumes nothing.
-use mathlib.Core.Path.{_≡_, refl, sym, ap, _∙_, subst}
+use mathlib.Core.Path.{_≡_, refl, sym, ap, _∙_}
 use mathlib.Core.List.{List}
 use Prim.Native.Nat.{ℕ, suc, _+_, _*_, _^_, _≤_, _<_}
 use native.Mathlib.Nat.{pow-suc, pow-le-pow-right, mul-le-mul-left, one-le-pow, mul-assoc, mul-comm}
@@ -15,11 +15,10 @@ use Rattle.tables.specs.Tables.{filled}
 use Rattle.tables.proofs.Laws.{length-filled, take-filled, filled-over}
 use Rattle.nets.proofs.Laws.{same-net}
 use Rattle.topology.specs.Shape.{quads}
-use Rattle.refinedfaces.specs.Refined.{refined}
 use Rattle.refinedfaces.proofs.Corners.{length-refined}
 use Rattle.scheme.specs.Step.{step, steps}
 use Rattle.schemelaws.specs.Nets.{Refinable}
-use Rattle.schemelaws.proofs.Steps.{step-faces, step-count, step-length, refinable-steps}
+use Rattle.schemelaws.proofs.Steps.{step-faces, refinable-steps}
 use Rattle.schemelaws.proofs.Growth.{steps-input}
 use Rattle.halfedges.specs.Tables.{MateTable}
 use Rattle.refinedfaces.specs.Mates.{refinedMates}

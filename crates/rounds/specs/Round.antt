@@ -8,7 +8,8 @@ use Rattle.curve.specs.Weights.{kobbelt}
 use Rattle.nets.specs.Net.{frontNet}
 use Rattle.tables.specs.Tables.{filled}
 use Rattle.scheme.specs.Step.{step}
-use Rattle.schemelaws.specs.Nets.{Within, Refinable}
+use Rattle.schemelaws.specs.Nets.{Refinable}
+use Rattle.integers.specs.Within.{Within}
 use Rattle.halfedges.specs.Tables.{MateTable}
 
 -- the net at the front can be refined, its mates stand in w, and all tables have room for the refined net

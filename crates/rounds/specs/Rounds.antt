@@ -8,7 +8,8 @@ use Rattle.curve.specs.Weights.{kobbelt}
 use Rattle.nets.specs.Net.{frontNet}
 use Rattle.tables.specs.Tables.{filled}
 use Rattle.scheme.specs.Step.{steps}
-use Rattle.schemelaws.specs.Nets.{Within, Refinable}
+use Rattle.schemelaws.specs.Nets.{Refinable}
+use Rattle.integers.specs.Within.{Within}
 use Rattle.halfedges.specs.Tables.{MateTable}
 
 -- the net of v vertices and n corners at the front can be refined k times, its mates stand in w, and all tables have room for the refined net

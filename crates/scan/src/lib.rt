@@ -7,7 +7,7 @@ ghost use Rattle.verdict.specs.Verdict.{badCoordinate};
 ghost use Rattle.topology.specs.Shape.{quads};
 ghost use Rattle.refusals.specs.Refusals.{badMark, badCorner, isolated};
 ghost use Rattle.halfedges.specs.Tables.{Quadrilaterals};
-ghost use Rattle.scan.specs.Flags.{Flagged};
+ghost use Rattle.scan.specs.Flags.{Flagged, IsolatedFound};
 
 // The first coordinate out of range, or their number.
 pub fn first_bad_coordinate(vertices: &[i32]) -> usize
@@ -83,7 +83,7 @@ fn first_unflagged(faces: &[u32], m: usize, work: &[u32]) -> usize
 // The first of nv vertices that is in no face, or nv. One of the first n + 1 is, if there are more vertices than the n corners.
 pub fn first_isolated(faces: &[u32], nv: usize, work: &mut [u32]) -> usize
     requires { ⌜ (0 < length (now faces)) × (4 * length (now faces) ≤ length (now work)) ⌝ }
-    ensures { λ r. ⌜ (r ≡ first (isolated (now (faces .entry))) nv) × (drop (4 * length (now (faces .entry))) (now (work .exit)) ≡ drop (4 * length (now (faces .entry))) (now (work .entry))) ⌝ }
+    ensures { λ r. ⌜ IsolatedFound (now (faces .entry)) nv (4 * length (now (faces .entry))) (now (work .entry)) (now (work .exit)) r ⌝ }
 {
     let n = faces.len();
     if nv <= n {

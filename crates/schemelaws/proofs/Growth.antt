@@ -12,7 +12,9 @@ use Rattle.topology.specs.Manifold.{Manifold}
 use Rattle.refinedfaces.specs.Refined.{refinedVertices}
 use Rattle.scheme.specs.Step.{refinedCoordinate, step, steps}
 use Rattle.schemelaws.specs.Numerators.{edgeZ, faceZ}
-use Rattle.schemelaws.specs.Nets.{Within, Refinable}
+use Rattle.schemelaws.specs.Nets.{Refinable}
+use Rattle.integers.proofs.Within.{within-le}
+use Rattle.integers.specs.Within.{Within}
 use Rattle.schemelaws.proofs.Coordinates.{refined-cases, refined-old, refined-edge, refined-face}
 use Rattle.schemelaws.proofs.Sizes.{edge-size, face-size}
 use Rattle.schemelaws.proofs.Steps.{refinable-manifold, refinable-steps, step-length, step-coordinate}
@@ -26,9 +28,6 @@ module _ (v : ℕ) (l marks : List ℕ) (ok : Manifold quads v l) (p : ℕ → �
       (λ f b. rw (refined-face v l marks ok p f b) (rounded-grown (faceZ l (edgeZ l marks p) f) 232243200 B (omega arith) (face-size v l marks ok p B small f b)))
 
 -- ---- a net
-pub within-le : (A B : ℕ) (vs : List ℤ) → A ≤ B → Within A vs → Within B vs
-within-le A B vs h t = record { at = λ i b. let s = t .at i b in omega arith }
-
 pub step-within : (m : Net) → Refinable m → (B : ℕ) → Within B (m .vertices) → Within (grown B) (step kobbelt m .vertices)
 unfolding axis
 step-within m ok B t = record {

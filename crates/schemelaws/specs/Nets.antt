@@ -1,17 +1,11 @@
 -- What the laws of a round assume of a net, and what it passes on.
 use mathlib.Core.Path.{_≡_}
-use mathlib.Core.List.{List}
-use Prim.Native.Nat.{ℕ, _*_, _%_, _≤_, _<_}
-use lib.IntN.{ℤ, pos, natAbs}
-use lib.ListN.{length, getD}
+use Prim.Native.Nat.{_*_, _%_}
+use lib.ListN.{length}
 use Rattle.search.specs.Search.{first}
 use Rattle.nets.specs.Net.{Net}
 use Rattle.topology.specs.Shape.{quads}
 use Rattle.refusals.specs.Refusals.{badMark, markedRing, Unrefused}
-
--- every coordinate of a vertex table lies within B
-pub record Within (B : ℕ) (vs : List ℤ) : Type 0 where
-  pub at : (i : ℕ) → i < length vs → natAbs (getD vs i (pos 0)) ≤ B
 
 -- the tables have the lengths of a net, and refusals 6 to 12 hold nowhere
 pub record Refinable (m : Net) : Type 0 where

@@ -21,7 +21,7 @@ pub enum FaceStencil {
 }
 
 // The place of the point on the edge of h.
-pub fn edge_place(faces: &[u32], work: &[u32], h: usize) -> usize
+fn edge_place(faces: &[u32], work: &[u32], h: usize) -> usize
     requires { ⌜ Indexed (now faces) (now work) ⌝ }
     requires { ⌜ h < length (now faces) ⌝ }
     ensures { λ r. ⌜ r ≡ place (now (faces .entry)) h ⌝ }
@@ -41,7 +41,7 @@ fn far_place(faces: &[u32], work: &[u32], m: usize) -> usize
 }
 
 // The direction of the side h.
-pub fn direction_stencil(faces: &[u32], work: &[u32], h: usize) -> Stencil
+fn direction_stencil(faces: &[u32], work: &[u32], h: usize) -> Stencil
     requires { ⌜ Indexed (now faces) (now work) ⌝ }
     requires { ⌜ h < length (now faces) ⌝ }
     ensures { λ r. ⌜ r ≡ stencilOf (now (faces .entry)) h ⌝ }

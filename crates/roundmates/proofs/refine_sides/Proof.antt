@@ -1,9 +1,14 @@
 -- `refine_sides` meets its contract. Assumes nothing.
-use Prim.Native.Nat.{_+_, _*_}
+use Prim.Native.Nat.{ℕ, _+_, _*_, _≤_, _<_}
 use native.Mathlib.Omega.{arith}
+use lib.ListN.{getD}
 use Rattle.roundmates.proofs.InPlace.{mates-written}
 use Rattle.roundmates.proofs.refine_sides.Statement.{statement}
 use Rattle.roundmates.proofs.refine_sides.Tie as tie
+
+-- side i of the face has a mate, or none
+below : (s : tie.Start) (i : ℕ) → i < 4 → getD (s .args .work .now) (4 * s .args .f + i) 0 ≤ s .args .n
+below s i h = s .pre .below (4 * s .args .f + i) (omega arith) (omega arith)
 
 mul-h : tie.Need-mul-h
 mul-h c = omega arith
@@ -48,16 +53,16 @@ cast-none : tie.Need-cast-none
 cast-none c = omega arith
 
 first-mate-requires : tie.Need-first-mate-requires
-first-mate-requires c κs = let s = c .before .before .before .before .before in let p = s .pre in let e = p .below (4 * s .args .f) (omega arith) (omega arith) in omega arith
+first-mate-requires c κs = let s = c .before .before .before .before .before in let b = s .pre .below (4 * s .args .f) (omega arith) (omega arith) in omega arith
 
 first-mate-requires-2 : tie.Need-first-mate-requires-2
-first-mate-requires-2 c κs = let s = c .before .before .before .before .before .before in let p = s .pre in let e = p .below (4 * s .args .f + 1) (omega arith) (omega arith) in omega arith
+first-mate-requires-2 c κs = let s = c .before .before .before .before .before .before in let b = below s 1 (omega arith) in omega arith
 
 first-mate-requires-3 : tie.Need-first-mate-requires-3
-first-mate-requires-3 c κs = let s = c .before .before .before .before .before .before .before in let p = s .pre in let e = p .below (4 * s .args .f + 2) (omega arith) (omega arith) in omega arith
+first-mate-requires-3 c κs = let s = c .before .before .before .before .before .before .before in let b = below s 2 (omega arith) in omega arith
 
 first-mate-requires-4 : tie.Need-first-mate-requires-4
-first-mate-requires-4 c κs = let s = c .before .before .before .before .before .before .before .before in let p = s .pre in let e = p .below (4 * s .args .f + 3) (omega arith) (omega arith) in omega arith
+first-mate-requires-4 c κs = let s = c .before .before .before .before .before .before .before .before in let b = below s 3 (omega arith) in omega arith
 
 cast-g : tie.Need-cast-g
 cast-g c = omega arith
@@ -72,7 +77,7 @@ add-put-four-3 : tie.Need-add-put-four-3
 add-put-four-3 c = omega arith
 
 mul-put-four : tie.Need-mul-put-four
-mul-put-four c = let s = c .before .before .before .before .before .before .before .before .before .before in let p = s .pre in let e = p .below (4 * s .args .f + 2) (omega arith) (omega arith) in omega arith
+mul-put-four c = let m = c .before .before in let s = m .before .before .before .before .before .before .before .before in let b = below s 2 (omega arith) in omega arith
 
 put-four-requires : tie.Need-put-four-requires
 put-four-requires c κs = omega arith
@@ -87,7 +92,7 @@ add-put-four-6 : tie.Need-add-put-four-6
 add-put-four-6 c = omega arith
 
 mul-put-four-2 : tie.Need-mul-put-four-2
-mul-put-four-2 c = let s = c .before .before .before .before .before .before .before .before .before .before .before .before .before .before in let p = s .pre in let e = p .below (4 * s .args .f + 1) (omega arith) (omega arith) in omega arith
+mul-put-four-2 c = let m = c .before .before .before .before .before .before in let s = m .before .before .before .before .before .before .before .before in let b = below s 1 (omega arith) in omega arith
 
 put-four-requires-2 : tie.Need-put-four-requires-2
 put-four-requires-2 c κs = omega arith
@@ -102,7 +107,7 @@ add-put-four-9 : tie.Need-add-put-four-9
 add-put-four-9 c = omega arith
 
 mul-put-four-3 : tie.Need-mul-put-four-3
-mul-put-four-3 c = let s = c .before .before .before .before .before .before .before .before .before .before .before .before .before .before .before .before .before .before in let p = s .pre in let e = p .below (4 * s .args .f) (omega arith) (omega arith) in omega arith
+mul-put-four-3 c = let m = c .before .before .before .before .before .before .before .before .before .before in let s = m .before .before .before .before .before .before .before .before in let b = s .pre .below (4 * s .args .f) (omega arith) (omega arith) in omega arith
 
 put-four-requires-3 : tie.Need-put-four-requires-3
 put-four-requires-3 c κs = omega arith
@@ -114,7 +119,7 @@ add-put-four-11 : tie.Need-add-put-four-11
 add-put-four-11 c = omega arith
 
 mul-put-four-4 : tie.Need-mul-put-four-4
-mul-put-four-4 c = let s = c .before .before .before .before .before .before .before .before .before .before .before .before .before .before .before .before .before .before .before .before .before .before in let p = s .pre in let e = p .below (4 * s .args .f + 3) (omega arith) (omega arith) in omega arith
+mul-put-four-4 c = let m = c .before .before .before .before .before .before .before .before .before .before .before .before .before .before in let s = m .before .before .before .before .before .before .before .before in let b = below s 3 (omega arith) in omega arith
 
 put-four-requires-4 : tie.Need-put-four-requires-4
 put-four-requires-4 c κs = omega arith
@@ -122,15 +127,23 @@ put-four-requires-4 c κs = omega arith
 same-length : tie.Need-same-length
 same-length c = omega arith
 
+-- p₁ to p₄ are the places after the four writes, the last face first, and m₁ to m₄ those after the four mates
 returns : tie.Need-returns
 returns c =
-    let s = c .before .before .before .before .before .before .before .before .before .before .before .before .before .before .before .before .before .before .before .before .before .before .before .before .before in
-    let p = s .pre in
-    mates-written (s .args .n) (s .args .f) (s .args .work .now) _ _ _ _ (omega (arith, p .lt, p .room))
-    (rw (c .before .before .before .before .before .before .before .before .before .before .before .before .before .before .before .before .first-mate4 .ensures) at (c .before .before .before .before .before .before .before .before .before .before .before .before .before .before .put-four .ensures))
-    (rw (c .before .before .before .before .before .before .before .before .before .before .before .before .before .before .before .before .before .first-mate3 .ensures) at (c .before .before .before .before .before .before .before .before .before .before .put-four2 .ensures))
-    (rw (c .before .before .before .before .before .before .before .before .before .before .before .before .before .before .before .before .before .before .first-mate2 .ensures) at (c .before .before .before .before .before .before .put-four3 .ensures))
-    (rw (c .before .before .before .before .before .before .before .before .before .before .before .before .before .before .before .before .before .before .before .first-mate .ensures) at (c .before .before .put-four4 .ensures))
+    let p₄ = c .before .before in
+    let p₃ = p₄ .before .before .before .before in
+    let p₂ = p₃ .before .before .before .before in
+    let p₁ = p₂ .before .before .before .before in
+    let m₄ = p₁ .before .before in
+    let m₃ = m₄ .before in
+    let m₂ = m₃ .before in
+    let m₁ = m₂ .before in
+    let s = m₁ .before .before .before .before .before .before in
+    mates-written (s .args .n) (s .args .f) (s .args .work .now) _ _ _ _ (omega (arith, s .pre .lt, s .pre .room))
+    (rw (m₄ .first-mate4 .ensures) at (p₁ .put-four .ensures))
+    (rw (m₃ .first-mate3 .ensures) at (p₂ .put-four2 .ensures))
+    (rw (m₂ .first-mate2 .ensures) at (p₃ .put-four3 .ensures))
+    (rw (m₁ .first-mate .ensures) at (p₄ .put-four4 .ensures))
 
 pub refine-sides-spec : {M : Type 1} → statement M
 refine-sides-spec =

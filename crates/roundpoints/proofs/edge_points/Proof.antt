@@ -13,17 +13,24 @@ use Rattle.roundpoints.proofs.edge_points.Statement.{statement}
 use Rattle.roundpoints.proofs.edge_points.Tie as tie
 
 abbrev Inv-loop : tie.InvT-loop
-Inv-loop points₀ faces marks work₀ n edges₀ h₀ points work edges h = (h ≤ length faces) × (edges ≡ count (firstMet quads faces) h) × Edges faces marks points₀ work₀ points work edges
+Inv-loop points₀ faces marks work₀ n edges₀ h₀ points work edges h =
+    (h ≤ length faces) × (edges ≡ count (firstMet quads faces) h) × Edges faces marks points₀ work₀ points work edges
 
 abbrev μ-loop : tie.MeasureT-loop
 μ-loop points₀ faces marks work₀ n edges₀ h₀ points work edges h = length faces - h
 
 loop-holds : tie.Need-loop-holds Inv-loop μ-loop
 unfolding count
-loop-holds c = let s = c .before .before .before in (omega arith, refl, edges-none (s .args .faces .now) (s .args .marks .now) (s .args .points .now) (s .args .work .now) (s .pre))
+loop-holds c =
+    let s = c .before .before .before in
+    (omega arith, refl, edges-none (s .args .faces .now) (s .args .marks .now) (s .args .points .now) (s .args .work .now) (s .pre))
 
 edge-side-requires : tie.Need-edge-side-requires Inv-loop μ-loop
-edge-side-requires c κs = let s = c .before .before .before .before .before .before .before in let i = c .before .before .before .loop .inv in turn-in (s .args .faces .now) (s .args .marks .now) (s .args .points .now) (s .args .work .now) (s .pre) (c .before .before .before .loop .points) (c .before .before .before .loop .work) (c .before .before .before .loop .edges) (c .before .before .before .loop .h) (i .2) (c .before .before .loop-test .taken) (i .1)
+edge-side-requires c κs =
+    let q = c .before .before .before in
+    let s = q .before .before .before .before in
+    turn-in (s .args .faces .now) (s .args .marks .now) (s .args .points .now) (s .args .work .now) (s .pre)
+    (q .loop .points) (q .loop .work) (q .loop .edges) (q .loop .h) (q .loop .inv .2) (c .before .before .loop-test .taken) (q .loop .inv .1)
 
 add-h : tie.Need-add-h Inv-loop μ-loop
 add-h c = omega arith
@@ -32,7 +39,18 @@ loop-less : tie.Need-loop-less Inv-loop μ-loop
 loop-less c = omega arith
 
 loop-again : tie.Need-loop-again Inv-loop μ-loop
-loop-again c = let s = c .before .before .before .before .before .before .before .before .before .before .before in let i = c .before .before .before .before .before .before .before .loop .inv in let d = c .before .before .before .edge-side .ensures in (omega arith, turned-count (s .args .faces .now) (s .args .marks .now) (s .args .points .now) (s .args .work .now) (s .pre) (c .before .before .before .before .before .before .before .loop .points) (c .before .before .before .before .before .before .before .loop .work) (c .before .before .before .before .before .before .before .loop .edges) (c .before .before .before .before .before .before .before .loop .h) (i .2) (c .before .before .before .before .before .before .loop-test .taken) (i .1) _ _ _ d, turned-edges (s .args .faces .now) (s .args .marks .now) (s .args .points .now) (s .args .work .now) (s .pre) (c .before .before .before .before .before .before .before .loop .points) (c .before .before .before .before .before .before .before .loop .work) (c .before .before .before .before .before .before .before .loop .edges) (c .before .before .before .before .before .before .before .loop .h) (i .2) (c .before .before .before .before .before .before .loop-test .taken) (i .1) _ _ _ d)
+loop-again c =
+    let d = c .before .before .before in
+    let x = d .before .before .before in
+    let q = x .before in
+    let s = q .before .before .before .before in
+    let i = q .loop .inv in (
+      omega arith,
+      turned-count (s .args .faces .now) (s .args .marks .now) (s .args .points .now) (s .args .work .now) (s .pre)
+          (q .loop .points) (q .loop .work) (q .loop .edges) (q .loop .h) (i .2) (x .loop-test .taken) (i .1) _ _ _ (d .edge-side .ensures),
+      turned-edges (s .args .faces .now) (s .args .marks .now) (s .args .points .now) (s .args .work .now) (s .pre)
+          (q .loop .points) (q .loop .work) (q .loop .edges) (q .loop .h) (i .2) (x .loop-test .taken) (i .1) _ _ _ (d .edge-side .ensures),
+    )
 
 same-length : tie.Need-same-length Inv-loop μ-loop
 same-length c = c .before .loop .inv .2 .points .kept
@@ -42,7 +60,14 @@ same-length-2 c = c .before .loop .inv .2 .kept
 
 returns : tie.Need-returns Inv-loop μ-loop
 unfolding edgeCount
-returns c = let s = c .before .before .before .before .before in let i = c .before .loop .inv in let b = i .0 in let n : c .before .loop .h ≡ length (s .args .faces .now) = omega arith in let e = i .1 ∙ ap (count (firstMet quads (s .args .faces .now))) n in (e, subst (Edges (s .args .faces .now) (s .args .marks .now) (s .args .points .now) (s .args .work .now) (c .before .loop .points) (c .before .loop .work)) e (i .2))
+returns c =
+    let q = c .before in
+    let s = q .before .before .before .before in
+    let i = q .loop .inv in
+    let b = i .0 in
+    let n : q .loop .h ≡ length (s .args .faces .now) = omega arith in
+    let e = i .1 ∙ ap (count (firstMet quads (s .args .faces .now))) n in
+    (e, subst (Edges (s .args .faces .now) (s .args .marks .now) (s .args .points .now) (s .args .work .now) (q .loop .points) (q .loop .work)) e (i .2))
 
 pub edge-points-spec : {M : Type 1} → statement M
 edge-points-spec =

@@ -1,14 +1,22 @@
 -- `edge_side` meets its contract. Assumes nothing.
 use mathlib.Core.Path.{refl, sym}
-use Prim.Native.Nat.{_*_}
+use Prim.Native.Nat.{_*_, _<_}
 use native.Mathlib.Omega.{arith}
 use lib.ListN.{length}
 use lib.Seq.{length-take-le}
 use borrow.Author.Needs.{needs}
+use Rattle.topology.specs.Shape.{quads}
+use Rattle.topology.specs.HalfEdge.{mate}
 use Rattle.roundpoints.specs.Passes.{met, passed}
 use Rattle.roundpoints.proofs.Passes.{small-of, first-met, met-before}
 use Rattle.roundpoints.proofs.edge_side.Statement.{statement}
 use Rattle.roundpoints.proofs.edge_side.Tie as tie
+
+-- at a half-edge below its mate the edge is met first
+first : (x : tie.Then1) → let s = x .before .before .before .before .before in s .args .h < mate quads (s .args .faces .now) (s .args .h)
+first x =
+    let s = x .before .before .before .before .before in
+    first-met (s .args .faces .now) (s .args .marks .now) (s .args .points .now) (s .args .work .now) (s .args .h) (s .args .edges) (s .pre) (x .if1 .taken)
 
 mul-mate : tie.Need-mul-mate
 mul-mate c = search needs
@@ -26,7 +34,9 @@ slice-reshare-prefix-edge-point : tie.Need-slice-reshare-prefix-edge-point
 slice-reshare-prefix-edge-point c = search needs
 
 slice-aggregate-edge-point : tie.Need-slice-aggregate-edge-point
-slice-aggregate-edge-point c = let s = c .before .before .before .before .before .before in sym (length-take-le (3 * length (s .args .marks .now)) (s .args .points .now) (s .pre .old))
+slice-aggregate-edge-point c =
+    let s = c .before .before .before .before .before .before in
+    sym (length-take-le (3 * length (s .args .marks .now)) (s .args .points .now) (s .pre .old))
 
 edge-point-requires : tie.Need-edge-point-requires
 edge-point-requires c κs = search needs
@@ -35,7 +45,10 @@ add-put-rounded : tie.Need-add-put-rounded
 add-put-rounded c = search needs
 
 put-rounded-requires : tie.Need-put-rounded-requires
-put-rounded-requires c κs = let s = c .before .before .before .before .before .before .before .before .before in let r = s .pre .room (first-met (s .args .faces .now) (s .args .marks .now) (s .args .points .now) (s .args .work .now) (s .args .h) (s .args .edges) (s .pre) (c .before .before .before .before .if1 .taken)) in (r, small-of _ _ _ _ (c .before .edge-point .ensures))
+put-rounded-requires c κs =
+    let x = c .before .before .before .before in
+    let s = x .before .before .before .before .before in
+    (s .pre .room (first x), small-of _ _ _ _ (c .before .edge-point .ensures))
 
 mul-put-exact : tie.Need-mul-put-exact
 mul-put-exact c = search needs
@@ -47,7 +60,11 @@ add-put-exact : tie.Need-add-put-exact
 add-put-exact c = search needs
 
 put-exact-requires : tie.Need-put-exact-requires
-put-exact-requires c κs = let s = c .before .before .before .before .before .before .before .before .before .before .before .before in let r = s .pre .exact (first-met (s .args .faces .now) (s .args .marks .now) (s .args .points .now) (s .args .work .now) (s .args .h) (s .args .edges) (s .pre) (c .before .before .before .before .before .before .before .if1 .taken)) in (r, small-of _ _ _ _ (c .before .before .before .before .edge-point .ensures))
+put-exact-requires c κs =
+    let e = c .before .before .before .before in
+    let x = e .before .before .before in
+    let s = x .before .before .before .before .before in
+    (s .pre .exact (first x), small-of _ _ _ _ (e .edge-point .ensures))
 
 add-result : tie.Need-add-result
 add-result c = search needs
@@ -59,10 +76,18 @@ same-length-2 : tie.Need-same-length-2
 same-length-2 c = search needs
 
 returns : tie.Need-returns
-returns c = let s = c .before .before .before .before .before .before .before .before .before .before .before .before .before .before .before in met _ _ _ (first-met (s .args .faces .now) (s .args .marks .now) (s .args .points .now) (s .args .work .now) (s .args .h) (s .args .edges) (s .pre) (c .before .before .before .before .before .before .before .before .before .before .if1 .taken)) refl (c .before .before .before .before .before .before .before .edge-point .ensures) (c .before .before .before .before .before .put-rounded .ensures) (c .before .before .put-exact .ensures)
+returns c =
+    let w = c .before .before in
+    let r = w .before .before .before in
+    let e = r .before .before in
+    let x = e .before .before .before in
+    met _ _ _ (first x) refl (e .edge-point .ensures) (r .put-rounded .ensures) (w .put-exact .ensures)
 
 returns-2 : tie.Need-returns-2
-returns-2 c = let s = c .before .before .before .before .before in passed (met-before (s .args .faces .now) (s .args .marks .now) (s .args .points .now) (s .args .work .now) (s .args .h) (s .args .edges) (s .pre) (c .if1 .left)) refl refl refl
+returns-2 c =
+    let s = c .before .before .before .before .before in
+    let b = met-before (s .args .faces .now) (s .args .marks .now) (s .args .points .now) (s .args .work .now) (s .args .h) (s .args .edges) (s .pre) (c .if1 .left) in
+    passed b refl refl refl
 
 pub edge-side-spec : {M : Type 1} → statement M
 edge-side-spec =

@@ -27,7 +27,13 @@ part-face-points-end : tie.Need-part-face-points-end
 part-face-points-end c = search needs
 
 face-points-requires : tie.Need-face-points-requires
-face-points-requires c κs = let s = c .before .before .before .before .before .before .before .before .before .before .before in let k = c .before .before .before .before .before .edge-points in (loaded-now (s .args .faces .now) (s .args .marks .now) (s .args .points .now) (s .args .work .now) (s .pre) _ _ (k .ensures .1), face-room (s .args .faces .now) (s .args .marks .now) (s .args .points .now) (s .args .work .now) (s .pre) _ _ (k .ensures .1) (k .result) (k .ensures .0))
+face-points-requires c κs =
+    let q = c .before .before .before .before .before in
+    let s = q .before .before .before .before .before .before in
+    let k = q .edge-points in (
+      loaded-now (s .args .faces .now) (s .args .marks .now) (s .args .points .now) (s .args .work .now) (s .pre) _ _ (k .ensures .1),
+      face-room (s .args .faces .now) (s .args .marks .now) (s .args .points .now) (s .args .work .now) (s .pre) _ _ (k .ensures .1) (k .result) (k .ensures .0),
+    )
 
 same-length : tie.Need-same-length
 same-length c = search needs
@@ -36,7 +42,13 @@ same-length-2 : tie.Need-same-length-2
 same-length-2 c = search needs
 
 returns : tie.Need-returns
-returns c = let s = c .before .before .before .before .before .before .before .before .before .before .before .before .before in let k = c .before .before .before .before .before .before .before .edge-points in (points-made (s .args .faces .now) (s .args .marks .now) (s .args .points .now) (s .args .work .now) (s .pre) _ _ (k .ensures .1) (k .result) (k .ensures .0) _ (c .before .face-points .ensures), scratch-now (s .args .faces .now) (s .args .marks .now) (s .args .points .now) (s .args .work .now) (s .pre) _ _ (k .ensures .1))
+returns c =
+    let q = c .before .before .before .before .before .before .before in
+    let s = q .before .before .before .before .before .before in
+    let k = q .edge-points in (
+      points-made (s .args .faces .now) (s .args .marks .now) (s .args .points .now) (s .args .work .now) (s .pre) _ _ (k .ensures .1) (k .result) (k .ensures .0) _ (c .before .face-points .ensures),
+      scratch-now (s .args .faces .now) (s .args .marks .now) (s .args .points .now) (s .args .work .now) (s .pre) _ _ (k .ensures .1),
+    )
 
 pub new-points-spec : {M : Type 1} → statement M
 new-points-spec =

@@ -1,5 +1,5 @@
 -- `scan::bad_corner` meets its contract: the corners of the face are met side by side until one is back at h. Assumes nothing.
-use mathlib.Core.Path.{_≡_, sym, ap, _∙_}
+use mathlib.Core.Path.{sym}
 use Prim.Native.Nat.{_-_, _<_}
 use native.Mathlib.Omega.{arith}
 use lib.ListN.{length}
