@@ -8,6 +8,7 @@ ghost use Rattle.validate.specs.Answer.{verdictOf, checked};
 ghost use Rattle.outcome.specs.Outcome.{buffers, outcome};
 ghost use Rattle.refine.specs.Answer.{resultOf};
 ghost use Rattle.capi.specs.Export.{finding, checkExportOf, checkExport, report, refineExportOf, refineExport, sizes};
+ghost use Rattle.capi.specs.Version.{version};
 use validate::Answer;
 
 // The verdict on a call: reason 0, or the refusal's number and place.
@@ -181,4 +182,20 @@ pub extern "C" fn gedrovit_sizes_for(
         out_marks: corners as u64,
         work: work as u64,
     }
+}
+
+// The version of the archive.
+#[no_mangle]
+pub extern "C" fn gedrovit_version() -> u32
+    ensures { λ r. ⌜ r ≡ version ⌝ }
+{
+    1001
+}
+
+// The same under a name that has the version in it: a program that was compiled with another version's header does not link.
+#[no_mangle]
+pub extern "C" fn gedrovit_version_0_1_1() -> u32
+    ensures { λ r. ⌜ r ≡ version ⌝ }
+{
+    gedrovit_version()
 }
