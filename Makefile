@@ -14,7 +14,7 @@ libdir := $(if $(filter /%,$(LIBDIR)),$(LIBDIR),$(PREFIX)/$(LIBDIR))
 include_to = $(DESTDIR)$(PREFIX)/include
 lib_to = $(DESTDIR)$(libdir)
 headers := package/include/gedrovit.h package/include/gedrovit.hpp
-version := $(shell awk '/^.define GEDROVIT_VERSION_(MAJOR|MINOR|PATCH) / { printf "%s%s", dot, $$3; dot = "." }' package/include/gedrovit.h)
+version := $(shell sed -n 's/^.define GEDROVIT_VERSION "\(.*\)"$$/\1/p' package/include/gedrovit.h)
 archive := target/staticlib/libcapi.a
 # the archive's crate and all crates under it
 crates := $(shell awk -F: -f tools/crates_under.awk -v top=capi crates.txt)

@@ -128,21 +128,18 @@
 #include <stdint.h>
 
 /* The version of this header. */
+#define GEDROVIT_VERSION "0.1.1"
 #define GEDROVIT_VERSION_MAJOR 0
 #define GEDROVIT_VERSION_MINOR 1
 #define GEDROVIT_VERSION_PATCH 1
 
-#define GEDROVIT_JOIN_NOW(prefix, a, b, c) prefix##a##_##b##_##c
-#define GEDROVIT_JOIN(prefix, a, b, c) GEDROVIT_JOIN_NOW(prefix, a, b, c)
-#define GEDROVIT_TEXT_NOW(a, b, c) #a "." #b "." #c
-#define GEDROVIT_TEXT(a, b, c) GEDROVIT_TEXT_NOW(a, b, c)
-
-/* The same as a text, as a number to compare with gedrovit_version(), and behind a name. */
-#define GEDROVIT_VERSION GEDROVIT_TEXT(GEDROVIT_VERSION_MAJOR, GEDROVIT_VERSION_MINOR, GEDROVIT_VERSION_PATCH)
+/* The same as a number, to be compared with gedrovit_version(), and at the end of a name. */
 #define GEDROVIT_VERSION_NUMBER \
     (GEDROVIT_VERSION_MAJOR * 1000000u + GEDROVIT_VERSION_MINOR * 1000u + GEDROVIT_VERSION_PATCH)
+#define GEDROVIT_JOIN_NOW(name, major, minor, patch) name##_##major##_##minor##_##patch
+#define GEDROVIT_JOIN(name, major, minor, patch) GEDROVIT_JOIN_NOW(name, major, minor, patch)
 #define GEDROVIT_VERSIONED(name) \
-    GEDROVIT_JOIN(name##_, GEDROVIT_VERSION_MAJOR, GEDROVIT_VERSION_MINOR, GEDROVIT_VERSION_PATCH)
+    GEDROVIT_JOIN(name, GEDROVIT_VERSION_MAJOR, GEDROVIT_VERSION_MINOR, GEDROVIT_VERSION_PATCH)
 
 /* Limits of a call. */
 #define GEDROVIT_MAX_ROUNDS 6
