@@ -11,6 +11,9 @@
 #include <variant>
 #include <vector>
 
+// Hidden, as the functions of gedrovit.h.
+#define GEDROVIT_INLINE __attribute__((visibility("hidden"))) inline
+
 namespace gedrovit {
 // The version is part of every name, so that code with another version's header keeps apart.
 inline namespace GEDROVIT_VERSIONED(version) {
@@ -37,7 +40,7 @@ struct refusal {
 };
 
 // The net as a record, valid as long as its tables are.
-inline gedrovit_net view(const net &n) noexcept
+GEDROVIT_INLINE gedrovit_net view(const net &n) noexcept
 {
     return gedrovit_net_of(n.vertices.data(), n.vertices.size(), n.faces.data(), n.faces.size(), n.marks.data(), n.marks.size());
 }
@@ -45,7 +48,7 @@ inline gedrovit_net view(const net &n) noexcept
 #ifndef GEDROVIT_TYPES_ONLY
 
 // The net after this many refinement steps, in tables allocated for it, or why not. std::bad_alloc may be thrown.
-inline std::variant<net, refusal> refine(std::uint32_t rounds, const net &coarse)
+GEDROVIT_INLINE std::variant<net, refusal> refine(std::uint32_t rounds, const net &coarse)
 {
     const gedrovit_net record = view(coarse);
     const gedrovit_sizes n = gedrovit_sizes_for_net(rounds, &record);
@@ -68,7 +71,7 @@ inline std::variant<net, refusal> refine(std::uint32_t rounds, const net &coarse
 }
 
 // Why refine would refuse, if it would. std::bad_alloc may be thrown.
-inline std::optional<refusal> check(std::uint32_t rounds, const net &coarse)
+GEDROVIT_INLINE std::optional<refusal> check(std::uint32_t rounds, const net &coarse)
 {
     const gedrovit_net record = view(coarse);
     const gedrovit_sizes n = gedrovit_sizes_for_net(rounds, &record);
@@ -87,5 +90,6 @@ inline std::optional<refusal> check(std::uint32_t rounds, const net &coarse)
 
 } // namespace GEDROVIT_VERSIONED(version)
 } // namespace gedrovit
+#undef GEDROVIT_INLINE
 
 #endif
