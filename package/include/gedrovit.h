@@ -112,10 +112,9 @@
  * d faces meet, finding the neighbours there takes at most d * d steps. After that the time is
  * linear in G, for a net that is refused as well: its work table is cleared.
  *
- * The archive has no unwind tables, no frame pointers and no debug information. Where a signal
- * interrupts a call, a crash handler, debugger or profiler names the exported function or an inner
- * one of the archive, and cannot walk from there to your functions reliably; record them yourself if
- * you need them.
+ * The archive has no unwind tables, no frame pointers and no debug information. A trace that a crash
+ * handler, debugger or profiler takes while a call runs ends at the archive's innermost function or
+ * goes on with wrong callers; yours are not in it.
  */
 #ifndef GEDROVIT_H
 #define GEDROVIT_H
