@@ -51,8 +51,8 @@
  *   out_marks       4 G   uint8_t
  *   work           16 G   uint32_t
  *
- * which is 132 bytes for each refined face. gedrovit_sizes_for works these numbers out. What the four tables hold before the call does not
- * matter. What they hold after it:
+ * which is 132 bytes for each refined face. gedrovit_sizes_for works these numbers out. What the four
+ * tables hold before the call does not matter. What they hold after it:
  *
  *   reason     output tables                                  work
  *   0          from the front, the refined vertices, faces    the first 16 G are 0
@@ -96,10 +96,10 @@
  * its name, so that header and archive of different versions do not link. A source that needs only
  * the types and constants, and is linked without the archive, defines GEDROVIT_TYPES_ONLY before.
  *
- * The functions are declared with hidden visibility: a shared object with the archive in it does not
- * export them and does not take those of another one. To export them, or to call them in another
- * shared object, define GEDROVIT_API before including this header, as empty, and link without
- * --exclude-libs, which the pkg-config and CMake files of the package add for the same end.
+ * The functions are declared with hidden visibility, so that a shared object with the archive in it
+ * calls its own and never those of another one; the pkg-config and CMake files of the package add
+ * --exclude-libs, so that it exports none of them. To export them, or to call those of another shared
+ * object, define GEDROVIT_API as empty before including this header, and link without that option.
  *
  *
  * Stack, time and traces
