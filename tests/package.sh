@@ -143,8 +143,8 @@ program() {
     "${@:3}" -I "$prefix/include" "$root/tests/package/$2" -L "$prefix/lib" -lgedrovit -pthread -o "$scratch/$1"
 }
 
-empty_vector() {
-    program empty empty_vector.cpp "${cxx[@]}" && "$scratch/empty"
+vectors() {
+    program vectors vectors.cpp "${cxx[@]}" && "$scratch/vectors"
 }
 
 constants() {
@@ -267,7 +267,7 @@ check "header and archive of different versions" version_guard
 check "types without an archive" types_only
 check "two plug-ins with archives" plugins
 check "archive in a shared object" shared_object
-check "empty vectors" empty_vector
+check "nets in vectors" vectors
 check "stack" stack
 check "Rust crate: another version's archive" rust_guard
 check "Rust crate: tests" rust GEDROVIT_LIB_DIR="$prefix/lib" cargo test --quiet
