@@ -37,12 +37,15 @@ header_alone() {
     done
 }
 
+# by the chosen compilers, and by gcc and clang where they are installed
 headers_alone() {
     for compiler in "${CC:-cc}" gcc clang; do
-        ! command -v "$compiler" >/dev/null || header_alone gedrovit.h "$compiler" -std=c11 -x c || return
+        command -v "$compiler" >/dev/null || continue
+        header_alone gedrovit.h "$compiler" -std=c11 -x c || return
     done
     for compiler in "${CXX:-c++}" g++ clang++; do
-        ! command -v "$compiler" >/dev/null || header_alone gedrovit.h "$compiler" -std=c++17 -x c++ && header_alone gedrovit.hpp "$compiler" -std=c++17 -x c++ || return
+        command -v "$compiler" >/dev/null || continue
+        header_alone gedrovit.h "$compiler" -std=c++17 -x c++ && header_alone gedrovit.hpp "$compiler" -std=c++17 -x c++ || return
     done
 }
 
@@ -105,6 +108,23 @@ by_cmake() {
     local to=$scratch/cmake
     rm -rf "$to" && cmake -S "$root/package/examples" -B "$to" -DCMAKE_PREFIX_PATH="$prefix" -DCMAKE_C_FLAGS="${strict[*]}" -DCMAKE_CXX_FLAGS="${strict[*]}" \
         && cmake --build "$to" && outputs "$to"
+}
+
+# exports_nothing FILE: a plug-in exports its own function and none of the archive's
+exports_nothing() {
+    diff <(echo plugin_reason) <(nm -D --defined-only -j "$1" | grep -E 'gedrovit|plugin')
+}
+
+plugin_by_pkg_config() {
+    "${CC:-cc}" -std=c11 -fPIC -shared $(flags --cflags) "$root/tests/package/plugin.c" $(flags --libs) -o "$scratch/by-pkg-config.so" && exports_nothing "$scratch/by-pkg-config.so"
+}
+
+plugin_by_cmake() {
+    mkdir -p "$scratch/module" && cp "$root/tests/package/plugin.c" "$scratch/module/" \
+        && printf '%s\n' 'cmake_minimum_required(VERSION 3.16)' 'project(module C)' 'find_package(gedrovit REQUIRED)' 'add_library(module MODULE plugin.c)' \
+            'target_link_libraries(module PRIVATE gedrovit::gedrovit)' >"$scratch/module/CMakeLists.txt" \
+        && cmake -S "$scratch/module" -B "$scratch/module/build" -DCMAKE_PREFIX_PATH="$prefix" && cmake --build "$scratch/module/build" \
+        && exports_nothing "$scratch/module/build/libmodule.so"
 }
 
 # cmake_finds WANTED [OPTION ..]: whether find_package finds the package at this version
@@ -276,10 +296,12 @@ check "Rust crate: no archive" rust_refused
 if have pkg-config; then
     check "Rust crate: archive by pkg-config" rust_links "$prefix/lib" PKG_CONFIG_PATH="$prefix/lib/pkgconfig"
     check "examples by pkg-config" by_pkg_config
+    check "plug-in by pkg-config" plugin_by_pkg_config
     check "LIBDIR" other_libdir
 fi
 if have cmake; then
     check "examples by CMake" by_cmake
+    check "plug-in by CMake" plugin_by_cmake
     check "versions for CMake" cmake_versions
     check "processors for CMake" cmake_processors
 fi
