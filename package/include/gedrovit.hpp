@@ -1,4 +1,4 @@
-// gedrovit.h for C++17: nets in vectors, refusals as a type. It has the whole contract.
+// gedrovit.h for C++17: nets in vectors, refusals as a type. The whole contract stands there.
 #ifndef GEDROVIT_HPP
 #define GEDROVIT_HPP
 
@@ -18,7 +18,7 @@ namespace gedrovit {
 // The version is part of every name, so that code with another version's header keeps apart.
 inline namespace GEDROVIT_VERSIONED(version) {
 
-// A net. Default-construct it and assign its tables: later versions add members.
+// A net. Made from its three tables, or by default and assigned to: later versions add members.
 struct net {
     std::vector<std::int32_t> vertices; // three coordinates for each vertex
     std::vector<std::uint32_t> faces;   // four vertex numbers for each face
