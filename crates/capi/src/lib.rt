@@ -1,4 +1,5 @@
 // The functions for C.
+ghost use Rattle.capi.specs.Version.{version};
 ghost use mathlib.Core.Path.{_≡_};
 ghost use Prim.Native.Nat.{_*_, _/_, _^_, _≤_};
 ghost use lib.ListN.{length};
@@ -8,7 +9,6 @@ ghost use Rattle.validate.specs.Answer.{verdictOf, checked};
 ghost use Rattle.outcome.specs.Outcome.{buffers, outcome};
 ghost use Rattle.refine.specs.Answer.{resultOf};
 ghost use Rattle.capi.specs.Export.{finding, checkExportOf, checkExport, report, refineExportOf, refineExport, sizes};
-ghost use Rattle.capi.specs.Version.{version};
 use validate::Answer;
 
 // The verdict on a call: reason 0, or the refusal's number and place.
