@@ -1,4 +1,4 @@
--- The version of the package. Landings that change what crosses the C boundary, or points, raise the first or the second number.
+-- The version of the package. Calls and points that were there change only with its first two numbers.
 use Prim.Native.Nat.{ℕ, _+_, _*_}
 
 abbrev pub major : ℕ
