@@ -1,15 +1,20 @@
 # The package for programs in C, C++ and Rust.
 #
 #   make                       builds the archive, if it is missing or older than its sources
-#   make install PREFIX=DIR    puts header, archive, pkg-config and CMake files into DIR, by default /usr/local; DESTDIR goes before DIR
+#   make install PREFIX=DIR    puts headers, archive, pkg-config and CMake files into DIR, by default /usr/local; DESTDIR goes before DIR
 #   make uninstall PREFIX=DIR  removes them
 #   make clean                 removes the archive and what install generated; what rt knows of the proofs stays
+#
+# LIBDIR is the folder of the archive, by default PREFIX/lib; it may be given relative to PREFIX, as lib64 or lib/x86_64-linux-gnu.
 
 PREFIX ?= /usr/local
+LIBDIR ?= lib
 
-to = $(DESTDIR)$(PREFIX)
-header := package/include/gedrovit.h
-version := $(shell sed -n 's/^.define GEDROVIT_VERSION "\(.*\)"$$/\1/p' $(header))
+libdir := $(if $(filter /%,$(LIBDIR)),$(LIBDIR),$(PREFIX)/$(LIBDIR))
+include_to = $(DESTDIR)$(PREFIX)/include
+lib_to = $(DESTDIR)$(libdir)
+headers := package/include/gedrovit.h package/include/gedrovit.hpp
+version := $(shell sed -n 's/^.define GEDROVIT_VERSION "\(.*\)"$$/\1/p' package/include/gedrovit.h)
 archive := target/staticlib/libcapi.a
 # the archive's crate and all crates under it
 crates := $(shell awk -F: -f tools/crates_under.awk -v top=capi crates.txt)
@@ -18,25 +23,29 @@ sources := crates.txt $(shell find $(foreach crate,$(crates),$(wildcard crates/$
 all: $(archive)
 
 $(archive): $(sources)
+	@command -v rt >/dev/null || { echo "make: the archive is built by the Rattle kit, whose command rt was not found; kit.txt names the kit" >&2; exit 1; }
 	@echo "building $@: the proofs are checked first, which takes some minutes" >&2
 	rt staticlib capi
 
-target/package/%: package/%.in $(header)
+# The files find the headers from their own place, so that the installed tree can be moved.
+target/package/%: package/%.in always
 	@mkdir -p $(@D)
-	sed 's/@VERSION@/$(version)/' $< >$@
+	sed -e 's/@VERSION@/$(version)/' -e 's|@INCLUDE@|$(shell realpath -ms --relative-to="$(libdir)" "$(PREFIX)/include")|' $< >$@
 
-install: $(archive) target/package/gedrovit.pc target/package/gedrovit-config-version.cmake
-	install -D -m 644 $(header) "$(to)/include/gedrovit.h"
-	install -D -m 644 $(archive) "$(to)/lib/libgedrovit.a"
-	install -D -m 644 target/package/gedrovit.pc "$(to)/lib/pkgconfig/gedrovit.pc"
-	install -D -m 644 -t "$(to)/lib/cmake/gedrovit" package/gedrovit-config.cmake target/package/gedrovit-config-version.cmake
+install: $(archive) target/package/gedrovit.pc target/package/gedrovit-config.cmake target/package/gedrovit-config-version.cmake
+	install -D -m 644 -t "$(include_to)" $(headers)
+	install -D -m 644 $(archive) "$(lib_to)/libgedrovit.a"
+	install -D -m 644 target/package/gedrovit.pc "$(lib_to)/pkgconfig/gedrovit.pc"
+	install -D -m 644 -t "$(lib_to)/cmake/gedrovit" target/package/gedrovit-config.cmake target/package/gedrovit-config-version.cmake
 
 uninstall:
-	rm -f "$(to)/include/gedrovit.h" "$(to)/lib/libgedrovit.a" "$(to)/lib/pkgconfig/gedrovit.pc"
-	rm -rf "$(to)/lib/cmake/gedrovit"
+	rm -f "$(include_to)/gedrovit.h" "$(include_to)/gedrovit.hpp" "$(lib_to)/libgedrovit.a" "$(lib_to)/pkgconfig/gedrovit.pc"
+	rm -rf "$(lib_to)/cmake/gedrovit"
 
 clean:
 	rm -rf target/package $(archive)
 
-.PHONY: all install uninstall clean
+always:
+
+.PHONY: all install uninstall clean always
 .DELETE_ON_ERROR:

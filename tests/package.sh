@@ -29,9 +29,24 @@ have() {
     command -v "$1" >/dev/null || { echo "skipped what needs $1: it is not installed"; false; }
 }
 
+# header_alone HEADER COMPILER ..: the header compiles by itself, also without its functions
 header_alone() {
-    echo '#include <gedrovit.h>' >"$scratch/alone.c"
-    "$@" "${strict[@]}" -Wconversion -Wshadow -fsyntax-only -I "$root/package/include" "$scratch/alone.c"
+    echo "#include <$1>" >"$scratch/alone.c"
+    for only in "" -DGEDROVIT_TYPES_ONLY; do
+        "${@:2}" $only "${strict[@]}" -Wconversion -Wshadow -fsyntax-only -I "$root/package/include" "$scratch/alone.c" || return
+    done
+}
+
+# by the chosen compilers, and by gcc and clang where they are installed
+headers_alone() {
+    for compiler in "${CC:-cc}" gcc clang; do
+        command -v "$compiler" >/dev/null || continue
+        header_alone gedrovit.h "$compiler" -std=c11 -x c || return
+    done
+    for compiler in "${CXX:-c++}" g++ clang++; do
+        command -v "$compiler" >/dev/null || continue
+        header_alone gedrovit.h "$compiler" -std=c++17 -x c++ && header_alone gedrovit.hpp "$compiler" -std=c++17 -x c++ || return
+    done
 }
 
 make_package() {
@@ -51,15 +66,22 @@ staged_files() {
         && make_package uninstall DESTDIR="$scratch/stage" PREFIX=/opt/net && diff /dev/null <(tree "$scratch/stage")
 }
 
+# Without the kit, and without an archive, make says what is missing.
+no_kit() {
+    mkdir -p "$scratch/no-kit/tools" "$scratch/no-kit/bin" && cp "$root/Makefile" "$root/crates.txt" "$scratch/no-kit/" && cp "$root/tools/crates_under.awk" "$scratch/no-kit/tools/" \
+        && mkdir "$scratch/no-kit/package" && cp -r "$root/package/include" "$scratch/no-kit/package/" && for tool in sh sed awk find; do ln -s "$(command -v "$tool")" "$scratch/no-kit/bin/"; done
+    ! env PATH="$scratch/no-kit/bin" "$(command -v make)" -C "$scratch/no-kit" >"$scratch/said" 2>&1 && cat "$scratch/said" && grep -q 'Rattle kit, whose command rt was not found' "$scratch/said"
+}
+
 # The archive defines no names but its own, and needs nothing but the C library's memory functions.
 symbols() {
-    diff <(printf 'gedrovit_%s\n' check refine sizes_for) <(nm -g --defined-only -j "$prefix/lib/libgedrovit.a" | grep -v ':$' | grep . | LC_ALL=C sort -u) \
+    diff <(printf 'gedrovit_%s\n' check refine sizes_for version "version_${version//./_}") <(nm -g --defined-only -j "$prefix/lib/libgedrovit.a" | grep -v ':$' | grep . | LC_ALL=C sort -u) \
         && ! nm -g --undefined-only -j "$prefix/lib/libgedrovit.a" | grep -v ':$' | grep . | grep -vxE 'mem(cpy|move|set)'
 }
 
-# The header's version is that of the other files.
+# The header's version is that of the other files; numbers.py holds the sources to it.
 versions() {
-    grep -qxF "version = \"$version\"" "$root/package/rust/Cargo.toml" && grep -qxF "Version: $version" "$prefix/lib/pkgconfig/gedrovit.pc" \
+    grep -qxF "Version: $version" "$prefix/lib/pkgconfig/gedrovit.pc" \
         && grep -qxF "set(PACKAGE_VERSION \"$version\")" "$prefix/lib/cmake/gedrovit/gedrovit-config-version.cmake"
 }
 
@@ -69,15 +91,15 @@ flags() {
 
 # outputs FOLDER: the examples built there write what is stored, also where a call is refused
 outputs() {
-    diff "$root/tests/nets/cases/paper-raised-centre.out" <("$1/refine") \
+    diff "$root/tests/nets/cases/paper-raised-centre.out" <("$1/panel") \
         && diff "$root/tests/package/seam.out" <("$1/seam") \
-        && ! "$1/refine" 7 2>"$1/refused" && diff <(echo 'refine: refusal 1, place 0') "$1/refused"
+        && ! "$1/panel" 7 2>"$1/refused" && diff <(echo 'panel: refusal 1, place 0: more than 6 rounds') "$1/refused"
 }
 
 by_pkg_config() {
     local to=$scratch/pkg-config
     rm -rf "$to" && mkdir "$to" \
-        && "${c[@]}" $(flags --cflags) "$root/package/examples/refine.c" $(flags --libs) -o "$to/refine" \
+        && "${c[@]}" $(flags --cflags) "$root/package/examples/panel.c" $(flags --libs) -o "$to/panel" \
         && "${cxx[@]}" $(flags --cflags) "$root/package/examples/seam.cpp" $(flags --libs) -o "$to/seam" \
         && outputs "$to"
 }
@@ -88,14 +110,52 @@ by_cmake() {
         && cmake --build "$to" && outputs "$to"
 }
 
-# cmake_version WANTED: whether find_package finds the package at this version
-cmake_version() {
-    mkdir -p "$scratch/find" && printf 'cmake_minimum_required(VERSION 3.16)\nproject(find C)\nfind_package(gedrovit %s REQUIRED)\n' "$1" >"$scratch/find/CMakeLists.txt" \
-        && cmake -S "$scratch/find" -B "$scratch/find/build" -DCMAKE_PREFIX_PATH="$prefix"
+# exports_nothing FILE: a plug-in exports its own function and none of the archive's
+exports_nothing() {
+    diff <(echo plugin_reason) <(nm -D --defined-only -j "$1" | grep -E 'gedrovit|plugin')
 }
 
+plugin_by_pkg_config() {
+    "${CC:-cc}" -std=c11 -fPIC -shared $(flags --cflags) "$root/tests/package/plugin.c" $(flags --libs) -o "$scratch/by-pkg-config.so" && exports_nothing "$scratch/by-pkg-config.so"
+}
+
+plugin_by_cmake() {
+    mkdir -p "$scratch/module" && cp "$root/tests/package/plugin.c" "$scratch/module/" \
+        && printf '%s\n' 'cmake_minimum_required(VERSION 3.16)' 'project(module C)' 'find_package(gedrovit REQUIRED)' 'add_library(module MODULE plugin.c)' \
+            'target_link_libraries(module PRIVATE gedrovit::gedrovit)' >"$scratch/module/CMakeLists.txt" \
+        && cmake -S "$scratch/module" -B "$scratch/module/build" -DCMAKE_PREFIX_PATH="$prefix" && cmake --build "$scratch/module/build" \
+        && exports_nothing "$scratch/module/build/libmodule.so"
+}
+
+# cmake_finds WANTED [OPTION ..]: whether find_package finds the package at this version
+cmake_finds() {
+    rm -rf "$scratch/find" && mkdir "$scratch/find" \
+        && printf 'cmake_minimum_required(VERSION 3.19)\nproject(find NONE)\nfind_package(gedrovit %s REQUIRED)\n' "$1" >"$scratch/find/CMakeLists.txt" \
+        && cmake -S "$scratch/find" -B "$scratch/find/build" -DCMAKE_PREFIX_PATH="$prefix" "${@:2}"
+}
+
+# of version 0.1.1, say
 cmake_versions() {
-    cmake_version "$version EXACT" && cmake_version "${version%.*}" && ! cmake_version 99.0
+    local major minor patch
+    IFS=. read -r major minor patch <<<"$version"
+    local series=$major.$minor next=$major.$((minor + 1)) later=$major.$minor.$((patch + 1))
+    cmake_finds "$version EXACT" && cmake_finds "$series" && ! cmake_finds "$later" && ! cmake_finds "$next" && ! cmake_finds 99.0 \
+        && cmake_finds "$series...<$next" && cmake_finds "0.0...$version" && ! cmake_finds "$series...<$version" && ! cmake_finds "$later...<$next" \
+        && ! cmake_finds "0.0...$series"
+}
+
+cmake_processors() {
+    local there=(-DCMAKE_SYSTEM_NAME=Linux -DCMAKE_SYSTEM_PROCESSOR)
+    cmake_finds "$version" "${there[@]}=x86_64" && ! cmake_finds "$version" "${there[@]}=aarch64" && ! cmake_finds "$version" "${there[@]}=i686"
+}
+
+# An archive in another folder than lib is found.
+other_libdir() {
+    local to=$scratch/multiarch
+    make_package install PREFIX="$to" LIBDIR=lib/x86_64-linux-gnu && [ -f "$to/lib/x86_64-linux-gnu/libgedrovit.a" ] \
+        && "${c[@]}" $(PKG_CONFIG_PATH=$to/lib/x86_64-linux-gnu/pkgconfig pkg-config --cflags gedrovit) "$root/package/examples/panel.c" \
+            $(PKG_CONFIG_PATH=$to/lib/x86_64-linux-gnu/pkgconfig pkg-config --libs gedrovit) -o "$scratch/multiarch-panel" \
+        && make_package uninstall PREFIX="$to" LIBDIR="$to/lib/x86_64-linux-gnu" && diff /dev/null <(tree "$to")
 }
 
 # program NAME SOURCE COMPILER ..: builds a test program on the installed package
@@ -103,8 +163,84 @@ program() {
     "${@:3}" -I "$prefix/include" "$root/tests/package/$2" -L "$prefix/lib" -lgedrovit -pthread -o "$scratch/$1"
 }
 
-empty_vector() {
-    program empty empty_vector.cpp "${cxx[@]}" && "$scratch/empty"
+vectors() {
+    program vectors vectors.cpp "${cxx[@]}" && "$scratch/vectors"
+}
+
+constants() {
+    program constants constants.c "${c[@]}" && "$scratch/constants"
+}
+
+# edited FOLDER EDIT: the headers in this folder with a sed command done to gedrovit.h, which changes it
+edited() {
+    rm -rf "$1" && mkdir "$1" && cp "$prefix"/include/* "$1/" && sed -i -E "$2" "$1/gedrovit.h" && ! cmp -s "$1/gedrovit.h" "$prefix/include/gedrovit.h"
+}
+
+# wrong_header EDIT: the test of the constants fails with this edit
+wrong_header() {
+    edited "$scratch/wrong" "$1" && "${CC:-cc}" -std=c11 -w -I "$scratch/wrong" "$root/tests/package/constants.c" -L "$prefix/lib" -lgedrovit -o "$scratch/wrong/constants" || return
+    if "$scratch/wrong/constants" >/dev/null; then
+        echo "not seen: $1"
+        return 1
+    fi
+}
+
+wrong_constants() {
+    for wrong in ROUNDS/5 ROUNDS/7 VERTICES/8190 VERTICES/8194 FACES/4095 FACES/5000 REFINED_FACES/262143 REFINED_FACES/266240 COORDINATE/1048575 COORDINATE/1048577 \
+        RING/7 RING/9 FAN/5 FAN/7; do
+        wrong_header "s/(define GEDROVIT_MAX_${wrong%/*}) .*/\\1 ${wrong#*/}/" || return
+    done
+    for reason in {1..11}; do
+        wrong_header "s/^(    GEDROVIT_.* = )$reason,/\\1@,/; s/^(    GEDROVIT_.* = )$((reason + 1))(,?)$/\\1$reason\\2/; s/@/$((reason + 1))/" || return
+    done
+}
+
+# not_linked FOLDER COMPILER ..: a program compiled with the headers in this folder does not link, by the symbol with the version
+not_linked() {
+    ! "${@:2}" -I "$1" "$root/tests/package/flat.c" -x none -L "$prefix/lib" -lgedrovit -o "$scratch/flat" 2>"$scratch/said" && grep -q 'gedrovit_version_[0-9_]*_999' "$scratch/said"
+}
+
+# A header and an archive of different versions do not meet, whatever the compiler leaves out.
+version_guard() {
+    local small=(-O2 -ffunction-sections -fdata-sections -Wl,--gc-sections)
+    edited "$scratch/other" 's/^(#define GEDROVIT_VERSION_PATCH) .*/\1 999/' || return
+    for compiler in "${CC:-cc} -std=c11 -x c" "${CXX:-c++} -std=c++17 -x c++"; do
+        $compiler "${strict[@]}" "${small[@]}" -I "$prefix/include" "$root/tests/package/flat.c" -x none -L "$prefix/lib" -lgedrovit -o "$scratch/flat" && "$scratch/flat" \
+            && not_linked "$scratch/other" $compiler && not_linked "$scratch/other" $compiler "${small[@]}" && not_linked "$scratch/other" $compiler -O2 -flto || return
+    done
+}
+
+# A source with the types alone needs no archive.
+types_only() {
+    printf '#define GEDROVIT_TYPES_ONLY\n#include <gedrovit.h>\nint main(void) { return gedrovit_reason_text(GEDROVIT_ACCEPTED)[0] == 0; }\n' >"$scratch/types.c"
+    "${c[@]}" -I "$prefix/include" "$scratch/types.c" -o "$scratch/types" && "$scratch/types"
+}
+
+# plugin NAME INCLUDES LIBRARIES LANGUAGE [WORD ..]: a plug-in; nothing is inlined
+plugin() {
+    local compiler=("${CC:-cc}" -std=c11 -x c)
+    [ "$4" = c ] || compiler=("${CXX:-c++}" -std=c++17 -x c++)
+    "${compiler[@]}" "${strict[@]}" -O0 -fPIC -shared -I "$2" "${@:5}" "$root/tests/package/plugin.c" -x none -L "$3" -lgedrovit -o "$scratch/$1.so"
+}
+
+# own_archives LANGUAGE [WORD ..]: two plug-ins in one host call their own archives, whichever is loaded first
+own_archives() {
+    plugin ours "$prefix/include" "$prefix/lib" "$@" && plugin theirs "$scratch/other" "$scratch/other" "$@" \
+        && "$scratch/host" "$scratch/ours.so" 1 "$scratch/theirs.so" 99 && "$scratch/host" "$scratch/theirs.so" 99 "$scratch/ours.so" 1
+}
+
+# Of another version and of the same; by hidden functions or by --exclude-libs alone. With neither they do not.
+plugins() {
+    "${c[@]}" "$root/tests/package/host.c" -ldl -o "$scratch/host" || return
+    for patch in 999 "${version##*.}"; do
+        rm -rf "$scratch/other" && cp -r "$prefix/include" "$scratch/other" && sed -i -E "s/^(#define GEDROVIT_VERSION_PATCH) .*/\\1 $patch/" "$scratch/other/gedrovit.h" \
+            && "${CC:-cc}" -std=c11 "${strict[@]}" -fPIC -I "$scratch/other" -c "$root/tests/package/other_archive.c" -o "$scratch/other/archive.o" \
+            && ar rcs "$scratch/other/libgedrovit.a" "$scratch/other/archive.o" || return
+        for language in c c++; do
+            own_archives "$language" && own_archives "$language" -DGEDROVIT_API= -Wl,--exclude-libs,libgedrovit.a || return
+        done
+    done
+    ! own_archives c -DGEDROVIT_API=
 }
 
 stack() {
@@ -126,30 +262,48 @@ rust_links() {
     rust "${@:2}" cargo build -vv >"$scratch/said" 2>&1 && grep -F "rustc-link-search=native=$1" "$scratch/said" || ! cat "$scratch/said"
 }
 
-# Without an archive the build fails and says how to name one.
+# Without an archive the build fails and says where it looked and how to name one.
 rust_refused() {
-    ! rust GEDROVIT_LIB_DIR="$scratch" cargo build 2>"$scratch/said" && grep -F 'name the folder of libgedrovit.a' "$scratch/said"
+    ! rust GEDROVIT_LIB_DIR="$scratch" cargo build 2>"$scratch/said" && grep -F "not found in $scratch: name the folder of libgedrovit.a" "$scratch/said"
 }
 
-check "header alone, C11" header_alone "${CC:-cc}" -std=c11 -x c
-check "header alone, C++17" header_alone "${CXX:-c++}" -std=c++17 -x c++
+# The archive of another version does not link.
+rust_guard() {
+    mkdir -p "$scratch/rust" && sed -E 's/^(#define GEDROVIT_VERSION_PATCH) .*/\1 999/' "$prefix/include/gedrovit.h" >"$scratch/rust/gedrovit.h" \
+        && "${CC:-cc}" -std=c11 -I "$scratch/rust" -c "$root/tests/package/other_archive.c" -o "$scratch/rust/archive.o" && ar rcs "$scratch/rust/libgedrovit.a" "$scratch/rust/archive.o" \
+        && ! rust GEDROVIT_LIB_DIR="$scratch/rust" cargo test --no-run --test calls 2>"$scratch/said" && grep "gedrovit_version_${version//./_}" "$scratch/said"
+}
+
+check "headers alone, in C11 and C++17" headers_alone
 check "make install" installed_files
 check "make install with DESTDIR, make uninstall" staged_files
+check "make without the kit" no_kit
 check "symbols of the archive" symbols
-check "archive in a shared object" shared_object
-check "empty vectors" empty_vector
-check "stack" stack
 check "one version everywhere" versions
+check "numbers in definitions, headers and documents" python3 "$root/tests/package/numbers.py"
+check "constants of the header" constants
+check "wrong constants are seen" wrong_constants
+check "header and archive of different versions" version_guard
+check "types without an archive" types_only
+check "two plug-ins with archives" plugins
+check "archive in a shared object" shared_object
+check "nets in vectors" vectors
+check "stack" stack
+check "Rust crate: another version's archive" rust_guard
 check "Rust crate: tests" rust GEDROVIT_LIB_DIR="$prefix/lib" cargo test --quiet
 check "Rust crate: archive of the repository" rust_links "$root/package/rust/../../target/staticlib"
 check "Rust crate: no archive" rust_refused
 if have pkg-config; then
     check "Rust crate: archive by pkg-config" rust_links "$prefix/lib" PKG_CONFIG_PATH="$prefix/lib/pkgconfig"
     check "examples by pkg-config" by_pkg_config
+    check "plug-in by pkg-config" plugin_by_pkg_config
+    check "LIBDIR" other_libdir
 fi
 if have cmake; then
     check "examples by CMake" by_cmake
+    check "plug-in by CMake" plugin_by_cmake
     check "versions for CMake" cmake_versions
+    check "processors for CMake" cmake_processors
 fi
 
 prefix=$scratch/moved

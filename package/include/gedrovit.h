@@ -20,8 +20,13 @@
  * Side s of a face runs from corner s to corner s + 1, modulo 4. Two faces that share an edge run
  * along it in opposite directions. An edge of one face is a boundary edge. Marked vertices cut a
  * boundary loop into segments, from one mark to the next; a loop without marks is one closed segment.
- * Each segment is refined as a curve of its own points alone. Two nets share a segment if both have
- * one with the same points in the same order, read in one direction or the other.
+ * Each segment is refined as a curve of its own points alone.
+ *
+ * An open segment is read from one end to the other, both included; with one mark on a loop both
+ * ends are that vertex. A closed segment is read once round from any of its vertices, the first not
+ * repeated. Both may be read the way the sides run or against it. Two nets share a segment if a
+ * reading in one and a reading in the other are the same list of points, and both segments are open
+ * or both closed. The same points as an open segment here and as a closed one there are not shared.
  *
  *
  * The refined net
@@ -33,6 +38,9 @@
  * side i, point of the face, point of side i - 1. Refined coordinates stay within 268,435,456 in
  * absolute value.
  *
+ * A refined net may not be fit to be handed in again: its coordinates may lie beyond 1,048,576, and
+ * it may have more than 8,192 vertices or 4,096 faces. Reasons 6 to 12 below never hold for it.
+ *
  *
  * The tables that you provide
  *
@@ -43,8 +51,8 @@
  *   out_marks       4 G   uint8_t
  *   work           16 G   uint32_t
  *
- * gedrovit_sizes_for works these numbers out. What the four tables hold before the call does not
- * matter. What they hold after it:
+ * which is 132 bytes for each refined face. gedrovit_sizes_for works these numbers out. What the four
+ * tables hold before the call does not matter. What they hold after it:
  *
  *   reason     output tables                                  work
  *   0          from the front, the refined vertices, faces    the first 16 G are 0
@@ -59,7 +67,8 @@
  *
  *   - Every pointer is non-null and aligned for its type, also at length 0. data() of an empty
  *     std::vector may be null (with GNU's library it is), and so may malloc(0): pass the address of
- *     any variable of the element's type instead. It is neither read nor written.
+ *     any variable of the element's type instead. It is neither read nor written. The functions
+ *     over records do this for you.
  *   - Each table has the length that you state, in bytes at most PTRDIFF_MAX.
  *   - No output and no work table overlaps another table of the call.
  *
@@ -73,7 +82,27 @@
  * would.
  *
  *
- * Stack and time
+ * Functions and records
+ *
+ * gedrovit_refine, gedrovit_check and gedrovit_sizes_for are in the archive; each has a function over
+ * records, gedrovit_refine_net and so on, which is inline here. Write against the records: later
+ * versions add fields to them, and parameters to the functions in the archive. C++ programs may
+ * write against gedrovit.hpp, which takes and gives vectors.
+ *
+ *
+ * Versions and plug-ins
+ *
+ * Every source that includes this header refers to a symbol of the archive that has the version in
+ * its name, so that header and archive of different versions do not link. A source that needs only
+ * the types and constants, and is linked without the archive, defines GEDROVIT_TYPES_ONLY before.
+ *
+ * The functions are declared with hidden visibility, so that a shared object with the archive in it
+ * calls its own and never those of another one; the pkg-config and CMake files of the package add
+ * --exclude-libs, so that it exports none of them. To export them, or to call those of another shared
+ * object, define GEDROVIT_API as empty before including this header, and link without that option.
+ *
+ *
+ * Stack, time and traces
  *
  * A call uses less than GEDROVIT_STACK_BYTES of stack. This is measured, not proved; it includes the
  * dynamic linker's work where the call is the program's first to use memset or another memory
@@ -82,6 +111,10 @@
  * The net is checked first, in time linear in its tables where few faces meet at each vertex; where
  * d faces meet, finding the neighbours there takes at most d * d steps. After that the time is
  * linear in G, for a net that is refused as well: its work table is cleared.
+ *
+ * The archive has no unwind tables, no frame pointers and no debug information. A trace that a crash
+ * handler, debugger or profiler takes while a call runs ends at the archive's innermost function or
+ * goes on with wrong callers; yours are not in it.
  */
 #ifndef GEDROVIT_H
 #define GEDROVIT_H
@@ -93,7 +126,19 @@
 #include <stddef.h>
 #include <stdint.h>
 
-#define GEDROVIT_VERSION "0.1.0"
+/* The version of this header. */
+#define GEDROVIT_VERSION "0.1.1"
+#define GEDROVIT_VERSION_MAJOR 0
+#define GEDROVIT_VERSION_MINOR 1
+#define GEDROVIT_VERSION_PATCH 1
+
+/* The same as a number, to be compared with gedrovit_version(), and at the end of a name. */
+#define GEDROVIT_VERSION_NUMBER \
+    (GEDROVIT_VERSION_MAJOR * 1000000u + GEDROVIT_VERSION_MINOR * 1000u + GEDROVIT_VERSION_PATCH)
+#define GEDROVIT_JOIN_NOW(name, major, minor, patch) name##_##major##_##minor##_##patch
+#define GEDROVIT_JOIN(name, major, minor, patch) GEDROVIT_JOIN_NOW(name, major, minor, patch)
+#define GEDROVIT_VERSIONED(name) \
+    GEDROVIT_JOIN(name, GEDROVIT_VERSION_MAJOR, GEDROVIT_VERSION_MINOR, GEDROVIT_VERSION_PATCH)
 
 /* Limits of a call. */
 #define GEDROVIT_MAX_ROUNDS 6
@@ -108,11 +153,17 @@
 #define GEDROVIT_MAX_REFINED_COORDINATE 268435456
 #define GEDROVIT_STACK_BYTES 8192
 
+#ifndef GEDROVIT_API
+#define GEDROVIT_API __attribute__((visibility("hidden")))
+#endif
+
 #ifdef __cplusplus
 #define GEDROVIT_NOEXCEPT noexcept
+#define GEDROVIT_INLINE __attribute__((visibility("hidden"))) inline
 extern "C" {
 #else
 #define GEDROVIT_NOEXCEPT
+#define GEDROVIT_INLINE static inline
 #endif
 
 /*
@@ -154,6 +205,27 @@ enum gedrovit_reason {
     GEDROVIT_MARKED_INTERIOR_VERTEX = 12
 };
 
+/* What a reason says, in English; the place is not in it. */
+GEDROVIT_INLINE const char *gedrovit_reason_text(uint32_t reason) GEDROVIT_NOEXCEPT
+{
+    switch (reason) {
+    case GEDROVIT_ACCEPTED: return "accepted";
+    case GEDROVIT_TOO_MANY_ROUNDS: return "more than 6 rounds";
+    case GEDROVIT_INVALID_LENGTHS: return "the tables of the net do not fit each other";
+    case GEDROVIT_NET_TOO_LARGE: return "the net is too large";
+    case GEDROVIT_TABLE_TOO_SHORT: return "an output or the work table is too short";
+    case GEDROVIT_COORDINATE_OUT_OF_RANGE: return "a coordinate is outside -1,048,576 to 1,048,576";
+    case GEDROVIT_INVALID_MARK: return "the mark is neither 0 nor 1";
+    case GEDROVIT_INVALID_CORNER: return "a corner is no vertex, or two corners are equal";
+    case GEDROVIT_ISOLATED_VERTEX: return "the vertex is in no face";
+    case GEDROVIT_REPEATED_HALF_EDGE: return "a side runs as a side of an earlier face does";
+    case GEDROVIT_NON_MANIFOLD_VERTEX: return "the faces at the vertex form neither one full ring nor one open fan";
+    case GEDROVIT_VALENCE_OUT_OF_RANGE: return "the ring is not of 3 to 8 faces, or the fan is of more than 6";
+    case GEDROVIT_MARKED_INTERIOR_VERTEX: return "the vertex is marked and not on the boundary";
+    default: return "a reason that this version does not know";
+    }
+}
+
 /* What gedrovit_refine answers. */
 typedef struct {
     uint32_t reason;   /* 0: refined; otherwise an enum gedrovit_reason */
@@ -162,32 +234,11 @@ typedef struct {
     uint64_t faces;    /* number of refined faces, G; 0 on a refusal */
 } gedrovit_report;
 
-/* Refines a net into the output tables, or says why not. */
-gedrovit_report gedrovit_refine(uint32_t rounds,
-                                const int32_t *vertices, size_t vertices_length,
-                                const uint32_t *faces, size_t faces_length,
-                                const uint8_t *marks, size_t marks_length,
-                                int32_t *out_vertices, size_t out_vertices_length,
-                                uint32_t *out_faces, size_t out_faces_length,
-                                uint8_t *out_marks, size_t out_marks_length,
-                                uint32_t *work, size_t work_length) GEDROVIT_NOEXCEPT;
-
 /* What gedrovit_check answers. */
 typedef struct {
     uint32_t reason; /* 0: gedrovit_refine would refine; otherwise an enum gedrovit_reason */
     uint64_t place;  /* 0 if reason is 0 */
 } gedrovit_finding;
-
-/*
- * Checks without refining: the reason and place that gedrovit_refine would report for output tables
- * of these lengths. The work table is needed, and afterwards holds what it would after that call.
- */
-gedrovit_finding gedrovit_check(uint32_t rounds,
-                                const int32_t *vertices, size_t vertices_length,
-                                const uint32_t *faces, size_t faces_length,
-                                const uint8_t *marks, size_t marks_length,
-                                size_t out_vertices_length, size_t out_faces_length, size_t out_marks_length,
-                                uint32_t *work, size_t work_length) GEDROVIT_NOEXCEPT;
 
 /* What gedrovit_sizes_for answers: the least lengths, in elements. All are 0 unless reason is 0. */
 typedef struct {
@@ -198,13 +249,152 @@ typedef struct {
     uint64_t work;
 } gedrovit_sizes;
 
+/*
+ * A net, only read. Start it by gedrovit_net_of, never by {0} or a list of its fields: a field that a
+ * later version adds then has the value that keeps the old behaviour, and that need not be 0.
+ */
+typedef struct {
+    const int32_t *vertices;
+    size_t vertices_length;
+    const uint32_t *faces;
+    size_t faces_length;
+    const uint8_t *marks;
+    size_t marks_length;
+} gedrovit_net;
+
+GEDROVIT_INLINE gedrovit_net gedrovit_net_of(const int32_t *vertices, size_t vertices_length,
+                                             const uint32_t *faces, size_t faces_length,
+                                             const uint8_t *marks, size_t marks_length) GEDROVIT_NOEXCEPT
+{
+    gedrovit_net net;
+    net.vertices = vertices;
+    net.vertices_length = vertices_length;
+    net.faces = faces;
+    net.faces_length = faces_length;
+    net.marks = marks;
+    net.marks_length = marks_length;
+    return net;
+}
+
+/* The tables that a call fills, with its workspace. Start them by gedrovit_tables_of, as a net. */
+typedef struct {
+    int32_t *vertices;
+    size_t vertices_length;
+    uint32_t *faces;
+    size_t faces_length;
+    uint8_t *marks;
+    size_t marks_length;
+    uint32_t *work;
+    size_t work_length;
+} gedrovit_tables;
+
+GEDROVIT_INLINE gedrovit_tables gedrovit_tables_of(int32_t *vertices, size_t vertices_length,
+                                                   uint32_t *faces, size_t faces_length,
+                                                   uint8_t *marks, size_t marks_length,
+                                                   uint32_t *work, size_t work_length) GEDROVIT_NOEXCEPT
+{
+    gedrovit_tables tables;
+    tables.vertices = vertices;
+    tables.vertices_length = vertices_length;
+    tables.faces = faces;
+    tables.faces_length = faces_length;
+    tables.marks = marks;
+    tables.marks_length = marks_length;
+    tables.work = work;
+    tables.work_length = work_length;
+    return tables;
+}
+
+#ifndef GEDROVIT_TYPES_ONLY
+
+/* The version of the archive, as GEDROVIT_VERSION_NUMBER. */
+GEDROVIT_API uint32_t gedrovit_version(void) GEDROVIT_NOEXCEPT;
+
+/* The same under a name that has the version in it. A reference to it is kept in each object file. */
+GEDROVIT_API uint32_t GEDROVIT_VERSIONED(gedrovit_version)(void) GEDROVIT_NOEXCEPT;
+
+#if defined(__has_attribute)
+#if __has_attribute(retain)
+#define GEDROVIT_KEPT __attribute__((used, retain))
+#endif
+#endif
+#ifndef GEDROVIT_KEPT
+#define GEDROVIT_KEPT __attribute__((used))
+#endif
+GEDROVIT_KEPT static uint32_t (*const gedrovit_same_version)(void) = GEDROVIT_VERSIONED(gedrovit_version);
+#undef GEDROVIT_KEPT
+
+/* Refines a net into the output tables, or says why not. */
+GEDROVIT_API gedrovit_report gedrovit_refine(uint32_t rounds,
+                                             const int32_t *vertices, size_t vertices_length,
+                                             const uint32_t *faces, size_t faces_length,
+                                             const uint8_t *marks, size_t marks_length,
+                                             int32_t *out_vertices, size_t out_vertices_length,
+                                             uint32_t *out_faces, size_t out_faces_length,
+                                             uint8_t *out_marks, size_t out_marks_length,
+                                             uint32_t *work, size_t work_length) GEDROVIT_NOEXCEPT;
+
+/*
+ * Checks without refining: the reason and place that gedrovit_refine would report for output tables
+ * of these lengths. The work table is needed, and afterwards holds what it would after that call.
+ */
+GEDROVIT_API gedrovit_finding gedrovit_check(uint32_t rounds,
+                                             const int32_t *vertices, size_t vertices_length,
+                                             const uint32_t *faces, size_t faces_length,
+                                             const uint8_t *marks, size_t marks_length,
+                                             size_t out_vertices_length, size_t out_faces_length,
+                                             size_t out_marks_length,
+                                             uint32_t *work, size_t work_length) GEDROVIT_NOEXCEPT;
+
 /* The lengths of tables that serve a net of these lengths. */
-gedrovit_sizes gedrovit_sizes_for(uint32_t rounds, size_t vertices_length, size_t faces_length,
-                                  size_t marks_length) GEDROVIT_NOEXCEPT;
+GEDROVIT_API gedrovit_sizes gedrovit_sizes_for(uint32_t rounds, size_t vertices_length, size_t faces_length,
+                                               size_t marks_length) GEDROVIT_NOEXCEPT;
+
+/*
+ * The same over records. A pointer may be null where its length is 0; the other duties stay.
+ * gedrovit_check_net looks at the work table and at the lengths of the others alone.
+ */
+GEDROVIT_INLINE gedrovit_report gedrovit_refine_net(uint32_t rounds, const gedrovit_net *net,
+                                                    const gedrovit_tables *tables) GEDROVIT_NOEXCEPT
+{
+    int32_t coordinate = 0;
+    uint32_t number = 0;
+    uint8_t mark = 0;
+    return gedrovit_refine(rounds,
+                           net->vertices_length == 0 ? &coordinate : net->vertices, net->vertices_length,
+                           net->faces_length == 0 ? &number : net->faces, net->faces_length,
+                           net->marks_length == 0 ? &mark : net->marks, net->marks_length,
+                           tables->vertices_length == 0 ? &coordinate : tables->vertices, tables->vertices_length,
+                           tables->faces_length == 0 ? &number : tables->faces, tables->faces_length,
+                           tables->marks_length == 0 ? &mark : tables->marks, tables->marks_length,
+                           tables->work_length == 0 ? &number : tables->work, tables->work_length);
+}
+
+GEDROVIT_INLINE gedrovit_finding gedrovit_check_net(uint32_t rounds, const gedrovit_net *net,
+                                                    const gedrovit_tables *tables) GEDROVIT_NOEXCEPT
+{
+    int32_t coordinate = 0;
+    uint32_t number = 0;
+    uint8_t mark = 0;
+    return gedrovit_check(rounds,
+                          net->vertices_length == 0 ? &coordinate : net->vertices, net->vertices_length,
+                          net->faces_length == 0 ? &number : net->faces, net->faces_length,
+                          net->marks_length == 0 ? &mark : net->marks, net->marks_length,
+                          tables->vertices_length, tables->faces_length, tables->marks_length,
+                          tables->work_length == 0 ? &number : tables->work, tables->work_length);
+}
+
+GEDROVIT_INLINE gedrovit_sizes gedrovit_sizes_for_net(uint32_t rounds, const gedrovit_net *net) GEDROVIT_NOEXCEPT
+{
+    return gedrovit_sizes_for(rounds, net->vertices_length, net->faces_length, net->marks_length);
+}
+
+#endif
 
 #ifdef __cplusplus
 }
 #endif
 #undef GEDROVIT_NOEXCEPT
+#undef GEDROVIT_INLINE
 
 #endif

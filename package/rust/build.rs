@@ -7,8 +7,9 @@ use std::process::{exit, Command};
 /// The archive's name as installed, and in the repository that builds it.
 const NAMES: [&str; 2] = ["gedrovit", "capi"];
 
-const MISSING: &str = "the archive of gedrovit was not found: name the folder of libgedrovit.a in \
-    GEDROVIT_LIB_DIR or that of gedrovit.pc in PKG_CONFIG_PATH, or build it in the repository by `make`";
+const MISSING: &str =
+    "name the folder of libgedrovit.a in GEDROVIT_LIB_DIR or that of gedrovit.pc in \
+    PKG_CONFIG_PATH, or build it in the repository by `make`";
 
 fn main() {
     for name in ["GEDROVIT_LIB_DIR", "PKG_CONFIG_PATH"] {
@@ -18,14 +19,19 @@ fn main() {
         target("ARCH") == "x86_64" && target("OS") == "linux" && target("POINTER_WIDTH") == "64",
         "gedrovit is built for x86-64 Linux"
     );
-    let Some((folder, name)) = find() else {
-        eprintln!("{MISSING}");
+    let folders = folders();
+    let Some((folder, name)) = find(&folders) else {
+        let tried: Vec<_> = folders
+            .iter()
+            .map(|folder| folder.display().to_string())
+            .collect();
+        eprintln!(
+            "the archive of gedrovit was not found in {}: {MISSING}",
+            tried.join(" or ")
+        );
         exit(1);
     };
-    println!(
-        "cargo:rerun-if-changed={}",
-        archive(&folder, name).display()
-    );
+    println!("cargo:rerun-if-changed={}", archive(folder, name).display());
     println!("cargo:rustc-link-search=native={}", folder.display());
     println!("cargo:rustc-link-lib=static={name}");
 }
@@ -38,17 +44,21 @@ fn archive(folder: &Path, name: &str) -> PathBuf {
     folder.join(format!("lib{name}.a"))
 }
 
-/// The folder and the name of the archive. GEDROVIT_LIB_DIR, if set, is the only folder tried.
-fn find() -> Option<(PathBuf, &'static str)> {
-    let folders = match env::var_os("GEDROVIT_LIB_DIR") {
+/// The folders to try. GEDROVIT_LIB_DIR, if set, is the only one.
+fn folders() -> Vec<PathBuf> {
+    match env::var_os("GEDROVIT_LIB_DIR") {
         Some(folder) => vec![PathBuf::from(folder)],
         None => installed().into_iter().chain([built()]).collect(),
-    };
-    folders.into_iter().find_map(|folder| {
+    }
+}
+
+/// The folder and the name of the archive.
+fn find(folders: &[PathBuf]) -> Option<(&Path, &'static str)> {
+    folders.iter().find_map(|folder| {
         let name = NAMES
             .into_iter()
-            .find(|name| archive(&folder, name).is_file())?;
-        Some((folder, name))
+            .find(|name| archive(folder, name).is_file())?;
+        Some((folder.as_path(), name))
     })
 }
 
@@ -60,7 +70,10 @@ fn installed() -> Option<PathBuf> {
         .output()
         .ok()?;
     let folder = String::from_utf8(answer.stdout).ok()?;
-    (answer.status.success() && !folder.trim().is_empty()).then(|| folder.trim().into())
+    if !answer.status.success() {
+        return None;
+    }
+    Path::new(folder.trim()).canonicalize().ok()
 }
 
 /// The folder that the repository builds the archive in.

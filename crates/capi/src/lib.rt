@@ -1,4 +1,5 @@
 // The functions for C.
+ghost use Rattle.capi.specs.Version.{version};
 ghost use mathlib.Core.Path.{_≡_};
 ghost use Prim.Native.Nat.{_*_, _/_, _^_, _≤_};
 ghost use lib.ListN.{length};
@@ -181,4 +182,20 @@ pub extern "C" fn gedrovit_sizes_for(
         out_marks: corners as u64,
         work: work as u64,
     }
+}
+
+// The version of the archive.
+#[no_mangle]
+pub extern "C" fn gedrovit_version() -> u32
+    ensures { λ r. ⌜ r ≡ version ⌝ }
+{
+    1001
+}
+
+// The same under a name that has the version in it: a program that was compiled with another version's header does not link.
+#[no_mangle]
+pub extern "C" fn gedrovit_version_0_1_1() -> u32
+    ensures { λ r. ⌜ r ≡ version ⌝ }
+{
+    gedrovit_version()
 }

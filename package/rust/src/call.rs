@@ -1,7 +1,23 @@
 //! The functions of the archive over slices.
 
-use crate::foreign::{gedrovit_check, gedrovit_refine, gedrovit_sizes_for};
+use crate::foreign::{
+    gedrovit_check, gedrovit_refine, gedrovit_sizes_for, gedrovit_version, gedrovit_version_0_1_1,
+};
 use crate::{NetView, Refusal, Tables};
+
+/// The version of the archive: 0.1.1 is 1001.
+#[must_use]
+pub fn version() -> u32 {
+    // SAFETY: the function takes nothing.
+    unsafe { gedrovit_version() }
+}
+
+/// Every function here calls this one: the name has the version in it, so that an archive of
+/// another version does not link.
+fn same_version() {
+    // SAFETY: the function takes nothing.
+    unsafe { gedrovit_version_0_1_1() };
+}
 
 /// How many vertices and faces a refined net has.
 #[derive(Clone, Copy, Debug, PartialEq, Eq)]
@@ -31,6 +47,7 @@ pub struct Lengths {
 ///
 /// Reasons 1 to 3: no call with these lengths is accepted.
 pub fn lengths(rounds: u32, net: NetView<'_>) -> Result<Lengths, Refusal> {
+    same_version();
     // SAFETY: the function takes numbers only.
     let sizes =
         unsafe { gedrovit_sizes_for(rounds, net.vertices.len(), net.faces.len(), net.marks.len()) };
@@ -52,6 +69,7 @@ pub fn lengths(rounds: u32, net: NetView<'_>) -> Result<Lengths, Refusal> {
 /// Every reason. The vertices, faces and marks stay as they are, and on reasons 1 to 4 the work
 /// numbers too.
 pub fn refine(rounds: u32, net: NetView<'_>, tables: Tables<'_>) -> Result<Counts, Refusal> {
+    same_version();
     // SAFETY: slices are non-null, aligned and of at most isize::MAX bytes; mutable ones overlap no
     // other.
     let report = unsafe {
@@ -92,6 +110,7 @@ pub fn check(
     lengths: Lengths,
     work: &mut [u32],
 ) -> Result<(), Refusal> {
+    same_version();
     // SAFETY: as in `refine`.
     let finding = unsafe {
         gedrovit_check(

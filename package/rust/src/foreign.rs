@@ -1,6 +1,7 @@
-//! The functions of `gedrovit.h`.
+//! The functions in the archive, as `gedrovit.h` declares them.
 
 #[repr(C)]
+#[derive(Clone, Copy, Debug, PartialEq, Eq)]
 pub struct Report {
     pub reason: u32,
     pub place: u64,
@@ -9,12 +10,14 @@ pub struct Report {
 }
 
 #[repr(C)]
+#[derive(Clone, Copy, Debug, PartialEq, Eq)]
 pub struct Finding {
     pub reason: u32,
     pub place: u64,
 }
 
 #[repr(C)]
+#[derive(Clone, Copy, Debug, PartialEq, Eq)]
 pub struct Sizes {
     pub reason: u32,
     pub out_vertices: u64,
@@ -23,7 +26,11 @@ pub struct Sizes {
     pub work: u64,
 }
 
-extern "C" {
+unsafe extern "C" {
+    pub fn gedrovit_version() -> u32;
+
+    pub fn gedrovit_version_0_1_1() -> u32;
+
     pub fn gedrovit_refine(
         rounds: u32,
         vertices: *const i32,

@@ -6,11 +6,11 @@
 //! whole contract; what it says of tables, numbering and limits holds here too.
 //!
 //! ```
-//! let square = gedrovit::Net {
-//!     vertices: vec![0, 0, 0, 16, 0, 0, 16, 16, 0, 0, 16, 0],
-//!     faces: vec![0, 1, 2, 3],
-//!     marks: vec![1, 1, 1, 1],
-//! };
+//! let square = gedrovit::Net::new(
+//!     vec![0, 0, 0, 16, 0, 0, 16, 16, 0, 0, 16, 0],
+//!     vec![0, 1, 2, 3],
+//!     vec![1, 1, 1, 1],
+//! );
 //! let refined = square.refined(1)?;
 //! assert_eq!(refined.faces.len() / 4, 4);
 //! assert_eq!(refined.vertices[24..], [8, 8, 0]);
@@ -23,9 +23,11 @@
 
 mod call;
 mod foreign;
+mod limits;
 mod net;
 mod refusal;
 
-pub use call::{check, lengths, refine, Counts, Lengths};
+pub use call::{check, lengths, refine, version, Counts, Lengths};
+pub use limits::*;
 pub use net::{Net, NetView, Tables};
 pub use refusal::{Reason, Refusal};

@@ -2,8 +2,9 @@
 
 use crate::{lengths, refine, Refusal};
 
-/// A net in tables of its own.
+/// A net in tables of its own, made by [`Net::new`]; later versions add fields.
 #[derive(Clone, Debug, Default, PartialEq, Eq)]
+#[non_exhaustive]
 pub struct Net {
     /// Three coordinates for each vertex.
     pub vertices: Vec<i32>,
@@ -13,8 +14,9 @@ pub struct Net {
     pub marks: Vec<u8>,
 }
 
-/// A net in borrowed tables. Tables of arrays, as `[[i32; 3]]`, give theirs by `as_flattened`.
+/// A net in borrowed tables, made by [`NetView::new`]; later versions add fields. Tables of arrays, as `[[i32; 3]]`, give theirs by `as_flattened`.
 #[derive(Clone, Copy, Debug)]
+#[non_exhaustive]
 pub struct NetView<'a> {
     /// Three coordinates for each vertex.
     pub vertices: &'a [i32],
@@ -24,8 +26,10 @@ pub struct NetView<'a> {
     pub marks: &'a [u8],
 }
 
-/// The tables that [`refine`] fills, with its workspace. What they hold before does not matter.
+/// The tables that [`refine`] fills, with its workspace, made by [`Tables::new`]; later versions add
+/// fields. What they hold before does not matter.
 #[derive(Debug)]
+#[non_exhaustive]
 pub struct Tables<'a> {
     /// The refined vertices.
     pub vertices: &'a mut [i32],
@@ -38,14 +42,20 @@ pub struct Tables<'a> {
 }
 
 impl Net {
+    /// A net of these tables.
+    #[must_use]
+    pub fn new(vertices: Vec<i32>, faces: Vec<u32>, marks: Vec<u8>) -> Self {
+        Self {
+            vertices,
+            faces,
+            marks,
+        }
+    }
+
     /// The net as borrowed tables.
     #[must_use]
     pub fn view(&self) -> NetView<'_> {
-        NetView {
-            vertices: &self.vertices,
-            faces: &self.faces,
-            marks: &self.marks,
-        }
+        NetView::new(&self.vertices, &self.faces, &self.marks)
     }
 
     /// The net after this many refinement steps, in tables allocated for it.
@@ -58,7 +68,17 @@ impl Net {
     }
 }
 
-impl NetView<'_> {
+impl<'a> NetView<'a> {
+    /// A net of these tables.
+    #[must_use]
+    pub fn new(vertices: &'a [i32], faces: &'a [u32], marks: &'a [u8]) -> Self {
+        Self {
+            vertices,
+            faces,
+            marks,
+        }
+    }
+
     /// As [`Net::refined`].
     ///
     /// # Errors
@@ -66,22 +86,32 @@ impl NetView<'_> {
     /// Every reason but 4.
     pub fn refined(self, rounds: u32) -> Result<Net, Refusal> {
         let n = lengths(rounds, self)?;
-        let mut net = Net {
-            vertices: vec![0; n.vertices],
-            faces: vec![0; n.faces],
-            marks: vec![0; n.marks],
-        };
-        let tables = Tables {
-            vertices: &mut net.vertices,
-            faces: &mut net.faces,
-            marks: &mut net.marks,
-            work: &mut vec![0; n.work],
-        };
+        let mut net = Net::new(vec![0; n.vertices], vec![0; n.faces], vec![0; n.marks]);
+        let mut work = vec![0; n.work];
+        let tables = Tables::new(&mut net.vertices, &mut net.faces, &mut net.marks, &mut work);
         let counts = refine(rounds, self, tables)?;
         cut(&mut net.vertices, 3 * counts.vertices);
         cut(&mut net.faces, 4 * counts.faces);
         cut(&mut net.marks, counts.vertices);
         Ok(net)
+    }
+}
+
+impl<'a> Tables<'a> {
+    /// These tables.
+    #[must_use]
+    pub fn new(
+        vertices: &'a mut [i32],
+        faces: &'a mut [u32],
+        marks: &'a mut [u8],
+        work: &'a mut [u32],
+    ) -> Self {
+        Self {
+            vertices,
+            faces,
+            marks,
+            work,
+        }
     }
 }
 

@@ -3,41 +3,44 @@
 use std::error::Error;
 use std::fmt;
 
-/// The reason of a refusal; its value is the reason's number.
+/// The reason of a refusal. Later versions add reasons.
 #[derive(Clone, Copy, Debug, PartialEq, Eq, PartialOrd, Ord, Hash)]
-#[repr(u32)]
+#[non_exhaustive]
 pub enum Reason {
     /// Rounds above 6.
-    TooManyRounds = 1,
+    TooManyRounds,
     /// The vertex table is no multiple of 3 long, the face table none of 4, or the marks are not one
     /// for each vertex.
-    InvalidLengths = 2,
+    InvalidLengths,
     /// More than 8,192 vertices, 4,096 faces or 262,144 refined faces.
-    NetTooLarge = 3,
+    NetTooLarge,
     /// An output or the work table is shorter than [`lengths`](crate::lengths) says.
-    TableTooShort = 4,
+    TableTooShort,
     /// A coordinate outside -1,048,576 to 1,048,576. The place is the vertex.
-    CoordinateOutOfRange = 5,
+    CoordinateOutOfRange,
     /// A mark above 1. The place is the vertex.
-    InvalidMark = 6,
+    InvalidMark,
     /// A corner that is no vertex, or two equal corners. The place is the face.
-    InvalidCorner = 7,
+    InvalidCorner,
     /// A vertex in no face. The place is the vertex.
-    IsolatedVertex = 8,
+    IsolatedVertex,
     /// A side that runs from one vertex to another as a side of an earlier face does. The place is
     /// the later face.
-    RepeatedHalfEdge = 9,
+    RepeatedHalfEdge,
     /// The faces at a vertex form neither one full ring nor one open fan. The place is the vertex.
-    NonManifoldVertex = 10,
+    NonManifoldVertex,
     /// A ring of fewer than 3 or more than 8 faces, or a fan of more than 6. The place is the
     /// vertex.
-    ValenceOutOfRange = 11,
+    ValenceOutOfRange,
     /// Mark 1 on a vertex with a full ring. The place is the vertex.
-    MarkedInteriorVertex = 12,
+    MarkedInteriorVertex,
+    /// A number that this version does not know.
+    Unknown(u32),
 }
 
 use Reason::*;
 
+/// The known reasons; their numbers count from 1.
 const ALL: [Reason; 12] = [
     TooManyRounds,
     InvalidLengths,
@@ -54,13 +57,27 @@ const ALL: [Reason; 12] = [
 ];
 
 impl Reason {
-    /// The reason's number, from 1 to 12.
+    /// The reason's number, as in `gedrovit.h`.
     #[must_use]
     pub fn number(self) -> u32 {
-        self as u32
+        match self {
+            Unknown(number) => number,
+            _ => (1..)
+                .zip(ALL)
+                .find_map(|(number, reason)| (reason == self).then_some(number))
+                .unwrap_or(0),
+        }
     }
 
-    fn text(self) -> &'static str {
+    /// The reason of a number that is not 0.
+    fn of(number: u32) -> Reason {
+        let index = (number as usize).wrapping_sub(1);
+        ALL.get(index).copied().unwrap_or(Unknown(number))
+    }
+
+    /// What the reason says, as `gedrovit_reason_text` does.
+    #[must_use]
+    pub fn text(self) -> &'static str {
         match self {
             TooManyRounds => "more than 6 rounds",
             InvalidLengths => "the tables of the net do not fit each other",
@@ -69,18 +86,21 @@ impl Reason {
             CoordinateOutOfRange => "a coordinate is outside -1,048,576 to 1,048,576",
             InvalidMark => "the mark is neither 0 nor 1",
             InvalidCorner => "a corner is no vertex, or two corners are equal",
-            IsolatedVertex => "it is in no face",
+            IsolatedVertex => "the vertex is in no face",
             RepeatedHalfEdge => "a side runs as a side of an earlier face does",
-            NonManifoldVertex => "its faces form neither one full ring nor one open fan",
-            ValenceOutOfRange => "its ring is not of 3 to 8 faces, or its fan is of more than 6",
-            MarkedInteriorVertex => "it is marked and not on the boundary",
+            NonManifoldVertex => {
+                "the faces at the vertex form neither one full ring nor one open fan"
+            }
+            ValenceOutOfRange => "the ring is not of 3 to 8 faces, or the fan is of more than 6",
+            MarkedInteriorVertex => "the vertex is marked and not on the boundary",
+            Unknown(_) => "a reason that this version does not know",
         }
     }
 
     /// What the place of a refusal is the number of, if it is one.
     fn subject(self) -> Option<&'static str> {
         match self {
-            TooManyRounds | InvalidLengths | NetTooLarge | TableTooShort => None,
+            TooManyRounds | InvalidLengths | NetTooLarge | TableTooShort | Unknown(_) => None,
             InvalidCorner | RepeatedHalfEdge => Some("face"),
             _ => Some("vertex"),
         }
@@ -97,13 +117,13 @@ pub struct Refusal {
 }
 
 impl Refusal {
-    /// `Ok` for the number 0. The functions of the archive answer no number above 12.
+    /// `Ok` for the number 0.
     pub(crate) fn accept(number: u32, place: u64) -> Result<(), Refusal> {
-        let Some(index) = (number as usize).checked_sub(1) else {
+        if number == 0 {
             return Ok(());
-        };
+        }
         Err(Refusal {
-            reason: ALL[index],
+            reason: Reason::of(number),
             place: place as usize,
         })
     }
@@ -126,9 +146,20 @@ mod tests {
     use super::*;
 
     #[test]
-    fn numbers_are_in_order() {
-        for (index, reason) in ALL.into_iter().enumerate() {
-            assert_eq!(reason.number() as usize, index + 1);
+    fn numbers_go_there_and_back() {
+        for number in 1..100 {
+            assert_eq!(Reason::of(number).number(), number);
+        }
+    }
+
+    #[test]
+    fn an_unknown_number_is_an_error() {
+        for number in [13, u32::MAX] {
+            let refusal = Refusal::accept(number, 5).unwrap_err();
+            assert_eq!(refusal.reason, Unknown(number));
+            assert!(refusal
+                .to_string()
+                .starts_with(&format!("refusal {number}: ")));
         }
     }
 

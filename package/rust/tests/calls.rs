@@ -25,28 +25,28 @@ impl Owned {
     }
 
     fn lend(&mut self) -> Tables<'_> {
-        Tables {
-            vertices: &mut self.vertices,
-            faces: &mut self.faces,
-            marks: &mut self.marks,
-            work: &mut self.work,
-        }
+        Tables::new(
+            &mut self.vertices,
+            &mut self.faces,
+            &mut self.marks,
+            &mut self.work,
+        )
     }
 }
 
 /// The square of side 16 with four marked corners.
 fn square() -> Net {
-    Net {
-        vertices: vec![0, 0, 0, 16, 0, 0, 16, 16, 0, 0, 16, 0],
-        faces: vec![0, 1, 2, 3],
-        marks: vec![1, 1, 1, 1],
-    }
+    Net::new(
+        vec![0, 0, 0, 16, 0, 0, 16, 16, 0, 0, 16, 0],
+        vec![0, 1, 2, 3],
+        vec![1, 1, 1, 1],
+    )
 }
 
 /// The square after one step.
 fn refined_square() -> Net {
-    Net {
-        vertices: [
+    Net::new(
+        [
             [0, 0, 0],
             [16, 0, 0],
             [16, 16, 0],
@@ -58,9 +58,9 @@ fn refined_square() -> Net {
             [8, 8, 0],
         ]
         .concat(),
-        faces: [[0, 4, 8, 7], [1, 5, 8, 4], [2, 6, 8, 5], [3, 7, 8, 6]].concat(),
-        marks: vec![1, 1, 1, 1, 0, 0, 0, 0, 0],
-    }
+        [[0, 4, 8, 7], [1, 5, 8, 4], [2, 6, 8, 5], [3, 7, 8, 6]].concat(),
+        vec![1, 1, 1, 1, 0, 0, 0, 0, 0],
+    )
 }
 
 fn refusal(reason: Reason, place: usize) -> Refusal {
@@ -218,22 +218,14 @@ fn each_table_of_the_net_is_checked() {
         ),
     ];
     for (rounds, vertices, faces, marks, reason, place) in cases {
-        let net = NetView {
-            vertices,
-            faces,
-            marks,
-        };
+        let net = NetView::new(vertices, faces, marks);
         assert_eq!(net.refined(rounds), Err(refusal(reason, place)));
     }
 }
 
 #[test]
 fn vertices_are_checked() {
-    let touching = NetView {
-        vertices: &[0; 21],
-        faces: &[0, 1, 2, 3, 3, 4, 5, 6],
-        marks: &[0; 7],
-    };
+    let touching = NetView::new(&[0; 21], &[0, 1, 2, 3, 3, 4, 5, 6], &[0; 7]);
     assert_eq!(
         touching.refined(1),
         Err(refusal(Reason::NonManifoldVertex, 3))

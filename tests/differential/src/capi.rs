@@ -10,58 +10,13 @@ use nets::case::Case;
 
 use crate::lent::{Lent, Side};
 
-/// What the check reports; reason 0 stands for no refusal.
-#[repr(C)]
-#[derive(Clone, Copy, Debug, PartialEq, Eq)]
-pub struct Finding {
-    pub reason: u32,
-    pub place: u64,
-}
+pub use foreign::{Finding, Report, Sizes};
+use foreign::{gedrovit_check, gedrovit_refine, gedrovit_sizes_for};
 
-/// What the refining call reports; both counts are 0 on a refusal.
-#[repr(C)]
-#[derive(Clone, Copy, Debug, PartialEq, Eq)]
-pub struct Report {
-    pub reason: u32,
-    pub place: u64,
-    pub vertices: u64,
-    pub faces: u64,
-}
-
-unsafe extern "C" {
-    fn gedrovit_check(
-        rounds: u32,
-        vertices: *const i32,
-        vertices_length: usize,
-        faces: *const u32,
-        faces_length: usize,
-        marks: *const u8,
-        marks_length: usize,
-        out_vertices: usize,
-        out_faces: usize,
-        out_marks: usize,
-        work: *mut u32,
-        work_length: usize,
-    ) -> Finding;
-
-    fn gedrovit_refine(
-        rounds: u32,
-        vertices: *const i32,
-        vertices_length: usize,
-        faces: *const u32,
-        faces_length: usize,
-        marks: *const u8,
-        marks_length: usize,
-        out_vertices: *mut i32,
-        out_vertices_length: usize,
-        out_faces: *mut u32,
-        out_faces_length: usize,
-        out_marks: *mut u8,
-        out_marks_length: usize,
-        work: *mut u32,
-        work_length: usize,
-    ) -> Report;
-}
+/// The declarations stand once, with the Rust crate of the package.
+#[allow(dead_code)]
+#[path = "../../../package/rust/src/foreign.rs"]
+mod foreign;
 
 /// For each table of a call the zone that it touches, one bit each.
 #[derive(Clone, Copy, Debug)]
@@ -203,4 +158,10 @@ pub fn refine(inputs: &Inputs, outputs: &mut Outputs) -> Report {
             outputs.work.length(),
         )
     }
+}
+
+/// The lengths to provide for a net with tables of these lengths.
+pub fn sizes_for(rounds: u32, vertices: usize, faces: usize, marks: usize) -> Sizes {
+    // SAFETY: the function takes numbers only.
+    unsafe { gedrovit_sizes_for(rounds, vertices, faces, marks) }
 }

@@ -4,8 +4,9 @@ use nets::case::Case;
 use nets::rng::Rng;
 use reference::call::{Outcome, Tables, refine_into};
 use reference::net::Net;
+use reference::refusal::{Capacity, check_call, refined_faces};
 
-use crate::capi::{Finding, Inputs, Outputs, Report, Sides, check, refine};
+use crate::capi::{Finding, Inputs, Outputs, Report, Sides, Sizes, check, refine, sizes_for};
 
 /// A call with what the reference says of it.
 pub struct Known {
@@ -40,10 +41,14 @@ impl Known {
         })
     }
 
-    /// Both functions for C give the same answer and leave the same tables,
+    /// The functions for C give the same answer and leave the same tables,
     /// wherever the tables lie: each touches either zone in turn. The result
     /// is the net that the refining call gave, if any.
     pub fn compare(&self, rng: &mut Rng) -> Result<Option<Net>, String> {
+        let case = &self.case;
+        let lengths = (case.vertices.len(), case.faces.len(), case.marks.len());
+        let given = sizes_for(case.rounds, lengths.0, lengths.1, lengths.2);
+        agree("sizes", &given, &sizes_due(case))?;
         let drawn = Sides(rng.next_u64());
         self.compare_at(drawn)?;
         self.compare_at(drawn.opposite())
@@ -88,6 +93,34 @@ fn report(outcome: &Outcome) -> Report {
             faces: 0,
         },
     }
+}
+
+/// What any tables for the results cannot avert, or the least that serve.
+fn sizes_due(case: &Case) -> Sizes {
+    let any = Capacity::for_refined_faces(usize::MAX / 16);
+    match check_call(case.rounds, &case.vertices, &case.faces, &case.marks, &any) {
+        Ok(()) => {
+            let faces = refined_faces(case.faces.len() / 4, case.rounds);
+            sizes(usize::try_from(faces).expect("within the limits"))
+        }
+        Err(refusal) => no_sizes(refusal.reason),
+    }
+}
+
+/// The lengths for so many refined faces.
+pub fn sizes(faces: usize) -> Sizes {
+    let least = Capacity::for_refined_faces(faces);
+    Sizes {
+        reason: 0,
+        out_vertices: least.vertices as u64,
+        out_faces: least.faces as u64,
+        out_marks: least.marks as u64,
+        work: least.workspace as u64,
+    }
+}
+
+pub fn no_sizes(reason: u32) -> Sizes {
+    Sizes { reason, ..sizes(0) }
 }
 
 pub fn agree<T: std::fmt::Debug + PartialEq>(

@@ -6,8 +6,8 @@ use nets::rng::Rng;
 use nets::shapes;
 use reference::refusal::Capacity;
 
-use crate::capi::{Finding, Inputs, Outputs, Report, Sides, check, refine};
-use crate::compare::{Known, agree, as_expected};
+use crate::capi::{Finding, Inputs, Outputs, Report, Sides, Sizes, check, refine, sizes_for};
+use crate::compare::{Known, agree, as_expected, no_sizes, sizes};
 
 const BEYOND: usize = 1 << 32;
 
@@ -38,6 +38,19 @@ const CLAIMS: [(&str, u32, Claim); 9] = [
     }),
 ];
 
+const MOST: usize = usize::MAX;
+
+/// Rounds, lengths of the vertices, faces and marks up to the largest number,
+/// and the reason given.
+const LONGEST: [(u32, [usize; 3], u32); 6] = [
+    (6, [MOST, MOST, MOST], 2),
+    (6, [MOST, MOST - 3, MOST / 3], 3),
+    (0, [MOST, 4, MOST / 3], 3),
+    (6, [12, MOST - 3, 4], 3),
+    (6, [12, 1 << 52, 4], 3),
+    (MOST as u32, [12, MOST - 3, 4], 1),
+];
+
 /// Every table touches the zone before it.
 const BEFORE: Sides = Sides(0);
 
@@ -50,6 +63,10 @@ pub fn compare(number: u64, rng: &mut Rng) -> Result<(), String> {
     let square = Case::new(&shapes::grid(1, 1), 1, Expected::Accepted);
     let known = Known::new(square, rng)?;
     compare_claim(&known, reason, claim).map_err(|fault| format!("{name}: {fault}"))
+}
+
+fn sizes_of(rounds: u32, [vertices, faces, marks]: [usize; 3]) -> Sizes {
+    sizes_for(rounds, vertices, faces, marks)
 }
 
 fn compare_claim(known: &Known, reason: u32, claim: Claim) -> Result<(), String> {
@@ -76,6 +93,20 @@ fn compare_claim(known: &Known, reason: u32, claim: Claim) -> Result<(), String>
         marks: usize::MAX - 2,
         workspace: checked.work.length(),
     };
+    let lengths = [
+        inputs.vertices.length(),
+        inputs.faces.length(),
+        inputs.marks.length(),
+    ];
+    let due = if reason == 0 {
+        sizes(4)
+    } else {
+        no_sizes(reason)
+    };
+    agree("sizes", &sizes_of(inputs.rounds, lengths), &due)?;
+    for (rounds, lengths, reason) in LONGEST {
+        agree("sizes", &sizes_of(rounds, lengths), &no_sizes(reason))?;
+    }
     let finding = check(&inputs, &room, &mut checked.work);
     agree("check", &finding, &Finding { reason, place: 0 })?;
     as_expected("check", checked.work.difference("work", &left.workspace))?;

@@ -1,4 +1,4 @@
-/* Refines a panel of two by two faces and prints the refined net: refine [ROUNDS], by default 1. */
+/* Refines a panel of two by two faces and prints the refined net: panel [ROUNDS], by default 1. */
 #include <gedrovit.h>
 
 #include <inttypes.h>
@@ -16,26 +16,17 @@ static const int32_t vertices[] = {
 static const uint8_t marks[] = {1, 0, 1, 0, 0, 0, 1, 0, 1};
 static const uint32_t faces[] = {0, 1, 4, 3, 1, 2, 5, 4, 3, 4, 7, 6, 4, 5, 8, 7};
 
-/* The tables that a call fills, and its workspace. */
-typedef struct {
-    int32_t *vertices;
-    uint32_t *faces;
-    uint8_t *marks;
-    uint32_t *work;
-} tables;
-
-/* At least one element, so that the pointer is not null at length 0. */
 static void *allocate(uint64_t length, size_t element)
 {
-    void *table = calloc(length == 0 ? 1 : length, element);
-    if (table == NULL) {
-        perror("refine");
+    void *table = calloc(length, element);
+    if (table == NULL && length > 0) {
+        perror("panel");
         exit(EXIT_FAILURE);
     }
     return table;
 }
 
-static void release(tables t)
+static void release(gedrovit_tables t)
 {
     free(t.vertices);
     free(t.faces);
@@ -45,11 +36,11 @@ static void release(tables t)
 
 static int refused(uint32_t reason, uint64_t place)
 {
-    fprintf(stderr, "refine: refusal %" PRIu32 ", place %" PRIu64 "\n", reason, place);
+    fprintf(stderr, "panel: refusal %" PRIu32 ", place %" PRIu64 ": %s\n", reason, place, gedrovit_reason_text(reason));
     return EXIT_FAILURE;
 }
 
-static void print(gedrovit_report report, tables t)
+static void print(gedrovit_report report, gedrovit_tables t)
 {
     printf("vertices faces\n%" PRIu64 " %" PRIu64 "\nx y z corner\n", report.vertices, report.faces);
     for (uint64_t v = 0; v < report.vertices; v++) {
@@ -65,19 +56,15 @@ static void print(gedrovit_report report, tables t)
 
 static int refine(uint32_t rounds)
 {
-    const gedrovit_sizes n = gedrovit_sizes_for(rounds, LENGTH(vertices), LENGTH(faces), LENGTH(marks));
+    const gedrovit_net net = gedrovit_net_of(vertices, LENGTH(vertices), faces, LENGTH(faces), marks, LENGTH(marks));
+    const gedrovit_sizes n = gedrovit_sizes_for_net(rounds, &net);
     if (n.reason != GEDROVIT_ACCEPTED)
         return refused(n.reason, 0);
 
-    const tables t = {
-        .vertices = allocate(n.out_vertices, sizeof *t.vertices),
-        .faces = allocate(n.out_faces, sizeof *t.faces),
-        .marks = allocate(n.out_marks, sizeof *t.marks),
-        .work = allocate(n.work, sizeof *t.work),
-    };
-    const gedrovit_report report = gedrovit_refine(
-        rounds, vertices, LENGTH(vertices), faces, LENGTH(faces), marks, LENGTH(marks), t.vertices,
-        n.out_vertices, t.faces, n.out_faces, t.marks, n.out_marks, t.work, n.work);
+    const gedrovit_tables t = gedrovit_tables_of(
+        allocate(n.out_vertices, sizeof(int32_t)), n.out_vertices, allocate(n.out_faces, sizeof(uint32_t)), n.out_faces,
+        allocate(n.out_marks, sizeof(uint8_t)), n.out_marks, allocate(n.work, sizeof(uint32_t)), n.work);
+    const gedrovit_report report = gedrovit_refine_net(rounds, &net, &t);
     if (report.reason == GEDROVIT_ACCEPTED)
         print(report, t);
     release(t);

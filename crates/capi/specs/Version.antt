@@ -1,0 +1,15 @@
+-- The version of the package. Calls and points that were there change only with its first two numbers.
+use Prim.Native.Nat.{ℕ, _+_, _*_}
+
+abbrev pub major : ℕ
+major = 0
+
+abbrev pub minor : ℕ
+minor = 1
+
+abbrev pub patch : ℕ
+patch = 1
+
+-- as one number: 0.1.1 is 1001
+abbrev pub version : ℕ
+version = 1000000 * major + 1000 * minor + patch

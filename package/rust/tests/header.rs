@@ -1,0 +1,113 @@
+//! Version, constants, reasons and texts are those of `gedrovit.h`.
+
+use gedrovit::Reason::{self, *};
+
+const HEADER: &str = include_str!("../../include/gedrovit.h");
+
+const REASONS: [Reason; 12] = [
+    TooManyRounds,
+    InvalidLengths,
+    NetTooLarge,
+    TableTooShort,
+    CoordinateOutOfRange,
+    InvalidMark,
+    InvalidCorner,
+    IsolatedVertex,
+    RepeatedHalfEdge,
+    NonManifoldVertex,
+    ValenceOutOfRange,
+    MarkedInteriorVertex,
+];
+
+/// What stands between two texts, wherever they stand in one line of the header.
+fn between<'a>(before: &'a str, after: &'a str) -> impl Iterator<Item = &'a str> {
+    HEADER
+        .lines()
+        .filter_map(move |line| line.split_once(before)?.1.split_once(after))
+        .map(|(text, _)| text)
+}
+
+/// A constant of the header.
+fn constant(name: &str) -> u64 {
+    let line = format!("#define GEDROVIT_{name} ");
+    let words: Vec<_> = HEADER
+        .lines()
+        .filter_map(|text| text.strip_prefix(&line))
+        .collect();
+    assert_eq!(words.len(), 1, "{name}");
+    words[0].parse().unwrap()
+}
+
+/// `TooManyRounds` is `TOO_MANY_ROUNDS` there.
+fn name(reason: Reason) -> String {
+    let camel = format!("{reason:?}");
+    let words = camel.split_inclusive(|letter: char| letter.is_ascii_lowercase());
+    let spaced = words.fold(String::new(), |mut all, part| {
+        if all.ends_with(|letter: char| letter.is_ascii_lowercase())
+            && part.starts_with(|letter: char| letter.is_ascii_uppercase())
+        {
+            all.push('_');
+        }
+        all + part
+    });
+    spaced.to_ascii_uppercase()
+}
+
+#[test]
+fn constants_are_the_headers() {
+    let constants = [
+        ("MAX_ROUNDS", u64::from(gedrovit::MAX_ROUNDS)),
+        ("MAX_VERTICES", gedrovit::MAX_VERTICES as u64),
+        ("MAX_FACES", gedrovit::MAX_FACES as u64),
+        ("MAX_REFINED_FACES", gedrovit::MAX_REFINED_FACES as u64),
+        ("MAX_COORDINATE", gedrovit::MAX_COORDINATE as u64),
+        ("MAX_RING", gedrovit::MAX_RING as u64),
+        ("MAX_FAN", gedrovit::MAX_FAN as u64),
+        (
+            "MAX_REFINED_COORDINATE",
+            gedrovit::MAX_REFINED_COORDINATE as u64,
+        ),
+        ("STACK_BYTES", gedrovit::STACK_BYTES as u64),
+    ];
+    for (name, value) in constants {
+        assert_eq!(constant(name), value, "{name}");
+    }
+    let all = between("#define GEDROVIT_MAX_", " ").count();
+    assert_eq!(all + 1, constants.len(), "the header has other limits");
+}
+
+#[test]
+fn reasons_are_the_headers() {
+    let numbers: Vec<_> = between("    GEDROVIT_", " = ").collect();
+    assert_eq!(numbers.len(), REASONS.len() + 1);
+    for (index, reason) in REASONS.into_iter().enumerate() {
+        let name = name(reason);
+        assert_eq!(numbers[index + 1], name);
+        let number = format!("    GEDROVIT_{name} = {}", reason.number());
+        assert!(
+            HEADER
+                .lines()
+                .any(|line| line.trim_end_matches(',') == number),
+            "{number}"
+        );
+        let text = between("    case GEDROVIT_", ";")
+            .find_map(|case| case.strip_prefix(&format!("{name}: return ")))
+            .unwrap();
+        assert_eq!(text, format!("{:?}", reason.text()));
+    }
+    assert!(HEADER.contains(&format!("default: return {:?};", Unknown(99).text())));
+}
+
+#[test]
+fn the_version_is_the_headers_and_the_archives() {
+    let [major, minor, patch] =
+        ["MAJOR", "MINOR", "PATCH"].map(|n| constant(&format!("VERSION_{n}")));
+    assert_eq!(
+        env!("CARGO_PKG_VERSION"),
+        format!("{major}.{minor}.{patch}")
+    );
+    assert_eq!(
+        u64::from(gedrovit::version()),
+        1_000_000 * major + 1_000 * minor + patch
+    );
+}

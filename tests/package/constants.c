@@ -1,0 +1,226 @@
+/*
+ * Holds the header's constants to what the archive does: each limit is tried at the limit and one above, and each reason
+ * is got by a call. A line for each fault; the exit status is 1 if there is one.
+ */
+#include <gedrovit.h>
+
+#include <inttypes.h>
+#include <stdio.h>
+#include <stdlib.h>
+#include <string.h>
+
+enum { VERTICES = 40000, FACES = 20000, REFINED = 300000 };
+
+static int32_t vertices[3 * VERTICES], out_vertices[12 * REFINED];
+static uint32_t faces[4 * FACES], out_faces[4 * REFINED], work[16 * REFINED];
+static uint8_t marks[VERTICES], out_marks[4 * REFINED];
+static size_t vertex_count, face_count;
+static int faults;
+
+static void clear(size_t v)
+{
+    vertex_count = v;
+    face_count = 0;
+    memset(vertices, 0, sizeof vertices);
+    memset(marks, 0, sizeof marks);
+}
+
+static void face(size_t a, size_t b, size_t c, size_t d)
+{
+    const size_t corners[] = {a, b, c, d};
+    for (int i = 0; i < 4; i++)
+        faces[4 * face_count + i] = (uint32_t)corners[i];
+    face_count++;
+}
+
+/* n faces side by side, closed to a ring; n is at least 3. */
+static void band(size_t n)
+{
+    clear(2 * n);
+    for (size_t i = 0; i < n; i++)
+        face(i, (i + 1) % n, n + (i + 1) % n, n + i);
+}
+
+/* n faces round vertex 0, closed to a ring or an open fan. */
+static void star(size_t n, int closed)
+{
+    const size_t spokes = closed ? n : n + 1;
+    clear(1 + spokes + n);
+    for (size_t i = 0; i < n; i++)
+        face(0, 1 + i, 1 + spokes + i, 1 + (i + 1) % spokes);
+}
+
+static void square(void)
+{
+    clear(4);
+    face(0, 1, 2, 3);
+}
+
+static void expect(const char *what, uint64_t given, uint64_t due)
+{
+    if (given == due)
+        return;
+    printf("%s: %" PRIu64 ", not %" PRIu64 "\n", what, given, due);
+    faults++;
+}
+
+static gedrovit_net net(void)
+{
+    return gedrovit_net_of(vertices, 3 * vertex_count, faces, 4 * face_count, marks, vertex_count);
+}
+
+static gedrovit_tables tables(void)
+{
+    return gedrovit_tables_of(out_vertices, 12 * REFINED, out_faces, 4 * REFINED, out_marks, 4 * REFINED, work, 16 * REFINED);
+}
+
+/* Both calls on a net and tables give this answer. */
+static void answer_by(const char *what, uint32_t rounds, gedrovit_net n, gedrovit_tables t, uint32_t reason, uint64_t place)
+{
+    const gedrovit_finding finding = gedrovit_check_net(rounds, &n, &t);
+    const gedrovit_report report = gedrovit_refine_net(rounds, &n, &t);
+    expect(what, finding.reason, reason);
+    expect(what, finding.place, place);
+    expect(what, report.reason, reason);
+    expect(what, report.place, place);
+}
+
+/* On the net that was drawn. */
+static void answer(const char *what, uint32_t rounds, uint32_t reason, uint64_t place)
+{
+    answer_by(what, rounds, net(), tables(), reason, place);
+}
+
+static void limits_of_counts(void)
+{
+    square();
+    answer("MAX_ROUNDS", GEDROVIT_MAX_ROUNDS, GEDROVIT_ACCEPTED, 0);
+    answer("MAX_ROUNDS + 1", GEDROVIT_MAX_ROUNDS + 1, GEDROVIT_TOO_MANY_ROUNDS, 0);
+    band(GEDROVIT_MAX_VERTICES / 2);
+    expect("MAX_VERTICES is even", vertex_count, GEDROVIT_MAX_VERTICES);
+    answer("MAX_VERTICES", 0, GEDROVIT_ACCEPTED, 0);
+    vertex_count++;
+    answer("MAX_VERTICES + 1", 0, GEDROVIT_NET_TOO_LARGE, 0);
+    band(GEDROVIT_MAX_FACES);
+    answer("MAX_FACES", 0, GEDROVIT_ACCEPTED, 0);
+    vertex_count = 4;
+    face(0, 1, 2, 3);
+    answer("MAX_FACES + 1", 0, GEDROVIT_NET_TOO_LARGE, 0);
+    const size_t per_face = (size_t)1 << 2 * GEDROVIT_MAX_ROUNDS;
+    band(GEDROVIT_MAX_REFINED_FACES / per_face);
+    expect("MAX_REFINED_FACES is a multiple", face_count * per_face, GEDROVIT_MAX_REFINED_FACES);
+    answer("MAX_REFINED_FACES", GEDROVIT_MAX_ROUNDS, GEDROVIT_ACCEPTED, 0);
+    band(GEDROVIT_MAX_REFINED_FACES / per_face + 1);
+    answer("above MAX_REFINED_FACES", GEDROVIT_MAX_ROUNDS, GEDROVIT_NET_TOO_LARGE, 0);
+    band(GEDROVIT_MAX_REFINED_FACES / 256 + 1);
+    answer("just above MAX_REFINED_FACES", 4, GEDROVIT_NET_TOO_LARGE, 0);
+}
+
+static void limits_of_nets(void)
+{
+    for (int sign = -1; sign <= 1; sign += 2) {
+        square();
+        vertices[7] = sign * GEDROVIT_MAX_COORDINATE;
+        answer("MAX_COORDINATE", 1, GEDROVIT_ACCEPTED, 0);
+        vertices[7] = sign * (GEDROVIT_MAX_COORDINATE + 1);
+        answer("MAX_COORDINATE + 1", 1, GEDROVIT_COORDINATE_OUT_OF_RANGE, 2);
+    }
+    star(GEDROVIT_MAX_RING, 1);
+    answer("MAX_RING", 1, GEDROVIT_ACCEPTED, 0);
+    star(GEDROVIT_MAX_RING + 1, 1);
+    answer("MAX_RING + 1", 1, GEDROVIT_VALENCE_OUT_OF_RANGE, 0);
+    star(GEDROVIT_MAX_FAN, 0);
+    answer("MAX_FAN", 1, GEDROVIT_ACCEPTED, 0);
+    star(GEDROVIT_MAX_FAN + 1, 0);
+    answer("MAX_FAN + 1", 1, GEDROVIT_VALENCE_OUT_OF_RANGE, 0);
+}
+
+static void lengths(void)
+{
+    square();
+    const gedrovit_net n = net();
+    gedrovit_net other = n;
+    other.vertices_length = 11;
+    answer_by("vertices by threes", 1, other, tables(), GEDROVIT_INVALID_LENGTHS, 0);
+    other = n;
+    other.faces_length = 3;
+    answer_by("faces by fours", 1, other, tables(), GEDROVIT_INVALID_LENGTHS, 0);
+    other = n;
+    other.marks_length = 5;
+    answer_by("a mark for each vertex", 1, other, tables(), GEDROVIT_INVALID_LENGTHS, 0);
+
+    const gedrovit_sizes least = gedrovit_sizes_for_net(1, &n);
+    const uint64_t bytes = least.out_vertices * sizeof *out_vertices + least.out_faces * sizeof *out_faces
+        + least.out_marks * sizeof *out_marks + least.work * sizeof *work;
+    expect("bytes for each refined face", bytes, 4 * 132);
+    const gedrovit_tables t = gedrovit_tables_of(out_vertices, least.out_vertices, out_faces, least.out_faces, out_marks,
+                                                 least.out_marks, work, least.work);
+    answer_by("least tables", 1, n, t, GEDROVIT_ACCEPTED, 0);
+    gedrovit_tables less[] = {t, t, t, t};
+    less[0].vertices_length--;
+    less[1].faces_length--;
+    less[2].marks_length--;
+    less[3].work_length--;
+    for (int i = 0; i < 4; i++)
+        answer_by("one short", 1, n, less[i], GEDROVIT_TABLE_TOO_SHORT, 0);
+}
+
+static void reasons_of_nets(void)
+{
+    square();
+    marks[3] = 2;
+    answer("mark 2", 1, GEDROVIT_INVALID_MARK, 3);
+    square();
+    face(0, 1, 2, 4);
+    answer("corner 4 of 4 vertices", 1, GEDROVIT_INVALID_CORNER, 1);
+    square();
+    vertex_count++;
+    answer("vertex in no face", 1, GEDROVIT_ISOLATED_VERTEX, 4);
+    square();
+    face(0, 1, 2, 3);
+    answer("face twice", 1, GEDROVIT_REPEATED_HALF_EDGE, 1);
+    clear(7);
+    face(0, 1, 2, 3);
+    face(3, 4, 5, 6);
+    answer("faces that touch in a vertex", 1, GEDROVIT_NON_MANIFOLD_VERTEX, 3);
+    square();
+    face(0, 3, 2, 1);
+    answer("ring of two", 1, GEDROVIT_VALENCE_OUT_OF_RANGE, 0);
+    star(4, 1);
+    marks[0] = 1;
+    answer("mark inside", 1, GEDROVIT_MARKED_INTERIOR_VERTEX, 0);
+}
+
+/* Records with null pointers at length 0. */
+static void empty(void)
+{
+    const gedrovit_net n = gedrovit_net_of(NULL, 0, NULL, 0, NULL, 0);
+    const gedrovit_tables t = gedrovit_tables_of(NULL, 0, NULL, 0, NULL, 0, NULL, 0);
+    answer_by("empty", GEDROVIT_MAX_ROUNDS, n, t, GEDROVIT_ACCEPTED, 0);
+    expect("no work", gedrovit_sizes_for_net(1, &n).work, 0);
+    square();
+    answer_by("no tables", 1, net(), t, GEDROVIT_TABLE_TOO_SHORT, 0);
+}
+
+static void texts(void)
+{
+    const char *unknown = gedrovit_reason_text(UINT32_MAX);
+    for (uint32_t reason = 0; reason <= GEDROVIT_MARKED_INTERIOR_VERTEX; reason++) {
+        expect("reason without a text", strcmp(gedrovit_reason_text(reason), unknown) == 0, 0);
+        for (uint32_t other = 0; other < reason; other++)
+            expect("two reasons with one text", strcmp(gedrovit_reason_text(reason), gedrovit_reason_text(other)) == 0, 0);
+    }
+}
+
+int main(void)
+{
+    expect("version of the archive", gedrovit_version(), GEDROVIT_VERSION_NUMBER);
+    expect("version by its name", GEDROVIT_VERSIONED(gedrovit_version)(), GEDROVIT_VERSION_NUMBER);
+    limits_of_counts();
+    limits_of_nets();
+    lengths();
+    reasons_of_nets();
+    empty();
+    texts();
+    return faults == 0 ? EXIT_SUCCESS : EXIT_FAILURE;
+}

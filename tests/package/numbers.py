@@ -1,0 +1,119 @@
+#!/usr/bin/env python3
+"""Holds the numbers that definitions, headers, Rust crate and documents state to the constants of gedrovit.h. A line for each fault."""
+import pathlib
+import re
+import sys
+
+ROOT = pathlib.Path(__file__).resolve().parent.parent.parent
+HEADER = ROOT / "package/include/gedrovit.h"
+RUST = ROOT / "package/rust"
+NUMBER = r"(\d+(?:,\d{3})*)"
+faults = []
+
+
+def read(path):
+    return (ROOT / path).read_text(encoding="utf-8")
+
+
+def running(text):
+    """A text without the ends of its lines and the marks of comments."""
+    return re.sub(r"\s*\n\s*(?:///?!?|\*(?!/))?\s*", " ", text)
+
+
+def numbers(pattern, text):
+    """The numbers of each place where the pattern is found."""
+    return [tuple(int(n.replace(",", "")) for n in found.groups()) for found in re.finditer(pattern.replace("N", NUMBER), text)]
+
+
+def hold(where, pattern, text, due, least=1):
+    """Every place where the pattern is found has the numbers that are due; there are at least so many."""
+    found = numbers(pattern, text)
+    if len(found) < least:
+        faults.append(f"{where}: nothing like '{pattern}'")
+    for given in found:
+        if given not in due:
+            faults.append(f"{where}: '{pattern}' has {given}, not {' or '.join(map(str, due))}")
+
+
+header = read(HEADER)
+C = {name: int(value) for name, value in re.findall(r"^#define GEDROVIT_(\w+) (\d+)$", header, re.M)}
+ROUNDS, V, F, G = C["MAX_ROUNDS"], C["MAX_VERTICES"], C["MAX_FACES"], C["MAX_REFINED_FACES"]
+COORDINATE, REFINED, RING, FAN = C["MAX_COORDINATE"], C["MAX_REFINED_COORDINATE"], C["MAX_RING"], C["MAX_FAN"]
+RING_LEAST = 3
+
+# ---- the definitions
+VERDICT, REFUSALS = read("crates/verdict/specs/Verdict.antt"), read("crates/refusals/specs/Refusals.antt")
+hold("verdict", r"refusedIf 1 \(ltb N ", VERDICT, [(ROUNDS,)])
+if numbers(r"refusedIf 3 \(ltb N ", VERDICT) != [(V,), (F,), (G,)]:
+    faults.append("verdict: refusal 3 has other limits")
+hold("verdict", r"badCoordinate .* = ltb N ", VERDICT, [(COORDINATE,)])
+hold("refusals", r"badValence .* \(ltb N \(valence l p\)\) \(ltb \(valence l p\) N \|\| ltb N ", REFUSALS, [(FAN, RING_LEAST, RING)])
+hold("outcome", r"Within N ", read("crates/outcome/specs/Coordinates.antt"), [(REFINED,)])
+NEEDED = [line for path in ROOT.glob("crates/*/specs/*.antt") for line in re.findall(r"(?m)^needed g = .*", path.read_text(encoding="utf-8"))]
+FACTORS = numbers(r"\bN \* g", "".join(NEEDED))
+if len(FACTORS) != 4:
+    faults.append("the lengths to provide were not found in the definitions")
+for name, factor in zip(("out_vertices", "out_faces", "out_marks", "work"), FACTORS):
+    hold("header", rf"{name} +N G\b", header, [factor])
+PROGRAM = read("crates/reading/specs/Loaded.antt")
+[(PROGRAM_G,)] = numbers(r"serve G up to N", PROGRAM)
+[(PROGRAM_V,)] = numbers(r"refusedIf 4 \(ltb N ", PROGRAM)
+[(TEXT,)] = set(numbers(r"ltb N \(length text\)", PROGRAM + read("crates/program/specs/Answer.antt")))
+
+# ---- the version
+version = [C[f"VERSION_{part}"] for part in ("MAJOR", "MINOR", "PATCH")]
+dotted = ".".join(map(str, version))
+for part, value in zip(("major", "minor", "patch"), version):
+    hold("capi", rf"(?m)^{part} = N$", read("crates/capi/specs/Version.antt"), [(value,)])
+for path, line in (("package/include/gedrovit.h", f'#define GEDROVIT_VERSION "{dotted}"'), ("package/rust/Cargo.toml", f'version = "{dotted}"')):
+    if line not in read(path).splitlines():
+        faults.append(f"{path}: no line {line}")
+symbols = set(re.findall(r"gedrovit_version_\w+", read("crates/capi/src/lib.rt") + read(RUST / "src/foreign.rs") + read(RUST / "src/call.rs")))
+if symbols != {"gedrovit_version_" + dotted.replace(".", "_")}:
+    faults.append(f"the archive's and the crate's symbol: {symbols}")
+
+# ---- what headers, crate and documents say: each pattern, its numbers, and how often the header says it at least
+LIMITS = [
+    (r"[Rr]ounds above N", [(ROUNDS,)], 1),
+    (r"[Mm]ore than N rounds", [(ROUNDS,)], 1),
+    (r"from 0 to N; 0 copies", [(ROUNDS,)], 1),
+    (r"V above N", [(V,)], 1),
+    (r"F above N", [(F,)], 1),
+    (r"G above N", [(G,)], 1),
+    (r"[Mm]ore than N vertices", [(V,), (PROGRAM_V,)], 1),
+    (r"vertices,? (?:or )?N faces", [(F,)], 1),
+    (r"N refined faces", [(G,), (PROGRAM_G,)], 0),
+    (r"outside -N to N", [(COORDINATE, COORDINATE)], 2),
+    (r"from -N to N", [(COORDINATE, COORDINATE)], 1),
+    (r"coordinates? (?:may )?(?:lie )?(?:beyond|above) ±?N", [(COORDINATE,)], 1),
+    (r"coordinates? stays? within N", [(REFINED,)], 1),
+    (r"ring of fewer than N or more than N faces", [(RING_LEAST, RING)], 1),
+    (r"fan (?:is )?of more than N", [(FAN,)], 2),
+    (r"ring is not of N to N faces", [(RING_LEAST, RING)], 1),
+    (r"N bytes for each refined face", [(132,)], 1),
+    (r"more than N bytes", [(TEXT,)], 0),
+]
+texts = {str(path.relative_to(ROOT)): running(path.read_text(encoding="utf-8"))
+         for path in [HEADER, ROOT / "package/include/gedrovit.hpp", ROOT / "README.md", *sorted(RUST.glob("src/*.rs")), *sorted(ROOT.glob("docs/*.md"))]}
+for name, text in texts.items():
+    for pattern, due, least in LIMITS:
+        hold(name, pattern, text, due, least if name.endswith("gedrovit.h") else 0)
+
+# ---- the table of refusals: a table with rows 1 to 12. Rows have these numbers, and no other ones of four digits or more
+ROWS = {1: {ROUNDS}, 3: {V, F, G}, 5: {COORDINATE}, 11: {RING_LEAST, RING, FAN}, 13: {TEXT}}
+ALSO = {4: {PROGRAM_V}}
+documents = [ROOT / "README.md", *sorted(ROOT.glob("docs/*.md"))]
+tables = [table for path in documents for table in re.findall(r"(?:^\|.*\n)+", path.read_text(encoding="utf-8"), re.M)]
+tables = [dict(re.findall(r"^\| *(\d+) *\|(.*)", table, re.M)) for table in tables]
+tables = [table for table in tables if all(str(number) in table for number in range(1, 13))]
+if not tables:
+    faults.append("no document has a table of the refusals")
+for table in tables:
+    for number, row in table.items():
+        given, due = {n for (n,) in numbers(r"\bN\b", row)}, ROWS.get(int(number), set())
+        if not due <= given or any(n >= 1000 and n not in due | ALSO.get(int(number), set()) for n in given):
+            faults.append(f"table of refusals, row {number}: {given}, not {due}")
+
+for fault in faults:
+    print(fault)
+sys.exit(1 if faults else 0)
