@@ -1,5 +1,6 @@
 #!/usr/bin/env python3
-"""Tests the script ./refine: inputs, outputs, exit status, messages, links and folders, and what a first build shows.
+"""Tests the script ./refine: inputs, outputs, exit status, messages, links and folders, and what a first build shows;
+then what the README shows of it, and the links of the documents.
 
 The exit status is 1 if a check fails.
 """
@@ -171,6 +172,17 @@ def tools(folder):
     return place
 
 
+def documents():
+    """The text form that the README shows is the program's; links in the documents lead somewhere."""
+    shown = re.findall(r'```\n(.*?)```', (ROOT / 'README.md').read_text(encoding='utf-8'), re.S)
+    if [text.encode() for text in shown] != [TEXT, ANSWER]:
+        faults.append('README.md shows another text than tests/nets/cases/paper-sample')
+    for path in ROOT / 'README.md', *sorted(ROOT.glob('docs/*.md')):
+        for link in re.findall(r'\]\(([^)#]+)', path.read_text(encoding='utf-8')):
+            if '://' not in link and not (path.parent / link).exists():
+                faults.append(f'{path.name}: nothing at {link}')
+
+
 def main():
     with tempfile.TemporaryDirectory() as name:
         folder = pathlib.Path(name)
@@ -178,6 +190,7 @@ def main():
         for part in inputs, outputs, uses, builds:
             part(folder)
         terminals()
+        documents()
     print(*faults, sep='\n', end='\n' if faults else '')
     sys.exit(1 if faults else 0)
 
