@@ -148,8 +148,9 @@ def nets():
     gives("a cube", CUBE_TEXT, "text", "--scale=100", text=CUBE)
     gives("welded", JOINED, "text", "--scale=100", "--rounds=1", "--weld", "--drop", "--corners", text=APART)
     gives("marks by points", SAMPLE.replace(" 1 1\n", " 1 2\n", 1).replace("0 16 0 1", "0 16 0 0"), "text", text="v 0 0 0\nv 16 0 0\nv 16 16 0\nv 0 16 0\np 1 2\np -2\nf 1 2 3 4\n")
-    if not refine(convert("text", "--scale=100", text=CUBE).stdout).startswith(b"vertices faces\n98 96\n"):
-        faults.append("the cube is not refined")
+    refined = convert("obj", "--scale=100", text=refine(convert("text", "--scale=100", text=CUBE).stdout)).stdout.decode().splitlines()
+    if [line.split()[0] for line in refined] != ["v"] * 98 + ["f"] * 96 or "v 0 -5.9 -5.9" not in refined:
+        faults.append(f"the cube from OBJ to OBJ: {refined[:40]}")
 
 
 def refusals():
