@@ -157,6 +157,12 @@ def builds(folder):
         faults.append('the log of the build has other lines')
     check('a second run', run(tree / 'refine', NET, env=environment), 0, TEXT)
     os.utime(tree / 'crates.txt')
+    first = subprocess.Popen([tree / 'refine', NET], env=environment, stdout=subprocess.PIPE, stderr=subprocess.PIPE)
+    first.stderr.readline()
+    check('a second run while the first builds', run(tree / 'refine', NET, env=environment), 0, TEXT, 'refine: waiting for another run')
+    if first.communicate(timeout=60) != (TEXT, b''):
+        faults.append('a first run fails beside a second one')
+    os.utime(tree / 'crates.txt')
     done = run(tree / 'refine', NET, env=environment)
     check('a build without a terminal', done, 0, TEXT, 'refine: building')
     if done.stderr.count(b'\n') != 1:
