@@ -179,8 +179,12 @@ def tools(folder):
 
 
 def documents():
-    """The text form that the README shows is the program's; links in the documents lead somewhere."""
-    shown = re.findall(r'```\n(.*?)```', (ROOT / 'README.md').read_text(encoding='utf-8'), re.S)
+    """The text form that the README shows is the program's; files that it names are there, and links in the documents lead somewhere."""
+    readme = (ROOT / 'README.md').read_text(encoding='utf-8')
+    for name in re.findall(r'\b(?:bench|crates|docs|examples|package|tests|tools)/[\w./-]*\w', readme):
+        if not (ROOT / name).exists():
+            faults.append(f'README.md: no {name}')
+    shown = re.findall(r'```\n(.*?)```', readme, re.S)
     if [text.encode() for text in shown] != [TEXT, ANSWER]:
         faults.append('README.md shows another text than tests/nets/cases/paper-sample')
     for path in ROOT / 'README.md', *sorted(ROOT.glob('docs/*.md')):
