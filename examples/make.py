@@ -19,20 +19,21 @@ ARCH = [(-600, 0), (-554, 230), (-424, 424), (-230, 554), (0, 600)]
 OUTLINE = [(-1200, 0), (-1160, 460), (-960, 790), (-530, 970), (0, 1000)]
 
 
-def text(points, marks, faces):
-    """The program's input for two rounds."""
-    vertices = [(*(round(100 * value) for value in point), mark) for point, mark in zip(points, marks)]
-    counts = [("vertices", "faces", "rounds"), (len(points), len(faces), 2)]
-    lines = [*counts, ("x", "y", "z", "corner"), *vertices, ("a", "b", "c", "d"), *faces]
+def text(points, marks, faces, rounds=2):
+    """The program's input; without marks it has no column for them."""
+    rows = [tuple(round(100 * value) for value in point) for point in points]
+    vertices = [(*row, mark) for row, mark in zip(rows, marks)] if marks else rows
+    counts = [("vertices", "faces", "rounds"), (len(points), len(faces), rounds)]
+    lines = [*counts, ("x", "y", "z", "corner") if marks else ("x", "y", "z"), *vertices, ("a", "b", "c", "d"), *faces]
     return "".join(" ".join(map(str, line)) + "\n" for line in lines)
 
 
-def grid(rows):
+def grid(rows, rounds=2, marked=True):
     """A net of rows of points with marks at its four corners."""
     height, width = len(rows), len(rows[0])
     marks = [int(r in (0, height - 1) and c in (0, width - 1)) for r in range(height) for c in range(width)]
     starts = [r * width + c for r in range(height - 1) for c in range(width - 1)]
-    return text(sum(rows, []), marks, [(a, a + 1, a + width + 1, a + width) for a in starts])
+    return text(sum(rows, []), marks if marked else [], [(a, a + 1, a + width + 1, a + width) for a in starts], rounds)
 
 
 def between(low, high, camber, share):
@@ -78,12 +79,22 @@ def dome():
     return text([point(i / 3, j / 2, k / 2) for i, j, k in numbers], marks, faces)
 
 
+def hatch(marked=True):
+    """A hatch cover of two by two faces with a crown."""
+    return grid([[(x, y, 80 if (x, y) == (450, 300) else 0) for x in (0, 450, 900)] for y in (0, 300, 600)], 3, marked)
+
+
+def unmarked():
+    """The same hatch cover without corner marks."""
+    return hatch(marked=False)
+
+
 def main():
     options = argparse.ArgumentParser(description=__doc__)
     options.add_argument("--check", action="store_true", help="compare the stored nets with what would be made, and write nothing")
     check = options.parse_args().check
     stale = []
-    for make in (panel, topside, bottom, dome):
+    for make in (panel, topside, bottom, dome, hatch, unmarked):
         path, made = pathlib.Path(__file__).resolve().with_name(f"{make.__name__}.txt"), make().encode("ascii")
         if not check:
             path.write_bytes(made)

@@ -14,7 +14,9 @@ import xml.etree.ElementTree
 
 ROOT = pathlib.Path(__file__).resolve().parent.parent
 REFINE = os.environ.get("REFINE", "./refine")
-NAMES = ["panel", "topside", "bottom", "dome"]
+MARKS = {"panel": 4, "topside": 4, "bottom": 4, "dome": 3, "hatch": 4, "unmarked": 0}
+DRAWN = {"panel": 16 + 256, "seam": 25 + 400, "extraordinary": 16 + 256, "corners": 256 + 256}
+DIAGRAMS = ["numbering", "boundary", "extrapolated", "virtual", "face"]
 SVG = "{http://www.w3.org/2000/svg}"
 DRAW = [sys.executable, "tools/draw.py"]
 
@@ -42,7 +44,7 @@ def parse(text):
     lines = [line.split() for line in text.splitlines()]
     vertices = int(lines[1][0])
     rows = [tuple(map(int, line)) for line in lines[3:3 + vertices]]
-    return Net([row[:3] for row in rows], [row[3] for row in rows], [tuple(map(int, line)) for line in lines[4 + vertices:]])
+    return Net([row[:3] for row in rows], [int(row[3:] == (1,)) for row in rows], [tuple(map(int, line)) for line in lines[4 + vertices:]])
 
 
 def next_on_boundary(net):
@@ -70,9 +72,9 @@ def extraordinary(net):
 def example_faults():
     if run(sys.executable, "examples/make.py", "--check").returncode:
         yield "examples/make.py makes other nets"
-    for name in NAMES:
+    for name, marks in MARKS.items():
         for net in parse(example(name)), parse(refined(example(name))):
-            if sum(net.marks) != (3 if name == "dome" else 4):
+            if sum(net.marks) != marks:
                 yield f"{name} has {sum(net.marks)} marks"
             if extraordinary(net) != ([3] if name == "dome" else []):
                 yield f"{name} has extraordinary vertices of valence {extraordinary(net)}"
@@ -99,13 +101,15 @@ def picture_faults():
     check = run("bash", "tools/pictures.sh", "--check")
     if check.returncode:
         yield f"tools/pictures.sh --check: {check.stdout}{check.stderr}"
-    for name, faces in ("panel", 16 + 256), ("seam", 25 + 400), ("extraordinary", 16 + 256):
+    if sorted(path.stem for path in (ROOT / "docs" / "pictures").iterdir()) != sorted([*DRAWN, *DIAGRAMS]):
+        yield "docs/pictures has other pictures"
+    for name in [*DRAWN, *DIAGRAMS]:
         path = ROOT / "docs" / "pictures" / f"{name}.svg"
         picture = xml.etree.ElementTree.parse(path).getroot()
         filled = [face for face in picture.iter(f"{SVG}path") if face.get("fill")]
         wide, tall = int(picture.get("width")), int(picture.get("height"))
         found = list(boxes(picture))
-        if len(filled) != faces or path.stat().st_size > 60_000:
+        if len(filled) != DRAWN.get(name, 0) or path.stat().st_size > 60_000:
             yield f"{name}.svg has {len(filled)} faces and {path.stat().st_size} bytes"
         if any(a < 0 or b > wide or c < 0 or d > tall for a, b, c, d in found):
             yield f"{name}.svg has a text beyond its edge"
@@ -125,6 +129,60 @@ def same_picture_faults(folder):
         yield f"draw.py draws the seam otherwise from files: {by_files.stderr}"
     if run("bash", ROOT / "tools" / "pictures.sh", "--check", folder=folder).returncode:
         yield "tools/pictures.sh --check fails in another folder"
+
+
+CUBE = """vertices faces rounds
+8 6 2
+x y z
+-540 -540 -540
+540 -540 -540
+540 540 -540
+-540 540 -540
+-540 -540 540
+540 -540 540
+540 540 540
+-540 540 540
+a b c d
+3 2 1 0
+4 5 6 7
+0 1 5 4
+1 2 6 5
+2 3 7 6
+3 0 4 7
+"""
+
+
+def symbol_faults(folder):
+    """Which of a cube's vertices are seen before refining: the one behind hides also where it lies on the diagonal of a face before it."""
+    (folder / "cube.txt").write_text(CUBE, encoding="ascii")
+    for seen, words in (7, []), (7, ["--view=1,1,1"]), (4, ["--view=0,0,1"]), (6, ["--view=1,1,0"]), (0, ["--no-dots"]):
+        drawn = run(*DRAW, *words, "--refine", REFINE, folder / "cube.txt").stdout.split("</g>")[0]
+        if drawn.count("<use") != seen:
+            yield f"draw.py {words} shows {drawn.count('<use')} vertices of a cube and not {seen}"
+
+
+def grid_text(points, step, width, height, place):
+    """The text of a wavy grid of faces with sides of `step`; `place` has the number of each point."""
+    rows = [f"{x * 100} {y * 100} {(x - width // 2) * (x - width // 2) * (y - height // 3) // 400}" for x, y in points]
+    starts = [(x, y) for y in range(0, height, step) for x in range(0, width, step)]
+    faces = [[place[x, y], place[x + step, y], place[x + step, y + step], place[x, y + step]] for x, y in starts]
+    body = [f"{len(points)} {len(faces)}", "x y z", *rows, "a b c d", *(" ".join(map(str, face)) for face in faces)]
+    return "".join(line + "\n" for line in ["vertices faces", *body])
+
+
+def large_faults(folder):
+    """A net of 1,500 faces after three rounds, 96,000 faces, is drawn in seconds."""
+    width, height = 400, 240
+    coarse = [(x, y) for y in range(0, height + 1, 8) for x in range(0, width + 1, 8)]
+    points = list(dict.fromkeys([*coarse, *((x, y) for y in range(height + 1) for x in range(width + 1))]))
+    place = {point: n for n, point in enumerate(points)}
+    for name, some, step in ("coarse", coarse, 8), ("fine", points, 1):
+        (folder / f"{name}.txt").write_text(grid_text(some, step, width, height, place), encoding="ascii")
+    began = os.times().children_user
+    answer = run(*DRAW, folder / "coarse.txt", folder / "fine.txt")
+    taken = os.times().children_user - began
+    if answer.returncode or answer.stdout.count("<path") < 97_500 or taken > 12:
+        yield f"draw.py takes {taken:.1f} s for 96,000 faces: {answer.stderr}"
 
 
 def refusals(folder):
@@ -149,8 +207,9 @@ def refusals(folder):
     yield 1, "does not begin with the drawn vertices", [panel, dome]
     yield 2, "one or two nets", [panel]
     yield 2, "one or two nets", ["--refine", REFINE, panel, dome, panel]
-    for view in ("0,0,0", "1,2", "1,2,x"):
-        yield 2, "invalid", [f"--view={view}", panel, panel]
+    yield 2, "--beside wants two nets", ["--refine", REFINE, "--beside", panel]
+    for view in ("0,0,0", "1,2", "1,2,x", "1.5", "1.5,0,1", "-0,0,0", ""):
+        yield 2, "three whole numbers X,Y,Z are wanted", [f"--view={view}", panel, panel]
 
 
 def failing_faults(folder):
@@ -161,6 +220,8 @@ def failing_faults(folder):
     for refine in "cat", "false":
         if run("bash", "tools/pictures.sh", "--check", refine=refine).returncode != 1:
             yield f"tools/pictures.sh --check passes with {refine}"
+    if run(sys.executable, "tools/diagrams.py", "nothing").returncode != 1:
+        yield "tools/diagrams.py draws nothing"
     if run("bash", "tools/pictures.sh", "--chekc").returncode != 2:
         yield "tools/pictures.sh takes a wrong option"
     shutil.copy(ROOT / "examples" / "make.py", folder)
@@ -171,7 +232,7 @@ def failing_faults(folder):
 def main():
     with tempfile.TemporaryDirectory() as name:
         folder = pathlib.Path(name)
-        groups = [example_faults(), seam_faults(), picture_faults(), same_picture_faults(folder), failing_faults(folder)]
+        groups = [example_faults(), seam_faults(), picture_faults(), same_picture_faults(folder), symbol_faults(folder), large_faults(folder), failing_faults(folder)]
         faults = [fault for group in groups for fault in group]
     print(*faults, sep="\n", end="\n" if faults else "")
     sys.exit(1 if faults else 0)

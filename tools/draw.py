@@ -1,8 +1,12 @@
 #!/usr/bin/env python3
 """Draws one or two nets before (left) and after refining (right) as SVG on standard output, from the program's texts.
 
-    draw.py [--view X,Y,Z] NET REFINED [NET REFINED]    what the program read and what it printed
-    draw.py [--view X,Y,Z] --refine COMMAND NET [NET]   runs COMMAND on each net
+    draw.py [OPTIONS] NET REFINED [NET REFINED]    what the program read and what it printed
+    draw.py [OPTIONS] --refine COMMAND NET [NET]   runs COMMAND on each net
+
+    --view X,Y,Z    the direction from the net to the eye, three whole numbers (1,-3,1)
+    --no-dots       leaves out the symbols at the drawn vertices
+    --beside        draws the two refined nets beside each other, with the drawn boundary dashed
 
 Two nets get two colours, and boundary edges with equal points in both are highlighted. Floats meet only + - * / and square roots, so the same
 texts give the same bytes everywhere.
@@ -10,6 +14,7 @@ texts give the same bytes everywhere.
 import argparse
 import math
 import pathlib
+import re
 import shlex
 import subprocess
 import sys
@@ -17,16 +22,19 @@ from collections import Counter, namedtuple
 
 WIDTH, TALLEST, MARGIN, LINE, SLOT = 470, 400, 22, 22, 190
 PAINT = [(158, 203, 232), (246, 208, 138)]
-LEGEND = {"v": "drawn vertex", "c": "corner mark", "x": "extraordinary vertex", "s": "shared boundary"}
-HEAD = """<style>.f{stroke:#46596a;stroke-width:.5;stroke-linejoin:round;stroke-linecap:round}
-.b{stroke:#1d2a35;stroke-width:1.9}.s{stroke:#d3182b;stroke-width:3.2}
-text{font:15px sans-serif;fill:#1d2a35}.t{text-anchor:middle}</style>
-<defs><circle id="v" r="2.6" fill="#1d2a35" stroke="none"/><path id="s" d="M-14 0H6" class="s"/>
+LEGEND = {"v": "drawn vertex", "c": "corner mark", "x": "extraordinary vertex", "s": "shared boundary", "d": "drawn boundary"}
+HEAD = """<style>.f{{stroke:#46596a;stroke-width:{line};stroke-linejoin:round;stroke-linecap:round}}
+.b{{stroke:#1d2a35;stroke-width:1.9}}.s{{stroke:#d3182b;stroke-width:3.2}}.d{{stroke:#d3182b;stroke-width:1.5;stroke-dasharray:5 4;fill:none}}
+text{{font:15px sans-serif;fill:#1d2a35}}.t{{text-anchor:middle}}</style>
+<defs><circle id="v" r="{dot}" fill="#1d2a35" stroke="none"/><path id="s" d="M-14 0H6" class="s"/><path id="d" d="M-16 0H6" class="d"/>
 <rect id="c" x="-4" y="-4" width="8" height="8" fill="#fff" stroke="#1d2a35" stroke-width="1.5"/>
 <circle id="x" r="5" fill="#fff" stroke="#8a1fb0" stroke-width="2.5"/></defs>"""
+# Above so many faces their lines get thinner, above so many drawn vertices their dots smaller.
+MANY_FACES, MANY_DOTS = 1000, 300
 
-Net = namedtuple("Net", "points marks faces rounds")
+Net = namedtuple("Net", "points marks faces rounds boundary")
 View = namedtuple("View", "eye right up light")
+Column = namedtuple("Column", "title nets drawn outlines")
 
 
 def parse(text, name):
@@ -43,7 +51,7 @@ def parse(text, name):
     fits = all(len(face) == 4 and 0 <= min(face) <= max(face) < vertices for face in corners)
     if not fits or len(corners) != faces or not faces or len(rows) != vertices or {len(row) for row in rows} - {3, 4}:
         raise ValueError(f"{name}: not the text of a net with faces")
-    return Net([row[:3] for row in rows], [row[3:] == (1,) for row in rows], corners, rounds)
+    return Net([row[:3] for row in rows], [row[3:] == (1,) for row in rows], corners, rounds, boundary(corners))
 
 
 def run(command, text):
@@ -81,9 +89,9 @@ def unit(a):
 
 def view_from(text):
     """The view from a direction "X,Y,Z" in whole numbers; the light comes from the upper left."""
+    if not re.fullmatch(r"-?\d{1,6}(,-?\d{1,6}){2}", text) or not text.strip("-0,"):
+        raise argparse.ArgumentTypeError("invalid: three whole numbers X,Y,Z are wanted, not all 0, as --view=1,-3,1")
     eye = tuple(map(int, text.split(",")))
-    if len(eye) != 3 or not any(eye):
-        raise ValueError
     right = unit((-eye[1], eye[0], 0) if eye[0] or eye[1] else (1, 0, 0))
     up = unit(cross(eye, right))
     return View(eye, right, up, unit([4 * e - 3 * r + 2 * u for e, r, u in zip(unit(eye), right, up)]))
@@ -103,15 +111,16 @@ def sides(face):
     return zip(face, face[1:] + face[:1])
 
 
-def boundary(net):
+def boundary(faces):
     """The sides without a second face."""
-    count = Counter(frozenset(side) for face in net.faces for side in sides(face))
-    return {side for face in net.faces for side in sides(face) if count[frozenset(side)] == 1}
+    runs = [side for face in faces for side in sides(face)]
+    count = Counter((a, b) if a < b else (b, a) for a, b in runs)
+    return {(a, b) for a, b in runs if count[(a, b) if a < b else (b, a)] == 1}
 
 
 def shared_edges(nets):
     """The boundary edges with equal points in both nets, as sets of two points."""
-    ends = [{frozenset((net.points[a], net.points[b])) for a, b in boundary(net)} for net in nets]
+    ends = [{frozenset((net.points[a], net.points[b])) for a, b in net.boundary} for net in nets]
     return set.intersection(*ends) if len(nets) > 1 else set()
 
 
@@ -126,42 +135,66 @@ def fill(corners, paint, view):
 
 def surface(net, paint, view, place, shared):
     """Faces and their boundary edges, each with its depth and layer."""
-    single = boundary(net)
+    spots, depths = [place(point) for point in net.points], [dot(view.eye, point) for point in net.points]
     for face in net.faces:
         corners = [net.points[v] for v in face]
-        depth = sum(dot(view.eye, point) for point in corners)
-        yield depth, 0, f'<path d="M{" ".join(map(place, corners))}z" fill="{fill(corners, paint, view)}"/>'
-        for a, b in single.intersection(sides(face)):
+        depth = sum(depths[v] for v in face)
+        yield depth, 0, f'<path d="M{" ".join(spots[v] for v in face)}z" fill="{fill(corners, paint, view)}"/>'
+        for a, b in net.boundary.intersection(sides(face)):
             kind = "s" if frozenset((net.points[a], net.points[b])) in shared else "b"
-            yield depth, 1, f'<path class="{kind}" d="M{place(net.points[a])} {place(net.points[b])}"/>'
+            yield depth, 1, f'<path class="{kind}" d="M{spots[a]} {spots[b]}"/>'
 
 
 def covers(triangle, point, eye):
-    """Whether a triangle lies between a point and the eye."""
+    """Whether a triangle, with its sides, lies between a point and the eye."""
     a, b, c = (minus(corner, point) for corner in triangle)
     turns = [dot(eye, cross(p, q)) for p, q in ((a, b), (b, c), (c, a))]
-    return (min(turns) > 0 or max(turns) < 0) and dot(a, cross(b, c)) * sum(turns) > 0
+    return (min(turns) >= 0 or max(turns) <= 0) and dot(a, cross(b, c)) * sum(turns) > 0
 
 
-def hidden(point, nets, eye):
-    faces = ([net.points[v] for v in face] for net in nets for face in net.faces)
+def cells(nets, points, view):
+    """The faces of all nets near each point as it is seen: those that meet the point's cell of a grid."""
+    size = math.isqrt(sum(len(net.faces) for net in nets)) + 1
+    across, upward = ([dot(axis, point) for net in nets for point in net.points] for axis in (view.right, view.up))
+    left, low = min(across), min(upward)
+    wide, tall = max(1.0, max(across) - left), max(1.0, max(upward) - low)
+
+    def cell(point):
+        return int((dot(view.right, point) - left) / wide * size), int((dot(view.up, point) - low) / tall * size)
+
+    near = {cell(point): [] for point in points}
+    for net in nets:
+        spots = [cell(point) for point in net.points]
+        for face in net.faces:
+            columns, rows = zip(*(spots[v] for v in face))
+            for column in range(min(columns), max(columns) + 1):
+                for row in range(min(rows), max(rows) + 1):
+                    if (column, row) in near:
+                        near[column, row].append([net.points[v] for v in face])
+    return {point: near[cell(point)] for point in points}
+
+
+def hidden(point, faces, eye):
     return any(covers(face[:3], point, eye) or covers([*face[2:], face[0]], point, eye) for face in faces if point not in face)
 
 
 def symbols(net, drawn):
     """The drawn vertices with the symbols that they get."""
     valence = Counter(v for face in net.faces for v in face)
-    outer = {v for edge in boundary(net) for v in edge}
+    outer = {v for edge in net.boundary for v in edge}
     return [(net.points[v], "c" if net.marks[v] else "v" if v in outer or valence[v] == 4 else "x") for v in range(drawn)]
 
 
-def scene(nets, drawn, view, place):
-    """All nets, the farthest part first, and the symbols that are seen."""
-    shared = shared_edges(nets)
-    parts = [part for net, paint in zip(nets, PAINT) for part in surface(net, paint, view, place, shared)]
-    found = [symbol for net, count in zip(nets, drawn) for symbol in symbols(net, count)]
-    seen = [(kind, *place(point).split()) for point, kind in found if not hidden(point, nets, view.eye)]
-    return [element for *_, element in sorted(parts)] + ['<use href="#{}" x="{}" y="{}"/>'.format(*symbol) for symbol in seen]
+def scene(column, view, place):
+    """All nets of a column, the farthest part first; its outlines; and the symbols that are seen."""
+    shared = shared_edges(column.nets)
+    parts = [part for net, paint in zip(column.nets, PAINT) for part in surface(net, paint, view, place, shared)]
+    edges = [f"M{place(net.points[a])} {place(net.points[b])}" for net in column.outlines for a, b in sorted(net.boundary)]
+    outline = [f'<path class="d" d="{"".join(edges)}"/>'] if edges else []
+    found = [symbol for net, count in zip(column.nets, column.drawn) for symbol in symbols(net, count)]
+    near = cells(column.nets, [point for point, _ in found], view)
+    seen = [(kind, *place(point).split()) for point, kind in found if not hidden(point, near[point], view.eye)]
+    return [element for *_, element in sorted(parts)] + outline + ['<use href="#{}" x="{}" y="{}"/>'.format(*symbol) for symbol in seen]
 
 
 def captions(title, nets, left, top):
@@ -172,41 +205,63 @@ def captions(title, nets, left, top):
     return [f'<text class="t" x="{left + WIDTH // 2}" y="{top + LINE * n}">{line}</text>' for n, line in enumerate(told)]
 
 
-def legend(nets, drawn, middle, top):
+def legend(columns, middle, top):
     """The symbols that are used, in one row."""
-    kinds = {kind for net, count in zip(nets, drawn) for _, kind in symbols(net, count)} | ({"s"} if shared_edges(nets) else set())
+    kinds = {kind for column in columns for net, count in zip(column.nets, column.drawn) for _, kind in symbols(net, count)}
+    kinds |= {"s" for column in columns if shared_edges(column.nets)} | {"d" for column in columns if column.outlines}
     used = [kind for kind in LEGEND if kind in kinds]
     places = [(kind, middle - len(used) * SLOT // 2 + n * SLOT + 30) for n, kind in enumerate(used)]
     return [f'<use href="#{kind}" x="{x}" y="{top - 5}"/><text x="{x + 14}" y="{top}">{LEGEND[kind]}</text>' for kind, x in places]
 
 
-def svg(before, after, view):
-    """The whole picture."""
-    height, place = frame(before + after, view)
-    drawn = [len(net.points) for net in before]
-    wide, foot = 2 * WIDTH + 4 * MARGIN, MARGIN + height + 32
-    tall = foot + LINE * (len(before) + 1)
+def columns_of(before, after, dots, beside):
+    """Drawn and refined nets, or the refined nets beside each other."""
+    drawn = [len(net.points) * dots for net in before]
+    if beside:
+        titles = [f"{sum(net.marks) or 'no'} corner mark{'s' * (sum(net.marks) != 1)}" for net in before]
+        return [Column(title, [net], [count], [outline]) for title, net, count, outline in zip(titles, after, drawn, before)]
     rounds = " + ".join(dict.fromkeys(str(n) for net in before for n in net.rounds))
-    picture = [f'<svg xmlns="http://www.w3.org/2000/svg" width="{wide}" height="{tall}" viewBox="0 0 {wide} {tall}">', HEAD]
+    return [Column("drawn", before, drawn, []), Column(f"after round {rounds}" if rounds else "refined", after, drawn, [])]
+
+
+def head(columns):
+    """Styles and symbols: thin lines for many faces, small dots for many drawn vertices."""
+    faces = max(sum(len(net.faces) for net in column.nets) for column in columns)
+    dots = max(sum(column.drawn) for column in columns)
+    line, dot_size = (min(1.0, math.sqrt(many / max(1, count))) for many, count in ((MANY_FACES, faces), (MANY_DOTS, dots)))
+    return HEAD.format(line=f"{0.5 * line:.2g}".lstrip("0"), dot=f"{2.6 * dot_size:.2g}")
+
+
+def svg(columns, view):
+    """The whole picture."""
+    height, place = frame([net for column in columns for net in column.nets], view)
+    wide, foot = 2 * WIDTH + 4 * MARGIN, MARGIN + height + 32
+    tall = foot + LINE * (len(columns[0].nets) + 1)
+    picture = [f'<svg xmlns="http://www.w3.org/2000/svg" width="{wide}" height="{tall}" viewBox="0 0 {wide} {tall}">', head(columns)]
     picture.append(f'<rect width="{wide}" height="{tall}" rx="8" fill="#fbfaf6"/>')
-    refined = f"after round {rounds}" if rounds else "refined"
-    for title, nets, left in (("drawn", before, MARGIN), (refined, after, WIDTH + 3 * MARGIN)):
-        picture += [f'<g class="f" transform="translate({left} {MARGIN})">', *scene(nets, drawn, view, place), "</g>"]
-        picture += captions(title, nets, left, foot)
-    picture += [*legend(before, drawn, wide // 2, tall - LINE + 4), "</svg>"]
+    for column, left in zip(columns, (MARGIN, WIDTH + 3 * MARGIN)):
+        picture += [f'<g class="f" transform="translate({left} {MARGIN})">', *scene(column, view, place), "</g>"]
+        picture += captions(column.title, column.nets, left, foot)
+    picture += [*legend(columns, wide // 2, tall - LINE + 4), "</svg>"]
     return "".join(line + "\n" for line in picture)
 
 
 def main():
-    options = argparse.ArgumentParser(description=__doc__, formatter_class=argparse.RawDescriptionHelpFormatter)
-    options.add_argument("--view", type=view_from, default="1,-3,1", metavar="X,Y,Z", help="direction from the net to the eye")
-    options.add_argument("--refine", metavar="COMMAND", help="refiner that reads a net on standard input")
-    options.add_argument("file", nargs="+")
+    usage = "draw.py [--view X,Y,Z] [--no-dots] [--beside] NET REFINED [NET REFINED] | --refine COMMAND NET [NET]"
+    options = argparse.ArgumentParser(usage=usage, description=__doc__, formatter_class=argparse.RawDescriptionHelpFormatter)
+    options.add_argument("--view", type=view_from, default="1,-3,1", metavar="X,Y,Z", help=argparse.SUPPRESS)
+    options.add_argument("--refine", metavar="COMMAND", help=argparse.SUPPRESS)
+    options.add_argument("--no-dots", action="store_true", help=argparse.SUPPRESS)
+    options.add_argument("--beside", action="store_true", help=argparse.SUPPRESS)
+    options.add_argument("file", nargs="+", help=argparse.SUPPRESS)
     given = options.parse_args()
     if len(given.file) not in ((1, 2) if given.refine else (2, 4)):
         options.error("one or two nets, each with its refined net or all with --refine")
+    if given.beside and len(given.file) != (2 if given.refine else 4):
+        options.error("--beside wants two nets")
     try:
-        sys.stdout.write(svg(*read_nets(given.file, given.refine), given.view))
+        before, after = read_nets(given.file, given.refine)
+        sys.stdout.write(svg(columns_of(before, after, not given.no_dots, given.beside), given.view))
     except (OSError, ValueError, subprocess.CalledProcessError) as error:
         sys.exit(f"draw.py: {error}")
 

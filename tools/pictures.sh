@@ -1,5 +1,5 @@
 #!/usr/bin/env bash
-# Makes the pictures in docs/pictures from the nets in examples/, or compares them with --check.
+# Makes the pictures in docs/pictures, from the nets in examples/ and by tools/diagrams.py, or compares them with --check.
 # REFINE is the refiner command, as seen from the repository's root; without it, ./refine.
 set -eu
 cd "$(dirname "$0")/.."
@@ -10,7 +10,7 @@ fi
 made=$(mktemp -d)
 trap 'rm -r "$made"' EXIT
 
-# picture NAME VIEW NET ..
+# picture NAME VIEW [OPTION] NET ..
 picture() {
     local name=$1 view=$2
     shift 2
@@ -20,6 +20,10 @@ picture() {
 picture panel 1,-3,1 examples/panel.txt
 picture seam -6,-5,-1 examples/topside.txt examples/bottom.txt
 picture extraordinary 4,3,2 examples/dome.txt
+picture corners 0,-2,5 --beside examples/hatch.txt examples/unmarked.txt
+for name in $(python3 tools/diagrams.py --list); do
+    python3 tools/diagrams.py "$name" >"$made/$name.svg"
+done
 if [ $# -eq 1 ]; then
     diff -rq "$made" docs/pictures
 else

@@ -1,0 +1,192 @@
+#!/usr/bin/env python3
+"""Tests tools/convert.py, and the cure that README.md names for line ends and a byte order mark. The exit status is 1 if a check fails."""
+import pathlib
+import re
+import subprocess
+import sys
+import tempfile
+
+ROOT = pathlib.Path(__file__).resolve().parent.parent
+CASES = ROOT / "tests/nets/cases"
+SAMPLE = (CASES / "paper-sample.txt").read_text(encoding="ascii")
+MARK = "\ufeff"
+faults = []
+
+CUBE = """# a cube as exporters write one
+mtllib cube.mtl
+o Cube
+v -5.4 -5.4 -5.4
+v +5.4 -5.4 -5.4 1.0
+v 5.4 5.4 -5.4
+v -5.4 5.4 -5.4
+v -5.4 -5.4 5.4 0.5 0.5 0.5
+v 5.4 -5.4 5.4
+v 54e-1 5.4 5.4
+v -5.4 5.4 .54E+1
+vt 0 0
+vn 0 0 1
+s off
+f 4/1/1 3/1/1 2/1/1 1/1/1
+f 5//1 6//1 7//1 8//1
+f 1 2 \\
+  6 5  # below
+f -7 -6 -2 -3
+f 3 4 8 7
+f 4 1 5 8
+"""
+CUBE_TEXT = """vertices faces rounds
+8 6 2
+x y z corner
+-540 -540 -540 0
+540 -540 -540 0
+540 540 -540 0
+-540 540 -540 0
+-540 -540 540 0
+540 -540 540 0
+540 540 540 0
+-540 540 540 0
+a b c d
+3 2 1 0
+4 5 6 7
+0 1 5 4
+1 2 6 5
+2 3 7 6
+3 0 4 7
+"""
+# Two squares that do not share their points yet, one point in no face.
+APART = """v 0 0 0
+v 1 0 0
+v 1 1 0
+v 0 1 0
+v 9 9 9
+v 1.004 0 0
+v 2 0 0
+v 2 1 0
+v 0.996 1 0
+f 1 2 3 4
+f 6 7 8 9
+"""
+JOINED = "vertices faces rounds\n6 2 1\nx y z corner\n0 0 0 1\n100 0 0 0\n100 100 0 0\n0 100 0 1\n200 0 0 1\n200 100 0 1\na b c d\n0 1 2 3\n1 4 5 2\n"
+
+
+def convert(*words, text=""):
+    data = text if isinstance(text, bytes) else text.encode()
+    return subprocess.run([sys.executable, ROOT / "tools/convert.py", *words], input=data, capture_output=True, timeout=60)
+
+
+def gives(name, wanted, *words, text):
+    done = convert(*words, text=text)
+    if done.returncode or done.stderr or done.stdout.decode() != wanted:
+        faults.append(f"{name}: status {done.returncode}, {done.stderr.decode()}{done.stdout[:300]}")
+
+
+def fails(message, *words, text, status=1):
+    done = convert(*words, text=text)
+    said = done.stderr.decode()
+    if done.returncode != status or message not in said or "Traceback" in said or done.stdout:
+        faults.append(f"{words} on {text[:80]!r}: status {done.returncode}, {said}")
+
+
+def refine(data):
+    return subprocess.run([ROOT / "refine"], input=data, capture_output=True, timeout=600).stdout
+
+
+def square(*x):
+    """An OBJ file of one face, whose vertices have these x."""
+    return "".join(f"v {value} {n} 0\n" for n, value in enumerate(x)) + "f 1 2 3 4\n"
+
+
+def both_ways():
+    """Every third accepted stored net with vertices and marks: text, OBJ, text."""
+    names = [path for path in sorted(CASES.glob("*.txt")) if path.with_suffix(".out").read_text(encoding="ascii").startswith("vertices")]
+    texts = [text for text in (path.read_text(encoding="ascii") for path in names) if "corner" in text and text.split()[3] != "0"][::3]
+    if len(texts) < 15:
+        faults.append(f"only {len(texts)} stored nets")
+    for text in texts:
+        rounds = text.split()[5]
+        net = convert("obj", "--scale", "32", text=text).stdout.decode()
+        gives("text to OBJ and back", text, "text", "--scale=32", "--rounds", rounds, text=net)
+        gives("a text stays", text, "text", text=text)
+    answer = (CASES / "paper-sample.out").read_text(encoding="ascii")
+    gives("an answer to refine again", answer.replace("faces\n9 4\n", "faces rounds\n9 4 3\n"), "text", "--rounds=3", text=answer)
+
+
+def cures(folder):
+    form = (ROOT / "README.md").read_text(encoding="utf-8")
+    command = re.search(r"^    (sed -i .*) net\.txt$", form, re.M)[1]
+    bare = SAMPLE.replace("\n", "\r\n")
+    for text in bare, MARK + SAMPLE, MARK + bare:
+        if refine(text.encode()) != b"refusal place\n13 1\n":
+            faults.append(f"not refused at line 1: {text[:30]!r}")
+        gives("a cured text", SAMPLE, "text", text=text)
+        (folder / "net.txt").write_bytes(text.encode())
+        subprocess.run(["bash", "-c", f"{command} net.txt"], cwd=folder, check=True)
+        if (folder / "net.txt").read_bytes() != SAMPLE.encode():
+            faults.append(f"{command} does not cure {text[:30]!r}")
+    gives("blanks, signs and zeros", SAMPLE, "text", text=SAMPLE.replace(" ", "  ").replace("\n", " \n").replace("16", "+016").rstrip())
+    gives("old line ends", SAMPLE, "text", text=SAMPLE.replace("\n", "\r"))
+    gives("OBJ with both", CUBE_TEXT, "text", "--scale=100", text=MARK + CUBE.replace("\n", "\r\n"))
+
+
+def scales():
+    """Halves away from zero, worked out exactly: in binary floats 1.005 * 100 is below 100.5."""
+    exact = {"1.005": 101, "-1.005": -101, "0.005": 1, "-0.005": -1, "0.00499999999999999999999999": 0, "-0.00499999999999999999999999": 0,
+             "1e2": 10000, "5e-3": 1, "10485.76": 1048576, "-10485.76499": -1048576, ".5": 50, "7.": 700}
+    for n in range(0, len(exact), 4):
+        words = list(exact)[n:n + 4]
+        done = convert("text", "--scale=100", text=square(*words)).stdout.decode().splitlines()[3:7]
+        if [int(line.split()[0]) for line in done] != [exact[word] for word in words]:
+            faults.append(f"{words} become {done}")
+    gives("decimals in a text", SAMPLE, "text", "--scale=10", text=SAMPLE.replace("16 ", "1.6 "))
+    inch = convert("obj", "--scale=2540", text=SAMPLE.replace("16 16 0", "1270 -2541 0"))
+    fails("line 5: a coordinate without a last decimal", "obj", "--scale=2540", text=SAMPLE.replace("16 0 0", "1 0 0"))
+    if inch.returncode == 0:
+        faults.append("-2541/2540 has been written as a decimal")
+
+
+def nets():
+    gives("a cube", CUBE_TEXT, "text", "--scale=100", text=CUBE)
+    gives("welded", JOINED, "text", "--scale=100", "--rounds=1", "--weld", "--drop", "--corners", text=APART)
+    gives("marks by points", SAMPLE.replace(" 1 1\n", " 1 2\n", 1).replace("0 16 0 1", "0 16 0 0"), "text", text="v 0 0 0\nv 16 0 0\nv 16 16 0\nv 0 16 0\np 1 2\np -2\nf 1 2 3 4\n")
+    refined = convert("obj", "--scale=100", text=refine(convert("text", "--scale=100", text=CUBE).stdout)).stdout.decode().splitlines()
+    if [line.split()[0] for line in refined] != ["v"] * 98 + ["f"] * 96 or "v 0 -5.9 -5.9" not in refined:
+        faults.append(f"the cube from OBJ to OBJ: {refined[:40]}")
+
+
+def refusals():
+    for corners, count in ("1 2 3", 3), ("1 2 3 4 1", 5), ("1 2", 2):
+        fails(f"line 5: a face of {count} corners", "text", text=square(0, 1, 2, 3).replace("1 2 3 4", corners))
+    fails("line 9: a face of 3 corners", "text", text=SAMPLE.replace("0 1 2 3\n", "0 1 2\n"))
+    fails("line 9: a face of 3 corners", "obj", text=SAMPLE.replace("0 1 2 3\n", "0 1 2\n"))
+    for corner in "5", "0", "-5":
+        fails("line 5: a corner that is no vertex", "text", text=square(0, 1, 2, 3).replace(" 4\n", f" {corner}\n"))
+    for word in "nan", "inf", "1,5", "0x10", "1e999", "--1":
+        fails(f"line 2: {word} is not a decimal number", "text", text=square(0, word, 2, 3))
+    fails("line 3: a coordinate of 1,048,577 counts", "text", text=square(0, 1, 1048576.5, 3))
+    fails("line 7: two corners of the face are equal points", "text", "--weld", text=square(0, 1, 2, 3).replace("f", "v 0 0 0\nv 0 0 0\nf").replace("f 1 2 3 4", "f 1 2 3 5"))
+    fails("line 1: a refusal, number and place 13 1", "obj", text="refusal place\n13 1\n")
+    fails("line 1: neither", "text", text="")
+    fails("line 1: 'hello'", "text", text="hello\n")
+    fails("line 1: '", "text", text=b"\xff\xfe\0v\0")
+    fails("line 9: a line is missing", "obj", text=SAMPLE[:SAMPLE.index("0 1 2 3")])
+    fails("line 10: a surplus line", "text", text=SAMPLE + "0 1 2 3\n")
+    fails("line 4: a mark is 0 or 1", "text", text=SAMPLE.replace("0 0 0 1", "0 0 0 2"))
+    fails("line 2: ", "text", text="vertices faces rounds\n4\n")
+    fails("only that is written as OBJ", "obj", text=CUBE)
+    fails("No such file", "text", "nowhere", text="")
+    fails("Is a directory", "text", "/", text="")
+    for words in ("ply",), ("text", "--scale=0"), ("text", "--scale=x"), ("text", "--rounds=7"), ("obj", "--weld"), (), ("text", "a", "b"):
+        fails("usage", *words, text=SAMPLE, status=2)
+
+
+def main():
+    with tempfile.TemporaryDirectory() as name:
+        cures(pathlib.Path(name))
+    for part in both_ways, scales, nets, refusals:
+        part()
+    print(*faults, sep="\n", end="\n" if faults else "")
+    sys.exit(1 if faults else 0)
+
+
+if __name__ == "__main__":
+    main()
