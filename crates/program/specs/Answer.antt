@@ -19,6 +19,10 @@ abbrev pub answerBy : Verdict → tables.Net → List ℕ
 answerBy accepted m = answerText (verticesOf (vertexCount m) (m .vertices) (m .marks)) (facesOf (faceCount m) (m .faces))
 answerBy (refused r p) m = refusalText r p
 
+-- the net n after k rounds, or refusal 5 to 12
+abbrev pub refinedText : ℕ → tables.Net → List ℕ
+refinedText k n = answerBy (netVerdict n) (steps kobbelt k n)
+
 -- Paper 01: 13 "is tested before 1"; then 1, 3 and 4 from the counts, then 5 to 12 from the net
 abbrev pub answerTo : Parsed Net → List ℕ
 answerTo (parsed n l) = answerBy (orElse (countsVerdict (n .counts)) (netVerdict (tablesOf n))) (steps kobbelt (n .counts .rounds) (tablesOf n))
