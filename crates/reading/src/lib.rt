@@ -14,13 +14,13 @@ ghost use Rattle.reading.specs.Loaded.{cornersOf, countsVerdict, loaded,
 ghost use Rattle.reading.specs.Answers.{Counted, countsAre, headIs, headOf, headUsed, GivesBody, Checks, VerticesStored, answerOf, Tables};
 
 // Lines that have the form, and their bytes.
-pub struct Block {
-    pub good: usize,
-    pub used: usize,
+struct Block {
+    good: usize,
+    used: usize,
 }
 
 // The first three lines, or the number of the first bad one.
-pub enum HeadLines {
+enum HeadLines {
     Head {
         vertices: u32,
         faces: u32,
@@ -32,12 +32,12 @@ pub enum HeadLines {
 }
 
 // Where the faces start, or the number of the first bad line.
-pub enum BodyLines {
+enum BodyLines {
     Body(usize),
     Bad(usize),
 }
 
-pub enum Checked {
+enum Checked {
     Form {
         vertices: u32,
         faces: u32,
