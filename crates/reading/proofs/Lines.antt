@@ -7,7 +7,7 @@ use lib.ListN.{length, take, drop}
 use lib.Seq.{drop-drop}
 use Rattle.decimal.specs.Decimal.{Read, found, bad}
 use Rattle.decimal.specs.Answers.{Gives}
-use Rattle.decimal.proofs.Reading.{says-at}
+use Rattle.decimal.proofs.Reading.{says-at, took-at}
 use types.Run.{OneOf, miss}
 use denote.Enum.Declared.{tagOf}
 use Rattle.text.specs.Form.{rows, rowsAfter, noRows, oneMore, only, isInput, isCorners, readNames}
@@ -79,6 +79,15 @@ module _ {A : Type 0} {read : List ℕ → Read A} {count : ℕ} {l : List ℕ} 
   passed-more v n h e w =
       let k = rows-next read count l good used v n h e in
       record { few = omega arith; within = w; number = p .number ∙ rw k (omega arith); rest = p .rest ∙ rw k }
+
+-- ---- the line of l from `at` on, where its reader's answer is q
+pub record LineAt {R A : Type 0} (of : R → List ℕ → Read A) (used : R → ℕ) (read : List ℕ → Read A) (l : List ℕ) (at : ℕ) (q : R) : Type 0 where
+  pub reads : read (drop at l) ≡ of q (drop at l)
+  pub within : at + used q ≤ length l
+
+pub line-at : {R A : Type 0} {of : R → List ℕ → Read A} {used : R → ℕ} {r q : R} (read : List ℕ → Read A) (l : List ℕ) (at : ℕ)
+    → Gives of used r (take (length l - at) (drop at l)) (read (take (length l - at) (drop at l))) → r ≡ q → at ≤ length l → LineAt of used read l at q
+line-at read l at g e h = record { reads = says-at read l at g e; within = took-at read l at g e h }
 
 -- ---- lines of other names
 not-input-tag : (r : NamesLine) (l : List ℕ) → OneOf (1 ∷ 2 ∷ 3 ∷ 4 ∷ []) (tagOf generated.the-type r) → only isInput (namesOf r l) ≡ bad

@@ -5,10 +5,11 @@ use native.Mathlib.Omega.{arith}
 use lib.ListN.{length, drop, length-drop, drop-of-length-le}
 use lib.Seq.{drop-drop}
 use Rattle.decimal.specs.Decimal.{found}
-use Rattle.decimal.proofs.Reading.{says-at, took-at}
 use Rattle.text.specs.Form.{Head, Vertex, Face, Rows, rows, badLine, corners, readNames, readVertex, readFace}
+use Rattle.text.specs.Answers.{namesOf, namesUsed}
+use Rattle.text.specs.declared.NamesLine.the-variants as names
 use Rattle.reading.specs.Answers.{headIs}
-use Rattle.reading.proofs.Lines.{rows-length, not-corners-at}
+use Rattle.reading.proofs.Lines.{LineAt, line-at, rows-length, not-corners-at}
 use Rattle.reading.proofs.Body.{block-good, block-rest, block-within, NamesRead, body-vertex, body-names, body-face, body-surplus, body-whole}
 use borrow.Author.Needs.{needs}
 use Rattle.reading.proofs.check_body.Statement.{statement}
@@ -44,19 +45,18 @@ vertices-of n = n .before .before .before .before .before .before .before
 abbrev faces-at : tie.After-n → ℕ
 faces-at n = names-at (vertices-of n) + n .n .given .0 .0
 
+names-line : (n : tie.After-n) → LineAt namesOf namesUsed readNames (begin (vertices-of n) .args .text .now) (names-at (vertices-of n)) (names.Corners (n .n .given .0 .0))
+names-line n = line-at _ _ _ (n .before .before .read-names .ensures) (n .n .given .1) (vertices-within (vertices-of n))
+
 names-good : (n : tie.After-n)
     → (let s = begin (vertices-of n) in let l = s .args .text .now in NamesRead (head s) (drop (s .args .at) l) (drop (faces-at n) l))
 names-good n =
     let v = vertices-of n in
-    let l = begin v .args .text .now in
-    let e = says-at readNames l (names-at v) (n .before .before .read-names .ensures) (n .n .given .1) in
+    let d = drop-drop (n .n .given .0 .0) (names-at v) (begin v .args .text .now) in
     record {
       all = sym (vertices-good v) ∙ n .before .before .before .before .before .if1 .left;
-      names = rw (vertices-rest v) (e ∙ ap (found corners) (drop-drop (n .n .given .0 .0) (names-at v) l));
+      names = rw (vertices-rest v) (names-line n .reads ∙ ap (found corners) d);
     }
-
-names-within : (n : tie.After-n) → faces-at n ≤ length (begin (vertices-of n) .args .text .now)
-names-within n = took-at readNames (begin (vertices-of n) .args .text .now) (names-at (vertices-of n)) (n .before .before .read-names .ensures) (n .n .given .1) (vertices-within (vertices-of n))
 
 -- ---- the face lines
 abbrev names-of : tie.After-count-faces → tie.After-n
@@ -75,7 +75,7 @@ faces-rest : (f : tie.After-count-faces) → face-rows f .rest ≡ drop (faces-a
 faces-rest f = block-rest readFace (args-of f .args .faces) (args-of f .args .text .now) (faces-at (names-of f)) _ (f .count-faces .ensures)
 
 faces-within : (f : tie.After-count-faces) → faces-at (names-of f) + f .count-faces .result .used ≤ length (args-of f .args .text .now)
-faces-within f = block-within readFace (args-of f .args .faces) (args-of f .args .text .now) (faces-at (names-of f)) _ (f .count-faces .ensures) (names-within (names-of f))
+faces-within f = block-within readFace (args-of f .args .faces) (args-of f .args .text .now) (faces-at (names-of f)) _ (f .count-faces .ensures) (names-line (names-of f) .within)
 
 sub-count-vertices : tie.Need-sub-count-vertices
 sub-count-vertices c = search needs
@@ -137,13 +137,13 @@ returns-2 c =
     record { reads = body-names (head s) (drop (s .args .at) l) all (rw (vertices-rest v) bad); within = omega arith }
 
 add-j : tie.Need-add-j
-add-j c = let w = names-within (c .before) in omega arith
+add-j c = let w = names-line (c .before) .within in omega arith
 
 sub-count-faces : tie.Need-sub-count-faces
-sub-count-faces c = names-within (c .before)
+sub-count-faces c = names-line (c .before) .within
 
 part-count-faces-start : tie.Need-part-count-faces-start
-part-count-faces-start c = names-within (c .before)
+part-count-faces-start c = names-line (c .before) .within
 
 part-count-faces-end : tie.Need-part-count-faces-end
 part-count-faces-end c = search needs
@@ -199,7 +199,7 @@ returns-5 c =
     let l = args-of f .args .text .now in
     let e : length l ≤ faces-at n + f .count-faces .result .used = omega (arith, c .if3 .left) in
     let r = faces-rest f ∙ drop-of-length-le l {i = faces-at n + f .count-faces .result .used} e in
-    record { reads = body-whole (names-good n) (sym (faces-good f) ∙ c .before .before .if2 .left) r; within = names-within n }
+    record { reads = body-whole (names-good n) (sym (faces-good f) ∙ c .before .before .if2 .left) r; within = names-line n .within }
 
 pub check-body-spec : {M : Type 1} → statement M
 check-body-spec =

@@ -4,12 +4,12 @@ use Prim.Native.Nat.{ℕ, _+_, _≤_}
 use native.Mathlib.Omega.{arith}
 use lib.ListN.{length, drop}
 use Rattle.decimal.specs.Decimal.{found}
-use Rattle.decimal.proofs.Reading.{says, took, says-at, took-at}
+use Rattle.decimal.proofs.Reading.{says, took, says-at}
 use Rattle.text.specs.declared.NamesLine.{NamesLine}
 use Rattle.text.specs.Form.{input, marked, unmarked, isColumns, only, readNames, readCounts}
 use Rattle.text.specs.Answers.{namesOf, namesUsed}
 use Rattle.reading.proofs.Head.{CountsRead, names-bad, counts-bad, columns-bad, head-good}
-use Rattle.reading.proofs.Lines.{not-input}
+use Rattle.reading.proofs.Lines.{LineAt, line-at, not-input}
 use borrow.Author.Needs.{needs}
 use Rattle.reading.proofs.check_head.Statement.{statement}
 use Rattle.reading.proofs.check_head.Tie as tie
@@ -30,14 +30,8 @@ first p = p .before .before .before .before .before
 
 counts : (p : tie.After-vertices) → (let i = first p in let g = p .vertices .given .0 in CountsRead (begin i .args .text .now) (i .i .given .0 .0) (g .0) (g .1 .0) (g .1 .1 .0) (g .1 .1 .1 .0))
 counts p =
-    let i = first p in
-    let l = begin i .args .text .now in
-    let r = p .before .before .read-counts .ensures in
-    record {
-      names = names-given i;
-      counts = says-at readCounts l (i .i .given .0 .0) r (p .vertices .given .1);
-      within = took-at readCounts l (i .i .given .0 .0) r (p .vertices .given .1) (names-within i);
-    }
+    let e = line-at readCounts (begin (first p) .args .text .now) (first p .i .given .0 .0) (p .before .before .read-counts .ensures) (p .vertices .given .1) (names-within (first p)) in
+    record { names = names-given (first p); counts = e .reads; within = e .within }
 
 -- the third line starts at j
 abbrev second : tie.After-read-names2 → tie.After-vertices
@@ -46,12 +40,8 @@ second p = p .before .before .before
 abbrev j : tie.After-read-names2 → ℕ
 j p = first (second p) .i .given .0 .0 + second p .vertices .given .0 .1 .1 .1 .0
 
-columns : (p : tie.After-read-names2) {q : NamesLine} → p .read-names2 .result ≡ q
-    → (let l = begin (first (second p)) .args .text .now in readNames (drop (j p) l) ≡ namesOf q (drop (j p) l))
-columns p e = says-at readNames (begin (first (second p)) .args .text .now) (j p) (p .read-names2 .ensures) e
-
-columns-within : (p : tie.After-read-names2) {q : NamesLine} → p .read-names2 .result ≡ q → j p + namesUsed q ≤ length (begin (first (second p)) .args .text .now)
-columns-within p e = took-at readNames (begin (first (second p)) .args .text .now) (j p) (p .read-names2 .ensures) e (counts (second p) .within)
+columns : (p : tie.After-read-names2) {q : NamesLine} → p .read-names2 .result ≡ q → LineAt namesOf namesUsed readNames (begin (first (second p)) .args .text .now) (j p) q
+columns p e = line-at _ _ _ (p .read-names2 .ensures) e (counts (second p) .within)
 
 read-names-requires : tie.Need-read-names-requires
 read-names-requires c κs = search needs
@@ -105,13 +95,13 @@ enum-known-n : tie.Need-enum-known-n
 enum-known-n c = search needs
 
 add-t21 : tie.Need-add-t21
-add-t21 c = omega (arith, columns-within (c .before .before .before) (c .before .n .given .1))
+add-t21 c = omega (arith, columns (c .before .before .before) (c .before .n .given .1) .within)
 
 enum-known-n-2 : tie.Need-enum-known-n-2
 enum-known-n-2 c = search needs
 
 add-t22 : tie.Need-add-t22
-add-t22 c = omega (arith, columns-within (c .before .before .before) (c .before .n2 .given .1))
+add-t22 c = omega (arith, columns (c .before .before .before) (c .before .n2 .given .1) .within)
 
 enum-told-2 : tie.Need-enum-told-2
 enum-told-2 c = search needs
@@ -125,23 +115,23 @@ enum-told-4 c = search needs
 returns-3 : tie.Need-returns-3
 returns-3 c =
     let p = c .before .before .before in
-    let e = c .before .n .given .1 in
-    head-good (counts (second p)) marked _ refl (columns p e) (columns-within p e)
+    let e = columns p (c .before .n .given .1) in
+    head-good (counts (second p)) marked _ refl (e .reads) (e .within)
 
 returns-4 : tie.Need-returns-4
 returns-4 c =
     let p = c .before .before .before in
-    let e = c .before .n2 .given .1 in
-    head-good (counts (second p)) unmarked _ refl (columns p e) (columns-within p e)
+    let e = columns p (c .before .n2 .given .1) in
+    head-good (counts (second p)) unmarked _ refl (e .reads) (e .within)
 
 returns-5 : tie.Need-returns-5
-returns-5 c = let p = c .before .before in columns-bad (counts (second p)) (ap (only isColumns) (columns p (c .enum-told2 .given .1)))
+returns-5 c = let p = c .before .before in columns-bad (counts (second p)) (ap (only isColumns) (columns p (c .enum-told2 .given .1) .reads))
 
 returns-6 : tie.Need-returns-6
-returns-6 c = let p = c .before .before in columns-bad (counts (second p)) (ap (only isColumns) (columns p (c .enum-told3 .given .1)))
+returns-6 c = let p = c .before .before in columns-bad (counts (second p)) (ap (only isColumns) (columns p (c .enum-told3 .given .1) .reads))
 
 returns-7 : tie.Need-returns-7
-returns-7 c = let p = c .before .before in columns-bad (counts (second p)) (ap (only isColumns) (columns p (c .enum-told4 .given .1)))
+returns-7 c = let p = c .before .before in columns-bad (counts (second p)) (ap (only isColumns) (columns p (c .enum-told4 .given .1) .reads))
 
 pub check-head-spec : {M : Type 1} → statement M
 check-head-spec =

@@ -1,14 +1,14 @@
 -- `reading::store_faces` meets its contract. Assumes nothing.
 use mathlib.Core.Path.{_≡_}
-use Prim.Native.Nat.{_+_, _*_, _-_, _≤_}
+use Prim.Native.Nat.{_*_, _-_, _≤_}
 use native.Mathlib.Omega.{arith}
 use borrow.Author.Needs.{needs}
-use lib.ListN.{length, drop, length-set}
-use Rattle.decimal.proofs.Reading.{says-at, took-at}
+use lib.ListN.{length, length-set}
 use Rattle.text.specs.declared.FaceLine.{FaceLine}
 use Rattle.text.specs.Form.{readFace}
 use Rattle.text.specs.Answers.{faceOf, faceUsed}
 use Rattle.reading.specs.Loaded.{cornersOf}
+use Rattle.reading.proofs.Lines.{LineAt, line-at}
 use Rattle.reading.proofs.Storing.{Filling, filling-none, filling-more, filling-over, filling-bad, four-stores, no-corners}
 use Rattle.reading.proofs.store_faces.Statement.{statement}
 use Rattle.reading.proofs.store_faces.Tie as tie
@@ -30,11 +30,8 @@ abbrev begin : tie.At-loop Inv-loop μ-loop → tie.Start Inv-loop μ-loop
 begin l = l .before .before .before
 
 line : (p : tie.After-read-face Inv-loop μ-loop) {q : FaceLine} → p .read-face .result ≡ q
-    → (let a = begin (turn p) .args in let m = drop (turn p .loop .at) (a .text .now) in readFace m ≡ faceOf q m)
-line p e = let a = begin (turn p) .args in says-at readFace (a .text .now) (turn p .loop .at) (p .read-face .ensures) e
-
-line-within : (p : tie.After-read-face Inv-loop μ-loop) {q : FaceLine} → p .read-face .result ≡ q → turn p .loop .at + faceUsed q ≤ length (begin (turn p) .args .text .now)
-line-within p e = let a = begin (turn p) .args in took-at readFace (a .text .now) (turn p .loop .at) (p .read-face .ensures) e (turn p .loop .inv .1)
+    → (let a = begin (turn p) .args in LineAt faceOf faceUsed readFace (a .text .now) (turn p .loop .at) q)
+line p e = line-at _ _ _ (p .read-face .ensures) e (turn p .loop .inv .1)
 
 sub-read-face : tie.Need-sub-read-face Inv-loop μ-loop
 sub-read-face c = search needs
@@ -58,7 +55,7 @@ same-length : tie.Need-same-length Inv-loop μ-loop
 same-length c = search needs
 
 returns : tie.Need-returns Inv-loop μ-loop
-returns c = let p = c .before .before in filling-bad (turn p .loop .inv .2) no-corners (line p (c .enum-told .given .1))
+returns c = let p = c .before .before in filling-bad (turn p .loop .inv .2) no-corners (line p (c .enum-told .given .1) .reads)
 
 mul-faces : tie.Need-mul-faces Inv-loop μ-loop
 mul-faces c = search needs
@@ -106,7 +103,7 @@ slice-write-faces-4 : tie.Need-slice-write-faces-4 Inv-loop μ-loop
 slice-write-faces-4 c = simp length-set (omega arith)
 
 add-at : tie.Need-add-at Inv-loop μ-loop
-add-at c = omega (arith, line-within (c .before .before .before) (c .before .a .given .1))
+add-at c = omega (arith, line (c .before .before .before) (c .before .a .given .1) .within)
 
 add-i : tie.Need-add-i Inv-loop μ-loop
 add-i c = search needs
@@ -118,8 +115,8 @@ loop-again : tie.Need-loop-again Inv-loop μ-loop
 loop-again c =
     let p = c .before .before .before in
     let l = turn p .loop in
-    let e = c .before .a .given .1 in
-    (omega arith, line-within p e, filling-more (l .inv .2) _ _ _ _ (p .before .before .loop-test .taken) (line p e) (four-stores (l .faces) (l .i) _) (simp length-set))
+    let e = line p (c .before .a .given .1) in
+    (omega arith, e .within, filling-more (l .inv .2) _ _ _ _ (p .before .before .loop-test .taken) (e .reads) (four-stores (l .faces) (l .i) _) (simp length-set))
 
 same-length-2 : tie.Need-same-length-2 Inv-loop μ-loop
 same-length-2 c = search needs

@@ -1,17 +1,17 @@
 -- `reading::store_vertices` meets its contract. Assumes nothing.
 use mathlib.Core.Path.{_≡_}
-use Prim.Native.Nat.{_+_, _*_, _-_, _≤_}
+use Prim.Native.Nat.{_*_, _-_, _≤_}
 use mir.Syntax.{w32}
 use mir.Val.{SFits}
 use mir.Facts.{toZ-ofZ}
 use native.Mathlib.Omega.{arith}
 use borrow.Author.Needs.{needs}
-use lib.ListN.{length, drop, length-set}
-use Rattle.decimal.proofs.Reading.{says-at, took-at}
+use lib.ListN.{length, length-set}
 use Rattle.text.specs.declared.VertexLine.{VertexLine}
 use Rattle.text.specs.Form.{readVertex}
 use Rattle.text.specs.Answers.{vertexOf, vertexUsed}
 use Rattle.reading.specs.Loaded.{coordinates, marksOf}
+use Rattle.reading.proofs.Lines.{LineAt, line-at}
 use Rattle.reading.proofs.Storing.{Filling, filling-none, filling-more, filling-over, filling-bad, three-stores, one-store, no-coordinates, no-marks}
 use Rattle.reading.proofs.store_vertices.Statement.{statement}
 use Rattle.reading.proofs.store_vertices.Tie as tie
@@ -37,11 +37,8 @@ abbrev begin : tie.At-loop Inv-loop μ-loop → tie.Start Inv-loop μ-loop
 begin l = l .before .before .before
 
 line : (p : tie.After-read-vertex Inv-loop μ-loop) {q : VertexLine} → p .read-vertex .result ≡ q
-    → (let a = begin (turn p) .args in let m = drop (turn p .loop .at) (a .text .now) in readVertex (a .marked) m ≡ vertexOf q m)
-line p e = let a = begin (turn p) .args in says-at (readVertex (a .marked)) (a .text .now) (turn p .loop .at) (p .read-vertex .ensures) e
-
-line-within : (p : tie.After-read-vertex Inv-loop μ-loop) {q : VertexLine} → p .read-vertex .result ≡ q → turn p .loop .at + vertexUsed q ≤ length (begin (turn p) .args .text .now)
-line-within p e = let a = begin (turn p) .args in took-at (readVertex (a .marked)) (a .text .now) (turn p .loop .at) (p .read-vertex .ensures) e (turn p .loop .inv .1)
+    → (let a = begin (turn p) .args in LineAt vertexOf vertexUsed (readVertex (a .marked)) (a .text .now) (turn p .loop .at) q)
+line p e = line-at _ _ _ (p .read-vertex .ensures) e (turn p .loop .inv .1)
 
 sub-read-vertex : tie.Need-sub-read-vertex Inv-loop μ-loop
 sub-read-vertex c = search needs
@@ -70,7 +67,7 @@ same-length-2 c = search needs
 returns : tie.Need-returns Inv-loop μ-loop
 returns c =
     let p = c .before .before in
-    let e = line p (c .enum-told .given .1) in
+    let e = line p (c .enum-told .given .1) .reads in
     record { table = filling-bad (turn p .loop .inv .2) no-coordinates e; marks = filling-bad (turn p .loop .inv .3) no-marks e }
 
 mul-x : tie.Need-mul-x Inv-loop μ-loop
@@ -110,7 +107,7 @@ slice-write-marks : tie.Need-slice-write-marks Inv-loop μ-loop
 slice-write-marks c = search needs
 
 add-at : tie.Need-add-at Inv-loop μ-loop
-add-at c = omega (arith, line-within (c .before .before .before) (c .before .x .given .1))
+add-at c = omega (arith, line (c .before .before .before) (c .before .x .given .1) .within)
 
 add-i : tie.Need-add-i Inv-loop μ-loop
 add-i c = search needs
@@ -128,9 +125,9 @@ loop-again c =
     let t = p .before .before .loop-test .taken in
     let e = line p (c .before .x .given .1) in (
       omega arith,
-      line-within p (c .before .x .given .1),
-      simp toZ-ofZ (filling-more (l .inv .2) _ _ _ _ t e (three-stores (l .vertices) (l .i) _) (simp length-set)),
-      filling-more (l .inv .3) _ _ _ _ t e (one-store (l .marks) (l .i) _) (simp length-set),
+      e .within,
+      simp toZ-ofZ (filling-more (l .inv .2) _ _ _ _ t (e .reads) (three-stores (l .vertices) (l .i) _) (simp length-set)),
+      filling-more (l .inv .3) _ _ _ _ t (e .reads) (one-store (l .marks) (l .i) _) (simp length-set),
     )
 
 same-length-3 : tie.Need-same-length-3 Inv-loop μ-loop
