@@ -1,6 +1,6 @@
 -- Reading a number, one byte a turn. Assumes nothing.
 use Rattle.decimal.proofs.Examples as examples
-use mathlib.Core.Path.{_≡_, refl, sym, ap, _∙_}
+use mathlib.Core.Path.{_≡_, refl, sym, ap, _∙_, subst}
 use mathlib.Core.Bool.{Bool, true, false, cond, _&&_}
 use mathlib.Core.List.{List, [], _∷_}
 use Prim.Native.Nat.{ℕ, zero, suc, _+_, _*_, _-_, _≤_, _<_}
@@ -16,7 +16,7 @@ use Rattle.decimal.specs.Decimal.{Read, found, bad, isDigit, readDigits,
 use Rattle.decimal.specs.declared.Number.the-variants as number
 use Rattle.decimal.specs.declared.Number.{Number}
 use Rattle.decimal.specs.declared.Integer.the-variants as integer
-use Rattle.decimal.specs.Answers.{numberOf, GivesNumber, GivesInteger}
+use Rattle.decimal.specs.Answers.{numberOf, Gives, GivesNumber, GivesInteger}
 
 module _ (l : List ℕ) (i v : ℕ) (h : i < length l) where
   at : drop i l ≡ getD l i 0 ∷ drop (i + 1) l
@@ -106,6 +106,25 @@ module _ (limit : ℕ) where
 pub part-rest : (l : List ℕ) (a : ℕ) → take (length l - a) (drop a l) ≡ drop a l
 part-rest l a = take-all (length l - a) (drop a l) (omega (arith, length-drop a l))
 
+-- ---- an answer r that is q: what it says, and what it took
+module _ {R A : Type 0} {of : R → List ℕ → A} {used : R → ℕ} {r q : R} where
+  pub says : {l : List ℕ} {what : A} → Gives of used r l what → r ≡ q → what ≡ of q l
+  says {l} g e = sym (g .reads) ∙ ap (λ o. of o l) e
+
+  pub took : {l : List ℕ} {what : A} → Gives of used r l what → r ≡ q → used q ≤ length l
+  took {l} g e = subst (λ o. used o ≤ length l) e (g .within)
+
+  -- the same of the part of l from a on
+  module _ (read : List ℕ → A) (l : List ℕ) (a : ℕ) (g : Gives of used r (take (length l - a) (drop a l)) (read (take (length l - a) (drop a l)))) (e : r ≡ q) where
+    here : Gives of used r (drop a l) (read (drop a l))
+    here = subst (λ (p : List ℕ). Gives of used r p (read p)) (part-rest l a) g
+
+    pub says-at : read (drop a l) ≡ of q (drop a l)
+    says-at = says here e
+
+    pub took-at : a ≤ length l → a + used q ≤ length l
+    took-at h = let w = took here e in omega (arith, length-drop a l)
+
 -- ---- a minus, or none
 pub integer-none : (l : List ℕ) → length l ≡ 0 → GivesInteger integer.Bad l (readInteger l)
 unfolding readInteger
@@ -131,42 +150,52 @@ negated-zero zero l h = refl
 negated-zero (suc m) l h = absurd (omega arith)
 
 -- r is the answer for what stands after the minus
-module _ (l : List ℕ) (r : Number) (h : 0 < length l) (s : getD l 0 0 ≡ 45)
-    (g : GivesNumber r (take (length l - 1) (drop 1 l)) (readNatural 2147483648 (take (length l - 1) (drop 1 l)))) where
-  after : readInteger l ≡ negated (numberOf r (drop 1 l))
-  after = integer-negative l h s ∙ ap negated (sym (rw (part-rest l 1) at (g .reads)))
+pub record AfterMinus (l : List ℕ) (r : Number) : Type 0 where
+  pub some : 0 < length l
+  pub minus : getD l 0 0 ≡ 45
+  pub gives : GivesNumber r (take (length l - 1) (drop 1 l)) (readNatural 2147483648 (take (length l - 1) (drop 1 l)))
+
+module _ {l : List ℕ} {r : Number} (a : AfterMinus l r) where
+  after : {q : Number} → r ≡ q → readNatural 2147483648 (drop 1 l) ≡ numberOf q (drop 1 l)
+  after e = says-at (readNatural 2147483648) l 1 (a .gives) e
+
+  reads : {q : Number} → r ≡ q → readInteger l ≡ negated (numberOf q (drop 1 l))
+  reads e = integer-negative l (a .some) (a .minus) ∙ ap negated (after e)
 
   pub negative-bad : r ≡ number.Bad → GivesInteger integer.Bad l (readInteger l)
-  negative-bad e = record { reads = sym (after ∙ ap (λ (q : Number). negated (numberOf q (drop 1 l))) e); within = omega arith }
+  negative-bad e = record { reads = sym (reads e); within = omega arith }
 
-  pub negative-zero : (m n : ℕ) → r ≡ number.Value m n → m ≡ 0 → GivesInteger integer.Bad l (readInteger l)
-  negative-zero m n e z =
-      record { reads = sym (after ∙ ap (λ (q : Number). negated (numberOf q (drop 1 l))) e ∙ negated-zero m (drop n (drop 1 l)) z); within = omega arith }
+  module _ {m n : ℕ} (e : r ≡ number.Value m n) where
+    pub negative-zero : m ≡ 0 → GivesInteger integer.Bad l (readInteger l)
+    negative-zero z = record { reads = sym (reads e ∙ negated-zero m (drop n (drop 1 l)) z); within = omega arith }
 
-  pub negative-within : (m n : ℕ) → r ≡ number.Value m n → n + 1 ≤ length l
-  negative-within m n e =
-      let w : n ≤ length (drop 1 l) = rw part-rest at (rw e at (g .within)) in
-      omega (arith, length-drop 1 l)
+    pub negative-within : n + 1 ≤ length l
+    negative-within = let w = took-at (readNatural 2147483648) l 1 (a .gives) e (a .some) in omega arith
 
-  pub negative-limit : (m n : ℕ) → r ≡ number.Value m n → m ≤ 2147483648
-  negative-limit m n e = natural-at-most 2147483648 _ m _ (sym (g .reads) ∙ ap (λ (q : Number). numberOf q (take (length l - 1) (drop 1 l))) e)
+    pub negative-limit : m ≤ 2147483648
+    negative-limit = natural-at-most 2147483648 _ m _ (after e)
 
-  pub negative-found : (m n : ℕ) (z : ℤ) → r ≡ number.Value m n → (m ≡ 0 → ⊥) → z ≡ negℤ (pos m) → GivesInteger (integer.Value z (n + 1)) l (readInteger l)
-  negative-found m n z e k q =
-      let d : drop n (drop 1 l) ≡ drop (n + 1) l = drop-drop n 1 l ∙ ap (λ (j : ℕ). drop j l) (add-comm 1 n) in
-      record {
-        reads = sym (after ∙ ap (λ (a : Number). negated (numberOf a (drop 1 l))) e ∙ negated-some m (drop n (drop 1 l)) k ∙ cc);
-        within = negative-within m n e;
-      }
+    pub negative-found : {z : ℤ} → (m ≡ 0 → ⊥) → z ≡ negℤ (pos m) → GivesInteger (integer.Value z (n + 1)) l (readInteger l)
+    negative-found {z} k q =
+        let d : drop n (drop 1 l) ≡ drop (n + 1) l = drop-drop n 1 l ∙ ap (λ (j : ℕ). drop j l) (add-comm 1 n) in
+        record { reads = sym (reads e ∙ negated-some m (drop n (drop 1 l)) k ∙ cc); within = negative-within }
 
 -- r is the answer for the text itself
-module _ (l : List ℕ) (r : Number) (h : 0 < length l) (s : getD l 0 0 ≡ 45 → ⊥) (g : GivesNumber r l (readNatural 2147483647 l)) where
+pub record NoMinus (l : List ℕ) (r : Number) : Type 0 where
+  pub some : 0 < length l
+  pub other : getD l 0 0 ≡ 45 → ⊥
+  pub gives : GivesNumber r l (readNatural 2147483647 l)
+
+module _ {l : List ℕ} {r : Number} (a : NoMinus l r) where
+  whole : {q : Number} → r ≡ q → readInteger l ≡ unsigned (numberOf q l)
+  whole e = integer-positive l (a .some) (a .other) ∙ ap unsigned (says (a .gives) e)
+
   pub positive-bad : r ≡ number.Bad → GivesInteger integer.Bad l (readInteger l)
-  positive-bad e = record { reads = sym (integer-positive l h s ∙ ap unsigned (sym (g .reads) ∙ ap (λ (q : Number). numberOf q l) e)); within = omega arith }
+  positive-bad e = record { reads = sym (whole e); within = omega arith }
 
-  pub positive-limit : (m n : ℕ) → r ≡ number.Value m n → m ≤ 2147483647
-  positive-limit m n e = natural-at-most 2147483647 l m _ (sym (g .reads) ∙ ap (λ (q : Number). numberOf q l) e)
+  module _ {m n : ℕ} (e : r ≡ number.Value m n) where
+    pub positive-limit : m ≤ 2147483647
+    positive-limit = natural-at-most 2147483647 l m _ (says (a .gives) e)
 
-  pub positive-found : (m n : ℕ) (z : ℤ) → r ≡ number.Value m n → z ≡ pos m → GivesInteger (integer.Value z n) l (readInteger l)
-  positive-found m n z e q =
-      record { reads = sym (integer-positive l h s ∙ ap unsigned (sym (g .reads) ∙ ap (λ (a : Number). numberOf a l) e) ∙ ap (λ (x : ℤ). found x (drop n l)) (sym q)); within = rw e at (g .within) }
+    pub positive-found : {z : ℤ} → z ≡ pos m → GivesInteger (integer.Value z n) l (readInteger l)
+    positive-found q = record { reads = sym (whole e ∙ ap (λ (x : ℤ). found x (drop n l)) (sym q)); within = took (a .gives) e }

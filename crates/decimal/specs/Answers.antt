@@ -29,14 +29,16 @@ abbrev pub integerUsed : Integer → ℕ
 integerUsed (integer.Value z n) = n
 integerUsed integer.Bad = 0
 
--- the answer r gives what is read of l and took no more bytes than there are
-pub record GivesNumber (r : Number) (l : List ℕ) (what : Read ℕ) : Type 0 where
-  pub reads : numberOf r l ≡ what
-  pub within : numberUsed r ≤ length l
+-- the answer r says `what` of l, and took no more bytes than l has
+pub record Gives {R A : Type 0} (of : R → List ℕ → A) (used : R → ℕ) (r : R) (l : List ℕ) (what : A) : Type 0 where
+  pub reads : of r l ≡ what
+  pub within : used r ≤ length l
 
-pub record GivesInteger (r : Integer) (l : List ℕ) (what : Read ℤ) : Type 0 where
-  pub reads : integerOf r l ≡ what
-  pub within : integerUsed r ≤ length l
+abbrev pub GivesNumber : Number → List ℕ → Read ℕ → Type 0
+GivesNumber r l what = Gives numberOf numberUsed r l what
+
+abbrev pub GivesInteger : Integer → List ℕ → Read ℤ → Type 0
+GivesInteger r l what = Gives integerOf integerUsed r l what
 
 -- the text s stands in o from `at` to r, and all else is as in d
 pub record Stored (d o : List ℕ) (at r : ℕ) (s : List ℕ) : Type 0 where

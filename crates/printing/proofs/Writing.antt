@@ -1,8 +1,8 @@
 -- Lines written one after another: what is stored so far, and what is left. Assumes nothing.
 use mathlib.Core.Path.{_≡_, refl, sym, ap, _∙_}
-use mathlib.Core.List.{List, [], _∷_, _++_}
-use Prim.Native.Nat.{ℕ, suc, _+_, _≤_, _<_}
-use native.Mathlib.Nat.{add-zero}
+use mathlib.Core.List.{List, [], _∷_, _++_, append-nil, append-assoc}
+use Prim.Native.Nat.{ℕ, zero, suc, _+_, _*_, _≤_, _<_}
+use native.Mathlib.Nat.{add-zero, mul-suc}
 use native.Mathlib.Numerals.{add-one}
 use native.Mathlib.Omega.{arith}
 use lib.IntN.{ℤ}
@@ -11,16 +11,17 @@ use lib.Seq.{sets, sets-eq, drop-cons}
 use mir.Syntax.{w32}
 use mir.Val.{SFits}
 use Rattle.integers.proofs.Range.{abs-fits}
-use Rattle.lists.proofs.Tabulate.{length-tabulate, getD-tabulate}
+use Rattle.lists.specs.Tabulate.{tabulate}
+use Rattle.lists.proofs.Tabulate.{length-tabulate}
 use Rattle.tables.specs.Tables.{filled}
 use Rattle.decimal.specs.Decimal.{integerText}
 use Rattle.decimal.specs.Answers.{Stored}
-use Rattle.decimal.proofs.Writing.{sets-after, stored-then, length-integer}
+use Rattle.decimal.proofs.Writing.{stored-then, length-integer}
 use Rattle.text.specs.Bytes.{bytes}
 use Rattle.text.specs.Form.{namesText, marked, corners}
 use Rattle.text.specs.Text.{field, texts, pairText, vertexText, faceText, answerText}
-use Rattle.printing.specs.Tables.{vertexAt, faceAt, verticesOf, facesOf, roomFor}
-use Rattle.printing.specs.Lines.{Written}
+use Rattle.printing.specs.Tables.{vertexAt, faceAt, verticesOf, facesOf, tablesText, roomFor}
+use Rattle.printing.specs.Lines.{Printed, Written}
 
 -- ---- one byte after a text
 pub stored-field : (d o : List ℕ) (at r e : ℕ) (s : List ℕ) → Stored d o at r s → Stored d (set o r e) at (r + 1) (field s e)
@@ -36,85 +37,52 @@ module _ (d : List ℕ) (at : ℕ) (s : List ℕ) where
   pub copy-end : (o : List ℕ) (i : ℕ) → length s ≤ i → sets d at s ≡ sets o (at + i) (drop i s) → o ≡ sets d at s
   copy-end o i h e = sym (e ∙ ap (sets o (at + i)) (drop-of-length-le s {i = i} h))
 
--- ---- lines, one a turn
--- the text of all items goes where the text of those from i on goes from here
-pub record Left {A : Type 0} (text : A → List ℕ) (items : List A) (d : List ℕ) (at : ℕ) (o : List ℕ) (to i : ℕ) : Type 0 where
-  pub bytes : sets d at (texts text items) ≡ sets o to (texts text (drop i items))
-  pub end : at + length (texts text items) ≡ to + length (texts text (drop i items))
-
-module _ {A : Type 0} (text : A → List ℕ) (items : List A) (d : List ℕ) (at : ℕ) where
-  pub left-all : Left text items d at d at 0
-  left-all = record { bytes = refl; end = refl }
-
-  next : (i : ℕ) (v : A) → i < length items → getD items i v ≡ v → texts text (drop i items) ≡ text v ++ texts text (drop (i + 1) items)
-  unfolding texts
-  next i v h e =
-      let q : drop i items ≡ v ∷ drop (i + 1) items = rw (add-one i) (drop-cons items i v h ∙ ap (λ (x : A). x ∷ drop (suc i) items) e) in
-      ap (texts text) q
-
-  pub left-turn : (o p : List ℕ) (to r i : ℕ) (v : A) → Left text items d at o to i → i < length items → getD items i v ≡ v → Stored o p to r (text v) → Left text items d at p r (i + 1)
-  left-turn o p to r i v w h e s =
-      let n = next i v h e in
-      let a = w .end in
-      let b = s .end in
-      let c = ap length n in
-      let f = length-append (text v) (texts text (drop (i + 1) items)) in
-      record {
-        bytes = w .bytes ∙ ap (sets o to) n ∙ sym (sets-after (text v) o (texts text (drop (i + 1) items)) to) ∙ rw (s .end, s .bytes);
-        end = omega arith;
-      }
-
-  pub left-none : (o : List ℕ) (to i : ℕ) → Left text items d at o to i → length items ≤ i → Stored d o at to (texts text items)
-  unfolding texts
-  left-none o to i w h =
-      let n = ap (texts text) (drop-of-length-le items {i = i} h) in
-      record { bytes = sym (w .bytes ∙ ap (sets o to) n); end = sym (w .end ∙ ap (λ (l : List ℕ). to + length l) n ∙ add-zero to) }
-
--- ---- lengths
-pub length-field : (s : List ℕ) (e : ℕ) → length (field s e) ≡ length s + 1
-length-field s e = length-append s (e ∷ [])
+-- ---- fields in a row: texts printed one after another, within the sum of what each takes at most
+pub in-row : {d e o : List ℕ} {at r q : ℕ} {s t : List ℕ} {m n : ℕ} → Printed d e at r s m → Printed e o r q t n → Printed d o at q (s ++ t) (m + n)
+in-row {d} {e} {o} {at} {r} {q} {s} {t} v w =
+    let a = v .within in
+    let b = w .within in
+    record { stored = stored-then d e o at r q s t (v .stored) (w .stored); within = omega arith }
 
 pub length-signed : (z : ℤ) → SFits w32 z → length (integerText z) ≤ 11
 length-signed z f = let a = abs-fits f in length-integer z (omega arith)
 
--- ---- the entries of the tables
-module _ (n : ℕ) (vs : List ℤ) (ms : List ℕ) where
-  pub length-vertices : length (verticesOf n vs ms) ≡ n
-  unfolding verticesOf
-  length-vertices = length-tabulate n (vertexAt vs ms)
-
-  pub vertex-entry : (i : ℕ) → i < n → getD (verticesOf n vs ms) i (vertexAt vs ms i) ≡ vertexAt vs ms i
-  unfolding verticesOf
-  vertex-entry i h = getD-tabulate n (vertexAt vs ms) i (vertexAt vs ms i) h
-
-module _ (n : ℕ) (fs : List ℕ) where
-  pub length-faces : length (facesOf n fs) ≡ n
-  unfolding facesOf
-  length-faces = length-tabulate n (faceAt fs)
-
-  pub face-entry : (i : ℕ) → i < n → getD (facesOf n fs) i (faceAt fs i) ≡ faceAt fs i
-  unfolding facesOf
-  face-entry i h = getD-tabulate n (faceAt fs) i (faceAt fs i) h
-
--- ---- a text at the front
-pub at-front : (d o : List ℕ) (r : ℕ) (s : List ℕ) (most : ℕ) → Stored d o 0 r s → r ≤ most → most ≤ length d → Written d o r s most
-unfolding filled
-at-front d o r s most w h k =
+-- a number of at most m digits and the byte after it
+pub printed-field : {d o : List ℕ} {at r : ℕ} (s : List ℕ) (b m : ℕ) → Stored d o at r (field s b) → length s ≤ m → Printed d o at r (field s b) (m + 1)
+printed-field s b m w h =
     let e = w .end in
+    record { stored = w; within = omega (arith, length-append s (b ∷ [])) }
+
+-- ---- lines, one a turn
+texts-more : {A : Type 0} (text : A → List ℕ) (i : ℕ) (item : ℕ → A) → texts text (tabulate (suc i) item) ≡ texts text (tabulate i item) ++ text (item i)
+unfolding texts tabulate
+texts-more text zero item = append-nil (text (item 0))
+texts-more text (suc i) item = ap (λ (l : List ℕ). text (item 0) ++ l) (texts-more text i (λ (k : ℕ). item (suc k))) ∙ sym (append-assoc (text (item 0)) _ (text (item (suc i))))
+
+module _ {A : Type 0} (text : A → List ℕ) (item : ℕ → A) (most : ℕ) where
+  pub lines-none : (d : List ℕ) (at : ℕ) → Printed d d at at (texts text (tabulate 0 item)) (most * 0)
+  unfolding texts tabulate
+  lines-none d at = record { stored = record { bytes = refl; end = sym (add-zero at) }; within = omega arith }
+
+  pub lines-more : {d e o : List ℕ} {at r q : ℕ} (i : ℕ) → Printed d e at r (texts text (tabulate i item)) (most * i) → Printed e o r q (text (item i)) most
+      → Printed d o at q (texts text (tabulate (i + 1) item)) (most * (i + 1))
+  lines-more i v w = rw (add-one i, texts-more text i item, mul-suc most i) (in-row v w)
+
+-- ---- the whole text, from the front on
+pub at-front : (d o : List ℕ) (r : ℕ) (s : List ℕ) (m most : ℕ) → Printed d o 0 r s m → m ≤ most → most ≤ length d → Written d o r s most
+unfolding filled
+at-front d o r s m most w h k =
+    let e = w .stored .end in
+    let l = w .within in
     let z : 0 + length s ≡ length s = omega arith in
-    record { bytes = w .bytes ∙ sets-eq s d 0 (omega arith) ∙ ap (λ (m : ℕ). s ++ drop m d) z; long = omega arith; fits = h }
+    record { bytes = w .stored .bytes ∙ sets-eq s d 0 (omega arith) ∙ ap (λ (n : ℕ). s ++ drop n d) z; long = omega arith; fits = omega arith }
 
--- ---- the whole answer, with the counts that were given
-answer-is : (v f : ℕ) (vs : List ℤ) (ms fs : List ℕ)
-    → answerText (verticesOf v vs ms) (facesOf f fs)
+-- the answer has the counts that were given
+pub answer-is : (v f : ℕ) (vs : List ℤ) (fs ms : List ℕ)
+    → tablesText v f vs fs ms
     ≡ bytes "vertices faces\n" ++ pairText v f ++ namesText marked ++ texts vertexText (verticesOf v vs ms) ++ namesText corners ++ texts faceText (facesOf f fs)
-unfolding answerText
-answer-is v f vs ms fs = rw (length-vertices v vs ms, length-faces f fs)
-
-pub answer-written : (v f : ℕ) (vs : List ℤ) (ms fs : List ℕ) (d o : List ℕ) (r : ℕ)
-    → Stored d o 0 r (bytes "vertices faces\n" ++ pairText v f ++ namesText marked ++ texts vertexText (verticesOf v vs ms) ++ namesText corners ++ texts faceText (facesOf f fs))
-    → r ≤ roomFor v f → roomFor v f ≤ length d → Written d o r (answerText (verticesOf v vs ms) (facesOf f fs)) (roomFor v f)
-answer-written v f vs ms fs d o r w h k = rw (answer-is v f vs ms fs) (at-front d o r _ (roomFor v f) w h k)
+unfolding answerText verticesOf facesOf
+answer-is v f vs fs ms = rw (length-tabulate v (vertexAt vs ms), length-tabulate f (faceAt fs))
 
 -- Paper 01: "Its tables serve G up to 256 and V up to 1,024": a buffer of 52,302 bytes holds every answer and every refusal
 pub every-answer-fits : (v f : ℕ) → v ≤ 1024 → f ≤ 256 → roomFor v f ≤ 52302

@@ -5,6 +5,7 @@ use lib.IntN.{ℤ, pos}
 use lib.ListN.{getD}
 use Rattle.lists.specs.Tabulate.{tabulate}
 use Rattle.text.specs.Form.{Vertex, Face}
+use Rattle.text.specs.Text.{answerText}
 
 -- Paper 01: "The vertex table has three numbers per vertex, the face table four vertex numbers (32-bit, from 0) per face, the mark table one byte per vertex"
 abbrev pub vertexAt : List ℤ → List ℕ → ℕ → Vertex
@@ -18,6 +19,10 @@ verticesOf n vs ms = tabulate n (vertexAt vs ms)
 
 unfoldable pub facesOf : ℕ → List ℕ → List Face
 facesOf n fs = tabulate n (faceAt fs)
+
+-- the answer with v vertices and f faces from the front of the tables
+abbrev pub tablesText : ℕ → ℕ → List ℤ → List ℕ → List ℕ → List ℕ
+tablesText v f vs fs ms = answerText (verticesOf v vs ms) (facesOf f fs)
 
 -- room for the answer with v vertices and f faces: lines of at most 40 and 44 bytes after four of at most 78 together
 abbrev pub roomFor : ℕ → ℕ → ℕ

@@ -3,13 +3,13 @@ ghost use Prim.Native.Nat.{_+_, _*_, _≤_};
 ghost use lib.ListN.{length};
 ghost use Rattle.decimal.specs.Decimal.{naturalText, integerText};
 ghost use Rattle.decimal.specs.Answers.{Stored};
-ghost use Rattle.text.specs.Text.{field, pairText, vertexText, faceText, texts, answerText, refusalText};
-ghost use Rattle.printing.specs.Tables.{verticesOf, facesOf, roomFor};
-ghost use Rattle.printing.specs.Lines.{vertexIs, faceIs, Written};
+ghost use Rattle.text.specs.Text.{field, pairText, vertexText, faceText, texts, refusalText};
+ghost use Rattle.printing.specs.Tables.{verticesOf, facesOf, roomFor, tablesText};
+ghost use Rattle.printing.specs.Lines.{vertexIs, faceIs, Printed, Written};
 
 fn put_bytes(out: &mut [u8], at: usize, s: &[u8]) -> usize
     requires { ⌜ at + length (now s) ≤ length (now out) ⌝ }
-    ensures { λ r. ⌜ Stored (now (out .entry)) (now (out .exit)) at r (now (s .entry)) ⌝ }
+    ensures { λ r. ⌜ Printed (now (out .entry)) (now (out .exit)) at r (now (s .entry)) (length (now (s .entry))) ⌝ }
 {
     let mut i: usize = 0;
     while i < s.len() {
@@ -19,7 +19,7 @@ fn put_bytes(out: &mut [u8], at: usize, s: &[u8]) -> usize
     at + i
 }
 
-// A number and the byte after it.
+// A number and the byte after it; then the same by type, with the most bytes that it takes.
 fn put_natural(out: &mut [u8], at: usize, n: u64, end: u8) -> usize
     requires { ⌜ at + length (naturalText n) + 1 ≤ length (now out) ⌝ }
     ensures { λ r. ⌜ Stored (now (out .entry)) (now (out .exit)) at r (field (naturalText n) end) ⌝ }
@@ -29,9 +29,30 @@ fn put_natural(out: &mut [u8], at: usize, n: u64, end: u8) -> usize
     stop + 1
 }
 
-fn put_integer(out: &mut [u8], at: usize, z: i32, end: u8) -> usize
-    requires { ⌜ at + length (integerText z) + 1 ≤ length (now out) ⌝ }
-    ensures { λ r. ⌜ Stored (now (out .entry)) (now (out .exit)) at r (field (integerText z) end) ⌝ }
+fn put_u8(out: &mut [u8], at: usize, n: u8, end: u8) -> usize
+    requires { ⌜ at + 4 ≤ length (now out) ⌝ }
+    ensures { λ r. ⌜ Printed (now (out .entry)) (now (out .exit)) at r (field (naturalText n) end) 4 ⌝ }
+{
+    put_natural(&mut *out, at, n as u64, end)
+}
+
+fn put_u32(out: &mut [u8], at: usize, n: u32, end: u8) -> usize
+    requires { ⌜ at + 11 ≤ length (now out) ⌝ }
+    ensures { λ r. ⌜ Printed (now (out .entry)) (now (out .exit)) at r (field (naturalText n) end) 11 ⌝ }
+{
+    put_natural(&mut *out, at, n as u64, end)
+}
+
+fn put_u64(out: &mut [u8], at: usize, n: u64, end: u8) -> usize
+    requires { ⌜ at + 21 ≤ length (now out) ⌝ }
+    ensures { λ r. ⌜ Printed (now (out .entry)) (now (out .exit)) at r (field (naturalText n) end) 21 ⌝ }
+{
+    put_natural(&mut *out, at, n, end)
+}
+
+fn put_i32(out: &mut [u8], at: usize, z: i32, end: u8) -> usize
+    requires { ⌜ at + 12 ≤ length (now out) ⌝ }
+    ensures { λ r. ⌜ Printed (now (out .entry)) (now (out .exit)) at r (field (integerText z) end) 12 ⌝ }
 {
     let stop = decimal::put_integer(&mut *out, at, z);
     out[stop] = end;
@@ -41,35 +62,35 @@ fn put_integer(out: &mut [u8], at: usize, z: i32, end: u8) -> usize
 // A line of two numbers.
 fn put_pair(out: &mut [u8], at: usize, a: u64, b: u64) -> usize
     requires { ⌜ at + 42 ≤ length (now out) ⌝ }
-    ensures { λ r. ⌜ (Stored (now (out .entry)) (now (out .exit)) at r (pairText a b)) × (r ≤ at + 42) ⌝ }
+    ensures { λ r. ⌜ Printed (now (out .entry)) (now (out .exit)) at r (pairText a b) 42 ⌝ }
 {
-    let i = put_natural(&mut *out, at, a, b' ');
-    put_natural(&mut *out, i, b, b'\n')
+    let i = put_u64(&mut *out, at, a, b' ');
+    put_u64(&mut *out, i, b, b'\n')
 }
 
 fn put_vertex(out: &mut [u8], at: usize, x: i32, y: i32, z: i32, mark: u8) -> usize
     requires { ⌜ at + 40 ≤ length (now out) ⌝ }
-    ensures { λ r. ⌜ (Stored (now (out .entry)) (now (out .exit)) at r (vertexText (vertexIs x y z mark))) × (r ≤ at + 40) ⌝ }
+    ensures { λ r. ⌜ Printed (now (out .entry)) (now (out .exit)) at r (vertexText (vertexIs x y z mark)) 40 ⌝ }
 {
-    let i = put_integer(&mut *out, at, x, b' ');
-    let j = put_integer(&mut *out, i, y, b' ');
-    let k = put_integer(&mut *out, j, z, b' ');
-    put_natural(&mut *out, k, mark as u64, b'\n')
+    let i = put_i32(&mut *out, at, x, b' ');
+    let j = put_i32(&mut *out, i, y, b' ');
+    let k = put_i32(&mut *out, j, z, b' ');
+    put_u8(&mut *out, k, mark, b'\n')
 }
 
 fn put_face(out: &mut [u8], at: usize, a: u32, b: u32, c: u32, d: u32) -> usize
     requires { ⌜ at + 44 ≤ length (now out) ⌝ }
-    ensures { λ r. ⌜ (Stored (now (out .entry)) (now (out .exit)) at r (faceText (faceIs a b c d))) × (r ≤ at + 44) ⌝ }
+    ensures { λ r. ⌜ Printed (now (out .entry)) (now (out .exit)) at r (faceText (faceIs a b c d)) 44 ⌝ }
 {
-    let i = put_natural(&mut *out, at, a as u64, b' ');
-    let j = put_natural(&mut *out, i, b as u64, b' ');
-    let k = put_natural(&mut *out, j, c as u64, b' ');
-    put_natural(&mut *out, k, d as u64, b'\n')
+    let i = put_u32(&mut *out, at, a, b' ');
+    let j = put_u32(&mut *out, i, b, b' ');
+    let k = put_u32(&mut *out, j, c, b' ');
+    put_u32(&mut *out, k, d, b'\n')
 }
 
 fn put_vertices(out: &mut [u8], at: usize, count: usize, vertices: &[i32], marks: &[u8]) -> usize
     requires { ⌜ (at + 40 * count ≤ length (now out)) × (3 * count ≤ length (now vertices)) × (count ≤ length (now marks)) ⌝ }
-    ensures { λ r. ⌜ (Stored (now (out .entry)) (now (out .exit)) at r (texts vertexText (verticesOf count (now (vertices .entry)) (now (marks .entry))))) × (r ≤ at + 40 * count) ⌝ }
+    ensures { λ r. ⌜ Printed (now (out .entry)) (now (out .exit)) at r (texts vertexText (verticesOf count (now (vertices .entry)) (now (marks .entry)))) (40 * count) ⌝ }
 {
     let mut to = at;
     let mut i: usize = 0;
@@ -85,7 +106,7 @@ fn put_vertices(out: &mut [u8], at: usize, count: usize, vertices: &[i32], marks
 
 fn put_faces(out: &mut [u8], at: usize, count: usize, faces: &[u32]) -> usize
     requires { ⌜ (at + 44 * count ≤ length (now out)) × (4 * count ≤ length (now faces)) ⌝ }
-    ensures { λ r. ⌜ (Stored (now (out .entry)) (now (out .exit)) at r (texts faceText (facesOf count (now (faces .entry))))) × (r ≤ at + 44 * count) ⌝ }
+    ensures { λ r. ⌜ Printed (now (out .entry)) (now (out .exit)) at r (texts faceText (facesOf count (now (faces .entry)))) (44 * count) ⌝ }
 {
     let mut to = at;
     let mut i: usize = 0;
@@ -110,7 +131,7 @@ pub fn write_net(
     f: usize,
 ) -> usize
     requires { ⌜ (3 * v ≤ length (now vertices)) × (4 * f ≤ length (now faces)) × (v ≤ length (now marks)) × (roomFor v f ≤ length (now out)) ⌝ }
-    ensures { λ r. ⌜ Written (now (out .entry)) (now (out .exit)) r (answerText (verticesOf v (now (vertices .entry)) (now (marks .entry))) (facesOf f (now (faces .entry)))) (roomFor v f) ⌝ }
+    ensures { λ r. ⌜ Written (now (out .entry)) (now (out .exit)) r (tablesText v f (now (vertices .entry)) (now (faces .entry)) (now (marks .entry))) (roomFor v f) ⌝ }
 {
     let a = put_bytes(&mut *out, 0, b"vertices faces\n");
     let b = put_pair(&mut *out, a, v as u64, f as u64);

@@ -1,4 +1,4 @@
--- Answers to short texts, computed; `samples` and the program itself print the longer ones. Assumes nothing.
+-- Answers to short texts, computed; the program itself prints the longer ones. Assumes nothing.
 use mathlib.Core.Path.{_≡_, refl}
 use mathlib.Core.Bool.{Bool, true, _&&_}
 use mathlib.Core.List.{List, [], _∷_}

@@ -10,14 +10,18 @@ use Rattle.verdict.specs.Call.{vertexCount, faceCount}
 use Rattle.verdict.specs.Verdict.{Verdict, accepted, refused, orElse, netVerdict}
 use Rattle.scheme.specs.Step.{steps}
 use Rattle.text.specs.Form.{Net, Parsed, parsed, badLine, parse}
-use Rattle.text.specs.Text.{answerText, refusalText}
+use Rattle.text.specs.Text.{refusalText}
 use Rattle.reading.specs.Loaded.{tablesOf, countsVerdict}
-use Rattle.printing.specs.Tables.{verticesOf, facesOf}
+use Rattle.printing.specs.Tables.{tablesText}
 
 -- the refined net, or the refusal's number and place
 abbrev pub answerBy : Verdict → tables.Net → List ℕ
-answerBy accepted m = answerText (verticesOf (vertexCount m) (m .vertices) (m .marks)) (facesOf (faceCount m) (m .faces))
+answerBy accepted m = tablesText (vertexCount m) (faceCount m) (m .vertices) (m .faces) (m .marks)
 answerBy (refused r p) m = refusalText r p
+
+-- the net n after k rounds, or refusal 5 to 12
+abbrev pub refinedText : ℕ → tables.Net → List ℕ
+refinedText k n = answerBy (netVerdict n) (steps kobbelt k n)
 
 -- Paper 01: 13 "is tested before 1"; then 1, 3 and 4 from the counts, then 5 to 12 from the net
 abbrev pub answerTo : Parsed Net → List ℕ

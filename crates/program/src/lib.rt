@@ -4,18 +4,16 @@ use refine::Answer;
 ghost use mathlib.Core.Path.{_≡_};
 ghost use Prim.Native.Nat.{_≤_};
 ghost use lib.ListN.{length};
-ghost use Rattle.curve.specs.Weights.{kobbelt};
 ghost use Rattle.nets.specs.Net.{net};
-ghost use Rattle.verdict.specs.Verdict.{accepted, netVerdict, limitsVerdict};
-ghost use Rattle.scheme.specs.Step.{steps};
+ghost use Rattle.verdict.specs.Verdict.{accepted, limitsVerdict};
 ghost use Rattle.reading.specs.Loaded.{programRoom};
 ghost use Rattle.printing.specs.Lines.{Written};
-ghost use Rattle.program.specs.Answer.{answerBy, programText};
+ghost use Rattle.program.specs.Answer.{refinedText, programText};
 
 // The answer to a net whose counts pass.
 fn refine_net(rounds: u32, vertices: &[i32], faces: &[u32], marks: &[u8], out: &mut [u8]) -> usize
     requires { ⌜ (limitsVerdict rounds (length (now vertices)) (length (now faces)) (length (now marks)) programRoom ≡ accepted) × (52302 ≤ length (now out)) ⌝ }
-    ensures { λ r. ⌜ Written (now (out .entry)) (now (out .exit)) r (answerBy (netVerdict (net (now (vertices .entry)) (now (faces .entry)) (now (marks .entry)))) (steps kobbelt rounds (net (now (vertices .entry)) (now (faces .entry)) (now (marks .entry))))) 52302 ⌝ }
+    ensures { λ r. ⌜ Written (now (out .entry)) (now (out .exit)) r (refinedText rounds (net (now (vertices .entry)) (now (faces .entry)) (now (marks .entry)))) 52302 ⌝ }
 {
     let mut out_vertices = [0i32; 3072];
     let mut out_faces = [0u32; 1024];

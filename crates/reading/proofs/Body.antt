@@ -8,7 +8,7 @@ use lib.Seq.{drop-drop}
 use borrow.Author.Tests.{eq-eqb, ne-eqb}
 use Rattle.decimal.specs.Decimal.{Read, found, bad}
 use Rattle.decimal.proofs.Reading.{part-rest}
-use Rattle.text.specs.Form.{Head, Vertex, Face, corners, Rows, rows, readVertex, readFace, readNames, only, isCorners, parsed, badLine, lines, ended, parseBody}
+use Rattle.text.specs.Form.{Head, Vertex, Face, Net, corners, Rows, rows, readVertex, readFace, readNames, only, isCorners, parsed, badLine, lines, ended, parseBody}
 use Rattle.reading.specs.declared.Block.{Block}
 use Rattle.reading.specs.Answers.{Counted}
 
@@ -41,35 +41,41 @@ ended-some n v [] h = absurd (omega arith)
 ended-some n v (b ∷ l) h = refl
 
 -- ---- the answers, in the order of the lines
+abbrev vertex-rows : Head → List ℕ → Rows Vertex
+vertex-rows h m = rows (readVertex (h .marks)) (h .counts .vertices) m
+
+abbrev face-rows : Head → List ℕ → Rows Face
+face-rows h j = rows readFace (h .counts .faces) j
+
 module _ (h : Head) (m : List ℕ) where
-  abbrev W : Rows Vertex
-  W = rows (readVertex (h .marks)) (h .counts .vertices) m
-
-  pub body-vertex : (length (W .values) ≡ h .counts .vertices → ⊥) → badLine (4 + length (W .values)) ≡ parseBody h m
+  pub body-vertex : (length (vertex-rows h m .values) ≡ h .counts .vertices → ⊥) → badLine (4 + length (vertex-rows h m .values)) ≡ parseBody h m
   unfolding parseBody
-  body-vertex e = rw (lines-some 4 (h .counts .vertices) W e)
+  body-vertex e = rw (lines-some 4 (h .counts .vertices) (vertex-rows h m) e)
 
-  module _ (all : length (W .values) ≡ h .counts .vertices) (k : List ℕ) (rest : W .rest ≡ k) where
-    pub body-names : only isCorners (readNames k) ≡ bad → badLine (4 + h .counts .vertices) ≡ parseBody h m
+  pub body-names : length (vertex-rows h m .values) ≡ h .counts .vertices → only isCorners (readNames (vertex-rows h m .rest)) ≡ bad → badLine (4 + h .counts .vertices) ≡ parseBody h m
+  unfolding parseBody
+  body-names all e = rw (lines-all 4 (h .counts .vertices) (vertex-rows h m) all, e)
+
+-- the vertex lines and the names are good, and j is left
+pub record NamesRead (h : Head) (m j : List ℕ) : Type 0 where
+  pub all : length (vertex-rows h m .values) ≡ h .counts .vertices
+  pub names : readNames (vertex-rows h m .rest) ≡ found corners j
+
+module _ {h : Head} {m j : List ℕ} (r : NamesRead h m j) where
+  pub body-face : (length (face-rows h j .values) ≡ h .counts .faces → ⊥) → badLine (5 + h .counts .vertices + length (face-rows h j .values)) ≡ parseBody h m
+  unfolding parseBody
+  body-face e = rw (lines-all 4 (h .counts .vertices) (vertex-rows h m) (r .all), r .names, lines-some (5 + h .counts .vertices) (h .counts .faces) (face-rows h j) e)
+
+  module _ (e : length (face-rows h j .values) ≡ h .counts .faces) where
+    abbrev net : Net
+    net = record { counts = h .counts; vertices = vertex-rows h m .values; faces = face-rows h j .values }
+
+    all-lines : ended (5 + h .counts .vertices + h .counts .faces) net (face-rows h j .rest) ≡ parseBody h m
     unfolding parseBody
-    body-names e = rw (lines-all 4 (h .counts .vertices) W all, rest, e)
+    all-lines = rw (lines-all 4 (h .counts .vertices) (vertex-rows h m) (r .all), r .names, lines-all (5 + h .counts .vertices) (h .counts .faces) (face-rows h j) e)
 
-    module _ (j : List ℕ) (names : readNames k ≡ found corners j) where
-      abbrev X : Rows Face
-      X = rows readFace (h .counts .faces) j
+    pub body-surplus : 0 < length (face-rows h j .rest) → badLine (5 + h .counts .vertices + h .counts .faces) ≡ parseBody h m
+    body-surplus s = sym (ended-some _ net (face-rows h j .rest) s) ∙ all-lines
 
-      pub body-face : (length (X .values) ≡ h .counts .faces → ⊥) → badLine (5 + h .counts .vertices + length (X .values)) ≡ parseBody h m
-      unfolding parseBody
-      body-face e = rw (lines-all 4 (h .counts .vertices) W all, rest, names, lines-some (5 + h .counts .vertices) (h .counts .faces) X e)
-
-      pub body-surplus : length (X .values) ≡ h .counts .faces → 0 < length (X .rest) → badLine (5 + h .counts .vertices + h .counts .faces) ≡ parseBody h m
-      unfolding parseBody
-      body-surplus e s =
-          rw (lines-all 4 (h .counts .vertices) W all, rest, names, lines-all (5 + h .counts .vertices) (h .counts .faces) X e)
-          (sym (ended-some (5 + h .counts .vertices + h .counts .faces) (record { counts = h .counts; vertices = W .values; faces = X .values }) (X .rest) s))
-
-      pub body-whole : length (X .values) ≡ h .counts .faces → X .rest ≡ [] → parsed (record { counts = h .counts; vertices = W .values; faces = X .values }) [] ≡ parseBody h m
-      unfolding parseBody
-      body-whole e s =
-          rw (lines-all 4 (h .counts .vertices) W all, rest, names, lines-all (5 + h .counts .vertices) (h .counts .faces) X e)
-          (sym (ended-none (5 + h .counts .vertices + h .counts .faces) (record { counts = h .counts; vertices = W .values; faces = X .values }) (X .rest) s))
+    pub body-whole : face-rows h j .rest ≡ [] → parsed net [] ≡ parseBody h m
+    body-whole s = sym (ended-none _ net (face-rows h j .rest) s) ∙ all-lines

@@ -1,27 +1,53 @@
--- The first three lines: where each answer of `check_head` comes from. Assumes nothing.
-use mathlib.Core.Path.{_≡_, refl}
-use mathlib.Core.Bool.{true}
-use mathlib.Core.List.{List}
-use Prim.Native.Nat.{ℕ, _+_}
-use lib.ListN.{drop}
+-- The first three lines, and the first pass: where each answer of `check_head` and `check` comes from. Assumes nothing.
+use mathlib.Core.Path.{_≡_}
+use mathlib.Core.Bool.{Bool, true}
+use mathlib.Core.List.{List, []}
+use Prim.Native.Nat.{ℕ, _+_, _≤_}
+use native.Mathlib.Omega.{arith}
+use lib.ListN.{length, drop}
 use lib.Seq.{drop-drop}
 use Rattle.decimal.specs.Decimal.{found, bad}
-use Rattle.text.specs.Form.{Names, input, isColumns, isMarked, only, readNames, readCounts, parsed, badLine, parseHead}
-use Rattle.reading.specs.Answers.{countsAre, headIs}
+use Rattle.decimal.specs.Answers.{Gives}
+use Rattle.text.specs.Form.{Names, input, isInput, isColumns, isMarked, only, readNames, readCounts, parsed, badLine, parseHead, parseBody, parse}
+use Rattle.reading.specs.declared.HeadLines.the-variants as head
+use Rattle.reading.specs.declared.Checked.the-variants as checked
+use Rattle.reading.specs.Answers.{countsAre, headIs, headOf, headUsed, netAt, Checks}
 
--- after i bytes for the names
-module _ (l : List ℕ) (i : ℕ) (names : readNames l ≡ found input (drop i l)) where
-  pub counts-bad : readCounts (drop i l) ≡ bad → badLine 2 ≡ parseHead l
+-- the names took i bytes
+pub names-bad : (l : List ℕ) → only isInput (readNames l) ≡ bad → Gives headOf headUsed (head.Bad 1) l (parseHead l)
+unfolding parseHead
+names-bad l e = record { reads = rw e; within = omega arith }
+
+pub counts-bad : (l : List ℕ) (i : ℕ) → readNames l ≡ found input (drop i l) → readCounts (drop i l) ≡ bad → Gives headOf headUsed (head.Bad 2) l (parseHead l)
+unfolding parseHead
+counts-bad l i names e = record { reads = rw (names, e); within = omega arith }
+
+-- and the counts u bytes
+pub record CountsRead (l : List ℕ) (i v f k u : ℕ) : Type 0 where
+  pub names : readNames l ≡ found input (drop i l)
+  pub counts : readCounts (drop i l) ≡ found (countsAre v f k) (drop u (drop i l))
+  pub within : i + u ≤ length l
+
+module _ {l : List ℕ} {i v f k u : ℕ} (c : CountsRead l i v f k u) where
+  pub columns-bad : only isColumns (readNames (drop (i + u) l)) ≡ bad → Gives headOf headUsed (head.Bad 3) l (parseHead l)
   unfolding parseHead
-  counts-bad e = rw (names, e) refl
+  columns-bad e = record { reads = rw (c .names, c .counts, drop-drop u i l, e); within = omega arith }
 
-  -- and u for the counts
-  module _ (v f k u : ℕ) (counts : readCounts (drop i l) ≡ found (countsAre v f k) (drop u (drop i l))) where
-    pub columns-bad : only isColumns (readNames (drop (i + u) l)) ≡ bad → badLine 3 ≡ parseHead l
-    unfolding parseHead
-    columns-bad e = rw (names, counts, drop-drop u i l, e) refl
+  pub head-good : (m : Names) (n : ℕ) → isColumns m ≡ true → readNames (drop (i + u) l) ≡ found m (drop n (drop (i + u) l)) → i + u + n ≤ length l
+      → Gives headOf headUsed (head.Head v f k (isMarked m) (i + u + n)) l (parseHead l)
+  unfolding parseHead
+  head-good m n t e w = record { reads = rw (c .names, c .counts, drop-drop u i l, e, t, drop-drop n (i + u) l); within = w }
 
-    pub head-good : (m : Names) (n : ℕ) → isColumns m ≡ true → readNames (drop (i + u) l) ≡ found m (drop n (drop (i + u) l))
-        → parsed (headIs v f k (isMarked m)) (drop (i + u + n) l) ≡ parseHead l
-    unfolding parseHead
-    head-good m n c e = rw (names, counts, drop-drop u i l, e, c, drop-drop n (i + u) l) refl
+-- ---- the head, and then the body
+pub head-refused : {l : List ℕ} {n : ℕ} → parseHead l ≡ badLine n → Checks (checked.Bad n) l
+unfolding parse
+head-refused e = record { reads = rw e; vertices = omega arith; faces = omega arith }
+
+module _ {l : List ℕ} {v f k : ℕ} {b : Bool} (i : ℕ) (e : parseHead l ≡ parsed (headIs v f k b) (drop i l)) where
+  pub body-refused : {n : ℕ} → parseBody (headIs v f k b) (drop i l) ≡ badLine n → Checks (checked.Bad n) l
+  unfolding parse
+  body-refused d = record { reads = rw (e, d); vertices = omega arith; faces = omega arith }
+
+  pub body-read : {j : ℕ} → parseBody (headIs v f k b) (drop i l) ≡ parsed (netAt (headIs v f k b) l i j) [] → i ≤ length l → j ≤ length l → Checks (checked.Form v f k b i j) l
+  unfolding parse
+  body-read d h w = record { reads = rw (e, d); vertices = h; faces = w }

@@ -5,33 +5,43 @@ use Prim.Native.Nat.{ℕ, suc, _+_, _*_, _-_, _≤_, _<_}
 use native.Mathlib.Omega.{arith}
 use lib.IntN.{ℤ}
 use lib.ListN.{length, set, take, drop}
-use lib.Seq.{sets, sets-eq, drop-drop}
+use lib.Seq.{sets, sets-eq}
 use Rattle.decimal.specs.Decimal.{Read, found, bad}
 use Rattle.decimal.proofs.Reading.{part-rest}
-use Rattle.text.specs.Form.{Vertex, Face, Rows, rows, oneMore}
+use Rattle.text.specs.Form.{Vertex, Face, Rows, rows, noRows}
 use Rattle.tables.specs.Tables.{filled}
 use Rattle.reading.specs.Loaded.{coordinates, marksOf, cornersOf}
-use Rattle.reading.proofs.Lines.{rows-none, rows-bad, rows-found, rows-length}
+use Rattle.reading.proofs.Lines.{rows-bad, rows-over, rows-next}
 
-module _ {A : Type 0} (read : List ℕ → Read A) (count : ℕ) (l : List ℕ) (i at : ℕ) where
-  -- the lines from here on, if none is left, if the next is bad, and if it is v
-  pub left-none : count ≤ i → rows read (count - i) (drop at l) .values ≡ []
-  left-none h = ap (λ (w : Rows A). w .values) (rows-none read (count - i) (drop at l) (omega arith))
+-- after i of `count` lines the table t, from k on, takes what is left, and so comes to what t₀ comes to with all of them
+pub record Filling {A E : Type 0} (flat : List A → List E) (read : List ℕ → Read A) (count : ℕ) (l : List ℕ) (t₀ t : List E) (k i at : ℕ) : Type 0 where
+  pub kept : length t ≡ length t₀
+  pub table : sets t₀ 0 (flat (rows read count l .values)) ≡ sets t k (flat (rows read (count - i) (drop at l) .values))
 
-  pub left-bad : read (take (length l - at) (drop at l)) ≡ bad → rows read (count - i) (drop at l) .values ≡ []
-  left-bad e = ap (λ (w : Rows A). w .values) (rows-bad read (count - i) (drop at l) (rw part-rest at e))
+pub filling-none : {A E : Type 0} (flat : List A → List E) (read : List ℕ → Read A) (count : ℕ) (l : List ℕ) (t : List E) → Filling flat read count l t t 0 0 0
+filling-none flat read count l t = let e : count - 0 ≡ count = omega arith in record { kept = refl; table = rw e }
 
-  pub left-more : (v : A) (n : ℕ) → i < count → read (take (length l - at) (drop at l)) ≡ found v (drop n (take (length l - at) (drop at l)))
-      → rows read (count - i) (drop at l) .values ≡ v ∷ rows read (count - (i + 1)) (drop (at + n) l) .values
-  left-more v n h e =
-      let f : read (drop at l) ≡ found v (drop n (drop at l)) = rw part-rest at e in
-      let q : count - i - 1 ≡ count - (i + 1) = omega arith in
-      let k : rows read (count - i) (drop at l) ≡ oneMore v (rows read (count - (i + 1)) (drop (at + n) l)) =
-      rows-found read (count - i) (drop at l) v (drop n (drop at l)) (omega arith) f ∙ rw (q, drop-drop n at l) in
-      ap (λ (w : Rows A). w .values) k
+module _ {A E : Type 0} {flat : List A → List E} {read : List ℕ → Read A} {count : ℕ} {l : List ℕ} {t₀ t : List E} {k i at : ℕ} (f : Filling flat read count l t₀ t k i at) where
+  -- the next line is v, and its numbers are stored
+  pub filling-more : (v : A) (n : ℕ) (u : List E) (j : ℕ) → i < count → read (drop at l) ≡ found v (drop n (drop at l)) → ((vs : List A) → sets t k (flat (v ∷ vs)) ≡ sets u j (flat vs))
+      → length u ≡ length t → Filling flat read count l t₀ u j (i + 1) (at + n)
+  filling-more v n u j h e store same =
+      let more = ap (λ (w : Rows A). sets t k (flat (w .values))) (rows-next read count l i at v n h e) in
+      record { kept = same ∙ f .kept; table = f .table ∙ more ∙ store (rows read (count - (i + 1)) (drop (at + n) l) .values) }
 
--- ---- one line is stored, or none is left
-three-stores : (t : List ℤ) (i : ℕ) (v : Vertex) (vs : List Vertex)
+  -- no line is left, or the next is bad
+  module _ (none : (m : List E) (j : ℕ) → sets m j (flat []) ≡ m) where
+    ends : rows read (count - i) (drop at l) ≡ noRows (drop at l) → t ≡ sets t₀ 0 (flat (rows read count l .values))
+    ends e = sym (f .table ∙ ap (λ (w : Rows A). sets t k (flat (w .values))) e ∙ none t k)
+
+    pub filling-over : count ≤ i → t ≡ sets t₀ 0 (flat (rows read count l .values))
+    filling-over h = ends (rows-over read count l i at h)
+
+    pub filling-bad : read (drop at l) ≡ bad → t ≡ sets t₀ 0 (flat (rows read count l .values))
+    filling-bad e = ends (rows-bad read (count - i) (drop at l) e)
+
+-- ---- the numbers of one line, and of none
+pub three-stores : (t : List ℤ) (i : ℕ) (v : Vertex) (vs : List Vertex)
     → sets t (3 * i) (coordinates (v ∷ vs)) ≡ sets (set (set (set t (3 * i) (v .x)) (3 * i + 1) (v .y)) (3 * i + 2) (v .z)) (3 * (i + 1)) (coordinates vs)
 unfolding coordinates
 three-stores t i v vs =
@@ -40,11 +50,11 @@ three-stores t i v vs =
     let c : 3 * (i + 1) ≡ suc (suc (suc (3 * i))) = omega arith in
     rw (a, b, c)
 
-one-store : (t : List ℕ) (i : ℕ) (v : Vertex) (vs : List Vertex) → sets t i (marksOf (v ∷ vs)) ≡ sets (set t i (v .mark)) (i + 1) (marksOf vs)
+pub one-store : (t : List ℕ) (i : ℕ) (v : Vertex) (vs : List Vertex) → sets t i (marksOf (v ∷ vs)) ≡ sets (set t i (v .mark)) (i + 1) (marksOf vs)
 unfolding marksOf
 one-store t i v vs = let a : i + 1 ≡ suc i = omega arith in rw a
 
-four-stores : (t : List ℕ) (i : ℕ) (f : Face) (fs : List Face)
+pub four-stores : (t : List ℕ) (i : ℕ) (f : Face) (fs : List Face)
     → sets t (4 * i) (cornersOf (f ∷ fs)) ≡ sets (set (set (set (set t (4 * i) (f .a)) (4 * i + 1) (f .b)) (4 * i + 2) (f .c)) (4 * i + 3) (f .d)) (4 * (i + 1)) (cornersOf fs)
 unfolding cornersOf
 four-stores t i f fs =
@@ -54,45 +64,17 @@ four-stores t i f fs =
     let d : 4 * (i + 1) ≡ suc (suc (suc (suc (4 * i)))) = omega arith in
     rw (a, b, c, d)
 
-no-coordinates : (t : List ℤ) (j : ℕ) → sets t j (coordinates []) ≡ t
+pub no-coordinates : (t : List ℤ) (j : ℕ) → sets t j (coordinates []) ≡ t
 unfolding coordinates
 no-coordinates t j = refl
 
-no-marks : (t : List ℕ) (j : ℕ) → sets t j (marksOf []) ≡ t
+pub no-marks : (t : List ℕ) (j : ℕ) → sets t j (marksOf []) ≡ t
 unfolding marksOf
 no-marks t j = refl
 
-no-corners : (t : List ℕ) (j : ℕ) → sets t j (cornersOf []) ≡ t
+pub no-corners : (t : List ℕ) (j : ℕ) → sets t j (cornersOf []) ≡ t
 unfolding cornersOf
 no-corners t j = refl
-
--- W is what the whole table comes to
-module _ (read : List ℕ → Read Vertex) (count : ℕ) (l : List ℕ) (i at : ℕ) where
-  module _ (W t : List ℤ) (e : W ≡ sets t (3 * i) (coordinates (rows read (count - i) (drop at l) .values))) where
-    pub coordinates-turn : (v : Vertex) (n : ℕ) → i < count → read (take (length l - at) (drop at l)) ≡ found v (drop n (take (length l - at) (drop at l)))
-        → W ≡ sets (set (set (set t (3 * i) (v .x)) (3 * i + 1) (v .y)) (3 * i + 2) (v .z)) (3 * (i + 1)) (coordinates (rows read (count - (i + 1)) (drop (at + n) l) .values))
-    coordinates-turn v n h r =
-        e ∙ ap (λ (vs : List Vertex). sets t (3 * i) (coordinates vs)) (left-more read count l i at v n h r) ∙ three-stores t i v (rows read (count - (i + 1)) (drop (at + n) l) .values)
-
-    pub coordinates-end : rows read (count - i) (drop at l) .values ≡ [] → t ≡ W
-    coordinates-end z = sym (e ∙ ap (λ (vs : List Vertex). sets t (3 * i) (coordinates vs)) z ∙ no-coordinates t (3 * i))
-
-  module _ (W t : List ℕ) (e : W ≡ sets t i (marksOf (rows read (count - i) (drop at l) .values))) where
-    pub marks-turn : (v : Vertex) (n : ℕ) → i < count → read (take (length l - at) (drop at l)) ≡ found v (drop n (take (length l - at) (drop at l)))
-        → W ≡ sets (set t i (v .mark)) (i + 1) (marksOf (rows read (count - (i + 1)) (drop (at + n) l) .values))
-    marks-turn v n h r = e ∙ ap (λ (vs : List Vertex). sets t i (marksOf vs)) (left-more read count l i at v n h r) ∙ one-store t i v (rows read (count - (i + 1)) (drop (at + n) l) .values)
-
-    pub marks-end : rows read (count - i) (drop at l) .values ≡ [] → t ≡ W
-    marks-end z = sym (e ∙ ap (λ (vs : List Vertex). sets t i (marksOf vs)) z ∙ no-marks t i)
-
-module _ (read : List ℕ → Read Face) (count : ℕ) (l : List ℕ) (i at : ℕ) (W t : List ℕ) (e : W ≡ sets t (4 * i) (cornersOf (rows read (count - i) (drop at l) .values))) where
-  pub corners-turn : (v : Face) (n : ℕ) → i < count → read (take (length l - at) (drop at l)) ≡ found v (drop n (take (length l - at) (drop at l)))
-      → W ≡ sets (set (set (set (set t (4 * i) (v .a)) (4 * i + 1) (v .b)) (4 * i + 2) (v .c)) (4 * i + 3) (v .d)) (4 * (i + 1)) (cornersOf (rows read (count - (i + 1)) (drop (at + n) l) .values))
-  corners-turn v n h r =
-      e ∙ ap (λ (vs : List Face). sets t (4 * i) (cornersOf vs)) (left-more read count l i at v n h r) ∙ four-stores t i v (rows read (count - (i + 1)) (drop (at + n) l) .values)
-
-  pub corners-end : rows read (count - i) (drop at l) .values ≡ [] → t ≡ W
-  corners-end z = sym (e ∙ ap (λ (vs : List Face). sets t (4 * i) (cornersOf vs)) z ∙ no-corners t (4 * i))
 
 -- ---- a table that has room is filled from the front
 pub length-coordinates : (vs : List Vertex) → length (coordinates vs) ≡ 3 * length vs
@@ -114,21 +96,7 @@ front : {A : Type 0} (new old : List A) → length new ≤ length old → sets o
 unfolding filled
 front new old h = let e : 0 + length new ≡ length new = omega arith in sets-eq new old 0 (omega arith) ∙ ap (λ (k : ℕ). new ++ drop k old) e
 
-module _ (n : ℕ) (l : List ℕ) where
-  pub front-coordinates : (read : List ℕ → Read Vertex) (t : List ℤ) → 3 * n ≤ length t → sets t 0 (coordinates (rows read n l .values)) ≡ filled (coordinates (rows read n l .values)) t
-  front-coordinates read t h =
-      let a = rows-length read n l in
-      let b = length-coordinates (rows read n l .values) in
-      front (coordinates (rows read n l .values)) t (omega arith)
-
-  pub front-marks : (read : List ℕ → Read Vertex) (t : List ℕ) → n ≤ length t → sets t 0 (marksOf (rows read n l .values)) ≡ filled (marksOf (rows read n l .values)) t
-  front-marks read t h =
-      let a = rows-length read n l in
-      let b = length-marks (rows read n l .values) in
-      front (marksOf (rows read n l .values)) t (omega arith)
-
-  pub front-corners : (read : List ℕ → Read Face) (t : List ℕ) → 4 * n ≤ length t → sets t 0 (cornersOf (rows read n l .values)) ≡ filled (cornersOf (rows read n l .values)) t
-  front-corners read t h =
-      let a = rows-length read n l in
-      let b = length-corners (rows read n l .values) in
-      front (cornersOf (rows read n l .values)) t (omega arith)
+-- u is t with the lines from i on stored from the front
+pub placed : {A E : Type 0} (flat : List A → List E) (read : List ℕ → Read A) (n : ℕ) (l : List ℕ) (i : ℕ) (t : List E) {u : List E} → u ≡ sets t 0 (flat (rows read n (take (length l - i) (drop i l)) .values))
+    → length (flat (rows read n (drop i l) .values)) ≤ length t → u ≡ filled (flat (rows read n (drop i l) .values)) t
+placed flat read n l i t e h = e ∙ ap (λ (q : List ℕ). sets t 0 (flat (rows read n q .values))) (part-rest l i) ∙ front (flat (rows read n (drop i l) .values)) t h

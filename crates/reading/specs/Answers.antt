@@ -3,9 +3,12 @@ use mathlib.Core.Path.{_≡_}
 use mathlib.Core.Bool.{Bool}
 use mathlib.Core.List.{List, []}
 use Prim.Native.Nat.{ℕ, _≤_}
+use lib.IntN.{ℤ}
 use lib.ListN.{length, drop}
-use Rattle.text.specs.Form.{Counts, Net, Head, Rows, rows, readVertex, readFace, Parsed, parsed, badLine}
-use Rattle.reading.specs.Loaded.{Answer, netRead, refusedWith}
+use lib.Seq.{sets}
+use Rattle.decimal.specs.Answers.{Gives}
+use Rattle.text.specs.Form.{Counts, Vertex, Net, Head, Rows, rows, readVertex, readFace, Parsed, parsed, badLine, parseBody, parse}
+use Rattle.reading.specs.Loaded.{Answer, netRead, refusedWith, coordinates, marksOf}
 use Rattle.reading.specs.declared.Block.{Block}
 use Rattle.reading.specs.declared.HeadLines.{HeadLines}
 use Rattle.reading.specs.declared.HeadLines.the-variants as head
@@ -45,13 +48,17 @@ netAt h l i j =
       faces = rows readFace (h .counts .faces) (drop j l) .values;
     }
 
-abbrev pub bodyOf : BodyLines → Head → List ℕ → ℕ → Parsed Net
-bodyOf (body.Body j) h l i = parsed (netAt h l i j) []
-bodyOf (body.Bad n) h l i = badLine n
+-- the answer after a head whose lines took i bytes
+abbrev pub bodyOf : Head → ℕ → BodyLines → List ℕ → Parsed Net
+bodyOf h i (body.Body j) l = parsed (netAt h l i j) []
+bodyOf h i (body.Bad n) l = badLine n
 
 abbrev pub bodyUsed : BodyLines → ℕ
 bodyUsed (body.Body j) = j
 bodyUsed (body.Bad n) = 0
+
+abbrev pub GivesBody : Head → ℕ → BodyLines → List ℕ → Type 0
+GivesBody h i r l = Gives (bodyOf h i) bodyUsed r l (parseBody h (drop i l))
 
 abbrev pub checkedOf : Checked → List ℕ → Parsed Net
 checkedOf (checked.Form v f k m i j) l = parsed (netAt (headIs v f k m) l i j) []
@@ -64,6 +71,17 @@ verticesAt (checked.Bad n) = 0
 abbrev pub facesAt : Checked → ℕ
 facesAt (checked.Form v f k m i j) = j
 facesAt (checked.Bad n) = 0
+
+-- r says what the form says of l, and both blocks of lines start inside l
+pub record Checks (r : Checked) (l : List ℕ) : Type 0 where
+  pub reads : checkedOf r l ≡ parse l
+  pub vertices : verticesAt r ≤ length l
+  pub faces : facesAt r ≤ length l
+
+-- t and m come to u and o when vs is stored from the front on
+pub record VerticesStored (vs : List Vertex) (t u : List ℤ) (m o : List ℕ) : Type 0 where
+  pub table : u ≡ sets t 0 (coordinates vs)
+  pub marks : o ≡ sets m 0 (marksOf vs)
 
 -- paper 01's number and place of a refusal, or what was read
 abbrev pub answerOf : Input → Answer

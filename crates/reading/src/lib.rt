@@ -5,21 +5,22 @@ use text::NamesLine;
 use text::VertexLine;
 ghost use mathlib.Core.Path.{_≡_};
 ghost use Prim.Native.Nat.{_*_, _≤_, _<_};
-ghost use lib.ListN.{length, drop};
+ghost use lib.ListN.{length};
 ghost use lib.Seq.{sets};
-ghost use Rattle.text.specs.Form.{readVertex, readFace, rows, parseHead, parseBody, parse};
+ghost use Rattle.decimal.specs.Answers.{Gives};
+ghost use Rattle.text.specs.Form.{readVertex, readFace, rows, parseHead};
 ghost use Rattle.limits.specs.Answer.{limitsOf};
-ghost use Rattle.reading.specs.Loaded.{coordinates, marksOf, cornersOf, countsVerdict, loaded, readNet};
-ghost use Rattle.reading.specs.Answers.{Counted, countsAre, headIs, headOf, headUsed, bodyOf, bodyUsed, checkedOf, verticesAt, facesAt, answerOf, Tables};
+ghost use Rattle.reading.specs.Loaded.{cornersOf, countsVerdict, loaded, readNet};
+ghost use Rattle.reading.specs.Answers.{Counted, countsAre, headIs, headOf, headUsed, GivesBody, Checks, VerticesStored, answerOf, Tables};
 
 // Lines that have the form, and their bytes.
-pub struct Block {
-    pub good: usize,
-    pub used: usize,
+struct Block {
+    good: usize,
+    used: usize,
 }
 
 // The first three lines, or the number of the first bad one.
-pub enum HeadLines {
+enum HeadLines {
     Head {
         vertices: u32,
         faces: u32,
@@ -31,12 +32,12 @@ pub enum HeadLines {
 }
 
 // Where the faces start, or the number of the first bad line.
-pub enum BodyLines {
+enum BodyLines {
     Body(usize),
     Bad(usize),
 }
 
-pub enum Checked {
+enum Checked {
     Form {
         vertices: u32,
         faces: u32,
@@ -104,7 +105,7 @@ fn count_faces(text: &[u8], count: usize) -> Block
 }
 
 fn check_head(text: &[u8]) -> HeadLines
-    ensures { λ r. ⌜ (headOf r (now (text .entry)) ≡ parseHead (now (text .entry))) × (headUsed r ≤ length (now (text .entry))) ⌝ }
+    ensures { λ r. ⌜ Gives headOf headUsed r (now (text .entry)) (parseHead (now (text .entry))) ⌝ }
 {
     let NamesLine::Input(i) = text::read_names(text) else {
         return HeadLines::Bad(1);
@@ -149,7 +150,7 @@ fn check_body(
     marks: bool,
 ) -> BodyLines
     requires { ⌜ at ≤ length (now text) ⌝ }
-    ensures { λ r. ⌜ (bodyOf r (headIs vertices faces rounds marks) (now (text .entry)) at ≡ parseBody (headIs vertices faces rounds marks) (drop at (now (text .entry)))) × (bodyUsed r ≤ length (now (text .entry))) ⌝ }
+    ensures { λ r. ⌜ GivesBody (headIs vertices faces rounds marks) at r (now (text .entry)) ⌝ }
 {
     let v = vertices as usize;
     let f = faces as usize;
@@ -174,7 +175,7 @@ fn check_body(
 
 // The first pass.
 fn check(text: &[u8]) -> Checked
-    ensures { λ r. ⌜ (checkedOf r (now (text .entry)) ≡ parse (now (text .entry))) × (verticesAt r ≤ length (now (text .entry))) × (facesAt r ≤ length (now (text .entry))) ⌝ }
+    ensures { λ r. ⌜ Checks r (now (text .entry)) ⌝ }
 {
     match check_head(text) {
         HeadLines::Bad(n) => Checked::Bad(n),
@@ -216,7 +217,7 @@ fn refusal(vertices: u32, faces: u32, rounds: u32) -> u32
 
 fn store_vertices(text: &[u8], count: usize, marked: bool, vertices: &mut [i32], marks: &mut [u8])
     requires { ⌜ (3 * count ≤ length (now vertices)) × (count ≤ length (now marks)) ⌝ }
-    ensures { λ _. ⌜ (now (vertices .exit) ≡ sets (now (vertices .entry)) 0 (coordinates (rows (readVertex marked) count (now (text .entry)) .values))) × (now (marks .exit) ≡ sets (now (marks .entry)) 0 (marksOf (rows (readVertex marked) count (now (text .entry)) .values))) ⌝ }
+    ensures { λ _. ⌜ VerticesStored (rows (readVertex marked) count (now (text .entry)) .values) (now (vertices .entry)) (now (vertices .exit)) (now (marks .entry)) (now (marks .exit)) ⌝ }
 {
     let mut i: usize = 0;
     let mut at: usize = 0;

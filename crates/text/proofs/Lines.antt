@@ -2,24 +2,22 @@
 use mathlib.Core.Path.{_≡_, refl, sym, ap, _∙_}
 use mathlib.Core.Bool.{Bool, true, false, cond, _&&_}
 use mathlib.Core.List.{List, [], _∷_}
-use Prim.Native.Nat.{ℕ, _+_, _≤_, _<_}
+use Prim.Native.Nat.{ℕ, _+_, _-_, _≤_, _<_}
 use native.Mathlib.Decide.{decLt}
 use native.Mathlib.Numerals.{add-one}
 use native.Mathlib.Omega.{arith}
 use lib.Dec.{eqb}
-use lib.IntN.{ℤ}
-use lib.ListN.{length, getD, drop, drop-of-length-le}
+use lib.ListN.{length, getD, take, drop, drop-of-length-le}
 use lib.Seq.{drop-cons, drop-drop}
 use borrow.Author.Tests.{eq-eqb, ne-eqb}
 use Rattle.decimal.specs.Decimal.{Read, found, bad, readNatural}
-use Rattle.decimal.specs.Answers.{numberOf, integerOf, GivesNumber, GivesInteger}
-use Rattle.decimal.specs.declared.Number.{Number}
-use Rattle.decimal.specs.declared.Number.the-variants as number
-use Rattle.decimal.specs.declared.Integer.{Integer}
-use Rattle.decimal.specs.declared.Integer.the-variants as integer
-use Rattle.decimal.proofs.Reading.{natural-at-most}
+use Rattle.decimal.specs.Answers.{Gives}
+use Rattle.decimal.proofs.Reading.{natural-at-most, says-at}
 use Rattle.text.specs.Bytes.{bytes}
 use Rattle.text.specs.Form.{startsWith, endedBy, natural, Names, input, marked, unmarked, corners, namesText, readOr, readNames}
+use Rattle.text.specs.Answers.{namesOf, namesUsed}
+use Rattle.text.specs.declared.NamesLine.{NamesLine}
+use Rattle.text.specs.declared.NamesLine.the-variants as names
 use Rattle.text.proofs.Examples as examples
 
 -- ---- a text that starts with s, one byte a turn
@@ -59,18 +57,10 @@ module _ {A : Type 0} (l : List ℕ) (at n e : ℕ) (v : A) where
   pub field-ends : at + n < length l → getD l (at + n) 0 ≡ e → endedBy e (found v (drop n (drop at l))) ≡ found v (drop (at + n + 1) l)
   field-ends h d = ap (λ (m : List ℕ). endedBy e (found v m)) (rest ∙ drop-cons l (at + n) 0 h) ∙ rw (eq-eqb (getD l (at + n) 0) e d, add-one (at + n))
 
--- ---- fields of a line: what the answer q says
-pub number-given : (l : List ℕ) (what : Read ℕ) (r q : Number) → GivesNumber r l what → r ≡ q → what ≡ numberOf q l
-number-given l what r q g e = sym (g .reads) ∙ ap (λ (o : Number). numberOf o l) e
-
-pub number-within : (l : List ℕ) (what : Read ℕ) (r : Number) (v n : ℕ) → GivesNumber r l what → r ≡ number.Value v n → n ≤ length l
-number-within l what r v n g e = rw e at (g .within)
-
-pub integer-given : (l : List ℕ) (what : Read ℤ) (r q : Integer) → GivesInteger r l what → r ≡ q → what ≡ integerOf q l
-integer-given l what r q g e = sym (g .reads) ∙ ap (λ (o : Integer). integerOf o l) e
-
-pub integer-within : (l : List ℕ) (what : Read ℤ) (r : Integer) (v : ℤ) (n : ℕ) → GivesInteger r l what → r ≡ integer.Value v n → n ≤ length l
-integer-within l what r v n g e = rw e at (g .within)
+-- what is read at a place and ends with the byte e, by the answer for the rest of the line
+pub ended-at : {R A : Type 0} {of : R → List ℕ → Read A} {used : R → ℕ} {r q : R} (read : List ℕ → Read A) (l : List ℕ) (at e : ℕ)
+    → Gives of used r (take (length l - at) (drop at l)) (read (take (length l - at) (drop at l))) → r ≡ q → endedBy e (read (drop at l)) ≡ endedBy e (of q (drop at l))
+ended-at read l at e g p = ap (endedBy e) (says-at read l at g p)
 
 -- a number that is read is at most the limit
 ended-limit : (limit : ℕ) (l : List ℕ) (e x v : ℕ) (k m : List ℕ) → readNatural limit l ≡ found x k → endedBy e (found x k) ≡ found v m → v ≤ limit
@@ -104,29 +94,32 @@ or-found n l other e = ap (λ (t : Bool). cond t (found n (drop (length (namesTe
 or-other : (n : Names) (l : List ℕ) (other : Read Names) → startsWith (namesText n) l ≡ false → readOr n l other ≡ other
 or-other n l other e = ap (λ (t : Bool). cond t (found n (drop (length (namesText n)) l)) other) e
 
-module _ (l : List ℕ) where
-  pub names-input : startsWith (namesText input) l ≡ true → (found input (drop 22 l) ≡ readNames l) × (22 ≤ length l)
+abbrev GivesNames : NamesLine → List ℕ → Type 0
+GivesNames r l = Gives namesOf namesUsed r l (readNames l)
+
+no-columns : (l : List ℕ) → startsWith (namesText input) l ≡ false → startsWith (namesText marked) l ≡ false → startsWith (namesText unmarked) l ≡ false → readNames l ≡ readOr corners l bad
+unfolding readNames
+no-columns l e₁ e₂ e₃ = or-other input l _ e₁ ∙ or-other marked l _ e₂ ∙ or-other unmarked l _ e₃
+
+module _ {l : List ℕ} where
+  pub names-input : startsWith (namesText input) l ≡ true → GivesNames (names.Input 22) l
   unfolding bytes readNames
-  names-input e = (sym (or-found input l _ e), starts-length (namesText input) l e)
+  names-input e = record { reads = sym (or-found input l _ e); within = starts-length (namesText input) l e }
 
   module _ (e₁ : startsWith (namesText input) l ≡ false) where
-    pub names-marked : startsWith (namesText marked) l ≡ true → (found marked (drop 13 l) ≡ readNames l) × (13 ≤ length l)
+    pub names-marked : startsWith (namesText marked) l ≡ true → GivesNames (names.Marked 13) l
     unfolding bytes readNames
-    names-marked e = (sym (or-other input l _ e₁ ∙ or-found marked l _ e), starts-length (namesText marked) l e)
+    names-marked e = record { reads = sym (or-other input l _ e₁ ∙ or-found marked l _ e); within = starts-length (namesText marked) l e }
 
     module _ (e₂ : startsWith (namesText marked) l ≡ false) where
-      pub names-unmarked : startsWith (namesText unmarked) l ≡ true → (found unmarked (drop 6 l) ≡ readNames l) × (6 ≤ length l)
+      pub names-unmarked : startsWith (namesText unmarked) l ≡ true → GivesNames (names.Unmarked 6) l
       unfolding bytes readNames
-      names-unmarked e = (sym (or-other input l _ e₁ ∙ or-other marked l _ e₂ ∙ or-found unmarked l _ e), starts-length (namesText unmarked) l e)
+      names-unmarked e = record { reads = sym (or-other input l _ e₁ ∙ or-other marked l _ e₂ ∙ or-found unmarked l _ e); within = starts-length (namesText unmarked) l e }
 
       module _ (e₃ : startsWith (namesText unmarked) l ≡ false) where
-        before : readNames l ≡ readOr corners l bad
-        unfolding readNames
-        before = or-other input l _ e₁ ∙ or-other marked l _ e₂ ∙ or-other unmarked l _ e₃
-
-        pub names-corners : startsWith (namesText corners) l ≡ true → (found corners (drop 8 l) ≡ readNames l) × (8 ≤ length l)
+        pub names-corners : startsWith (namesText corners) l ≡ true → GivesNames (names.Corners 8) l
         unfolding bytes
-        names-corners e = (sym (before ∙ or-found corners l _ e), starts-length (namesText corners) l e)
+        names-corners e = record { reads = sym (no-columns l e₁ e₂ e₃ ∙ or-found corners l _ e); within = starts-length (namesText corners) l e }
 
-        pub names-other : startsWith (namesText corners) l ≡ false → (bad ≡ readNames l) × (0 ≤ length l)
-        names-other e = (sym (before ∙ or-other corners l _ e), omega arith)
+        pub names-other : startsWith (namesText corners) l ≡ false → GivesNames names.Other l
+        names-other e = record { reads = sym (no-columns l e₁ e₂ e₃ ∙ or-other corners l _ e); within = omega arith }

@@ -4,7 +4,7 @@ use decimal::Number;
 ghost use mathlib.Core.Path.{_≡_};
 ghost use Prim.Native.Nat.{_≤_};
 ghost use lib.ListN.{length, drop};
-ghost use Rattle.decimal.specs.Answers.{GivesNumber, GivesInteger};
+ghost use Rattle.decimal.specs.Answers.{Gives, GivesNumber, GivesInteger};
 ghost use Rattle.text.specs.Form.{startsWith, readNames, coordinate, natural, readCounts, readVertex, readFace};
 ghost use Rattle.text.specs.Answers.{namesOf, namesUsed, countsOf, countsUsed, vertexOf, vertexUsed, faceOf, faceUsed};
 
@@ -66,7 +66,7 @@ fn starts_with(text: &[u8], s: &[u8]) -> bool
 
 // A line of names, with its newline.
 pub fn read_names(text: &[u8]) -> NamesLine
-    ensures { λ r. ⌜ (namesOf r (now (text .entry)) ≡ readNames (now (text .entry))) × (namesUsed r ≤ length (now (text .entry))) ⌝ }
+    ensures { λ r. ⌜ Gives namesOf namesUsed r (now (text .entry)) (readNames (now (text .entry))) ⌝ }
 {
     if starts_with(text, b"vertices faces rounds\n") {
         return NamesLine::Input(22);
@@ -119,7 +119,7 @@ fn integer_field(line: &[u8], at: usize, end: u8) -> Integer
 }
 
 pub fn read_counts(line: &[u8]) -> CountsLine
-    ensures { λ r. ⌜ (countsOf r (now (line .entry)) ≡ readCounts (now (line .entry))) × (countsUsed r ≤ length (now (line .entry))) ⌝ }
+    ensures { λ r. ⌜ Gives countsOf countsUsed r (now (line .entry)) (readCounts (now (line .entry))) ⌝ }
 {
     let Number::Value(v, i) = natural_field(line, 0, 2147483647, b' ') else {
         return CountsLine::Bad;
@@ -140,7 +140,7 @@ pub fn read_counts(line: &[u8]) -> CountsLine
 
 // With a mark, or without one, which is 0.
 pub fn read_vertex(line: &[u8], marked: bool) -> VertexLine
-    ensures { λ r. ⌜ (vertexOf r (now (line .entry)) ≡ readVertex marked (now (line .entry))) × (vertexUsed r ≤ length (now (line .entry))) ⌝ }
+    ensures { λ r. ⌜ Gives vertexOf vertexUsed r (now (line .entry)) (readVertex marked (now (line .entry))) ⌝ }
 {
     let Integer::Value(x, i) = integer_field(line, 0, b' ') else {
         return VertexLine::Bad;
@@ -176,7 +176,7 @@ pub fn read_vertex(line: &[u8], marked: bool) -> VertexLine
 }
 
 pub fn read_face(line: &[u8]) -> FaceLine
-    ensures { λ r. ⌜ (faceOf r (now (line .entry)) ≡ readFace (now (line .entry))) × (faceUsed r ≤ length (now (line .entry))) ⌝ }
+    ensures { λ r. ⌜ Gives faceOf faceUsed r (now (line .entry)) (readFace (now (line .entry))) ⌝ }
 {
     let Number::Value(a, i) = natural_field(line, 0, 2147483647, b' ') else {
         return FaceLine::Bad;

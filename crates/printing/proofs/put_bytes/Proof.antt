@@ -33,7 +33,10 @@ loop-less : tie.Need-loop-less Inv-loop μ-loop
 loop-less c = omega arith
 
 loop-again : tie.Need-loop-again Inv-loop μ-loop
-loop-again c = (omega arith, simp length-set (c .before .before .loop .inv .1), copy-turn (c .before .before .before .args .out .now) (c .before .before .before .args .at) (c .before .before .before .args .s .now) (c .before .before .loop .out) (c .before .before .loop .i) (c .before .loop-test .taken) (c .before .before .loop .inv .2))
+loop-again c =
+    let l = c .before .before in
+    let s = l .before in
+    (omega arith, simp length-set (l .loop .inv .1), copy-turn (s .args .out .now) (s .args .at) (s .args .s .now) (l .loop .out) (l .loop .i) (c .before .loop-test .taken) (l .loop .inv .2))
 
 add-result : tie.Need-add-result Inv-loop μ-loop
 add-result c = omega arith
@@ -42,7 +45,11 @@ same-length : tie.Need-same-length Inv-loop μ-loop
 same-length c = c .before .loop .inv .1
 
 returns : tie.Need-returns Inv-loop μ-loop
-returns c = record { bytes = copy-end (c .before .before .args .out .now) (c .before .before .args .at) (c .before .before .args .s .now) (c .before .loop .out) (c .before .loop .i) (c .loop-test .left) (c .before .loop .inv .2); end = omega arith }
+returns c =
+    let l = c .before in
+    let s = l .before in
+    let e = copy-end (s .args .out .now) (s .args .at) (s .args .s .now) (l .loop .out) (l .loop .i) (c .loop-test .left) (l .loop .inv .2) in
+    record { stored = record { bytes = e; end = omega arith }; within = omega arith }
 
 pub put-bytes-spec : {M : Type 1} → statement M
 put-bytes-spec =

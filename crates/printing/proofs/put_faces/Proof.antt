@@ -1,23 +1,26 @@
 -- `printing::put_faces` meets its contract. Assumes nothing.
 use mathlib.Core.Path.{_≡_, refl, _∙_}
-use Prim.Native.Nat.{_+_, _*_, _-_, _≤_}
+use Prim.Native.Nat.{_*_, _-_, _≤_}
 use native.Mathlib.Omega.{arith}
 use borrow.Author.Needs.{needs}
 use lib.ListN.{length}
-use Rattle.text.specs.Text.{faceText}
+use Rattle.text.specs.Text.{faceText, texts}
 use Rattle.printing.specs.Tables.{faceAt, facesOf}
-use Rattle.printing.proofs.Writing.{Left, left-all, left-turn, left-none, face-entry, length-faces}
+use Rattle.printing.specs.Lines.{Printed}
+use Rattle.printing.proofs.Writing.{lines-none, lines-more}
 use Rattle.printing.proofs.put_faces.Statement.{statement}
 use Rattle.printing.proofs.put_faces.Tie as tie
 
+-- the first i lines are printed
 abbrev Inv-loop : tie.InvT-loop
-Inv-loop out₀ at count faces to₀ i₀ out to i = (i ≤ count) × (length out ≡ length out₀) × (to + 44 * (count - i) ≤ at + 44 * count) × Left faceText (facesOf count faces) out₀ at out to i
+Inv-loop out₀ at count faces to₀ i₀ out to i = (i ≤ count) × (length out ≡ length out₀) × Printed out₀ out at to (texts faceText (facesOf i faces)) (44 * i)
 
 abbrev μ-loop : tie.MeasureT-loop
 μ-loop out₀ at count faces to₀ i₀ out to i = count - i
 
 loop-holds : tie.Need-loop-holds Inv-loop μ-loop
-loop-holds c = (omega arith, refl, omega arith, left-all _ _ _ _)
+unfolding facesOf
+loop-holds c = let s = c .before .before in (omega arith, refl, lines-none faceText (faceAt (s .args .faces .now)) 44 _ _)
 
 mul-a : tie.Need-mul-a Inv-loop μ-loop
 mul-a c = search needs
@@ -65,7 +68,7 @@ shared-slice-read-d : tie.Need-shared-slice-read-d Inv-loop μ-loop
 shared-slice-read-d c = search needs
 
 put-face-requires : tie.Need-put-face-requires Inv-loop μ-loop
-put-face-requires c κs = let k = c .before .before .before .before .before .before .loop .inv .2 in omega arith
+put-face-requires c κs = search needs
 
 add-i : tie.Need-add-i Inv-loop μ-loop
 add-i c = search needs
@@ -74,24 +77,21 @@ loop-less : tie.Need-loop-less Inv-loop μ-loop
 loop-less c = search needs
 
 loop-again : tie.Need-loop-again Inv-loop μ-loop
+unfolding facesOf
 loop-again c =
-    let s = c .before .before .put-face .ensures .0 in
-    let n = length-faces (c .before .before .before .before .before .before .before .before .before .before .before .before .args .count) (c .before .before .before .before .before .before .before .before .before .before .before .before .args .faces .now) in
-    let k = c .before .before .before .before .before .before .before .before .before .loop .inv .2 in (
-      omega arith,
-      c .before .before .put-face .kept .0 ∙ c .before .before .before .before .before .before .before .before .before .loop .inv .1,
-      omega (arith, c .before .before .put-face .ensures .1),
-      left-turn faceText (facesOf (c .before .before .before .before .before .before .before .before .before .before .before .before .args .count) (c .before .before .before .before .before .before .before .before .before .before .before .before .args .faces .now)) _ _ _ _ _ _ (c .before .before .before .before .before .before .before .before .before .loop .i) (faceAt (c .before .before .before .before .before .before .before .before .before .before .before .before .args .faces .now) (c .before .before .before .before .before .before .before .before .before .loop .i)) (c .before .before .before .before .before .before .before .before .before .loop .inv .3) (omega arith) (face-entry (c .before .before .before .before .before .before .before .before .before .before .before .before .args .count) (c .before .before .before .before .before .before .before .before .before .before .before .before .args .faces .now) (c .before .before .before .before .before .before .before .before .before .loop .i) (c .before .before .before .before .before .before .before .before .loop-test .taken)) s,
-    )
+    let p = c .before .before in
+    let l = p .before .before .before .before .before .before .before in
+    let s = l .before .before .before in
+    (omega arith, p .put-face .kept .0 ∙ l .loop .inv .1, lines-more faceText (faceAt (s .args .faces .now)) 44 (l .loop .i) (l .loop .inv .2) (p .put-face .ensures))
 
 same-length : tie.Need-same-length Inv-loop μ-loop
 same-length c = c .before .loop .inv .1
 
 returns : tie.Need-returns Inv-loop μ-loop
 returns c =
-    let n = length-faces (c .before .before .before .before .args .count) (c .before .before .before .before .args .faces .now) in
-    let k = c .before .loop .inv .2 in
-    (left-none faceText (facesOf (c .before .before .before .before .args .count) (c .before .before .before .before .args .faces .now)) _ _ _ _ (c .before .loop .i) (c .before .loop .inv .3) (omega arith), omega arith)
+    let l = c .before in
+    let e : l .loop .i ≡ l .before .before .before .args .count = omega arith in
+    rw (← e) (l .loop .inv .2)
 
 pub put-faces-spec : {M : Type 1} → statement M
 put-faces-spec =

@@ -8,20 +8,23 @@ use mir.Syntax.{w32}
 use mir.Val.{SFits}
 use mir.Facts.{toZ-ofZ}
 use lib.ListN.{length, getD}
-use Rattle.text.specs.Text.{vertexText}
+use Rattle.text.specs.Text.{vertexText, texts}
 use Rattle.printing.specs.Tables.{vertexAt, verticesOf}
-use Rattle.printing.proofs.Writing.{Left, left-all, left-turn, left-none, vertex-entry, length-vertices}
+use Rattle.printing.specs.Lines.{Printed}
+use Rattle.printing.proofs.Writing.{lines-none, lines-more}
 use Rattle.printing.proofs.put_vertices.Statement.{statement}
 use Rattle.printing.proofs.put_vertices.Tie as tie
 
+-- the first i lines are printed
 abbrev Inv-loop : tie.InvT-loop
-Inv-loop out₀ at count vertices marks to₀ i₀ out to i = (i ≤ count) × (length out ≡ length out₀) × (to + 40 * (count - i) ≤ at + 40 * count) × Left vertexText (verticesOf count vertices marks) out₀ at out to i
+Inv-loop out₀ at count vertices marks to₀ i₀ out to i = (i ≤ count) × (length out ≡ length out₀) × Printed out₀ out at to (texts vertexText (verticesOf i vertices marks)) (40 * i)
 
 abbrev μ-loop : tie.MeasureT-loop
 μ-loop out₀ at count vertices marks to₀ i₀ out to i = count - i
 
 loop-holds : tie.Need-loop-holds Inv-loop μ-loop
-loop-holds c = (omega arith, refl, omega arith, left-all _ _ _ _)
+unfolding verticesOf
+loop-holds c = let s = c .before .before in (omega arith, refl, lines-none vertexText (vertexAt (s .args .vertices .now) (s .args .marks .now)) 40 _ _)
 
 mul-x : tie.Need-mul-x Inv-loop μ-loop
 mul-x c = search needs
@@ -60,7 +63,7 @@ shared-slice-read-put-vertex : tie.Need-shared-slice-read-put-vertex Inv-loop μ
 shared-slice-read-put-vertex c = search needs
 
 put-vertex-requires : tie.Need-put-vertex-requires Inv-loop μ-loop
-put-vertex-requires c κs = let k = c .before .before .before .before .before .before .loop .inv .2 in omega arith
+put-vertex-requires c κs = search needs
 
 add-i : tie.Need-add-i Inv-loop μ-loop
 add-i c = search needs
@@ -69,27 +72,25 @@ loop-less : tie.Need-loop-less Inv-loop μ-loop
 loop-less c = search needs
 
 loop-again : tie.Need-loop-again Inv-loop μ-loop
+unfolding verticesOf
 loop-again c =
-    let f : SFits w32 (getD (c .before .before .before .before .before .before .before .before .before .before .before .before .args .vertices .now) (3 * c .before .before .before .before .before .before .before .before .before .loop .i) (pos 0)) = search needs in
-    let g : SFits w32 (getD (c .before .before .before .before .before .before .before .before .before .before .before .before .args .vertices .now) (3 * c .before .before .before .before .before .before .before .before .before .loop .i + 1) (pos 0)) = search needs in
-    let h : SFits w32 (getD (c .before .before .before .before .before .before .before .before .before .before .before .before .args .vertices .now) (3 * c .before .before .before .before .before .before .before .before .before .loop .i + 2) (pos 0)) = search needs in
-    let s = simp toZ-ofZ at (c .before .before .put-vertex .ensures .0) in
-    let n = length-vertices (c .before .before .before .before .before .before .before .before .before .before .before .before .args .count) (c .before .before .before .before .before .before .before .before .before .before .before .before .args .vertices .now) (c .before .before .before .before .before .before .before .before .before .before .before .before .args .marks .now) in
-    let k = c .before .before .before .before .before .before .before .before .before .loop .inv .2 in (
-      omega arith,
-      c .before .before .put-vertex .kept .0 ∙ c .before .before .before .before .before .before .before .before .before .loop .inv .1,
-      omega (arith, c .before .before .put-vertex .ensures .1),
-      left-turn vertexText (verticesOf (c .before .before .before .before .before .before .before .before .before .before .before .before .args .count) (c .before .before .before .before .before .before .before .before .before .before .before .before .args .vertices .now) (c .before .before .before .before .before .before .before .before .before .before .before .before .args .marks .now)) _ _ _ _ _ _ (c .before .before .before .before .before .before .before .before .before .loop .i) (vertexAt (c .before .before .before .before .before .before .before .before .before .before .before .before .args .vertices .now) (c .before .before .before .before .before .before .before .before .before .before .before .before .args .marks .now) (c .before .before .before .before .before .before .before .before .before .loop .i)) (c .before .before .before .before .before .before .before .before .before .loop .inv .3) (omega arith) (vertex-entry (c .before .before .before .before .before .before .before .before .before .before .before .before .args .count) (c .before .before .before .before .before .before .before .before .before .before .before .before .args .vertices .now) (c .before .before .before .before .before .before .before .before .before .before .before .before .args .marks .now) (c .before .before .before .before .before .before .before .before .before .loop .i) (c .before .before .before .before .before .before .before .before .loop-test .taken)) s,
-    )
+    let p = c .before .before in
+    let l = p .before .before .before .before .before .before .before in
+    let s = l .before .before .before in
+    let fx : SFits w32 (getD (s .args .vertices .now) (3 * l .loop .i) (pos 0)) = search needs in
+    let fy : SFits w32 (getD (s .args .vertices .now) (3 * l .loop .i + 1) (pos 0)) = search needs in
+    let fz : SFits w32 (getD (s .args .vertices .now) (3 * l .loop .i + 2) (pos 0)) = search needs in
+    let w = simp toZ-ofZ at (p .put-vertex .ensures) in
+    (omega arith, p .put-vertex .kept .0 ∙ l .loop .inv .1, lines-more vertexText (vertexAt (s .args .vertices .now) (s .args .marks .now)) 40 (l .loop .i) (l .loop .inv .2) w)
 
 same-length : tie.Need-same-length Inv-loop μ-loop
 same-length c = c .before .loop .inv .1
 
 returns : tie.Need-returns Inv-loop μ-loop
 returns c =
-    let n = length-vertices (c .before .before .before .before .args .count) (c .before .before .before .before .args .vertices .now) (c .before .before .before .before .args .marks .now) in
-    let k = c .before .loop .inv .2 in
-    (left-none vertexText (verticesOf (c .before .before .before .before .args .count) (c .before .before .before .before .args .vertices .now) (c .before .before .before .before .args .marks .now)) _ _ _ _ (c .before .loop .i) (c .before .loop .inv .3) (omega arith), omega arith)
+    let l = c .before in
+    let e : l .loop .i ≡ l .before .before .before .args .count = omega arith in
+    rw (← e) (l .loop .inv .2)
 
 pub put-vertices-spec : {M : Type 1} → statement M
 put-vertices-spec =

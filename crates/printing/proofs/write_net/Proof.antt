@@ -1,10 +1,7 @@
--- `printing::write_net` meets its contract. Assumes nothing.
+-- `printing::write_net` meets its contract: six texts in a row. Assumes nothing.
 use native.Mathlib.Omega.{arith}
-use Prim.Native.Nat.{_≤_}
-use Rattle.printing.specs.Tables.{roomFor}
-use Rattle.decimal.proofs.Writing.{stored-then}
 use Rattle.text.specs.Bytes.{bytes}
-use Rattle.printing.proofs.Writing.{answer-written}
+use Rattle.printing.proofs.Writing.{in-row, at-front, answer-is}
 use borrow.Author.Needs.{needs}
 use Rattle.printing.proofs.write_net.Statement.{statement}
 use Rattle.printing.proofs.write_net.Tie as tie
@@ -42,21 +39,16 @@ same-length c = search needs
 returns : tie.Need-returns
 unfolding bytes
 returns c =
-    let a = c .before .before .before .before .before .before .before .before .before .before .before .before .before .before .before .before .before .before .before .before .before .before .before .before .before .before .before .before .before .before .args in
-    let s₁ = c .before .before .before .before .before .before .before .before .before .before .before .before .before .before .before .before .before .before .before .before .before .before .before .before .put-bytes .ensures in
-    let s₂ = c .before .before .before .before .before .before .before .before .before .before .before .before .before .before .before .before .before .before .before .before .put-pair .ensures .0 in
-    let s₃ = c .before .before .before .before .before .before .before .before .before .before .before .before .before .before .before .put-bytes2 .ensures in
-    let s₄ = c .before .before .before .before .before .before .before .before .before .before .before .put-vertices .ensures .0 in
-    let s₅ = c .before .before .before .before .before .before .put-bytes3 .ensures in
-    let s₆ = c .before .before .put-faces .ensures .0 in
-    let e₁ = s₁ .end in
-    let b₂ = c .before .before .before .before .before .before .before .before .before .before .before .before .before .before .before .before .before .before .before .before .put-pair .ensures .1 in
-    let e₃ = s₃ .end in
-    let b₄ = c .before .before .before .before .before .before .before .before .before .before .before .put-vertices .ensures .1 in
-    let e₅ = s₅ .end in
-    let b₆ = c .before .before .put-faces .ensures .1 in
-    let h : c .before .before .put-faces .result ≤ roomFor (a .v) (a .f) = omega arith in
-    answer-written (a .v) (a .f) (a .vertices .now) (a .marks .now) (a .faces .now) _ _ _ (stored-then _ _ _ _ _ _ _ _ (stored-then _ _ _ _ _ _ _ _ (stored-then _ _ _ _ _ _ _ _ (stored-then _ _ _ _ _ _ _ _ (stored-then _ _ _ _ _ _ _ _ s₁ s₂) s₃) s₄) s₅) s₆) h (c .before .before .before .before .before .before .before .before .before .before .before .before .before .before .before .before .before .before .before .before .before .before .before .before .before .before .before .before .before .before .pre .3)
+    let n = c .before .before in
+    let m = n .before .before .before .before in
+    let l = m .before .before .before .before .before in
+    let k = l .before .before .before .before in
+    let j = k .before .before .before .before .before in
+    let i = j .before .before .before .before in
+    let s = i .before .before .before .before .before .before in
+    let head = in-row (in-row (i .put-bytes .ensures) (j .put-pair .ensures)) (k .put-bytes2 .ensures) in
+    let body = in-row (in-row (in-row head (l .put-vertices .ensures)) (m .put-bytes3 .ensures)) (n .put-faces .ensures) in
+    rw (answer-is (s .args .v) (s .args .f) (s .args .vertices .now) (s .args .faces .now) (s .args .marks .now)) (at-front _ _ _ _ _ _ body (omega arith) (s .pre .3))
 
 pub write-net-spec : {M : Type 1} → statement M
 write-net-spec =

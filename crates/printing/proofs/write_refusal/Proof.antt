@@ -1,9 +1,8 @@
--- `printing::write_refusal` meets its contract. Assumes nothing.
+-- `printing::write_refusal` meets its contract: a line of names and one of two numbers. Assumes nothing.
 use native.Mathlib.Omega.{arith}
-use Rattle.decimal.proofs.Writing.{stored-then}
 use Rattle.text.specs.Bytes.{bytes}
 use Rattle.text.specs.Text.{refusalText}
-use Rattle.printing.proofs.Writing.{at-front}
+use Rattle.printing.proofs.Writing.{in-row, at-front}
 use borrow.Author.Needs.{needs}
 use Rattle.printing.proofs.write_refusal.Statement.{statement}
 use Rattle.printing.proofs.write_refusal.Tie as tie
@@ -23,13 +22,9 @@ same-length c = search needs
 returns : tie.Need-returns
 unfolding bytes refusalText
 returns c =
-    let s₁ = c .before .before .before .before .before .before .put-bytes .ensures in
-    let s₂ = c .before .before .put-pair .ensures .0 in
-    let e₁ = s₁ .end in
-    let b₂ = c .before .before .put-pair .ensures .1 in
-    at-front _ _ _ _ _ (stored-then _ _ _ _ _ _ _ _ s₁ s₂) (omega arith) (c .before .before .before .before .before .before .before .before .before .before .pre)
+    let j = c .before .before in
+    let i = j .before .before .before .before in
+    at-front _ _ _ _ _ _ (in-row (i .put-bytes .ensures) (j .put-pair .ensures)) (omega arith) (i .before .before .before .before .pre)
 
 pub write-refusal-spec : {M : Type 1} → statement M
-write-refusal-spec =
-    tie.close
-    (tie.spec slice-aggregate-put-bytes put-bytes-requires put-pair-requires same-length returns)
+write-refusal-spec = tie.close (tie.spec slice-aggregate-put-bytes put-bytes-requires put-pair-requires same-length returns)

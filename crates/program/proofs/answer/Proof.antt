@@ -1,11 +1,13 @@
 -- `program::answer` meets its contract. Assumes nothing.
-use mathlib.Core.Path.{sym, ap, _∙_}
+use mathlib.Core.Path.{_≡_, sym, ap, _∙_}
 use Prim.Native.Nat.{_*_}
 use native.Mathlib.Omega.{arith}
+use lib.IntN.{pos}
+use lib.ListN.{replicate}
 use lib.Seq.{length-take-le}
 use mir.Val.{Fits}
 use Rattle.reading.specs.declared.Input.{Input}
-use Rattle.reading.specs.Loaded.{loaded}
+use Rattle.reading.specs.Loaded.{loaded, readNet}
 use Rattle.reading.specs.Answers.{answerOf}
 use Rattle.program.specs.Answer.{programText}
 use Rattle.program.proofs.Loaded.{Handed, net-handed, refusal-handed}
@@ -14,12 +16,22 @@ use borrow.Author.Needs.{needs}
 use Rattle.program.proofs.answer.Statement.{statement}
 use Rattle.program.proofs.answer.Tie as tie
 
+-- what the reader left
+abbrev begin : tie.After-read-net → tie.Start
+begin p = p .before .before .before .before .before .before
+
+read : (p : tie.After-read-net) {a : Input} → p .read-net .result ≡ a
+    → (let o = p .read-net .last .1 in loaded (answerOf a) (o .0) (o .1 .0) (o .1 .1 .0) ≡ readNet (begin p .args .text .now) (replicate 3072 (pos 0)) (replicate 1024 0) (replicate 1024 0))
+read p e = let o = p .read-net .last .1 in sym (ap (λ (a : Input). loaded (answerOf a) (o .0) (o .1 .0) (o .1 .1 .0)) e) ∙ p .read-net .ensures
+
 -- the net that the reader found
-handed : (c : tie.After-known-told) → (let g = c .before .rounds .given .0 in let o = c .before .before .before .before .before .before .read-net .last .1 in Handed (g .0) (g .1 .0) (g .1 .1 .0) (o .0) (o .1 .0) (o .1 .1 .0) (programText (c .before .before .before .before .before .before .before .before .before .before .before .before .args .text .now)))
-handed c =
-    let x = c .before .before .before .before .before .before .read-net in
-    let o = x .last .1 in
-    net-handed _ _ _ _ _ _ (o .0) (o .1 .0) (o .1 .1 .0) _ (sym (ap (λ (a : Input). loaded (answerOf a) (o .0) (o .1 .0) (o .1 .1 .0)) (c .before .rounds .given .1)) ∙ x .ensures)
+abbrev reader : tie.After-known-told → tie.After-read-net
+reader c = c .before .before .before .before .before .before
+
+handed : (c : tie.After-known-told)
+    → (let g = c .before .rounds .given .0 in let o = reader c .read-net .last .1 in
+    Handed (g .0) (g .1 .0) (g .1 .1 .0) (o .0) (o .1 .0) (o .1 .1 .0) (programText (begin (reader c) .args .text .now)))
+handed c = let o = reader c .read-net .last .1 in net-handed _ _ _ _ _ _ (o .0) (o .1 .0) (o .1 .1 .0) _ (read (reader c) (c .before .rounds .given .1))
 
 slice-aggregate-read-net : tie.Need-slice-aggregate-read-net
 slice-aggregate-read-net c = search needs
@@ -40,7 +52,7 @@ mul-vertices : tie.Need-mul-vertices
 mul-vertices c = let h = handed c .served .vertices in record { fits = omega arith }
 
 array-share-prefix-vertices : tie.Need-array-share-prefix-vertices
-array-share-prefix-vertices c = let h = handed c .served .vertices in let k = c .before .before .before .before .before .before .read-net .kept .1 .0 in omega arith
+array-share-prefix-vertices c = let h = handed c .served .vertices in let k = reader c .read-net .kept .1 .0 in omega arith
 
 slice-aggregate-refine-net : tie.Need-slice-aggregate-refine-net
 slice-aggregate-refine-net c = sym (length-take-le _ _ (array-share-prefix-vertices (c .before)))
@@ -49,19 +61,19 @@ mul-faces : tie.Need-mul-faces
 mul-faces c = let h = handed (c .before) .served .faces in record { fits = omega arith }
 
 array-share-prefix-faces : tie.Need-array-share-prefix-faces
-array-share-prefix-faces c = let h = handed (c .before) .served .faces in let k = c .before .before .before .before .before .before .before .read-net .kept .1 .1 .0 in omega arith
+array-share-prefix-faces c = let h = handed (c .before) .served .faces in let k = reader (c .before) .read-net .kept .1 .1 .0 in omega arith
 
 slice-aggregate-refine-net-2 : tie.Need-slice-aggregate-refine-net-2
 slice-aggregate-refine-net-2 c = sym (length-take-le _ _ (array-share-prefix-faces (c .before)))
 
 array-share-prefix-marks : tie.Need-array-share-prefix-marks
-array-share-prefix-marks c = let h = handed (c .before .before) .served .vertices in let k = c .before .before .before .before .before .before .before .before .read-net .kept .1 .1 .1 .0 in omega arith
+array-share-prefix-marks c = let p = c .before .before in let h = handed p .served .vertices in let k = reader p .read-net .kept .1 .1 .1 .0 in omega arith
 
 slice-aggregate-refine-net-3 : tie.Need-slice-aggregate-refine-net-3
 slice-aggregate-refine-net-3 c = sym (length-take-le _ _ (array-share-prefix-marks (c .before)))
 
 refine-net-requires : tie.Need-refine-net-requires
-refine-net-requires c κs = (handed (c .before .before .before .before) .limits, c .before .before .before .before .before .before .before .before .before .before .before .before .before .before .before .before .pre)
+refine-net-requires c κs = let p = c .before .before .before .before in (handed p .limits, begin (reader p) .pre)
 
 enum-known-reason : tie.Need-enum-known-reason
 enum-known-reason c = search needs
@@ -73,18 +85,17 @@ same-length : tie.Need-same-length
 same-length c = search needs
 
 returns : tie.Need-returns
-returns c = let y = c .before .before .refine-net .ensures in wider _ _ _ _ _ 52302 y (handed (c .before .before .before .before .before .before .before) .text) (omega arith)
+returns c = wider _ _ _ _ _ 52302 (c .before .before .refine-net .ensures) (handed (c .before .before .before .before .before .before .before) .text) (omega arith)
 
 same-length-2 : tie.Need-same-length-2
 same-length-2 c = search needs
 
 returns-2 : tie.Need-returns-2
 returns-2 c =
-    let y = c .before .before .write-refusal .ensures in
-    let x = c .before .before .before .before .before .before .before .before .before .before .read-net in
-    let o = x .last .1 in
-    let e = sym (ap (λ (a : Input). loaded (answerOf a) (o .0) (o .1 .0) (o .1 .1 .0)) (c .before .before .before .before .before .reason .given .1)) ∙ x .ensures in
-    wider _ _ _ _ _ 56 y (refusal-handed _ _ _ _ _ (o .0) (o .1 .0) (o .1 .1 .0) _ e) (omega arith)
+    let r = c .before .before .before .before .before in
+    let p = r .before .before .before .before .before in
+    let o = p .read-net .last .1 in
+    wider _ _ _ _ _ 56 (c .before .before .write-refusal .ensures) (refusal-handed _ _ _ _ _ (o .0) (o .1 .0) (o .1 .1 .0) _ (read p (r .reason .given .1))) (omega arith)
 
 pub answer-spec : {M : Type 1} → statement M
 answer-spec =

@@ -1,11 +1,6 @@
 -- `reading::check` meets its contract. Assumes nothing.
-use mathlib.Core.Path.{refl, sym, ap, _∙_}
-use native.Mathlib.Omega.{arith}
-use Rattle.text.specs.Form.{parse}
-use Rattle.reading.specs.declared.HeadLines.{HeadLines}
-use Rattle.reading.specs.declared.BodyLines.{BodyLines}
-use Rattle.reading.specs.Answers.{headIs, headOf, headUsed, bodyOf, bodyUsed}
-use Rattle.reading.proofs.Lines.{taken}
+use Rattle.decimal.proofs.Reading.{says, took}
+use Rattle.reading.proofs.Head.{head-refused, body-refused, body-read}
 use borrow.Author.Needs.{needs}
 use Rattle.reading.proofs.check.Statement.{statement}
 use Rattle.reading.proofs.check.Tie as tie
@@ -20,7 +15,7 @@ enum-known-vertices : tie.Need-enum-known-vertices
 enum-known-vertices c = search needs
 
 check-body-requires : tie.Need-check-body-requires
-check-body-requires c κs = taken headUsed _ _ _ (c .before .before .before .check-head .ensures .1) (c .before .vertices .given .1)
+check-body-requires c κs = took (c .before .before .before .check-head .ensures) (c .before .vertices .given .1)
 
 enum-known-n-2 : tie.Need-enum-known-n-2
 enum-known-n-2 c = search needs
@@ -29,16 +24,19 @@ enum-known-j : tie.Need-enum-known-j
 enum-known-j c = search needs
 
 returns : tie.Need-returns
-unfolding parse
-returns c = (rw (sym (c .before .before .before .check-head .ensures .0) ∙ ap (λ (o : HeadLines). headOf o (c .before .before .before .before .before .args .text .now)) (c .before .n .given .1)) refl, omega arith, omega arith)
+returns c = head-refused (says (c .before .before .before .check-head .ensures) (c .before .n .given .1))
 
 returns-2 : tie.Need-returns-2
-unfolding parse
-returns-2 c = (rw (sym (c .before .before .before .before .before .before .before .check-head .ensures .0) ∙ ap (λ (o : HeadLines). headOf o (c .before .before .before .before .before .before .before .before .before .args .text .now)) (c .before .before .before .before .before .vertices .given .1)) (sym (ap (λ (o : BodyLines). bodyOf o (headIs (c .before .before .before .before .before .vertices .given .0 .0) (c .before .before .before .before .before .vertices .given .0 .1 .0) (c .before .before .before .before .before .vertices .given .0 .1 .1 .0) (c .before .before .before .before .before .vertices .given .0 .1 .1 .1 .0)) (c .before .before .before .before .before .before .before .before .before .args .text .now) (c .before .before .before .before .before .vertices .given .0 .1 .1 .1 .1 .0)) (c .before .n2 .given .1)) ∙ c .before .before .before .check-body .ensures .0), omega arith, omega arith)
+returns-2 c =
+    let v = c .before .before .before .before .before in
+    body-refused (v .vertices .given .0 .1 .1 .1 .1 .0) (says (v .before .before .check-head .ensures) (v .vertices .given .1)) (says (c .before .before .before .check-body .ensures) (c .before .n2 .given .1))
 
 returns-3 : tie.Need-returns-3
-unfolding parse
-returns-3 c = (rw (sym (c .before .before .before .before .before .before .before .check-head .ensures .0) ∙ ap (λ (o : HeadLines). headOf o (c .before .before .before .before .before .before .before .before .before .args .text .now)) (c .before .before .before .before .before .vertices .given .1)) (sym (ap (λ (o : BodyLines). bodyOf o (headIs (c .before .before .before .before .before .vertices .given .0 .0) (c .before .before .before .before .before .vertices .given .0 .1 .0) (c .before .before .before .before .before .vertices .given .0 .1 .1 .0) (c .before .before .before .before .before .vertices .given .0 .1 .1 .1 .0)) (c .before .before .before .before .before .before .before .before .before .args .text .now) (c .before .before .before .before .before .vertices .given .0 .1 .1 .1 .1 .0)) (c .before .j .given .1)) ∙ c .before .before .before .check-body .ensures .0), taken headUsed _ _ _ (c .before .before .before .before .before .before .before .check-head .ensures .1) (c .before .before .before .before .before .vertices .given .1), taken bodyUsed _ _ _ (c .before .before .before .check-body .ensures .1) (c .before .j .given .1))
+returns-3 c =
+    let v = c .before .before .before .before .before in
+    let h = v .before .before .check-head .ensures in
+    let b = c .before .before .before .check-body .ensures in
+    body-read _ (says h (v .vertices .given .1)) (says b (c .before .j .given .1)) (took h (v .vertices .given .1)) (took b (c .before .j .given .1))
 
 pub check-spec : {M : Type 1} → statement M
 check-spec =

@@ -7,12 +7,16 @@ use lib.Seq.{drop-drop}
 use Rattle.decimal.specs.Decimal.{found}
 use Rattle.text.specs.Form.{Head, Vertex, Face, Rows, rows, badLine, corners, readNames, readVertex, readFace}
 use Rattle.text.specs.Answers.{namesOf, namesUsed}
+use Rattle.text.specs.declared.NamesLine.the-variants as names
 use Rattle.reading.specs.Answers.{headIs}
-use Rattle.reading.proofs.Lines.{rows-length, given-at, taken, part-within, not-corners-at}
-use Rattle.reading.proofs.Body.{block-good, block-rest, block-within, body-vertex, body-names, body-face, body-surplus, body-whole}
+use Rattle.reading.proofs.Lines.{LineAt, line-at, rows-length, not-corners-at}
+use Rattle.reading.proofs.Body.{block-good, block-rest, block-within, NamesRead, body-vertex, body-names, body-face, body-surplus, body-whole}
 use borrow.Author.Needs.{needs}
 use Rattle.reading.proofs.check_body.Statement.{statement}
 use Rattle.reading.proofs.check_body.Tie as tie
+
+abbrev head : tie.Start → Head
+head s = headIs (s .args .vertices) (s .args .faces) (s .args .rounds) (s .args .marks)
 
 -- ---- the vertex lines, from `at` on
 abbrev begin : tie.After-count-vertices → tie.Start
@@ -41,16 +45,18 @@ vertices-of n = n .before .before .before .before .before .before .before
 abbrev faces-at : tie.After-n → ℕ
 faces-at n = names-at (vertices-of n) + n .n .given .0 .0
 
-all-vertices : (n : tie.After-n) → length (vertex-rows (vertices-of n) .values) ≡ begin (vertices-of n) .args .vertices
-all-vertices n = sym (vertices-good (vertices-of n)) ∙ n .before .before .before .before .before .if1 .left
+names-line : (n : tie.After-n) → LineAt namesOf namesUsed readNames (begin (vertices-of n) .args .text .now) (names-at (vertices-of n)) (names.Corners (n .n .given .0 .0))
+names-line n = line-at _ _ _ (n .before .before .read-names .ensures) (n .n .given .1) (vertices-within (vertices-of n))
 
-names-good : (n : tie.After-n) → (let l = begin (vertices-of n) .args .text .now in readNames (drop (names-at (vertices-of n)) l) ≡ found corners (drop (faces-at n) l))
+names-good : (n : tie.After-n)
+    → (let s = begin (vertices-of n) in let l = s .args .text .now in NamesRead (head s) (drop (s .args .at) l) (drop (faces-at n) l))
 names-good n =
-    let l = begin (vertices-of n) .args .text .now in
-    given-at namesOf readNames l _ _ _ (n .before .before .read-names .ensures .0) (n .n .given .1) ∙ ap (found corners) (drop-drop (n .n .given .0 .0) (names-at (vertices-of n)) l)
-
-names-within : (n : tie.After-n) → faces-at n ≤ length (begin (vertices-of n) .args .text .now)
-names-within n = part-within (begin (vertices-of n) .args .text .now) (names-at (vertices-of n)) _ (vertices-within (vertices-of n)) (taken namesUsed _ _ _ (n .before .before .read-names .ensures .1) (n .n .given .1))
+    let v = vertices-of n in
+    let d = drop-drop (n .n .given .0 .0) (names-at v) (begin v .args .text .now) in
+    record {
+      all = sym (vertices-good v) ∙ n .before .before .before .before .before .if1 .left;
+      names = rw (vertices-rest v) (names-line n .reads ∙ ap (found corners) d);
+    }
 
 -- ---- the face lines
 abbrev names-of : tie.After-count-faces → tie.After-n
@@ -69,10 +75,7 @@ faces-rest : (f : tie.After-count-faces) → face-rows f .rest ≡ drop (faces-a
 faces-rest f = block-rest readFace (args-of f .args .faces) (args-of f .args .text .now) (faces-at (names-of f)) _ (f .count-faces .ensures)
 
 faces-within : (f : tie.After-count-faces) → faces-at (names-of f) + f .count-faces .result .used ≤ length (args-of f .args .text .now)
-faces-within f = block-within readFace (args-of f .args .faces) (args-of f .args .text .now) (faces-at (names-of f)) _ (f .count-faces .ensures) (names-within (names-of f))
-
-abbrev head : tie.Start → Head
-head s = headIs (s .args .vertices) (s .args .faces) (s .args .rounds) (s .args .marks)
+faces-within f = block-within readFace (args-of f .args .faces) (args-of f .args .text .now) (faces-at (names-of f)) _ (f .count-faces .ensures) (names-line (names-of f) .within)
 
 sub-count-vertices : tie.Need-sub-count-vertices
 sub-count-vertices c = search needs
@@ -87,14 +90,21 @@ count-vertices-requires : tie.Need-count-vertices-requires
 count-vertices-requires c κs = search needs
 
 add-t19 : tie.Need-add-t19
-add-t19 c = let v = c .before .before .before in let a = begin v .args in let g = vertices-good v in let s = rows-length (readVertex (a .marks)) (a .vertices) (drop (a .at) (a .text .now)) in let f = begin v .fits .vertices .fits in omega arith
+add-t19 c =
+    let v = c .before .before .before in
+    let a = begin v .args in
+    let g = vertices-good v in
+    let s = rows-length (readVertex (a .marks)) (a .vertices) (drop (a .at) (a .text .now)) in
+    let f = begin v .fits .vertices .fits in
+    omega arith
 
 returns : tie.Need-returns
 returns c =
     let v = c .before .before .before in
     let s = begin v in
     let g = vertices-good v in
-    (ap (λ (k : ℕ). badLine (4 + k)) g ∙ body-vertex (head s) (drop (s .args .at) (s .args .text .now)) (λ e. c .before .if1 .taken (g ∙ e)), omega arith)
+    let e = body-vertex (head s) (drop (s .args .at) (s .args .text .now)) (λ e. c .before .if1 .taken (g ∙ e)) in
+    record { reads = ap (λ (k : ℕ). badLine (4 + k)) g ∙ e; within = omega arith }
 
 add-i : tie.Need-add-i
 add-i c = let w = vertices-within (c .before .before .before) in omega arith
@@ -121,16 +131,19 @@ returns-2 : tie.Need-returns-2
 returns-2 c =
     let v = c .before .before .before .before .before .before in
     let s = begin v in
-    (body-names (head s) (drop (s .args .at) (s .args .text .now)) (sym (vertices-good v) ∙ c .before .before .before .before .if1 .left) _ (vertices-rest v) (not-corners-at (s .args .text .now) (names-at v) (c .before .read-names .result) (c .before .read-names .ensures .0) (c .match .keys2)), omega arith)
+    let l = s .args .text .now in
+    let all = sym (vertices-good v) ∙ c .before .before .before .before .if1 .left in
+    let bad = not-corners-at l (names-at v) (c .before .read-names .result) (c .before .read-names .ensures) (c .match .keys2) in
+    record { reads = body-names (head s) (drop (s .args .at) l) all (rw (vertices-rest v) bad); within = omega arith }
 
 add-j : tie.Need-add-j
-add-j c = let w = names-within (c .before) in omega arith
+add-j c = let w = names-line (c .before) .within in omega arith
 
 sub-count-faces : tie.Need-sub-count-faces
-sub-count-faces c = names-within (c .before)
+sub-count-faces c = names-line (c .before) .within
 
 part-count-faces-start : tie.Need-part-count-faces-start
-part-count-faces-start c = names-within (c .before)
+part-count-faces-start c = names-line (c .before) .within
 
 part-count-faces-end : tie.Need-part-count-faces-end
 part-count-faces-end c = search needs
@@ -154,10 +167,10 @@ add-t29 c =
 returns-3 : tie.Need-returns-3
 returns-3 c =
     let f = c .before .before .before in
-    let n = names-of f in
     let s = args-of f in
     let g = faces-good f in
-    (ap (λ (k : ℕ). badLine (5 + s .args .vertices + k)) g ∙ body-face (head s) (drop (s .args .at) (s .args .text .now)) (all-vertices n) _ (vertices-rest (vertices-of n)) (drop (faces-at n) (s .args .text .now)) (names-good n) (λ e. c .before .if2 .taken (g ∙ e)), omega arith)
+    let e = body-face (names-good (names-of f)) (λ e. c .before .if2 .taken (g ∙ e)) in
+    record { reads = ap (λ (k : ℕ). badLine (5 + s .args .vertices + k)) g ∙ e; within = omega arith }
 
 add-if3 : tie.Need-add-if3
 add-if3 c = let w = faces-within (c .before .before .before) in omega arith
@@ -177,15 +190,16 @@ returns-4 c =
     let t : (faces-at n + f .count-faces .result .used ≡ length (s .args .text .now)) → ⊥ = c .if3 .taken in
     let r = ap length (faces-rest f) in
     let d = length-drop (faces-at n + f .count-faces .result .used) (s .args .text .now) in
-    (body-surplus (head s) (drop (s .args .at) (s .args .text .now)) (all-vertices n) _ (vertices-rest (vertices-of n)) (drop (faces-at n) (s .args .text .now)) (names-good n) (sym (faces-good f) ∙ c .before .before .if2 .left) (omega arith), omega arith)
+    record { reads = body-surplus (names-good n) (sym (faces-good f) ∙ c .before .before .if2 .left) (omega arith); within = omega arith }
 
 returns-5 : tie.Need-returns-5
 returns-5 c =
     let f = c .before .before .before .before in
     let n = names-of f in
-    let s = args-of f in
-    let e : length (s .args .text .now) ≤ faces-at n + f .count-faces .result .used = omega (arith, c .if3 .left) in
-    (body-whole (head s) (drop (s .args .at) (s .args .text .now)) (all-vertices n) _ (vertices-rest (vertices-of n)) (drop (faces-at n) (s .args .text .now)) (names-good n) (sym (faces-good f) ∙ c .before .before .if2 .left) (faces-rest f ∙ drop-of-length-le (s .args .text .now) {i = faces-at n + f .count-faces .result .used} e), names-within n)
+    let l = args-of f .args .text .now in
+    let e : length l ≤ faces-at n + f .count-faces .result .used = omega (arith, c .if3 .left) in
+    let r = faces-rest f ∙ drop-of-length-le l {i = faces-at n + f .count-faces .result .used} e in
+    record { reads = body-whole (names-good n) (sym (faces-good f) ∙ c .before .before .if2 .left) r; within = names-line n .within }
 
 pub check-body-spec : {M : Type 1} → statement M
 check-body-spec =

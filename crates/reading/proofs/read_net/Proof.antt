@@ -1,17 +1,41 @@
 -- `reading::read_net` meets its contract. Assumes nothing.
-use mathlib.Core.Path.{sym, ap, _∙_}
+use mathlib.Core.Path.{sym, ap, _∙_, subst}
+use Prim.Native.Nat.{_≤_}
 use native.Mathlib.Omega.{arith}
+use lib.ListN.{length}
 use Rattle.reading.specs.declared.Checked.{Checked}
 use Rattle.reading.specs.Answers.{checkedOf, verticesAt, facesAt}
-use Rattle.reading.proofs.Lines.{taken}
-use Rattle.reading.proofs.Limits.{served}
-use Rattle.reading.proofs.Cases.{too-long, not-the-form, counts-refused, net-read}
+use Rattle.reading.proofs.Cases.{FormRead, tables-serve, too-long, not-the-form, counts-refused, net-read}
 use borrow.Author.Needs.{needs}
 use Rattle.reading.proofs.read_net.Statement.{statement}
 use Rattle.reading.proofs.read_net.Tie as tie
 
+-- the first pass found the form
+abbrev begin : tie.After-check → tie.Start
+begin p = p .before .before .before .before .before
+
+abbrev form : tie.After-refusal → tie.After-v
+form p = p .before .before
+
+abbrev pass : tie.After-refusal → tie.After-check
+pass p = form p .before .before
+
+read : (p : tie.After-refusal)
+    → (let g = form p .v .given .0 in
+    FormRead (begin (pass p) .args .text .now) (g .0) (g .1 .0) (g .1 .1 .0) (g .1 .1 .1 .0) (g .1 .1 .1 .1 .0) (g .1 .1 .1 .1 .1 .0) (p .refusal .result))
+read p =
+    let l = begin (pass p) .args .text .now in
+    let e = ap (λ (o : Checked). checkedOf o l) (form p .v .given .1) in
+    record { short = pass p .before .if1 .left; form = sym e ∙ pass p .check .ensures .reads; verdict = p .refusal .ensures }
+
+vertices-start : (p : tie.After-refusal) → form p .v .given .0 .1 .1 .1 .1 .0 ≤ length (begin (pass p) .args .text .now)
+vertices-start p = subst (λ (o : Checked). verticesAt o ≤ length (begin (pass p) .args .text .now)) (form p .v .given .1) (pass p .check .ensures .vertices)
+
+faces-start : (p : tie.After-refusal) → form p .v .given .0 .1 .1 .1 .1 .1 .0 ≤ length (begin (pass p) .args .text .now)
+faces-start p = subst (λ (o : Checked). facesAt o ≤ length (begin (pass p) .args .text .now)) (form p .v .given .1) (pass p .check .ensures .faces)
+
 returns : tie.Need-returns
-returns c = too-long (c .before .before .before .before .args .text .now) (c .before .before .before .before .args .vertices .now) (c .before .before .before .before .args .faces .now) (c .before .before .before .before .args .marks .now) (c .if1 .taken)
+returns c = too-long _ _ _ _ (c .if1 .taken)
 
 check-requires : tie.Need-check-requires
 check-requires c κs = search needs
@@ -26,13 +50,13 @@ refusal-requires : tie.Need-refusal-requires
 refusal-requires c κs = search needs
 
 returns-2 : tie.Need-returns-2
-returns-2 c = counts-refused (c .before .before .before .before .before .before .before .before .before .before .args .text .now) (c .before .before .before .before .before .before .before .before .before .before .args .vertices .now) (c .before .before .before .before .before .before .before .before .before .before .args .faces .now) (c .before .before .before .before .before .before .before .before .before .before .args .marks .now) (c .before .before .before .before .before .before .if1 .left) (c .before .before .before .v .given .0 .0) (c .before .before .before .v .given .0 .1 .0) (c .before .before .before .v .given .0 .1 .1 .0) (c .before .before .before .v .given .0 .1 .1 .1 .0) (c .before .before .before .v .given .0 .1 .1 .1 .1 .0) (c .before .before .before .v .given .0 .1 .1 .1 .1 .1 .0) (c .before .refusal .result) (sym (ap (λ (o : Checked). checkedOf o (c .before .before .before .before .before .before .before .before .before .before .args .text .now)) (c .before .before .before .v .given .1)) ∙ c .before .before .before .before .before .check .ensures .0) (c .before .refusal .ensures) (c .if2 .taken)
+returns-2 c = counts-refused (read (c .before)) _ _ _ (c .if2 .taken)
 
 sub-store-vertices : tie.Need-sub-store-vertices
-sub-store-vertices c = taken verticesAt _ _ _ (c .before .before .before .before .before .check .ensures .1) (c .before .before .before .v .given .1)
+sub-store-vertices c = vertices-start (c .before)
 
 part-store-vertices-start : tie.Need-part-store-vertices-start
-part-store-vertices-start c = taken verticesAt _ _ _ (c .before .before .before .before .before .check .ensures .1) (c .before .before .before .v .given .1)
+part-store-vertices-start c = vertices-start (c .before)
 
 part-store-vertices-end : tie.Need-part-store-vertices-end
 part-store-vertices-end c = search needs
@@ -41,13 +65,17 @@ cast-store-vertices : tie.Need-cast-store-vertices
 cast-store-vertices c = search needs
 
 store-vertices-requires : tie.Need-store-vertices-requires
-store-vertices-requires c κs = let t = served _ _ _ _ (c .before .before .before .before .refusal .ensures) (c .before .before .before .if2 .left) in let h = t .vertices in let r = c .before .before .before .before .before .before .before .before .before .before .before .before .before .pre in let a = r .vertices in let b = r .marks in (omega arith, omega arith)
+store-vertices-requires c κs =
+    let p = c .before .before .before .before in
+    let t = tables-serve (read p) (c .before .before .before .if2 .left) in
+    let r = begin (pass p) .pre in
+    (omega arith, omega arith)
 
 sub-store-faces : tie.Need-sub-store-faces
-sub-store-faces c = taken facesAt _ _ _ (c .before .before .before .before .before .before .before .before .before .before .before .before .check .ensures .2) (c .before .before .before .before .before .before .before .before .before .before .v .given .1)
+sub-store-faces c = faces-start (c .before .before .before .before .before .before .before .before)
 
 part-store-faces-start : tie.Need-part-store-faces-start
-part-store-faces-start c = taken facesAt _ _ _ (c .before .before .before .before .before .before .before .before .before .before .before .before .check .ensures .2) (c .before .before .before .before .before .before .before .before .before .before .v .given .1)
+part-store-faces-start c = faces-start (c .before .before .before .before .before .before .before .before)
 
 part-store-faces-end : tie.Need-part-store-faces-end
 part-store-faces-end c = search needs
@@ -56,7 +84,11 @@ cast-store-faces : tie.Need-cast-store-faces
 cast-store-faces c = search needs
 
 store-faces-requires : tie.Need-store-faces-requires
-store-faces-requires c κs = let t = served _ _ _ _ (c .before .before .before .before .before .before .before .before .before .before .refusal .ensures) (c .before .before .before .before .before .before .before .before .before .if2 .left) in let h = t .faces in let r = c .before .before .before .before .before .before .before .before .before .before .before .before .before .before .before .before .before .before .before .pre .faces in omega arith
+store-faces-requires c κs =
+    let p = c .before .before .before .before .before .before .before .before .before .before in
+    let t = tables-serve (read p) (c .before .before .before .before .before .before .before .before .before .if2 .left) in
+    let r = begin (pass p) .pre in
+    omega arith
 
 cast-vertex-count : tie.Need-cast-vertex-count
 cast-vertex-count c = search needs
@@ -65,7 +97,10 @@ cast-face-count : tie.Need-cast-face-count
 cast-face-count c = search needs
 
 returns-3 : tie.Need-returns-3
-returns-3 c = not-the-form (c .before .before .before .before .before .before .before .before .args .text .now) (c .before .before .before .before .before .before .before .before .args .vertices .now) (c .before .before .before .before .before .before .before .before .args .faces .now) (c .before .before .before .before .before .before .before .before .args .marks .now) (c .before .before .before .before .if1 .left) _ (sym (ap (λ (o : Checked). checkedOf o (c .before .before .before .before .before .before .before .before .args .text .now)) (c .before .line .given .1)) ∙ c .before .before .before .check .ensures .0)
+returns-3 c =
+    let p = c .before .before .before in
+    let l = begin p .args .text .now in
+    not-the-form l _ _ _ _ (p .before .if1 .left) (sym (ap (λ (o : Checked). checkedOf o l) (c .before .line .given .1)) ∙ p .check .ensures .reads)
 
 same-length : tie.Need-same-length
 same-length c = search needs
@@ -77,7 +112,11 @@ same-length-3 : tie.Need-same-length-3
 same-length-3 c = search needs
 
 returns-4 : tie.Need-returns-4
-returns-4 c = net-read (c .before .before .before .before .before .before .before .before .before .before .before .before .before .before .before .before .before .before .before .before .before .before .args .text .now) (c .before .before .before .before .before .before .before .before .before .before .before .before .before .before .before .before .before .before .before .before .before .before .args .vertices .now) (c .before .before .before .before .before .before .before .before .before .before .before .before .before .before .before .before .before .before .before .before .before .before .args .faces .now) (c .before .before .before .before .before .before .before .before .before .before .before .before .before .before .before .before .before .before .before .before .before .before .args .marks .now) (c .before .before .before .before .before .before .before .before .before .before .before .before .before .before .before .before .before .before .if1 .left) (c .before .before .before .before .before .before .before .before .before .before .before .before .before .before .before .v .given .0 .0) (c .before .before .before .before .before .before .before .before .before .before .before .before .before .before .before .v .given .0 .1 .0) (c .before .before .before .before .before .before .before .before .before .before .before .before .before .before .before .v .given .0 .1 .1 .0) (c .before .before .before .before .before .before .before .before .before .before .before .before .before .before .before .v .given .0 .1 .1 .1 .0) (c .before .before .before .before .before .before .before .before .before .before .before .before .before .before .before .v .given .0 .1 .1 .1 .1 .0) (c .before .before .before .before .before .before .before .before .before .before .before .before .before .before .before .v .given .0 .1 .1 .1 .1 .1 .0) (c .before .before .before .before .before .before .before .before .before .before .before .before .before .refusal .result) (sym (ap (λ (o : Checked). checkedOf o (c .before .before .before .before .before .before .before .before .before .before .before .before .before .before .before .before .before .before .before .before .before .before .args .text .now)) (c .before .before .before .before .before .before .before .before .before .before .before .before .before .before .before .v .given .1)) ∙ c .before .before .before .before .before .before .before .before .before .before .before .before .before .before .before .before .before .check .ensures .0) (c .before .before .before .before .before .before .before .before .before .before .before .before .before .refusal .ensures) (c .before .before .before .before .before .before .before .before .before .before .before .before .if2 .left) (c .before .before .before .before .before .before .before .before .before .before .before .before .before .before .before .before .before .before .before .before .before .before .pre) _ _ _ (c .before .before .before .before .before .before .before .before .store-vertices .ensures .0) (c .before .before .before .before .before .before .before .before .store-vertices .ensures .1) (c .before .before .store-faces .ensures)
+returns-4 c =
+    let f = c .before .before in
+    let v = f .before .before .before .before .before .before in
+    let e = v .before .before .before .before in
+    net-read (read (e .before)) _ _ _ (e .if2 .left) (begin (pass (e .before)) .pre) (v .store-vertices .ensures) (f .store-faces .ensures)
 
 pub read-net-spec : {M : Type 1} → statement M
 read-net-spec =

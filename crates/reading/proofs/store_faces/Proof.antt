@@ -1,28 +1,37 @@
 -- `reading::store_faces` meets its contract. Assumes nothing.
-use Rattle.reading.proofs.Storing.{left-none, left-bad, corners-turn, corners-end}
-use mathlib.Core.Path.{_≡_, refl}
+use mathlib.Core.Path.{_≡_}
 use Prim.Native.Nat.{_*_, _-_, _≤_}
 use native.Mathlib.Omega.{arith}
 use borrow.Author.Needs.{needs}
-use lib.ListN.{length, drop, length-set}
-use lib.Seq.{sets}
-use Rattle.text.specs.Form.{readFace, rows}
+use lib.ListN.{length, length-set}
+use Rattle.text.specs.declared.FaceLine.{FaceLine}
+use Rattle.text.specs.Form.{readFace}
 use Rattle.text.specs.Answers.{faceOf, faceUsed}
 use Rattle.reading.specs.Loaded.{cornersOf}
-use Rattle.reading.proofs.Lines.{given, taken, part-within}
+use Rattle.reading.proofs.Lines.{LineAt, line-at}
+use Rattle.reading.proofs.Storing.{Filling, filling-none, filling-more, filling-over, filling-bad, four-stores, no-corners}
 use Rattle.reading.proofs.store_faces.Statement.{statement}
 use Rattle.reading.proofs.store_faces.Tie as tie
 
 abbrev Inv-loop : tie.InvT-loop
-Inv-loop text count faces₀ i₀ at₀ faces i at = (i ≤ count) × (at ≤ length text) × (length faces ≡ length faces₀) × (sets faces₀ 0 (cornersOf (rows readFace count text .values)) ≡ sets faces (4 * i) (cornersOf (rows readFace (count - i) (drop at text) .values)))
+Inv-loop text count faces₀ i₀ at₀ faces i at = (i ≤ count) × (at ≤ length text) × Filling cornersOf readFace count text faces₀ faces (4 * i) i at
 
 abbrev μ-loop : tie.MeasureT-loop
 μ-loop text count faces₀ i₀ at₀ faces i at = count - i
 
 loop-holds : tie.Need-loop-holds Inv-loop μ-loop
-loop-holds c =
-    let e : c .before .before .args .count - 0 ≡ c .before .before .args .count = omega arith in
-    (omega arith, omega arith, refl, rw e refl)
+loop-holds c = (omega arith, omega arith, filling-none cornersOf readFace _ _ _)
+
+-- the line that is read at a turn
+abbrev turn : tie.After-read-face Inv-loop μ-loop → tie.At-loop Inv-loop μ-loop
+turn p = p .before .before .before
+
+abbrev begin : tie.At-loop Inv-loop μ-loop → tie.Start Inv-loop μ-loop
+begin l = l .before .before .before
+
+line : (p : tie.After-read-face Inv-loop μ-loop) {q : FaceLine} → p .read-face .result ≡ q
+    → (let a = begin (turn p) .args in LineAt faceOf faceUsed readFace (a .text .now) (turn p .loop .at) q)
+line p e = line-at _ _ _ (p .read-face .ensures) e (turn p .loop .inv .1)
 
 sub-read-face : tie.Need-sub-read-face Inv-loop μ-loop
 sub-read-face c = search needs
@@ -46,7 +55,7 @@ same-length : tie.Need-same-length Inv-loop μ-loop
 same-length c = search needs
 
 returns : tie.Need-returns Inv-loop μ-loop
-returns c = corners-end readFace (c .before .before .before .before .before .before .before .before .args .count) (c .before .before .before .before .before .before .before .before .args .text .now) (c .before .before .before .before .before .loop .i) (c .before .before .before .before .before .loop .at) _ _ (c .before .before .before .before .before .loop .inv .3) (left-bad readFace (c .before .before .before .before .before .before .before .before .args .count) (c .before .before .before .before .before .before .before .before .args .text .now) (c .before .before .before .before .before .loop .i) (c .before .before .before .before .before .loop .at) (given faceOf readFace _ _ _ (c .before .before .read-face .ensures .0) (c .enum-told .given .1)))
+returns c = let p = c .before .before in filling-bad (turn p .loop .inv .2) no-corners (line p (c .enum-told .given .1) .reads)
 
 mul-faces : tie.Need-mul-faces Inv-loop μ-loop
 mul-faces c = search needs
@@ -94,7 +103,7 @@ slice-write-faces-4 : tie.Need-slice-write-faces-4 Inv-loop μ-loop
 slice-write-faces-4 c = simp length-set (omega arith)
 
 add-at : tie.Need-add-at Inv-loop μ-loop
-add-at c = let w = part-within (c .before .before .before .before .before .before .before .before .before .args .text .now) (c .before .before .before .before .before .before .loop .at) _ (c .before .before .before .before .before .before .loop .inv .1) (taken faceUsed _ _ _ (c .before .before .before .read-face .ensures .1) (c .before .a .given .1)) in omega arith
+add-at c = omega (arith, line (c .before .before .before) (c .before .a .given .1) .within)
 
 add-i : tie.Need-add-i Inv-loop μ-loop
 add-i c = search needs
@@ -103,18 +112,17 @@ loop-less : tie.Need-loop-less Inv-loop μ-loop
 loop-less c = search needs
 
 loop-again : tie.Need-loop-again Inv-loop μ-loop
-loop-again c = (
-  omega arith,
-  part-within (c .before .before .before .before .before .before .before .before .before .args .text .now) (c .before .before .before .before .before .before .loop .at) _ (c .before .before .before .before .before .before .loop .inv .1) (taken faceUsed _ _ _ (c .before .before .before .read-face .ensures .1) (c .before .a .given .1)),
-  simp length-set (c .before .before .before .before .before .before .loop .inv .2),
-  corners-turn readFace (c .before .before .before .before .before .before .before .before .before .args .count) (c .before .before .before .before .before .before .before .before .before .args .text .now) (c .before .before .before .before .before .before .loop .i) (c .before .before .before .before .before .before .loop .at) _ _ (c .before .before .before .before .before .before .loop .inv .3) _ _ (omega arith) (given faceOf readFace _ _ _ (c .before .before .before .read-face .ensures .0) (c .before .a .given .1)),
-)
+loop-again c =
+    let p = c .before .before .before in
+    let l = turn p .loop in
+    let e = line p (c .before .a .given .1) in
+    (omega arith, e .within, filling-more (l .inv .2) _ _ _ _ (p .before .before .loop-test .taken) (e .reads) (four-stores (l .faces) (l .i) _) (simp length-set))
 
 same-length-2 : tie.Need-same-length-2 Inv-loop μ-loop
 same-length-2 c = search needs
 
 returns-2 : tie.Need-returns-2 Inv-loop μ-loop
-returns-2 c = corners-end readFace (c .before .before .before .before .args .count) (c .before .before .before .before .args .text .now) (c .before .loop .i) (c .before .loop .at) _ _ (c .before .loop .inv .3) (left-none readFace (c .before .before .before .before .args .count) (c .before .before .before .before .args .text .now) (c .before .loop .i) (c .before .loop .at) (c .loop-test .left))
+returns-2 c = filling-over (c .before .loop .inv .2) no-corners (c .loop-test .left)
 
 pub store-faces-spec : {M : Type 1} → statement M
 store-faces-spec =

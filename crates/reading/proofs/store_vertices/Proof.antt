@@ -1,31 +1,44 @@
 -- `reading::store_vertices` meets its contract. Assumes nothing.
+use mathlib.Core.Path.{_≡_}
+use Prim.Native.Nat.{_*_, _-_, _≤_}
 use mir.Syntax.{w32}
 use mir.Val.{SFits}
 use mir.Facts.{toZ-ofZ}
-use Rattle.reading.proofs.Storing.{left-none, left-bad, coordinates-turn, coordinates-end, marks-turn, marks-end}
-use mathlib.Core.Path.{_≡_, refl}
-use Prim.Native.Nat.{_*_, _-_, _≤_}
 use native.Mathlib.Omega.{arith}
 use borrow.Author.Needs.{needs}
-use lib.ListN.{length, drop, length-set}
-use lib.Seq.{sets}
-use Rattle.text.specs.Form.{readVertex, rows}
+use lib.ListN.{length, length-set}
+use Rattle.text.specs.declared.VertexLine.{VertexLine}
+use Rattle.text.specs.Form.{readVertex}
 use Rattle.text.specs.Answers.{vertexOf, vertexUsed}
 use Rattle.reading.specs.Loaded.{coordinates, marksOf}
-use Rattle.reading.proofs.Lines.{given, taken, part-within}
+use Rattle.reading.proofs.Lines.{LineAt, line-at}
+use Rattle.reading.proofs.Storing.{Filling, filling-none, filling-more, filling-over, filling-bad, three-stores, one-store, no-coordinates, no-marks}
 use Rattle.reading.proofs.store_vertices.Statement.{statement}
 use Rattle.reading.proofs.store_vertices.Tie as tie
 
 abbrev Inv-loop : tie.InvT-loop
-Inv-loop text count marked vertices₀ marks₀ i₀ at₀ vertices marks i at = (i ≤ count) × (at ≤ length text) × (length vertices ≡ length vertices₀) × (length marks ≡ length marks₀) × (sets vertices₀ 0 (coordinates (rows (readVertex marked) count text .values)) ≡ sets vertices (3 * i) (coordinates (rows (readVertex marked) (count - i) (drop at text) .values))) × (sets marks₀ 0 (marksOf (rows (readVertex marked) count text .values)) ≡ sets marks i (marksOf (rows (readVertex marked) (count - i) (drop at text) .values)))
+Inv-loop text count marked vertices₀ marks₀ i₀ at₀ vertices marks i at =
+    (i ≤ count)
+    × (at ≤ length text)
+    × Filling coordinates (readVertex marked) count text vertices₀ vertices (3 * i) i at
+    × Filling marksOf (readVertex marked) count text marks₀ marks i i at
 
 abbrev μ-loop : tie.MeasureT-loop
 μ-loop text count marked vertices₀ marks₀ i₀ at₀ vertices marks i at = count - i
 
 loop-holds : tie.Need-loop-holds Inv-loop μ-loop
-loop-holds c =
-    let e : c .before .before .args .count - 0 ≡ c .before .before .args .count = omega arith in
-    (omega arith, omega arith, refl, refl, rw e refl, rw e refl)
+loop-holds c = let a = c .before .before .args in (omega arith, omega arith, filling-none coordinates (readVertex (a .marked)) _ _ _, filling-none marksOf (readVertex (a .marked)) _ _ _)
+
+-- the line that is read at a turn
+abbrev turn : tie.After-read-vertex Inv-loop μ-loop → tie.At-loop Inv-loop μ-loop
+turn p = p .before .before .before
+
+abbrev begin : tie.At-loop Inv-loop μ-loop → tie.Start Inv-loop μ-loop
+begin l = l .before .before .before
+
+line : (p : tie.After-read-vertex Inv-loop μ-loop) {q : VertexLine} → p .read-vertex .result ≡ q
+    → (let a = begin (turn p) .args in LineAt vertexOf vertexUsed (readVertex (a .marked)) (a .text .now) (turn p .loop .at) q)
+line p e = line-at _ _ _ (p .read-vertex .ensures) e (turn p .loop .inv .1)
 
 sub-read-vertex : tie.Need-sub-read-vertex Inv-loop μ-loop
 sub-read-vertex c = search needs
@@ -52,10 +65,10 @@ same-length-2 : tie.Need-same-length-2 Inv-loop μ-loop
 same-length-2 c = search needs
 
 returns : tie.Need-returns Inv-loop μ-loop
-returns c = (
-  coordinates-end (readVertex (c .before .before .before .before .before .before .before .before .args .marked)) (c .before .before .before .before .before .before .before .before .args .count) (c .before .before .before .before .before .before .before .before .args .text .now) (c .before .before .before .before .before .loop .i) (c .before .before .before .before .before .loop .at) _ _ (c .before .before .before .before .before .loop .inv .4) (left-bad (readVertex (c .before .before .before .before .before .before .before .before .args .marked)) (c .before .before .before .before .before .before .before .before .args .count) (c .before .before .before .before .before .before .before .before .args .text .now) (c .before .before .before .before .before .loop .i) (c .before .before .before .before .before .loop .at) (given vertexOf (readVertex (c .before .before .before .before .before .before .before .before .args .marked)) _ _ _ (c .before .before .read-vertex .ensures .0) (c .enum-told .given .1))),
-  marks-end (readVertex (c .before .before .before .before .before .before .before .before .args .marked)) (c .before .before .before .before .before .before .before .before .args .count) (c .before .before .before .before .before .before .before .before .args .text .now) (c .before .before .before .before .before .loop .i) (c .before .before .before .before .before .loop .at) _ _ (c .before .before .before .before .before .loop .inv .5) (left-bad (readVertex (c .before .before .before .before .before .before .before .before .args .marked)) (c .before .before .before .before .before .before .before .before .args .count) (c .before .before .before .before .before .before .before .before .args .text .now) (c .before .before .before .before .before .loop .i) (c .before .before .before .before .before .loop .at) (given vertexOf (readVertex (c .before .before .before .before .before .before .before .before .args .marked)) _ _ _ (c .before .before .read-vertex .ensures .0) (c .enum-told .given .1))),
-)
+returns c =
+    let p = c .before .before in
+    let e = line p (c .enum-told .given .1) .reads in
+    record { table = filling-bad (turn p .loop .inv .2) no-coordinates e; marks = filling-bad (turn p .loop .inv .3) no-marks e }
 
 mul-x : tie.Need-mul-x Inv-loop μ-loop
 mul-x c = search needs
@@ -94,7 +107,7 @@ slice-write-marks : tie.Need-slice-write-marks Inv-loop μ-loop
 slice-write-marks c = search needs
 
 add-at : tie.Need-add-at Inv-loop μ-loop
-add-at c = let w = part-within (c .before .before .before .before .before .before .before .before .before .args .text .now) (c .before .before .before .before .before .before .loop .at) _ (c .before .before .before .before .before .before .loop .inv .1) (taken vertexUsed _ _ _ (c .before .before .before .read-vertex .ensures .1) (c .before .x .given .1)) in omega arith
+add-at c = omega (arith, line (c .before .before .before) (c .before .x .given .1) .within)
 
 add-i : tie.Need-add-i Inv-loop μ-loop
 add-i c = search needs
@@ -104,15 +117,17 @@ loop-less c = search needs
 
 loop-again : tie.Need-loop-again Inv-loop μ-loop
 loop-again c =
-    let f : SFits w32 (c .before .x .given .0 .0) = search needs in
-    let g : SFits w32 (c .before .x .given .0 .1 .0) = search needs in
-    let h : SFits w32 (c .before .x .given .0 .1 .1 .0) = search needs in (
+    let fx : SFits w32 (c .before .x .given .0 .0) = search needs in
+    let fy : SFits w32 (c .before .x .given .0 .1 .0) = search needs in
+    let fz : SFits w32 (c .before .x .given .0 .1 .1 .0) = search needs in
+    let p = c .before .before .before in
+    let l = turn p .loop in
+    let t = p .before .before .loop-test .taken in
+    let e = line p (c .before .x .given .1) in (
       omega arith,
-      part-within (c .before .before .before .before .before .before .before .before .before .args .text .now) (c .before .before .before .before .before .before .loop .at) _ (c .before .before .before .before .before .before .loop .inv .1) (taken vertexUsed _ _ _ (c .before .before .before .read-vertex .ensures .1) (c .before .x .given .1)),
-      simp length-set (c .before .before .before .before .before .before .loop .inv .2),
-      simp length-set (c .before .before .before .before .before .before .loop .inv .3),
-      simp toZ-ofZ (coordinates-turn (readVertex (c .before .before .before .before .before .before .before .before .before .args .marked)) (c .before .before .before .before .before .before .before .before .before .args .count) (c .before .before .before .before .before .before .before .before .before .args .text .now) (c .before .before .before .before .before .before .loop .i) (c .before .before .before .before .before .before .loop .at) _ _ (c .before .before .before .before .before .before .loop .inv .4) _ _ (omega arith) (given vertexOf (readVertex (c .before .before .before .before .before .before .before .before .before .args .marked)) _ _ _ (c .before .before .before .read-vertex .ensures .0) (c .before .x .given .1))),
-      marks-turn (readVertex (c .before .before .before .before .before .before .before .before .before .args .marked)) (c .before .before .before .before .before .before .before .before .before .args .count) (c .before .before .before .before .before .before .before .before .before .args .text .now) (c .before .before .before .before .before .before .loop .i) (c .before .before .before .before .before .before .loop .at) _ _ (c .before .before .before .before .before .before .loop .inv .5) _ _ (omega arith) (given vertexOf (readVertex (c .before .before .before .before .before .before .before .before .before .args .marked)) _ _ _ (c .before .before .before .read-vertex .ensures .0) (c .before .x .given .1)),
+      e .within,
+      simp toZ-ofZ (filling-more (l .inv .2) _ _ _ _ t (e .reads) (three-stores (l .vertices) (l .i) _) (simp length-set)),
+      filling-more (l .inv .3) _ _ _ _ t (e .reads) (one-store (l .marks) (l .i) _) (simp length-set),
     )
 
 same-length-3 : tie.Need-same-length-3 Inv-loop μ-loop
@@ -122,10 +137,9 @@ same-length-4 : tie.Need-same-length-4 Inv-loop μ-loop
 same-length-4 c = search needs
 
 returns-2 : tie.Need-returns-2 Inv-loop μ-loop
-returns-2 c = (
-  coordinates-end (readVertex (c .before .before .before .before .args .marked)) (c .before .before .before .before .args .count) (c .before .before .before .before .args .text .now) (c .before .loop .i) (c .before .loop .at) _ _ (c .before .loop .inv .4) (left-none (readVertex (c .before .before .before .before .args .marked)) (c .before .before .before .before .args .count) (c .before .before .before .before .args .text .now) (c .before .loop .i) (c .before .loop .at) (c .loop-test .left)),
-  marks-end (readVertex (c .before .before .before .before .args .marked)) (c .before .before .before .before .args .count) (c .before .before .before .before .args .text .now) (c .before .loop .i) (c .before .loop .at) _ _ (c .before .loop .inv .5) (left-none (readVertex (c .before .before .before .before .args .marked)) (c .before .before .before .before .args .count) (c .before .before .before .before .args .text .now) (c .before .loop .i) (c .before .loop .at) (c .loop-test .left)),
-)
+returns-2 c =
+    let l = c .before .loop .inv in
+    record { table = filling-over (l .2) no-coordinates (c .loop-test .left); marks = filling-over (l .3) no-marks (c .loop-test .left) }
 
 pub store-vertices-spec : {M : Type 1} → statement M
 store-vertices-spec =

@@ -1,29 +1,25 @@
 -- `text::natural_field` meets its contract. Assumes nothing.
-use mathlib.Core.Path.{_≡_, sym, ap, _∙_}
-use mathlib.Core.List.{List}
-use Prim.Native.Nat.{ℕ, _+_, _-_, _≤_}
+use mathlib.Core.Path.{_≡_, sym, _∙_}
 use native.Mathlib.Omega.{arith}
-use lib.ListN.{length, take, drop, length-drop}
+use lib.ListN.{drop}
 use Rattle.decimal.specs.Decimal.{readNatural}
-use Rattle.decimal.specs.Answers.{numberOf, GivesNumber}
+use Rattle.decimal.specs.Answers.{numberOf}
 use Rattle.decimal.specs.declared.Number.{Number}
-use Rattle.decimal.specs.declared.Number.the-variants as answer
-use Rattle.decimal.proofs.Reading.{part-rest}
+use Rattle.decimal.proofs.Reading.{took-at}
 use Rattle.text.specs.Form.{natural, endedBy}
-use Rattle.text.proofs.Lines.{field-short, field-other, field-ends}
+use Rattle.text.proofs.Lines.{ended-at, field-short, field-other, field-ends}
 use borrow.Author.Needs.{needs}
 use Rattle.text.proofs.natural_field.Statement.{statement}
 use Rattle.text.proofs.natural_field.Tie as tie
 
 -- what is read at the place, by the answer for the rest of the line
-after : (limit : ℕ) (l : List ℕ) (at e : ℕ) (r q : Number) → GivesNumber r (take (length l - at) (drop at l)) (readNatural limit (take (length l - at) (drop at l))) → r ≡ q → natural limit e (drop at l) ≡ endedBy e (numberOf q (drop at l))
-unfolding natural
-after limit l at e r q g p = ap (endedBy e) (sym (rw (part-rest l at) at (g .reads)) ∙ ap (λ (o : Number). numberOf o (drop at l)) p)
+abbrev begin : tie.After-read-natural → tie.Start
+begin p = p .before .before .before
 
-inside : (limit : ℕ) (l : List ℕ) (at : ℕ) (v : ℕ) (n : ℕ) (r : Number) → GivesNumber r (take (length l - at) (drop at l)) (readNatural limit (take (length l - at) (drop at l))) → r ≡ answer.Value v n → at ≤ length l → at + n ≤ length l
-inside limit l at v n r g p h =
-    let w : n ≤ length (drop at l) = rw part-rest at (rw p at (g .within)) in
-    omega (arith, length-drop at l)
+here : (p : tie.After-read-natural) {q : Number} → p .read-natural .result ≡ q
+    → (let a = begin p .args in natural (a .limit) (a .end) (drop (a .at) (a .line .now)) ≡ endedBy (a .end) (numberOf q (drop (a .at) (a .line .now))))
+unfolding natural
+here p e = let a = begin p .args in ended-at (readNatural (a .limit)) (a .line .now) (a .at) (a .end) (p .read-natural .ensures) e
 
 sub-read-natural : tie.Need-sub-read-natural
 sub-read-natural c = search needs
@@ -44,33 +40,36 @@ enum-told : tie.Need-enum-told
 enum-told c = search needs
 
 returns : tie.Need-returns
-returns c =
-    let a = c .before .before .before .before .before .args in
-    record { reads = sym (after (a .limit) (a .line .now) (a .at) (a .end) _ _ (c .before .before .read-natural .ensures) (c .enum-told .given .1)); within = omega arith }
+returns c = record { reads = sym (here (c .before .before) (c .enum-told .given .1)); within = omega arith }
 
 add-stop : tie.Need-add-stop
-add-stop c = omega (arith, inside _ (c .before .before .before .before .before .before .args .line .now) (c .before .before .before .before .before .before .args .at) _ _ _ (c .before .before .before .read-natural .ensures) (c .before .v .given .1) (c .before .before .before .before .before .before .pre))
+add-stop c =
+    let p = c .before .before .before in
+    let a = begin p .args in
+    omega (arith, took-at (readNatural (a .limit)) (a .line .now) (a .at) (p .read-natural .ensures) (c .before .v .given .1) (begin p .pre))
 
 returns-2 : tie.Need-returns-2
 returns-2 c =
-    let a = c .before .before .before .before .before .before .before .args in
-    record { reads = sym (after (a .limit) (a .line .now) (a .at) (a .end) _ _ (c .before .before .before .before .read-natural .ensures) (c .before .before .v .given .1) ∙ field-short (a .line .now) (a .at) _ _ _ (c .if1 .taken)); within = omega arith }
+    let a = begin (c .before .before .before .before) .args in
+    record { reads = sym (here (c .before .before .before .before) (c .before .before .v .given .1) ∙ field-short (a .line .now) (a .at) _ _ _ (c .if1 .taken)); within = omega arith }
 
 shared-slice-read-if2 : tie.Need-shared-slice-read-if2
 shared-slice-read-if2 c = search needs
 
 returns-3 : tie.Need-returns-3
 returns-3 c =
-    let a = c .before .before .before .before .before .before .before .before .before .args in
-    record { reads = sym (after (a .limit) (a .line .now) (a .at) (a .end) _ _ (c .before .before .before .before .before .before .read-natural .ensures) (c .before .before .before .before .v .given .1) ∙ field-other (a .line .now) (a .at) _ _ _ (c .before .before .if1 .left) (c .if2 .taken)); within = omega arith }
+    let v = c .before .before .before .before in
+    let a = begin (v .before .before) .args in
+    record { reads = sym (here (v .before .before) (v .v .given .1) ∙ field-other (a .line .now) (a .at) _ _ _ (c .before .before .if1 .left) (c .if2 .taken)); within = omega arith }
 
 add-t10 : tie.Need-add-t10
 add-t10 c = search needs
 
 returns-4 : tie.Need-returns-4
 returns-4 c =
-    let a = c .before .before .before .before .before .before .before .before .before .args in
-    record { reads = sym (after (a .limit) (a .line .now) (a .at) (a .end) _ _ (c .before .before .before .before .before .before .read-natural .ensures) (c .before .before .before .before .v .given .1) ∙ field-ends (a .line .now) (a .at) _ _ _ (c .before .before .if1 .left) (c .if2 .left)); within = omega arith }
+    let v = c .before .before .before .before in
+    let a = begin (v .before .before) .args in
+    record { reads = sym (here (v .before .before) (v .v .given .1) ∙ field-ends (a .line .now) (a .at) _ _ _ (c .before .before .if1 .left) (c .if2 .left)); within = omega arith }
 
 pub natural-field-spec : {M : Type 1} → statement M
 natural-field-spec =

@@ -2,7 +2,7 @@
 use mathlib.Core.Path.{refl}
 use native.Mathlib.Omega.{arith}
 use Rattle.text.specs.Form.{readCounts}
-use Rattle.text.proofs.Lines.{number-given, number-within}
+use Rattle.decimal.proofs.Reading.{says, took}
 use borrow.Author.Needs.{needs}
 use Rattle.text.proofs.read_counts.Statement.{statement}
 use Rattle.text.proofs.read_counts.Tie as tie
@@ -18,10 +18,10 @@ enum-told c = search needs
 
 returns : tie.Need-returns
 unfolding readCounts
-returns c = (rw (number-given _ _ _ _ (c .before .before .natural-field .ensures) (c .enum-told .given .1)) refl, omega arith)
+returns c = record { reads = rw (says (c .before .before .natural-field .ensures) (c .enum-told .given .1)) refl; within = omega arith }
 
 natural-field-requires-2 : tie.Need-natural-field-requires-2
-natural-field-requires-2 c κs = number-within _ _ _ _ _ (c .before .before .before .natural-field .ensures) (c .before .v .given .1)
+natural-field-requires-2 c κs = took (c .before .before .before .natural-field .ensures) (c .before .v .given .1)
 
 enum-known-f : tie.Need-enum-known-f
 enum-known-f c = search needs
@@ -31,16 +31,18 @@ enum-told-2 c = search needs
 
 returns-2 : tie.Need-returns-2
 unfolding readCounts
-returns-2 c = (
-  rw (
-    number-given _ _ _ _ (c .before .before .before .before .before .before .natural-field .ensures) (c .before .before .before .before .v .given .1),
-    number-given _ _ _ _ (c .before .before .natural-field2 .ensures) (c .enum-told2 .given .1),
-  ) refl,
-  omega arith,
-)
+returns-2 c =
+    let v = c .before .before .before .before in
+    record {
+      reads = rw (
+        says (v .before .before .natural-field .ensures) (v .v .given .1),
+        says (c .before .before .natural-field2 .ensures) (c .enum-told2 .given .1),
+      ) refl;
+      within = omega arith;
+    }
 
 natural-field-requires-3 : tie.Need-natural-field-requires-3
-natural-field-requires-3 c κs = number-within _ _ _ _ _ (c .before .before .before .natural-field2 .ensures) (c .before .f .given .1)
+natural-field-requires-3 c κs = took (c .before .before .before .natural-field2 .ensures) (c .before .f .given .1)
 
 enum-known-k : tie.Need-enum-known-k
 enum-known-k c = search needs
@@ -50,25 +52,32 @@ enum-told-3 c = search needs
 
 returns-3 : tie.Need-returns-3
 unfolding readCounts
-returns-3 c = (
-  rw (
-    number-given _ _ _ _ (c .before .before .before .before .before .before .before .before .before .before .natural-field .ensures) (c .before .before .before .before .before .before .before .before .v .given .1),
-    number-given _ _ _ _ (c .before .before .before .before .before .before .natural-field2 .ensures) (c .before .before .before .before .f .given .1),
-    number-given _ _ _ _ (c .before .before .natural-field3 .ensures) (c .enum-told3 .given .1),
-  ) refl,
-  omega arith,
-)
+returns-3 c =
+    let f = c .before .before .before .before in
+    let v = f .before .before .before .before in
+    record {
+      reads = rw (
+        says (v .before .before .natural-field .ensures) (v .v .given .1),
+        says (f .before .before .natural-field2 .ensures) (f .f .given .1),
+        says (c .before .before .natural-field3 .ensures) (c .enum-told3 .given .1),
+      ) refl;
+      within = omega arith;
+    }
 
 returns-4 : tie.Need-returns-4
 unfolding readCounts
-returns-4 c = (
-  rw (
-    number-given _ _ _ _ (c .before .before .before .before .before .before .before .before .before .before .before .natural-field .ensures) (c .before .before .before .before .before .before .before .before .before .v .given .1),
-    number-given _ _ _ _ (c .before .before .before .before .before .before .before .natural-field2 .ensures) (c .before .before .before .before .before .f .given .1),
-    number-given _ _ _ _ (c .before .before .before .natural-field3 .ensures) (c .before .k .given .1),
-  ) refl,
-  number-within _ _ _ _ _ (c .before .before .before .natural-field3 .ensures) (c .before .k .given .1),
-)
+returns-4 c =
+    let k = c .before in
+    let f = k .before .before .before .before in
+    let v = f .before .before .before .before in
+    record {
+      reads = rw (
+        says (v .before .before .natural-field .ensures) (v .v .given .1),
+        says (f .before .before .natural-field2 .ensures) (f .f .given .1),
+        says (k .before .before .natural-field3 .ensures) (k .k .given .1),
+      ) refl;
+      within = took (k .before .before .natural-field3 .ensures) (k .k .given .1);
+    }
 
 pub read-counts-spec : {M : Type 1} → statement M
 read-counts-spec =

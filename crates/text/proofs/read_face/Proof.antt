@@ -2,7 +2,7 @@
 use mathlib.Core.Path.{refl}
 use native.Mathlib.Omega.{arith}
 use Rattle.text.specs.Form.{readFace}
-use Rattle.text.proofs.Lines.{number-given, number-within}
+use Rattle.decimal.proofs.Reading.{says, took}
 use borrow.Author.Needs.{needs}
 use Rattle.text.proofs.read_face.Statement.{statement}
 use Rattle.text.proofs.read_face.Tie as tie
@@ -18,10 +18,10 @@ enum-told c = search needs
 
 returns : tie.Need-returns
 unfolding readFace
-returns c = (rw (number-given _ _ _ _ (c .before .before .natural-field .ensures) (c .enum-told .given .1)) refl, omega arith)
+returns c = record { reads = rw (says (c .before .before .natural-field .ensures) (c .enum-told .given .1)) refl; within = omega arith }
 
 natural-field-requires-2 : tie.Need-natural-field-requires-2
-natural-field-requires-2 c κs = number-within _ _ _ _ _ (c .before .before .before .natural-field .ensures) (c .before .a .given .1)
+natural-field-requires-2 c κs = took (c .before .before .before .natural-field .ensures) (c .before .a .given .1)
 
 enum-known-b : tie.Need-enum-known-b
 enum-known-b c = search needs
@@ -31,16 +31,18 @@ enum-told-2 c = search needs
 
 returns-2 : tie.Need-returns-2
 unfolding readFace
-returns-2 c = (
-  rw (
-    number-given _ _ _ _ (c .before .before .before .before .before .before .natural-field .ensures) (c .before .before .before .before .a .given .1),
-    number-given _ _ _ _ (c .before .before .natural-field2 .ensures) (c .enum-told2 .given .1),
-  ) refl,
-  omega arith,
-)
+returns-2 c =
+    let a = c .before .before .before .before in
+    record {
+      reads = rw (
+        says (a .before .before .natural-field .ensures) (a .a .given .1),
+        says (c .before .before .natural-field2 .ensures) (c .enum-told2 .given .1),
+      ) refl;
+      within = omega arith;
+    }
 
 natural-field-requires-3 : tie.Need-natural-field-requires-3
-natural-field-requires-3 c κs = number-within _ _ _ _ _ (c .before .before .before .natural-field2 .ensures) (c .before .b .given .1)
+natural-field-requires-3 c κs = took (c .before .before .before .natural-field2 .ensures) (c .before .b .given .1)
 
 enum-known-c : tie.Need-enum-known-c
 enum-known-c c = search needs
@@ -50,17 +52,20 @@ enum-told-3 c = search needs
 
 returns-3 : tie.Need-returns-3
 unfolding readFace
-returns-3 c = (
-  rw (
-    number-given _ _ _ _ (c .before .before .before .before .before .before .before .before .before .before .natural-field .ensures) (c .before .before .before .before .before .before .before .before .a .given .1),
-    number-given _ _ _ _ (c .before .before .before .before .before .before .natural-field2 .ensures) (c .before .before .before .before .b .given .1),
-    number-given _ _ _ _ (c .before .before .natural-field3 .ensures) (c .enum-told3 .given .1),
-  ) refl,
-  omega arith,
-)
+returns-3 c =
+    let b = c .before .before .before .before in
+    let a = b .before .before .before .before in
+    record {
+      reads = rw (
+        says (a .before .before .natural-field .ensures) (a .a .given .1),
+        says (b .before .before .natural-field2 .ensures) (b .b .given .1),
+        says (c .before .before .natural-field3 .ensures) (c .enum-told3 .given .1),
+      ) refl;
+      within = omega arith;
+    }
 
 natural-field-requires-4 : tie.Need-natural-field-requires-4
-natural-field-requires-4 c κs = number-within _ _ _ _ _ (c .before .before .before .natural-field3 .ensures) (c .before .c .given .1)
+natural-field-requires-4 c κs = took (c .before .before .before .natural-field3 .ensures) (c .before .c .given .1)
 
 enum-known-d : tie.Need-enum-known-d
 enum-known-d c = search needs
@@ -70,27 +75,36 @@ enum-told-4 c = search needs
 
 returns-4 : tie.Need-returns-4
 unfolding readFace
-returns-4 c = (
-  rw (
-    number-given _ _ _ _ (c .before .before .before .before .before .before .before .before .before .before .before .before .before .before .natural-field .ensures) (c .before .before .before .before .before .before .before .before .before .before .before .before .a .given .1),
-    number-given _ _ _ _ (c .before .before .before .before .before .before .before .before .before .before .natural-field2 .ensures) (c .before .before .before .before .before .before .before .before .b .given .1),
-    number-given _ _ _ _ (c .before .before .before .before .before .before .natural-field3 .ensures) (c .before .before .before .before .c .given .1),
-    number-given _ _ _ _ (c .before .before .natural-field4 .ensures) (c .enum-told4 .given .1),
-  ) refl,
-  omega arith,
-)
+returns-4 c =
+    let k = c .before .before .before .before in
+    let b = k .before .before .before .before in
+    let a = b .before .before .before .before in
+    record {
+      reads = rw (
+        says (a .before .before .natural-field .ensures) (a .a .given .1),
+        says (b .before .before .natural-field2 .ensures) (b .b .given .1),
+        says (k .before .before .natural-field3 .ensures) (k .c .given .1),
+        says (c .before .before .natural-field4 .ensures) (c .enum-told4 .given .1),
+      ) refl;
+      within = omega arith;
+    }
 
 returns-5 : tie.Need-returns-5
 unfolding readFace
-returns-5 c = (
-  rw (
-    number-given _ _ _ _ (c .before .before .before .before .before .before .before .before .before .before .before .before .before .before .before .natural-field .ensures) (c .before .before .before .before .before .before .before .before .before .before .before .before .before .a .given .1),
-    number-given _ _ _ _ (c .before .before .before .before .before .before .before .before .before .before .before .natural-field2 .ensures) (c .before .before .before .before .before .before .before .before .before .b .given .1),
-    number-given _ _ _ _ (c .before .before .before .before .before .before .before .natural-field3 .ensures) (c .before .before .before .before .before .c .given .1),
-    number-given _ _ _ _ (c .before .before .before .natural-field4 .ensures) (c .before .d .given .1),
-  ) refl,
-  number-within _ _ _ _ _ (c .before .before .before .natural-field4 .ensures) (c .before .d .given .1),
-)
+returns-5 c =
+    let d = c .before in
+    let k = d .before .before .before .before in
+    let b = k .before .before .before .before in
+    let a = b .before .before .before .before in
+    record {
+      reads = rw (
+        says (a .before .before .natural-field .ensures) (a .a .given .1),
+        says (b .before .before .natural-field2 .ensures) (b .b .given .1),
+        says (k .before .before .natural-field3 .ensures) (k .c .given .1),
+        says (d .before .before .natural-field4 .ensures) (d .d .given .1),
+      ) refl;
+      within = took (d .before .before .natural-field4 .ensures) (d .d .given .1);
+    }
 
 pub read-face-spec : {M : Type 1} → statement M
 read-face-spec =

@@ -1,10 +1,25 @@
 -- `text::read_names` meets its contract. Assumes nothing.
-use mathlib.Core.Path.{sym, _∙_}
+use mathlib.Core.Path.{_≡_, sym, _∙_}
+use mathlib.Core.Bool.{false}
 use Rattle.text.specs.Bytes.{bytes}
+use Rattle.text.specs.Form.{startsWith, input, marked, unmarked, namesText}
 use Rattle.text.proofs.Lines.{names-input, names-marked, names-unmarked, names-corners, names-other}
 use borrow.Author.Needs.{needs}
 use Rattle.text.proofs.read_names.Statement.{statement}
 use Rattle.text.proofs.read_names.Tie as tie
+
+-- the names that are not there
+not-input : (p : tie.Else1) → startsWith (namesText input) (p .before .before .before .before .args .text .now) ≡ false
+unfolding bytes
+not-input p = sym (p .before .starts-with .ensures) ∙ p .if1 .left
+
+not-marked : (p : tie.Else2) → startsWith (namesText marked) (p .before .before .before .before .before .before .before .args .text .now) ≡ false
+unfolding bytes
+not-marked p = sym (p .before .starts-with2 .ensures) ∙ p .if2 .left
+
+not-unmarked : (p : tie.Else3) → startsWith (namesText unmarked) (p .before .before .before .before .before .before .before .before .before .before .args .text .now) ≡ false
+unfolding bytes
+not-unmarked p = sym (p .before .starts-with3 .ensures) ∙ p .if3 .left
 
 slice-aggregate-starts-with : tie.Need-slice-aggregate-starts-with
 slice-aggregate-starts-with c = search needs
@@ -14,7 +29,7 @@ starts-with-requires c κs = search needs
 
 returns : tie.Need-returns
 unfolding bytes
-returns c = names-input (c .before .before .before .before .args .text .now) (sym (c .before .starts-with .ensures) ∙ c .if1 .taken)
+returns c = names-input (sym (c .before .starts-with .ensures) ∙ c .if1 .taken)
 
 slice-aggregate-starts-with-2 : tie.Need-slice-aggregate-starts-with-2
 slice-aggregate-starts-with-2 c = search needs
@@ -24,7 +39,7 @@ starts-with-requires-2 c κs = search needs
 
 returns-2 : tie.Need-returns-2
 unfolding bytes
-returns-2 c = names-marked (c .before .before .before .before .before .before .before .args .text .now) (sym (c .before .before .before .before .starts-with .ensures) ∙ c .before .before .before .if1 .left) (sym (c .before .starts-with2 .ensures) ∙ c .if2 .taken)
+returns-2 c = names-marked (not-input (c .before .before .before)) (sym (c .before .starts-with2 .ensures) ∙ c .if2 .taken)
 
 slice-aggregate-starts-with-3 : tie.Need-slice-aggregate-starts-with-3
 slice-aggregate-starts-with-3 c = search needs
@@ -34,7 +49,9 @@ starts-with-requires-3 c κs = search needs
 
 returns-3 : tie.Need-returns-3
 unfolding bytes
-returns-3 c = names-unmarked (c .before .before .before .before .before .before .before .before .before .before .args .text .now) (sym (c .before .before .before .before .before .before .before .starts-with .ensures) ∙ c .before .before .before .before .before .before .if1 .left) (sym (c .before .before .before .before .starts-with2 .ensures) ∙ c .before .before .before .if2 .left) (sym (c .before .starts-with3 .ensures) ∙ c .if3 .taken)
+returns-3 c =
+    let m = c .before .before .before in
+    names-unmarked (not-input (m .before .before .before)) (not-marked m) (sym (c .before .starts-with3 .ensures) ∙ c .if3 .taken)
 
 slice-aggregate-starts-with-4 : tie.Need-slice-aggregate-starts-with-4
 slice-aggregate-starts-with-4 c = search needs
@@ -44,11 +61,17 @@ starts-with-requires-4 c κs = search needs
 
 returns-4 : tie.Need-returns-4
 unfolding bytes
-returns-4 c = names-corners (c .before .before .before .before .before .before .before .before .before .before .before .before .before .args .text .now) (sym (c .before .before .before .before .before .before .before .before .before .before .starts-with .ensures) ∙ c .before .before .before .before .before .before .before .before .before .if1 .left) (sym (c .before .before .before .before .before .before .before .starts-with2 .ensures) ∙ c .before .before .before .before .before .before .if2 .left) (sym (c .before .before .before .before .starts-with3 .ensures) ∙ c .before .before .before .if3 .left) (sym (c .before .starts-with4 .ensures) ∙ c .if4 .taken)
+returns-4 c =
+    let u = c .before .before .before in
+    let m = u .before .before .before in
+    names-corners (not-input (m .before .before .before)) (not-marked m) (not-unmarked u) (sym (c .before .starts-with4 .ensures) ∙ c .if4 .taken)
 
 returns-5 : tie.Need-returns-5
 unfolding bytes
-returns-5 c = names-other (c .before .before .before .before .before .before .before .before .before .before .before .before .before .args .text .now) (sym (c .before .before .before .before .before .before .before .before .before .before .starts-with .ensures) ∙ c .before .before .before .before .before .before .before .before .before .if1 .left) (sym (c .before .before .before .before .before .before .before .starts-with2 .ensures) ∙ c .before .before .before .before .before .before .if2 .left) (sym (c .before .before .before .before .starts-with3 .ensures) ∙ c .before .before .before .if3 .left) (sym (c .before .starts-with4 .ensures) ∙ c .if4 .left)
+returns-5 c =
+    let u = c .before .before .before in
+    let m = u .before .before .before in
+    names-other (not-input (m .before .before .before)) (not-marked m) (not-unmarked u) (sym (c .before .starts-with4 .ensures) ∙ c .if4 .left)
 
 pub read-names-spec : {M : Type 1} → statement M
 read-names-spec =
