@@ -1,14 +1,14 @@
--- `validate::examine_faces` meets its contract: refusal 8, then the sides. Assumes nothing.
+-- `admission::examine_faces` meets its contract: refusal 8, then the sides. Assumes nothing.
 use mathlib.Core.Path.{_∙_}
 use native.Mathlib.Omega.{arith}
 use lib.ListN.{length}
 use Rattle.verdict.specs.Verdict.{facesVerdict}
 use Rattle.refusals.specs.Refusals.{isolated}
 use Rattle.verdict.proofs.Accepted.{never, at-hit, at-pass}
-use Rattle.validate.proofs.Laws.{all, joined, tables, empty-faces, lonely-vertex}
+use Rattle.admission.proofs.Laws.{all, joined, tables, empty-faces, lonely-vertex}
 use borrow.Author.Needs.{needs}
-use Rattle.validate.proofs.examine_faces.Statement.{statement}
-use Rattle.validate.proofs.examine_faces.Tie as tie
+use Rattle.admission.proofs.examine_faces.Statement.{statement}
+use Rattle.admission.proofs.examine_faces.Tie as tie
 
 returns : tie.Need-returns
 returns c = let s = c .before .before .before .before .before in empty-faces (s .args .faces .now) (s .args .marks .now) (s .args .work .now) (c .before .if1 .taken) (c .if2 .taken)

@@ -1,4 +1,4 @@
--- `validate::examine_adjacency` meets its contract: refusal 9, then the vertices. Assumes nothing.
+-- `admission::examine_adjacency` meets its contract: refusal 9, then the vertices. Assumes nothing.
 use mathlib.Core.Path.{ap, _∙_}
 use Prim.Native.Nat.{_*_}
 use native.Mathlib.Omega.{arith}
@@ -10,8 +10,8 @@ use Rattle.lists.proofs.Parts.{drop-later}
 use Rattle.verdict.proofs.Accepted.{never, at-hit, at-pass}
 use Rattle.adjacency.proofs.Chains.{tables-length}
 use borrow.Author.Needs.{needs}
-use Rattle.validate.proofs.examine_adjacency.Statement.{statement}
-use Rattle.validate.proofs.examine_adjacency.Tie as tie
+use Rattle.admission.proofs.examine_adjacency.Statement.{statement}
+use Rattle.admission.proofs.examine_adjacency.Tie as tie
 
 build-chains-requires : tie.Need-build-chains-requires
 build-chains-requires c κs = search needs

@@ -7,8 +7,8 @@ use Rattle.search.specs.Search.{first}
 use Rattle.refusals.specs.Refusals.{isolated}
 use Rattle.adjacency.specs.Chains.{MateTable}
 use Rattle.verdict.specs.Verdict.{Verdict, accepted}
-use Rattle.validate.specs.declared.Answer.{Answer}
-use Rattle.validate.specs.Answer.{verdictOf}
+use Rattle.admission.specs.declared.Answer.{Answer}
+use Rattle.admission.specs.Answer.{verdictOf}
 
 -- corners l by fours, not too many, and a work table w with room for four numbers per half-edge
 pub record CheckTables (l w : List ℕ) : Type 0 where

@@ -1,12 +1,12 @@
--- `validate::examine_vertices` meets its contract: the tests in their order. Assumes nothing.
+-- `admission::examine_vertices` meets its contract: the tests in their order. Assumes nothing.
 use lib.ListN.{length}
 use Rattle.verdict.specs.Verdict.{vertexVerdict}
 use Rattle.refusals.specs.Refusals.{nonManifold, badValence, markedRing}
 use Rattle.topology.specs.Shape.{quads}
 use Rattle.verdict.proofs.Accepted.{at-hit, at-pass, last-hit, last-pass}
 use borrow.Author.Needs.{needs}
-use Rattle.validate.proofs.examine_vertices.Statement.{statement}
-use Rattle.validate.proofs.examine_vertices.Tie as tie
+use Rattle.admission.proofs.examine_vertices.Statement.{statement}
+use Rattle.admission.proofs.examine_vertices.Tie as tie
 
 first-non-manifold-requires : tie.Need-first-non-manifold-requires
 first-non-manifold-requires c κs = search needs

@@ -1,8 +1,8 @@
 -- What the check's answers mean, and what it leaves behind.
 use mathlib.Core.List.{List}
 use Prim.Native.Nat.{ℕ}
-use Rattle.validate.specs.declared.Answer.{Answer}
-use Rattle.validate.specs.declared.Answer.the-variants.{Accepted, Refused}
+use Rattle.admission.specs.declared.Answer.{Answer}
+use Rattle.admission.specs.declared.Answer.the-variants.{Accepted, Refused}
 use Rattle.verdict.specs.Call.{Call}
 use Rattle.verdict.specs.Verdict.{Verdict, accepted, refused, verdict, workAfter}
 
