@@ -1,57 +1,81 @@
+-- `refine::run` meets its contract: copies, rounds, clearing. Assumes nothing.
+use native.Mathlib.Omega.{arith}
+use Rattle.tables.specs.Net.{net}
+use Rattle.outcome.specs.Outcome.{buffers, Request, request}
+use Rattle.refine.proofs.Laws.{room-vertices, room-faces, room-marks, room-work, last-le, prepared, ran}
 use borrow.Author.Needs.{needs}
 use Rattle.refine.proofs.run.Statement.{statement}
 use Rattle.refine.proofs.run.Tie as tie
-use Rattle.refine.proofs.run.Reads as reads
-use Rattle.refine.proofs.run.Lts as lts
-use Rattle.rounds.proofs.rounds.Reads as rounds-reads
-use Rattle.tables.proofs.clear.Reads as clear-reads
-use Rattle.tables.proofs.copy_i32.Reads as copy-i32-reads
-use Rattle.tables.proofs.copy_u32.Reads as copy-u32-reads
-use Rattle.tables.proofs.copy_u8.Reads as copy-u8-reads
 
--- src/lib.rt:32:5
+abbrev asked : tie.Start → Request
+asked s =
+    request (s .args .rounds) (net (s .args .vertices .now) (s .args .faces .now) (s .args .marks .now))
+    (buffers (s .args .out-vertices .now) (s .args .out-faces .now) (s .args .out-marks .now) (s .args .work .now))
+
+-- from each copy to the one before it, and to the start
+abbrev start : tie.After-copy-i32 → tie.Start
+start x = x .before .before .before .before .before .before .before
+
+abbrev points : tie.After-copy-u32 → tie.After-copy-i32
+points y = y .before .before .before
+
+abbrev corners : tie.After-copy-u8 → tie.After-copy-u32
+corners z = z .before .before .before .before
+
+abbrev copied : tie.After-rounds → tie.After-copy-u8
+copied t = t .before .before .before .before .before .before .before
+
+abbrev begun : tie.After-rounds → tie.Start
+begun t = start (points (corners (copied t)))
+
 copy-i32-requires : tie.Need-copy-i32-requires
-copy-i32-requires c κs = ?
+copy-i32-requires c κs = let s = c .before .before .before .before .before .before in room-vertices (asked s) (s .args .last) (s .pre)
 
--- src/lib.rt:33:5
 copy-u32-requires : tie.Need-copy-u32-requires
-copy-u32-requires c κs = ?
+copy-u32-requires c κs = let s = start (c .before .before) in room-faces (asked s) (s .args .last) (s .pre)
 
--- src/lib.rt:34:5
 copy-u8-requires : tie.Need-copy-u8-requires
-copy-u8-requires c κs = ?
+copy-u8-requires c κs = let s = start (points (c .before .before .before)) in room-marks (asked s) (s .args .last) (s .pre)
 
--- src/lib.rt:35:9
 rounds-requires : tie.Need-rounds-requires
-rounds-requires c κs = ?
+rounds-requires c κs =
+    let z = c .before .before .before .before .before .before in
+    let y = corners z in
+    let x = points y in
+    let s = start x in
+    prepared (asked s) (s .args .last) (s .pre) _ _ _ (x .copy-i32 .ensures) (y .copy-u32 .ensures) (z .copy-u8 .ensures)
 
--- src/lib.rt:44:31
 mul-clear : tie.Need-mul-clear
-mul-clear c = ?
+mul-clear c = let s = begun (c .before .before .before .before .before .before .before .before) in let q = last-le (asked s) (s .args .last) (s .pre) in omega arith
 
--- src/lib.rt:44:5
 clear-requires : tie.Need-clear-requires
-clear-requires c κs = ?
+clear-requires c κs =
+    let x = c .before .before .before .before .before .before .before .before in
+    let s = begun x in
+    let a = room-work (asked s) (s .args .last) (s .pre) in
+    let k = x .rounds .kept .1 .1 .1 .0 in
+    omega arith
 
--- src/lib.rt:16:1
 same-length : tie.Need-same-length
 same-length c = search needs
 
--- src/lib.rt:16:1
 same-length-2 : tie.Need-same-length-2
 same-length-2 c = search needs
 
--- src/lib.rt:16:1
 same-length-3 : tie.Need-same-length-3
 same-length-3 c = search needs
 
--- src/lib.rt:16:1
 same-length-4 : tie.Need-same-length-4
 same-length-4 c = search needs
 
--- src/lib.rt:16:1
 returns : tie.Need-returns
-returns c = ?
+returns c =
+    let t = c .before .before .before .before .before .before .before .before .before .before .before in
+    let z = copied t in
+    let y = corners z in
+    let x = points y in
+    let s = start x in
+    ran (asked s) (s .args .last) (s .pre) _ _ _ (x .copy-i32 .ensures) (y .copy-u32 .ensures) (z .copy-u8 .ensures) _ _ _ _ _ _ (t .rounds .ensures) (c .before .before .clear .ensures)
 
 pub run-spec : {M : Type 1} → statement M
 run-spec =
