@@ -6,6 +6,7 @@ ghost use Prim.Native.Nat.{_≤_};
 ghost use lib.ListN.{length};
 ghost use Rattle.curve.specs.Weights.{kobbelt};
 ghost use Rattle.tables.specs.Net.{net};
+ghost use Rattle.verdict.specs.Call.{lengthsOf};
 ghost use Rattle.verdict.specs.Verdict.{accepted, netVerdict, limitsVerdict};
 ghost use Rattle.scheme.specs.Step.{steps};
 ghost use Rattle.reading.specs.Loaded.{programRoom};
@@ -14,7 +15,7 @@ ghost use Rattle.program.specs.Answer.{answerBy, programText};
 
 // The answer to a net whose counts pass.
 fn refine_net(rounds: u32, vertices: &[i32], faces: &[u32], marks: &[u8], out: &mut [u8]) -> usize
-    requires { ⌜ (limitsVerdict rounds (length (now vertices)) (length (now faces)) (length (now marks)) programRoom ≡ accepted) × (52302 ≤ length (now out)) ⌝ }
+    requires { ⌜ (limitsVerdict rounds (lengthsOf (net (now vertices) (now faces) (now marks)) programRoom) ≡ accepted) × (52302 ≤ length (now out)) ⌝ }
     ensures { λ r. ⌜ Written (now (out .entry)) (now (out .exit)) r (answerBy (netVerdict (net (now (vertices .entry)) (now (faces .entry)) (now (marks .entry)))) (steps kobbelt rounds (net (now (vertices .entry)) (now (faces .entry)) (now (marks .entry))))) 52302 ⌝ }
 {
     let mut out_vertices = [0i32; 3072];

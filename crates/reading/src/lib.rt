@@ -204,7 +204,18 @@ fn refusal(vertices: u32, faces: u32, rounds: u32) -> u32
 {
     let v = vertices as usize;
     let f = faces as usize;
-    let reason = limits::limits(rounds, 3 * v, 4 * f, v, 3072, 1024, 1024, 4096);
+    let reason = limits::limits(
+        rounds,
+        Lengths {
+            coordinates: 3 * v,
+            corners: 4 * f,
+            marks: v,
+            out_vertices: 3072,
+            out_faces: 1024,
+            out_marks: 1024,
+            work: 4096,
+        },
+    );
     if reason != 0 {
         return reason;
     }
