@@ -25,6 +25,7 @@ use Rattle.outcome.specs.Outcome.{Buffers, buffers, refinedTo, refusedWith, Req
 use Rattle.refine.specs.declared.Answer.the-variants.{Refined, Refused}
 use Rattle.refine.specs.Answer.{answered}
 use Rattle.outcome.proofs.Accepted.{accepted-refinable}
+use Rattle.rounds.specs.Round.{Workspace, workspace}
 use Rattle.rounds.specs.Rounds.{Prepared, After}
 use Rattle.refine.specs.Run.{Ran}
 
@@ -99,7 +100,7 @@ module _ (a : Request) (last : ℕ) (ok : AdmittedCall (callOf a) last (a .buffe
         (ap (take (length (m .faces))) ef ∙ take-filled (m .faces) (o .faces) (length (m .faces)) refl)
         (ap (take (length (m .marks))) em ∙ take-filled (m .marks) (o .marks) (length (m .marks)) refl)
 
-    pub prepared : Prepared k (length (m .marks)) (length (m .faces)) vs fs ms (o .work)
+    pub prepared : Prepared k (length (m .marks)) (length (m .faces)) (workspace vs fs ms (o .work))
     prepared =
         let w = limits in
         let b = w .roomVertices in
@@ -125,10 +126,10 @@ module _ (a : Request) (last : ℕ) (ok : AdmittedCall (callOf a) last (a .buffe
           mated = rw (ap (λ (x : Net). x .faces) front-is) (ok .mated);
         }
 
-    module _ (r : ℕ) (vs′ : List ℤ) (fs′ ms′ w w′ : List ℕ) (b : After k (length (m .marks)) (length (m .faces)) r vs vs′ fs fs′ ms ms′ (o .work) w) (e : w′ ≡ cleared (16 * last) w) where
-      pub ran : Ran a (buffers vs′ fs′ ms′ w′) last r
+    module _ (r : ℕ) (t : Workspace) (w : List ℕ) (b : After k (length (m .marks)) (length (m .faces)) r (workspace vs fs ms (o .work)) t) (e : w ≡ cleared (16 * last) (t .work)) where
+      pub ran : Ran a (buffers (t .points) (t .faces) (t .marks) w) last r
       ran =
-          let t = refinable .threes in
+          let q = refinable .threes in
           let u = refinable-steps kobbelt m refinable k .threes in
           let v = more-vertices m k in
           let c = corners-steps in
@@ -139,7 +140,7 @@ module _ (a : Request) (last : ℕ) (ok : AdmittedCall (callOf a) last (a .buffe
             vertices = b .newPoints ∙ ap₂ (λ (x : Net) (d : List ℤ). filled (steps kobbelt k x .vertices) d) front-is ev ∙ filled-over _ _ (o .vertices) (omega arith);
             faces = b .newFaces ∙ ap₂ (λ (x : Net) (d : List ℕ). filled (steps kobbelt k x .faces) d) front-is ef ∙ filled-over _ _ (o .faces) (omega arith);
             marks = b .newMarks ∙ ap₂ (λ (x : Net) (d : List ℕ). filled (steps kobbelt k x .marks) d) front-is em ∙ filled-over _ _ (o .marks) v;
-            work = e ∙ cleared-over (16 * last) (o .work) w (drop-later (2 * (length (m .faces) * 4 ^ k)) (16 * last) w (o .work) (omega arith) (b .rest));
+            work = e ∙ cleared-over (16 * last) (o .work) (t .work) (drop-later (2 * (length (m .faces) * 4 ^ k)) (16 * last) (t .work) (o .work) (omega arith) (b .rest));
           }
 
 -- ---- the whole call

@@ -2,6 +2,7 @@
 use native.Mathlib.Omega.{arith}
 use Rattle.tables.specs.Net.{net}
 use Rattle.outcome.specs.Outcome.{buffers, Request, request}
+use Rattle.rounds.specs.Round.{Workspace, workspace}
 use Rattle.refine.proofs.Laws.{room-vertices, room-faces, room-marks, room-work, last-le, prepared, ran}
 use borrow.Author.Needs.{needs}
 use Rattle.refine.proofs.run.Statement.{statement}
@@ -24,6 +25,9 @@ corners z = z .before .before .before .before
 
 abbrev copied : tie.After-rounds → tie.After-copy-u8
 copied t = t .before .before .before .before .before .before .before
+
+abbrev left : tie.After-rounds → Workspace
+left t = let o = t .rounds .last in workspace (o .0) (o .1 .0) (o .1 .1 .0) (o .1 .1 .1 .0)
 
 abbrev begun : tie.After-rounds → tie.Start
 begun t = start (points (corners (copied t)))
@@ -75,7 +79,7 @@ returns c =
     let y = corners z in
     let x = points y in
     let s = start x in
-    ran (asked s) (s .args .last) (s .pre) _ _ _ (x .copy-i32 .ensures) (y .copy-u32 .ensures) (z .copy-u8 .ensures) _ _ _ _ _ _ (t .rounds .ensures) (c .before .before .clear .ensures)
+    ran (asked s) (s .args .last) (s .pre) _ _ _ (x .copy-i32 .ensures) (y .copy-u32 .ensures) (z .copy-u8 .ensures) _ (left t) _ (t .rounds .ensures) (c .before .before .clear .ensures)
 
 pub run-spec : {M : Type 1} → statement M
 run-spec =
