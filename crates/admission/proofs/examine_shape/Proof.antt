@@ -4,7 +4,7 @@ use native.Mathlib.Omega.{arith}
 use lib.ListN.{length}
 use Rattle.refusals.specs.Refusals.{badMark, badCorner}
 use Rattle.topology.specs.Shape.{quads}
-use Rattle.verdict.specs.Verdict.{Verdict, refused, orElse, refusedAt, shapeVerdict}
+use Rattle.verdict.specs.Verdict.{refused, shapeVerdict}
 use Rattle.verdict.proofs.Accepted.{never, at-hit, at-pass}
 use Rattle.adjacency.proofs.Chains.{corners-below-if}
 use Rattle.admission.proofs.Laws.{all}

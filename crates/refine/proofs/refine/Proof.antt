@@ -5,7 +5,7 @@ use Prim.Native.Nat.{ℕ}
 use Rattle.tables.specs.Net.{net}
 use Rattle.admission.specs.declared.Admission.{Admission}
 use Rattle.admission.specs.Admission.{Admits}
-use Rattle.outcome.specs.Outcome.{buffers, Request, request, callOf}
+use Rattle.outcome.specs.Outcome.{Buffers, buffers, Request, request, callOf}
 use Rattle.refine.proofs.Laws.{admitted-work, refined-outcome, refused-outcome}
 use borrow.Author.Needs.{needs}
 use Rattle.refine.proofs.refine.Statement.{statement}
@@ -25,6 +25,10 @@ left x = x .admit .last .1 .1 .1 .1 .1 .1 .1 .0
 
 admits : (x : tie.After-admit) (a : Admission) → x .admit .result ≡ a → Admits (callOf (asked (start x))) (start x .args .work .now) a (left x)
 admits x a e = subst (λ (b : Admission). Admits (callOf (asked (start x))) (start x .args .work .now) b (left x)) e (x .admit .ensures)
+
+-- after the rounds: the caller's tables
+abbrev after : tie.After-run → Buffers
+after y = let o = y .run .last .1 .1 .1 .1 in buffers (o .0) (o .1 .0) (o .1 .1 .0) (o .1 .1 .1 .0)
 
 admit-requires : tie.Need-admit-requires
 admit-requires c κs = search needs
@@ -57,7 +61,7 @@ returns c =
     let y = c .before .before .before .before .before .before .before in
     let x = y .before .before .before .before .before .before .before .before .before .before in
     let a = admits x _ (y .before .before .before .before .before .before .last .given .1) in
-    refined-outcome (asked (start x)) _ (left x) (a .0) (x .admit .kept .1 .1 .1 .1 .1 .1 .1 .0) _ _ (a .1) (y .run .ensures)
+    refined-outcome (asked (start x)) _ (left x) (a .0) (x .admit .kept .1 .1 .1 .1 .1 .1 .1 .0) (y .run .result) (after y) (a .1) (y .run .ensures)
 
 same-length-5 : tie.Need-same-length-5
 same-length-5 c = search needs

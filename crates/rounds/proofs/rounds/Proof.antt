@@ -142,10 +142,12 @@ loop-again c =
     let d = rw e at (t .refine-mates .ensures) in
     let b = turn z .loop-test .taken in
     let k = z .round .kept .1 .1 .1 .0 in
-    let y = t .refine-mates .kept .0 in
-    (omega arith, again (s .args .n) (h .i) _ e,
-    after-mates (s .args .k) (s .args .v) (s .args .n) (tables s) (s .pre) (h .i) (h .count) (held x) (h .inv .2) (h .inv .3) b _ (made z) (refined z) k _ y d,
-    mated-next (s .args .k) (s .args .v) (s .args .n) (tables s) (s .pre) (h .i) (h .count) (held x) (h .inv .2) (h .inv .3) b _ (made z) (refined z) k _ y d)
+    let y = t .refine-mates .kept .0 in (
+      omega arith,
+      again (s .args .n) (h .i) _ e,
+      after-mates (s .args .k) (s .args .v) (s .args .n) (tables s) (s .pre) (h .i) (h .count) (held x) (h .inv .2) (h .inv .3) b _ (made z) (refined z) k _ y d,
+      mated-next (s .args .k) (s .args .v) (s .args .n) (tables s) (s .pre) (h .i) (h .count) (held x) (h .inv .2) (h .inv .3) b _ (made z) (refined z) k _ y d,
+    )
 
 -- after the last round
 same-length-5 : tie.Need-same-length-5 Inv-loop μ-loop
