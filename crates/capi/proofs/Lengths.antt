@@ -5,10 +5,10 @@ use Prim.Native.Nat.{ℕ, _*_, _/_, _^_, _≤_, _<_}
 use native.Mathlib.Decide.{decLt}
 use native.Mathlib.Omega.{arith}
 use lib.Dec.{ltb}
-use borrow.Author.Tests.{lt-ltb, ltb-false, eq-eqb, ne-eqb}
+use borrow.Author.Tests.{lt-ltb, eq-eqb, ne-eqb}
 use Rattle.verdict.specs.Call.{Room, needed, lengths}
 use Rattle.verdict.specs.Verdict.{Verdict, accepted, refused, orElse, refusedIf, limitsVerdict, tablesVerdict, sizeVerdict, roomVerdict}
-use Rattle.verdict.proofs.Accepted.{or-both, if-false, within-if}
+use Rattle.verdict.proofs.Accepted.{or-refused, sized-faces, within-if}
 use Rattle.limits.specs.Answer.{limitsOf, FinalFaces}
 use Rattle.capi.specs.Export.{sizesBy, sizes}
 
@@ -23,29 +23,17 @@ examples : sizes 6 243 256 81 ∷ sizes 6 243 260 81 ∷ sizes 6 0 0 0 ∷ sizes
 unfolding sizes limitsVerdict tablesVerdict sizeVerdict roomVerdict
 examples = refl
 
--- past a refusal nothing matters
-refused-first : (x u v : Verdict) → (x ≡ accepted → ⊥) → orElse x u ≡ orElse x v
-refused-first accepted u v n = absurd (n refl)
-refused-first (refused r p) u v n = refl
-
 module _ (k nv nf nm : ℕ) where
   -- past these limits the room does not matter
   many-rounds : (a b : Room) → 6 < k → limitsVerdict k (lengths nv nf nm a) ≡ limitsVerdict k (lengths nv nf nm b)
   unfolding limitsVerdict
   many-rounds a b h = rw (lt-ltb 6 k h)
 
-  not-sized : 4096 < nf / 4 → sizeVerdict (nv / 3) (nf / 4) (nf / 4 * 4 ^ k) ≡ accepted → ⊥
-  unfolding sizeVerdict
-  not-sized h e =
-      let a = or-both (refusedIf 3 (ltb 8192 (nv / 3))) (orElse (refusedIf 3 (ltb 4096 (nf / 4))) (refusedIf 3 (ltb 262144 (nf / 4 * 4 ^ k)))) e in
-      let b = or-both (refusedIf 3 (ltb 4096 (nf / 4))) (refusedIf 3 (ltb 262144 (nf / 4 * 4 ^ k))) (a .1) in
-      let l = ltb-false 4096 (nf / 4) (if-false 3 _ (b .0)) in
-      omega arith
-
   many-faces : (a b : Room) → 4096 < nf / 4 → limitsVerdict k (lengths nv nf nm a) ≡ limitsVerdict k (lengths nv nf nm b)
   unfolding limitsVerdict
   many-faces a b h =
-      ap (λ (v : Verdict). orElse (refusedIf 1 (ltb 6 k)) (orElse (tablesVerdict nv nf nm) v)) (refused-first (sizeVerdict (nv / 3) (nf / 4) (nf / 4 * 4 ^ k)) _ _ (not-sized h))
+      ap (λ (v : Verdict). orElse (refusedIf 1 (ltb 6 k)) (orElse (tablesVerdict nv nf nm) v))
+      (or-refused (sizeVerdict (nv / 3) (nf / 4) (nf / 4 * 4 ^ k)) _ _ (λ e. let l = sized-faces (nv / 3) (nf / 4) (nf / 4 * 4 ^ k) e in omega arith))
 
   -- g is worked out, and the room is what it needs
   module _ (g : ℕ) (f : FinalFaces k nf g) (least : Room) (n : least ≡ needed g) where

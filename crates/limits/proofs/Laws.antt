@@ -4,10 +4,10 @@ use Prim.Native.Nat.{ℕ, _*_, _/_, _^_, _≤_, _<_}
 use native.Mathlib.Decide.{decLt}
 use native.Mathlib.Omega.{arith}
 use lib.Dec.{ltb}
-use borrow.Author.Tests.{lt-ltb, le-ltb, eq-eqb, ne-eqb, ltb-false}
+use borrow.Author.Tests.{lt-ltb, le-ltb, eq-eqb, ne-eqb}
 use Rattle.verdict.specs.Call.{Room, needed, Lengths}
 use Rattle.verdict.specs.Verdict.{Verdict, accepted, orElse, refusedIf, tablesVerdict, sizeVerdict, roomVerdict, limitsVerdict}
-use Rattle.verdict.proofs.Accepted.{or-both, if-false}
+use Rattle.verdict.proofs.Accepted.{sized-faces}
 use Rattle.limits.specs.Answer.{limitsOf, FinalFaces}
 
 -- a table of the first room is shorter than that of the second
@@ -17,6 +17,11 @@ shorter room least =
     (orElse (refusedIf 4 (ltb (room .faces) (least .faces)))
     (orElse (refusedIf 4 (ltb (room .marks) (least .marks)))
     (refusedIf 4 (ltb (room .work) (least .work)))))
+
+-- the outputs are long enough
+pub outputs-long : (room least : Room) → least .vertices ≤ room .vertices → least .faces ≤ room .faces → least .marks ≤ room .marks
+    → shorter room least ≡ refusedIf 4 (ltb (room .work) (least .work))
+outputs-long room least a b c = simp (le-ltb (room .vertices) (least .vertices) a, le-ltb (room .faces) (least .faces) b, le-ltb (room .marks) (least .marks) c)
 
 pub by-needed : (g : ℕ) (room least : Room) {v : Verdict} → least ≡ needed g → shorter room least ≡ v → roomVerdict g room ≡ v
 unfolding roomVerdict
@@ -49,13 +54,8 @@ module _ (k : ℕ) (n : Lengths) where
       unfolding limitsVerdict
       by-size h = rw (le-ltb 6 k few, e, eq-eqb t 0 z, size, ne-eqb s 0 h)
 
-      few-faces : s ≡ 0 → n .corners / 4 ≤ 4096
-      unfolding sizeVerdict
-      few-faces y =
-          let a = or-both (refusedIf 3 (ltb 8192 (n .coordinates / 3))) _ (d ∙ rw (eq-eqb s 0 y)) in
-          let b = or-both (refusedIf 3 (ltb 4096 (n .corners / 4))) (refusedIf 3 (ltb 262144 g)) (a .1) in
-          ltb-false 4096 (n .corners / 4) (if-false 3 _ (b .0))
-
       pub by-room : s ≡ 0 → (r : ℕ) → roomVerdict g (n .room) ≡ limitsOf r → limitsVerdict k n ≡ limitsOf r
       unfolding limitsVerdict
-      by-room y r h = rw (le-ltb 6 k few, e, eq-eqb t 0 z, size, eq-eqb s 0 y) (ap (λ (x : ℕ). roomVerdict x (n .room)) (sym (f .final few (few-faces y))) ∙ h)
+      by-room y r h =
+          rw (le-ltb 6 k few, e, eq-eqb t 0 z, size, eq-eqb s 0 y)
+          (ap (λ (x : ℕ). roomVerdict x (n .room)) (sym (f .final few (sized-faces (n .coordinates / 3) (n .corners / 4) g (d ∙ rw (eq-eqb s 0 y))))) ∙ h)

@@ -30,6 +30,11 @@ pub or-both : (u v : Verdict) → orElse u v ≡ accepted → (u ≡ accepted) �
 or-both accepted v e = (refl, e)
 or-both (refused r p) v e = never r p e
 
+-- past a refusal nothing matters
+pub or-refused : (u v w : Verdict) → (u ≡ accepted → ⊥) → orElse u v ≡ orElse u w
+or-refused accepted v w n = absurd (n refl)
+or-refused (refused r p) v w n = refl
+
 pub or-accepted : {u v : Verdict} → u ≡ accepted → v ≡ accepted → orElse u v ≡ accepted
 or-accepted e f = rw (e, f)
 
@@ -57,6 +62,13 @@ pub record WithinLimits (rounds : ℕ) (n : Lengths) : Type 0 where
   pub roomFaces : 4 * (n .corners / 4 * 4 ^ rounds) ≤ n .room .faces
   pub roomMarks : 4 * (n .corners / 4 * 4 ^ rounds) ≤ n .room .marks
   pub roomWork : 16 * (n .corners / 4 * 4 ^ rounds) ≤ n .room .work
+
+pub sized-faces : (v f g : ℕ) → sizeVerdict v f g ≡ accepted → f ≤ 4096
+unfolding sizeVerdict
+sized-faces v f g e =
+    let a = or-both (refusedIf 3 (ltb 8192 v)) (orElse (refusedIf 3 (ltb 4096 f)) (refusedIf 3 (ltb 262144 g))) e in
+    let b = or-both (refusedIf 3 (ltb 4096 f)) (refusedIf 3 (ltb 262144 g)) (a .1) in
+    ltb-false 4096 f (if-false 3 _ (b .0))
 
 module _ (k : ℕ) (n : Lengths) where
   pub within-if : limitsVerdict k n ≡ accepted → WithinLimits k n
