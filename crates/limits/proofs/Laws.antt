@@ -6,17 +6,9 @@ use native.Mathlib.Omega.{arith}
 use lib.Dec.{ltb}
 use borrow.Author.Tests.{lt-ltb, le-ltb, eq-eqb, ne-eqb}
 use Rattle.verdict.specs.Call.{Room, needed, Lengths}
-use Rattle.verdict.specs.Verdict.{Verdict, accepted, orElse, refusedIf, tablesVerdict, sizeVerdict, roomVerdict, limitsVerdict}
+use Rattle.verdict.specs.Verdict.{Verdict, refusedIf, shorter, tablesVerdict, sizeVerdict, roomVerdict, limitsVerdict}
 use Rattle.verdict.proofs.Accepted.{sized-faces}
 use Rattle.limits.specs.Answer.{limitsOf, FinalFaces}
-
--- a table of the first room is shorter than that of the second
-abbrev pub shorter : Room → Room → Verdict
-shorter room least =
-    orElse (refusedIf 4 (ltb (room .vertices) (least .vertices)))
-    (orElse (refusedIf 4 (ltb (room .faces) (least .faces)))
-    (orElse (refusedIf 4 (ltb (room .marks) (least .marks)))
-    (refusedIf 4 (ltb (room .work) (least .work)))))
 
 -- the outputs are long enough
 pub outputs-long : (room least : Room) → least .vertices ≤ room .vertices → least .faces ≤ room .faces → least .marks ≤ room .marks

@@ -47,12 +47,15 @@ unfoldable pub sizeVerdict : (v f g : ℕ) → Verdict
 sizeVerdict v f g = orElse (refusedIf 3 (ltb 8192 v)) (orElse (refusedIf 3 (ltb 4096 f)) (refusedIf 3 (ltb 262144 g)))
 
 -- 4: "an output or the work table shorter than stated"
+abbrev pub shorter : (room stated : Room) → Verdict
+shorter room stated =
+    orElse (refusedIf 4 (ltb (room .vertices) (stated .vertices)))
+    (orElse (refusedIf 4 (ltb (room .faces) (stated .faces)))
+    (orElse (refusedIf 4 (ltb (room .marks) (stated .marks)))
+    (refusedIf 4 (ltb (room .work) (stated .work)))))
+
 unfoldable pub roomVerdict : (g : ℕ) → Room → Verdict
-roomVerdict g room =
-    orElse (refusedIf 4 (ltb (room .vertices) (needed g .vertices)))
-    (orElse (refusedIf 4 (ltb (room .faces) (needed g .faces)))
-    (orElse (refusedIf 4 (ltb (room .marks) (needed g .marks)))
-    (refusedIf 4 (ltb (room .work) (needed g .work)))))
+roomVerdict g room = shorter room (needed g)
 
 -- 1: "rounds above 6."; then 2, 3 and 4
 unfoldable pub limitsVerdict : (rounds : ℕ) → Lengths → Verdict

@@ -2,10 +2,10 @@
 use mathlib.Core.Path.{_≡_, _∙_}
 use lib.Dec.{ltb}
 use Rattle.verdict.specs.Call.{Room}
-use Rattle.verdict.specs.Verdict.{refusedIf}
+use Rattle.verdict.specs.Verdict.{refusedIf, shorter}
 use borrow.Author.Tests.{lt-ltb, le-ltb}
 use Rattle.limits.specs.Answer.{roomIn, lengthsIn}
-use Rattle.limits.proofs.Laws.{shorter, outputs-long, by-needed}
+use Rattle.limits.proofs.Laws.{outputs-long, by-needed}
 use borrow.Author.Needs.{needs}
 use Rattle.limits.proofs.test_room.Statement.{statement}
 use Rattle.limits.proofs.test_room.Tie as tie
