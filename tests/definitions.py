@@ -41,7 +41,7 @@ GROUPS = {
         "topology.Vertex": "",
         "refusals.Refusals": "",
         "tables.Net": "Net",
-        "verdict.Call": "Call, Room",
+        "verdict.Call": "Call, Room, lengths",
         "verdict.Verdict": "Verdict, accepted, refused",
     },
     "Round": {
@@ -71,7 +71,7 @@ GROUPS = {
         "seam.Reading": "",
     },
 }
-GROUPS["Outcome"] = {**GROUPS["Verdict"], **GROUPS["Round"], "tables.Tables": "", "outcome.Outcome": "refinedTo, refusedWith"}
+GROUPS["Outcome"] = {**GROUPS["Verdict"], **GROUPS["Round"], "tables.Tables": "", "outcome.Outcome": "refinedTo, refusedWith, request"}
 # Names that two modules of a group have; the group does not need the first module's.
 LEFT_OUT = {("Round", "topology.Boundary", "step"), ("Outcome", "topology.Boundary", "step"), ("Seam", "topology.Boundary", "step"), ("Seam", "curve.Curve", "step"), ("Seam", "curve.Curve", "steps")}
 LIBRARY = """use mathlib.Core.Path.{_≡_, refl, ap, _∙_}
@@ -134,7 +134,7 @@ def verdict_facts(label, case):
     stated = verdict_text(call["verdict"])
     if "net" not in case:
         lengths = " ".join(map(str, call["lengths"]))
-        yield "Verdict", "limits", f"limitsVerdict {call['rounds']} {lengths} ({room})", stated, 0.05
+        yield "Verdict", "limits", f"limitsVerdict {call['rounds']} (lengths {lengths} ({room}))", stated, 0.05
         return
     cost = 0.3 + 0.0004 * len(case["net"][1]) ** 2
     yield "Verdict", "call", f"verdict (record {{ rounds = {call['rounds']}; net = {label}; room = {room} }})", stated, cost
@@ -151,7 +151,8 @@ def outcome_facts(label, case):
     result = f"refinedTo {counts[0]} {counts[1]}" if counts else f"refusedWith {verdict[0]} {verdict[1]}"
     size = len(case["net"][1]) // 4
     cost = 0.3 + (0.1 * size**2 if rounds else 0)
-    yield "Outcome", "outcome", f"outcome {rounds} {label} (record {{ {lent_text(call['lent'])} }})", f"record {{ result = {result}; {lent_text(call['left'])} }}", cost
+    asked = f"request {rounds} {label} (record {{ {lent_text(call['lent'])} }})"
+    yield "Outcome", "outcome", f"outcome ({asked})", f"record {{ result = {result}; buffers = record {{ {lent_text(call['left'])} }} }}", cost
 
 
 def round_facts(label, case, seed, whole_faces):

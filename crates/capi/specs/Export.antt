@@ -1,11 +1,10 @@
 -- What crosses the C boundary: paper 01's number and place of each answer.
 use mathlib.Core.List.{List}
 use Prim.Native.Nat.{ℕ, _*_, _/_, _^_}
-use lib.IntN.{ℤ}
-use Rattle.validate.specs.Answer.{Checked}
-use Rattle.verdict.specs.Call.{Room}
+use Rattle.admission.specs.Answer.{Checked}
+use Rattle.verdict.specs.Call.{Room, needed, lengths}
 use Rattle.verdict.specs.Verdict.{Verdict, accepted, refused, limitsVerdict}
-use Rattle.outcome.specs.Outcome.{Result, refinedTo, refusedWith, Outcome}
+use Rattle.outcome.specs.Outcome.{Buffers, Result, refinedTo, refusedWith, Outcome}
 use Rattle.capi.specs.declared.Finding.{Finding}
 use Rattle.capi.specs.declared.Report.{Report}
 use Rattle.capi.specs.declared.Sizes.{Sizes}
@@ -34,20 +33,13 @@ report (refusedWith r p) = record { reason = r; place = p; vertices = 0; faces =
 -- the numbers that the function returns, and the caller's tables as it leaves them
 pub record RefineExport : Type 0 where
   pub report : Report
-  pub vertices : List ℤ
-  pub faces : List ℕ
-  pub marks : List ℕ
-  pub work : List ℕ
+  pub buffers : Buffers
 
-abbrev pub refineExportOf : Report → List ℤ → List ℕ → List ℕ → List ℕ → RefineExport
-refineExportOf r vertices faces marks work = record { report = r; vertices = vertices; faces = faces; marks = marks; work = work }
+abbrev pub refineExportOf : Report → Buffers → RefineExport
+refineExportOf r o = record { report = r; buffers = o }
 
 abbrev pub refineExport : Outcome → RefineExport
-refineExport o = refineExportOf (report (o .result)) (o .vertices) (o .faces) (o .marks) (o .work)
-
--- "outputs of at least 12G coordinates, 4G corners and 4G marks, and a work table of at least 16G 32-bit numbers"
-abbrev pub needed : ℕ → Room
-needed g = record { vertices = 12 * g; faces = 4 * g; marks = 4 * g; work = 16 * g }
+refineExport o = refineExportOf (report (o .result)) (o .buffers)
 
 -- the lengths, or the refusal that holds whatever tables are given, with lengths 0
 abbrev pub sizesBy : Verdict → Room → Sizes
@@ -56,4 +48,4 @@ sizesBy (refused r p) n = record { reason = r; «out_vertices» = 0; «out_faces
 
 -- the verdict of the limits on a call with just these lengths
 unfoldable pub sizes : (rounds coordinates corners marks : ℕ) → Sizes
-sizes k nv nf nm = sizesBy (limitsVerdict k nv nf nm (needed (nf / 4 * 4 ^ k))) (needed (nf / 4 * 4 ^ k))
+sizes k nv nf nm = sizesBy (limitsVerdict k (lengths nv nf nm (needed (nf / 4 * 4 ^ k)))) (needed (nf / 4 * 4 ^ k))

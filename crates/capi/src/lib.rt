@@ -1,15 +1,15 @@
 // The functions for C.
 ghost use Rattle.capi.specs.Version.{version};
 ghost use mathlib.Core.Path.{_≡_};
-ghost use Prim.Native.Nat.{_*_, _/_, _^_, _≤_};
 ghost use lib.ListN.{length};
 ghost use Rattle.nets.specs.Net.{net};
 ghost use Rattle.verdict.specs.Call.{room, call};
-ghost use Rattle.validate.specs.Answer.{verdictOf, checked};
-ghost use Rattle.outcome.specs.Outcome.{buffers, outcome};
+ghost use Rattle.admission.specs.Answer.{verdictOf, checked};
+ghost use Rattle.outcome.specs.Outcome.{buffers, request, outcome};
 ghost use Rattle.refine.specs.Answer.{resultOf};
 ghost use Rattle.capi.specs.Export.{finding, checkExportOf, checkExport, report, refineExportOf, refineExport, sizes};
-use validate::Answer;
+use admission::Answer;
+use limits::Lengths;
 
 // The verdict on a call: reason 0, or the refusal's number and place.
 #[repr(C)]
@@ -57,7 +57,7 @@ pub extern "C" fn gedrovit_check(
     ensures { λ r. ⌜ checkExportOf r (now (work .exit)) ≡
         checkExport (checked (call rounds (net (now (vertices .entry)) (now (faces .entry)) (now (marks .entry))) (room «out_vertices» «out_faces» «out_marks» (length (now (work .entry))))) (now (work .entry))) ⌝ }
 {
-    let answer = validate::check(
+    let answer = admission::check(
         rounds,
         vertices,
         faces,
@@ -101,9 +101,9 @@ pub extern "C" fn gedrovit_refine(
     out_marks: &mut [u8],
     work: &mut [u32],
 ) -> Report
-    ensures { λ r. ⌜ refineExportOf r (now («out_vertices» .exit)) (now («out_faces» .exit)) (now («out_marks» .exit)) (now (work .exit)) ≡
-        refineExport (outcome rounds (net (now (vertices .entry)) (now (faces .entry)) (now (marks .entry)))
-        (buffers (now («out_vertices» .entry)) (now («out_faces» .entry)) (now («out_marks» .entry)) (now (work .entry)))) ⌝ }
+    ensures { λ r. ⌜ refineExportOf r (buffers (now («out_vertices» .exit)) (now («out_faces» .exit)) (now («out_marks» .exit)) (now (work .exit))) ≡
+        refineExport (outcome (request rounds (net (now (vertices .entry)) (now (faces .entry)) (now (marks .entry)))
+        (buffers (now («out_vertices» .entry)) (now («out_faces» .entry)) (now («out_marks» .entry)) (now (work .entry))))) ⌝ }
 {
     let answer = refine::refine(
         rounds,
@@ -128,20 +128,6 @@ pub struct Sizes {
     pub work: u64,
 }
 
-// The number of refined faces, where rounds and faces are within their limits; else 0.
-fn refined_faces(rounds: u32, corners: usize) -> usize
-    ensures { λ r. ⌜ (r ≤ 16777216) × (rounds ≤ 6 → corners / 4 ≤ 4096 → r ≡ corners / 4 * 4 ^ rounds) ⌝ }
-{
-    if rounds > 6 {
-        return 0;
-    }
-    let faces = corners / 4;
-    if faces > 4096 {
-        return 0;
-    }
-    faces * limits::pow4(rounds)
-}
-
 // The lengths to provide for a call, from the lengths of the net's tables; or refusal 1, 2 or 3, which no tables avert, and lengths 0.
 #[no_mangle]
 pub extern "C" fn gedrovit_sizes_for(
@@ -152,19 +138,19 @@ pub extern "C" fn gedrovit_sizes_for(
 ) -> Sizes
     ensures { λ r. ⌜ r ≡ sizes rounds vertices faces marks ⌝ }
 {
-    let g = refined_faces(rounds, faces);
-    let points = 12 * g;
-    let corners = 4 * g;
-    let work = 16 * g;
+    let g = limits::final_faces(rounds, faces);
+    let least = limits::needed(g);
     let reason = limits::limits(
         rounds,
-        vertices,
-        faces,
-        marks,
-        points,
-        corners,
-        corners,
-        work,
+        Lengths {
+            coordinates: vertices,
+            corners: faces,
+            marks,
+            out_vertices: least.vertices,
+            out_faces: least.faces,
+            out_marks: least.marks,
+            work: least.work,
+        },
     );
     if reason != 0 {
         return Sizes {
@@ -177,10 +163,10 @@ pub extern "C" fn gedrovit_sizes_for(
     }
     Sizes {
         reason: 0,
-        out_vertices: points as u64,
-        out_faces: corners as u64,
-        out_marks: corners as u64,
-        work: work as u64,
+        out_vertices: least.vertices as u64,
+        out_faces: least.faces as u64,
+        out_marks: least.marks as u64,
+        work: least.work as u64,
     }
 }
 

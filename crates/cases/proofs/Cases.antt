@@ -18,7 +18,7 @@ use Rattle.topology.specs.HalfEdge.{from, to, opposed, mate, firstMet, edgeCoun
 use Rattle.topology.specs.Boundary.{isBoundaryFrom, isBoundaryInto, boundaryFrom, boundaryInto, along, back}
 use Rattle.topology.specs.Vertex.{leaves, valence, turn, start, stops, facesMet}
 use Rattle.refusals.specs.Refusals.{badMark, badCorner, isolated, repeatedSide, nonManifold, badValence, markedRing}
-use Rattle.verdict.specs.Verdict.{limitsVerdict, roomVerdict, netVerdict, facesVerdict, adjacencyVerdict, vertexVerdict, badCoordinate}
+use Rattle.verdict.specs.Verdict.{limitsVerdict, tablesVerdict, sizeVerdict, roomVerdict, netVerdict, coordinatesVerdict, shapeVerdict, facesVerdict, adjacencyVerdict, vertexVerdict, badCoordinate}
 use Rattle.scheme.specs.Rings.{extrapolatedAt, fanNeighbour, fanCorner, ringVirtual, fanVirtual, virtualAt}
 use Rattle.topology.specs.Quads.{oppositeCorner, fanEnd, fanPlace, across, beyond}
 use Rattle.nets.specs.Net.{marked, axis}
@@ -42,7 +42,7 @@ abbrev agrees : ℕ → Case → Bool
 agrees k c = eqList (c .computed) (c .stated)
 
 passes : T (every agrees 0 cases)
-unfolding cases step curve round limitsVerdict roomVerdict netVerdict facesVerdict adjacencyVerdict vertexVerdict badCoordinate badMark badCorner isolated repeatedSide nonManifold badValence markedRing firstFrom first any count iterate quads from to opposed mate firstMet edgeCount edge isBoundaryFrom isBoundaryInto boundaryFrom boundaryInto along back leaves valence turn start stops facesMet sumᶠ virtual interiorPoint endPoint midpoint extrapolated extrapolatedCorner oppositeCorner fanEnd extrapolatedAt fanNeighbour fanCorner fanPlace ringVirtual fanVirtual virtualAt marked edgeRule edgeValue edgePoint across beyond direction inner fourInner faceRule faceValue facePoint edgeAt refinedCoordinate axis
+unfolding cases step curve round limitsVerdict tablesVerdict sizeVerdict roomVerdict netVerdict coordinatesVerdict shapeVerdict facesVerdict adjacencyVerdict vertexVerdict badCoordinate badMark badCorner isolated repeatedSide nonManifold badValence markedRing firstFrom first any count iterate quads from to opposed mate firstMet edgeCount edge isBoundaryFrom isBoundaryInto boundaryFrom boundaryInto along back leaves valence turn start stops facesMet sumᶠ virtual interiorPoint endPoint midpoint extrapolated extrapolatedCorner oppositeCorner fanEnd extrapolatedAt fanNeighbour fanCorner fanPlace ringVirtual fanVirtual virtualAt marked edgeRule edgeValue edgePoint across beyond direction inner fourInner faceRule faceValue facePoint edgeAt refinedCoordinate axis
 passes = tt
 
 pub cases-hold : AllHold cases

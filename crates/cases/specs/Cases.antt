@@ -6,7 +6,7 @@ use lib.IntN.{ℤ, pos, negsuc, _*ℤ_}
 use lib.ListN.{length, getD}
 use Rattle.curve.specs.Weights.{kobbelt}
 use Rattle.nets.specs.Net.{Net, axis}
-use Rattle.verdict.specs.Call.{Room}
+use Rattle.verdict.specs.Call.{Room, room, lengths}
 use Rattle.verdict.specs.Verdict.{Verdict, accepted, refused, limitsVerdict, netVerdict}
 use Rattle.fractions.specs.Fraction.{Fraction}
 use Rattle.scheme.specs.Points.{facePoint}
@@ -51,7 +51,7 @@ answer accepted = []
 answer (refused r p) = pos r ∷ pos p ∷ []
 
 abbrev pub ample : Room
-ample = record { vertices = 4000000; faces = 4000000; marks = 4000000; work = 5000000 }
+ample = room 4000000 4000000 4000000 5000000
 
 -- v vertices at the origin without marks
 abbrev pub flat : ℕ → List ℤ
@@ -69,8 +69,8 @@ squareFrom x = record { vertices = x ∷ pos 0 ∷ pos 0 ∷ flat 3; faces = 0 �
 abbrev pub refusalCases : List Case
 refusalCases =
     -- "64 faces, 6 rounds pass 3; 65 do not."
-    record { computed = answer (limitsVerdict 6 300 256 100 ample); stated = [] }
-    ∷ record { computed = answer (limitsVerdict 6 300 260 100 ample); stated = pos 3 ∷ pos 0 ∷ [] }
+    record { computed = answer (limitsVerdict 6 (lengths 300 256 100 ample)); stated = [] }
+    ∷ record { computed = answer (limitsVerdict 6 (lengths 300 260 100 ample)); stated = pos 3 ∷ pos 0 ∷ [] }
     -- "two squares touching at one vertex: 10. One face listed twice: 9, place 1."
     ∷ record { computed = answer (netVerdict (record { vertices = flat 7; faces = 0 ∷ 1 ∷ 2 ∷ 3 ∷ 2 ∷ 4 ∷ 5 ∷ 6 ∷ []; marks = unmarked 7 })); stated = pos 10 ∷ pos 2 ∷ [] }
     ∷ record { computed = answer (netVerdict (record { vertices = flat 4; faces = 0 ∷ 1 ∷ 2 ∷ 3 ∷ 0 ∷ 1 ∷ 2 ∷ 3 ∷ []; marks = unmarked 4 })); stated = pos 9 ∷ pos 1 ∷ [] }

@@ -1,11 +1,31 @@
 // Refusals 1 to 4, from the lengths of the tables alone.
-ghost use Prim.Native.Nat.{_≤_, _^_};
+ghost use Prim.Native.Nat.{_≤_, _/_, _*_, _^_};
 ghost use mathlib.Core.Path.{_≡_};
-ghost use Rattle.verdict.specs.Verdict.{roomVerdict, limitsVerdict};
-ghost use Rattle.limits.specs.Answer.{limitsOf};
+ghost use Rattle.verdict.specs.Verdict.{tablesVerdict, sizeVerdict, roomVerdict, limitsVerdict};
+ghost use Rattle.verdict.specs.Call as call;
+ghost use Rattle.limits.specs.Answer.{limitsOf, roomIn, lengthsIn, FinalFaces};
+
+// The lengths of the tables of a call, in its order.
+pub struct Lengths {
+    pub coordinates: usize,
+    pub corners: usize,
+    pub marks: usize,
+    pub out_vertices: usize,
+    pub out_faces: usize,
+    pub out_marks: usize,
+    pub work: usize,
+}
+
+// The lengths of the output tables and the work table.
+pub struct Room {
+    pub vertices: usize,
+    pub faces: usize,
+    pub marks: usize,
+    pub work: usize,
+}
 
 // 4 to the power k.
-pub fn pow4(k: u32) -> usize
+fn pow4(k: u32) -> usize
     requires { ⌜ k ≤ 6 ⌝ }
     ensures { λ r. ⌜ (r ≡ 4 ^ k) × (r ≤ 4096) ⌝ }
 {
@@ -20,61 +40,101 @@ pub fn pow4(k: u32) -> usize
     }
 }
 
-// Refusal 4 for g faces after the last round.
-pub fn room(g: usize, vertices: usize, faces: usize, marks: usize, work: usize) -> u32
-    requires { ⌜ g ≤ 262144 ⌝ }
-    ensures { λ r. ⌜ roomVerdict g (record { vertices = vertices; faces = faces; marks = marks; work = work }) ≡ limitsOf r ⌝ }
+// The number of refined faces, where rounds and faces are within their limits; else 0.
+pub fn final_faces(rounds: u32, corners: usize) -> usize
+    ensures { λ g. ⌜ FinalFaces rounds corners g ⌝ }
 {
-    if vertices < 12 * g {
+    if rounds > 6 {
+        return 0;
+    }
+    let faces = corners / 4;
+    if faces > 4096 {
+        return 0;
+    }
+    faces * pow4(rounds)
+}
+
+// The least lengths for g refined faces.
+pub fn needed(g: usize) -> Room
+    requires { ⌜ g ≤ 16777216 ⌝ }
+    ensures { λ r. ⌜ roomIn r ≡ call.needed g ⌝ }
+{
+    Room {
+        vertices: 12 * g,
+        faces: 4 * g,
+        marks: 4 * g,
+        work: 16 * g,
+    }
+}
+
+// Refusal 2, or 0.
+fn test_tables(n: Lengths) -> u32
+    ensures { λ r. ⌜ tablesVerdict (n .coordinates) (n .corners) (n .marks) ≡ limitsOf r ⌝ }
+{
+    if n.coordinates % 3 != 0 {
+        return 2;
+    }
+    if n.corners % 4 != 0 {
+        return 2;
+    }
+    if n.marks != n.coordinates / 3 {
+        return 2;
+    }
+    0
+}
+
+// Refusal 3 for v vertices, f faces and g refined faces, or 0.
+fn test_size(v: usize, f: usize, g: usize) -> u32
+    ensures { λ r. ⌜ sizeVerdict v f g ≡ limitsOf r ⌝ }
+{
+    if v > 8192 {
+        return 3;
+    }
+    if f > 4096 {
+        return 3;
+    }
+    if g > 262144 {
+        return 3;
+    }
+    0
+}
+
+// Refusal 4 for g refined faces, or 0.
+fn test_room(g: usize, n: Lengths) -> u32
+    requires { ⌜ g ≤ 16777216 ⌝ }
+    ensures { λ r. ⌜ roomVerdict g (lengthsIn n .room) ≡ limitsOf r ⌝ }
+{
+    let least = needed(g);
+    if n.out_vertices < least.vertices {
         return 4;
     }
-    if faces < 4 * g {
+    if n.out_faces < least.faces {
         return 4;
     }
-    if marks < 4 * g {
+    if n.out_marks < least.marks {
         return 4;
     }
-    if work < 16 * g {
+    if n.work < least.work {
         return 4;
     }
     0
 }
 
 // The first of refusals 1 to 4 that holds, or 0.
-pub fn limits(
-    rounds: u32,
-    coordinates: usize,
-    corners: usize,
-    marks: usize,
-    out_vertices: usize,
-    out_faces: usize,
-    out_marks: usize,
-    work: usize,
-) -> u32
-    ensures { λ r. ⌜ limitsVerdict rounds coordinates corners marks (record { vertices = «out_vertices»; faces = «out_faces»; marks = «out_marks»; work = work }) ≡ limitsOf r ⌝ }
+pub fn limits(rounds: u32, n: Lengths) -> u32
+    ensures { λ r. ⌜ limitsVerdict rounds (lengthsIn n) ≡ limitsOf r ⌝ }
 {
     if rounds > 6 {
         return 1;
     }
-    if coordinates % 3 != 0 {
-        return 2;
+    let tables = test_tables(n);
+    if tables != 0 {
+        return tables;
     }
-    if corners % 4 != 0 {
-        return 2;
+    let g = final_faces(rounds, n.corners);
+    let size = test_size(n.coordinates / 3, n.corners / 4, g);
+    if size != 0 {
+        return size;
     }
-    if marks != coordinates / 3 {
-        return 2;
-    }
-    if coordinates / 3 > 8192 {
-        return 3;
-    }
-    let faces = corners / 4;
-    if faces > 4096 {
-        return 3;
-    }
-    let g = faces * pow4(rounds);
-    if g > 262144 {
-        return 3;
-    }
-    room(g, out_vertices, out_faces, out_marks, work)
+    test_room(g, n)
 }

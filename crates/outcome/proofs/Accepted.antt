@@ -14,18 +14,19 @@ use Rattle.verdict.proofs.Accepted.{accepted-limits, accepted-net}
 use Rattle.scheme.specs.Step.{steps}
 use Rattle.schemelaws.specs.Nets.{Refinable}
 use Rattle.schemelaws.proofs.Steps.{refinable-steps}
-use Rattle.outcome.specs.Outcome.{Buffers, refinedTo, callOf, outcomeBy, outcome}
-use Rattle.outcome.specs.SharedSegment.{Request, AcceptedFor, netBy, netAfter}
+use Rattle.outcome.specs.Outcome.{Buffers, refinedTo, Request, forRounds, Outcome, callOf, outcomeBy, outcome}
+use Rattle.outcome.specs.SharedSegment.{AcceptedFor, netBy, netAfter}
 
 -- ---- the verdict behind the result
 pub by-result : (v : Verdict) (n : Net) (o : Buffers) (w : List ℕ) (x y : ℕ) → outcomeBy v n o w .result ≡ refinedTo x y → v ≡ accepted
 by-result accepted n o w x y e = refl
 by-result (refused r p) n o w x y e = let z : _≡_ {A = ℕ} 0 1 = cc in absurd (omega arith)
 
-pub accepted-verdict : (a : Request) (k : ℕ) → AcceptedFor a k → verdict (callOf k (a .net) (a .buffers)) ≡ accepted
+pub accepted-verdict : (a : Request) (k : ℕ) → AcceptedFor a k → verdict (callOf (forRounds k a)) ≡ accepted
 unfolding outcome
 accepted-verdict a k h =
-    by-result (verdict (callOf k (a .net) (a .buffers))) (steps kobbelt k (a .net)) (a .buffers) (workAfter (callOf k (a .net) (a .buffers)) (a .buffers .work)) (h .vertices) (h .faces) (h .result)
+    let c = callOf (forRounds k a) in
+    by-result (verdict c) (steps kobbelt k (a .net)) (a .buffers) (workAfter c (a .buffers .work)) (h .vertices) (h .faces) (h .result)
 
 -- ---- what an accepted net has
 pub accepted-refinable : (c : Call) → verdict c ≡ accepted → Refinable (c .net)
@@ -43,16 +44,20 @@ accepted-refinable c e =
     }
 
 -- ---- the net at the front of the outputs
-module _ (a : Request) (k : ℕ) (e : verdict (callOf k (a .net) (a .buffers)) ≡ accepted) where
+module _ (a : Request) (k : ℕ) (e : verdict (callOf (forRounds k a)) ≡ accepted) where
   after : Refinable (steps kobbelt k (a .net))
-  after = refinable-steps kobbelt (a .net) (accepted-refinable (callOf k (a .net) (a .buffers)) e) k
+  after = refinable-steps kobbelt (a .net) (accepted-refinable (callOf (forRounds k a)) e) k
+
+  -- the outcome, were v the verdict
+  abbrev given : Verdict → Outcome
+  given v = outcomeBy v (steps kobbelt k (a .net)) (a .buffers) (workAfter (callOf (forRounds k a)) (a .buffers .work))
 
   pub accepted-result : AcceptedFor a k
   unfolding outcome
   accepted-result = record {
     vertices = length (steps kobbelt k (a .net) .marks);
     faces = length (steps kobbelt k (a .net) .faces) / 4;
-    result = ap (λ (v : Verdict). outcomeBy v (steps kobbelt k (a .net)) (a .buffers) (workAfter (callOf k (a .net) (a .buffers)) (a .buffers .work)) .result) e;
+    result = ap (λ (v : Verdict). given v .result) e;
   }
 
   pub accepted-after : netAfter a k ≡ steps kobbelt k (a .net)
@@ -62,5 +67,6 @@ module _ (a : Request) (k : ℕ) (e : verdict (callOf k (a .net) (a .buffers)) �
       let o = a .buffers in
       let t = after .threes in
       let f = after .fours in
-      ap (λ (v : Verdict). netBy (outcomeBy v n o (workAfter (callOf k (a .net) o) (o .work)) .result) (outcomeBy v n o (workAfter (callOf k (a .net) o) (o .work)))) e
-      ∙ same-net (take-filled (n .vertices) (o .vertices) (3 * length (n .marks)) (omega arith)) (take-filled (n .faces) (o .faces) (4 * (length (n .faces) / 4)) (omega arith)) (take-filled (n .marks) (o .marks) (length (n .marks)) refl)
+      ap (λ (v : Verdict). netBy (given v .result) (given v)) e
+      ∙ same-net (take-filled (n .vertices) (o .vertices) (3 * length (n .marks)) (omega arith))
+      (take-filled (n .faces) (o .faces) (4 * (length (n .faces) / 4)) (omega arith)) (take-filled (n .marks) (o .marks) (length (n .marks)) refl)

@@ -6,14 +6,14 @@ use Rattle.nets.specs.Net.{Net}
 use Rattle.verdict.proofs.Accepted.{accepted-limits, accepted-fewer, accepted-coordinate}
 use Rattle.integers.specs.Within.{Within}
 use Rattle.schemelaws.proofs.Growth.{steps-within}
-use Rattle.outcome.specs.Outcome.{callOf}
-use Rattle.outcome.specs.SharedSegment.{Request, AcceptedFor, netAfter}
+use Rattle.outcome.specs.Outcome.{Request, callOf}
+use Rattle.outcome.specs.SharedSegment.{AcceptedFor, netAfter}
 use Rattle.outcome.specs.Coordinates.{CoordinatesStay}
 use Rattle.outcome.proofs.Accepted.{accepted-verdict, accepted-refinable, accepted-after}
 
 stays : (a : Request) → AcceptedFor a (a .rounds) → (k : ℕ) → k ≤ a .rounds → Within 268435456 (netAfter a k .vertices)
 stays a h k b =
-    let c = callOf (a .rounds) (a .net) (a .buffers) in
+    let c = callOf a in
     let e = accepted-verdict a (a .rounds) h in
     let f = accepted-limits c e .few in
     subst (λ (n : Net). Within 268435456 (n .vertices)) (sym (accepted-after a k (accepted-fewer c k b e)))

@@ -10,16 +10,16 @@ use Rattle.verdict.proofs.Accepted.{accepted-manifold, accepted-fewer}
 use Rattle.seam.specs.Reading.{Reads}
 use Rattle.seam.specs.Seam.{Admissible}
 use Rattle.seam.proofs.Seam.{seam}
-use Rattle.outcome.specs.Outcome.{callOf}
-use Rattle.outcome.specs.SharedSegment.{Request, AcceptedFor, SharedSegments}
+use Rattle.outcome.specs.Outcome.{Request, forRounds, callOf}
+use Rattle.outcome.specs.SharedSegment.{AcceptedFor, SharedSegments}
 use Rattle.outcome.proofs.Accepted.{accepted-verdict, accepted-result, accepted-after}
 
 -- the call for fewer rounds
-fewer : (a : Request) → AcceptedFor a (a .rounds) → (k : ℕ) → k ≤ a .rounds → verdict (callOf k (a .net) (a .buffers)) ≡ accepted
-fewer a h k l = accepted-fewer (callOf (a .rounds) (a .net) (a .buffers)) k l (accepted-verdict a (a .rounds) h)
+fewer : (a : Request) → AcceptedFor a (a .rounds) → (k : ℕ) → k ≤ a .rounds → verdict (callOf (forRounds k a)) ≡ accepted
+fewer a h k l = accepted-fewer (callOf a) k l (accepted-verdict a (a .rounds) h)
 
 admissible : (a : Request) → AcceptedFor a (a .rounds) → Admissible (a .net)
-admissible a h = accepted-manifold (callOf (a .rounds) (a .net) (a .buffers)) (accepted-verdict a (a .rounds) h)
+admissible a h = accepted-manifold (callOf a) (accepted-verdict a (a .rounds) h)
 
 pub shared-segments : SharedSegments
 shared-segments = record {

@@ -25,36 +25,43 @@ pub data Result : Type 0 where
   refinedTo : (vertices faces : ℕ) → Result
   refusedWith : (number place : ℕ) → Result
 
+-- the rounds asked for, the net and the caller's tables
+pub record Request : Type 0 where
+  pub rounds : ℕ
+  pub net : Net
+  pub buffers : Buffers
+
+abbrev pub request : ℕ → Net → Buffers → Request
+request rounds net buffers = record { rounds = rounds; net = net; buffers = buffers }
+
+-- the same, asked for k rounds
+abbrev pub forRounds : ℕ → Request → Request
+forRounds k a = record { rounds = k; net = a .net; buffers = a .buffers }
+
 -- the result, and the caller's tables as the call returns
 pub record Outcome : Type 0 where
   pub result : Result
-  pub vertices : List ℤ
-  pub faces : List ℕ
-  pub marks : List ℕ
-  pub work : List ℕ
+  pub buffers : Buffers
 
--- the call of k rounds on the net m with the tables o
-abbrev pub callOf : ℕ → Net → Buffers → Call
-callOf k m o = call k m (room (length (o .vertices)) (length (o .faces)) (length (o .marks)) (length (o .work)))
+-- what decides the verdict
+abbrev pub callOf : Request → Call
+callOf a = call (a .rounds) (a .net) (room (length (a .buffers .vertices)) (length (a .buffers .faces)) (length (a .buffers .marks)) (length (a .buffers .work)))
 
 -- "An accepted call fills the refined vertices, faces and marks from the front, reports both counts, leaves the first 16G work numbers zero and the rest of
 -- every output as found."
 abbrev pub refinedOutcome : Net → Buffers → List ℕ → Outcome
 refinedOutcome n o w = record {
   result = refinedTo (vertexCount n) (faceCount n);
-  vertices = filled (n .vertices) (o .vertices);
-  faces = filled (n .faces) (o .faces);
-  marks = filled (n .marks) (o .marks);
-  work = w;
+  buffers = buffers (filled (n .vertices) (o .vertices)) (filled (n .faces) (o .faces)) (filled (n .marks) (o .marks)) w;
 }
 
 -- "outputs untouched" on every refusal
 abbrev pub refusedOutcome : ℕ → ℕ → Buffers → List ℕ → Outcome
-refusedOutcome r p o w = record { result = refusedWith r p; vertices = o .vertices; faces = o .faces; marks = o .marks; work = w }
+refusedOutcome r p o w = record { result = refusedWith r p; buffers = buffers (o .vertices) (o .faces) (o .marks) w }
 
 abbrev pub outcomeBy : Verdict → Net → Buffers → List ℕ → Outcome
 outcomeBy accepted n o w = refinedOutcome n o w
 outcomeBy (refused r p) n o w = refusedOutcome r p o w
 
-unfoldable pub outcome : ℕ → Net → Buffers → Outcome
-outcome k m o = outcomeBy (verdict (callOf k m o)) (steps kobbelt k m) o (workAfter (callOf k m o) (o .work))
+unfoldable pub outcome : Request → Outcome
+outcome a = outcomeBy (verdict (callOf a)) (steps kobbelt (a .rounds) (a .net)) (a .buffers) (workAfter (callOf a) (a .buffers .work))

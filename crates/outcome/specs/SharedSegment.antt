@@ -9,17 +9,11 @@ use Rattle.curve.specs.Near.{CloseToExact}
 use Rattle.topology.specs.Boundary.{Way}
 use Rattle.nets.specs.Net.{Net, frontNet}
 use Rattle.seam.specs.Reading.{Reads}
-use Rattle.outcome.specs.Outcome.{Buffers, Result, refinedTo, refusedWith, Outcome, outcome}
-
--- the rounds asked for, the net and the caller's tables
-pub record Request : Type 0 where
-  pub rounds : ℕ
-  pub net : Net
-  pub buffers : Buffers
+use Rattle.outcome.specs.Outcome.{Result, refinedTo, refusedWith, Request, forRounds, Outcome, outcome}
 
 -- "The net after round k of an accepted call is what the same call gives when asked for k rounds only."
 abbrev pub resultAfter : Request → ℕ → Outcome
-resultAfter a k = outcome k (a .net) (a .buffers)
+resultAfter a k = outcome (forRounds k a)
 
 -- the call for k rounds is accepted
 pub record AcceptedFor (a : Request) (k : ℕ) : Type 0 where
@@ -29,7 +23,7 @@ pub record AcceptedFor (a : Request) (k : ℕ) : Type 0 where
 
 -- the net at the front of the output tables, by the counts reported
 abbrev pub netBy : Result → Outcome → Net
-netBy (refinedTo v f) o = frontNet v (4 * f) (o .vertices) (o .faces) (o .marks)
+netBy (refinedTo v f) o = frontNet v (4 * f) (o .buffers .vertices) (o .buffers .faces) (o .buffers .marks)
 netBy (refusedWith r p) o = record { vertices = []; faces = []; marks = [] }
 
 abbrev pub netAfter : Request → ℕ → Net

@@ -7,7 +7,7 @@ use Prim.Native.String.{String}
 use lib.Dec.{T}
 use Rattle.lists.specs.Tabulate.{tabulate}
 use Rattle.search.specs.Search.{firstFrom, first}
-use Rattle.verdict.specs.Verdict.{limitsVerdict, roomVerdict, netVerdict, facesVerdict, adjacencyVerdict, vertexVerdict}
+use Rattle.verdict.specs.Verdict.{limitsVerdict, tablesVerdict, sizeVerdict, roomVerdict, netVerdict, coordinatesVerdict, shapeVerdict, facesVerdict, adjacencyVerdict, vertexVerdict}
 use Rattle.scheme.specs.Step.{steps}
 use Rattle.decimal.specs.Decimal.{readDigits, readNatural, readInteger, naturalText, integerText}
 use Rattle.text.specs.Bytes.{bytes}
@@ -43,5 +43,5 @@ programOf [] = []
 programOf (e ∷ es) = programText (bytes (e .text)) ∷ programOf es
 
 all-examples : programOf examples ≡ answersOf examples
-unfolding programOf answersOf programText bytes parse parseHead parseBody readNames readCounts readVertex readFace coordinate natural rows readInteger readNatural readDigits naturalText pairText refusalText answerText texts countsVerdict limitsVerdict roomVerdict netVerdict facesVerdict adjacencyVerdict vertexVerdict first firstFrom steps coordinates marksOf cornersOf verticesOf facesOf tabulate
+unfolding programOf answersOf programText bytes parse parseHead parseBody readNames readCounts readVertex readFace coordinate natural rows readInteger readNatural readDigits naturalText pairText refusalText answerText texts countsVerdict limitsVerdict tablesVerdict sizeVerdict roomVerdict netVerdict coordinatesVerdict shapeVerdict facesVerdict adjacencyVerdict vertexVerdict first firstFrom steps coordinates marksOf cornersOf verticesOf facesOf tabulate
 all-examples = refl

@@ -10,6 +10,7 @@ use lib.ListN.{length, take}
 use Rattle.curve.specs.Weights.{kobbelt}
 use Rattle.nets.specs.Net as tables
 use Rattle.tables.proofs.Laws.{take-filled}
+use Rattle.verdict.specs.Call.{lengthsOf}
 use Rattle.verdict.specs.Verdict.{Verdict, accepted, refused, orElse, limitsVerdict, netVerdict}
 use Rattle.verdict.proofs.Accepted.{or-both}
 use Rattle.scheme.specs.Step.{steps}
@@ -28,7 +29,7 @@ front v f vs fs ms = record { vertices = take (3 * v) vs; faces = take (4 * f) f
 -- tables with a net of k rounds at their front, whose counts pass and whose answer is `answer`
 pub record Handed (k v f : ℕ) (vs : List ℤ) (fs ms : List ℕ) (answer : List ℕ) : Type 0 where
   pub served : Served v f
-  pub limits : limitsVerdict k (length (take (3 * v) vs)) (length (take (4 * f) fs)) (length (take v ms)) programRoom ≡ accepted
+  pub limits : limitsVerdict k (lengthsOf (front v f vs fs ms) programRoom) ≡ accepted
   pub text : answerBy (netVerdict (front v f vs fs ms)) (steps kobbelt k (front v f vs fs ms)) ≡ answer
 
 -- ---- what an answer says

@@ -10,7 +10,8 @@ use Rattle.curve.specs.Weights.{kobbelt}
 use Rattle.nets.specs.Net.{Net}
 use Rattle.tables.specs.Tables.{filled}
 use Rattle.topology.specs.Shape.{quads}
-use Rattle.verdict.specs.Verdict.{Verdict, accepted, refused, limitsVerdict, callVerdict, netVerdict, verdict, workAfter}
+use Rattle.verdict.specs.Call.{lengthsOf, Call}
+use Rattle.verdict.specs.Verdict.{Verdict, accepted, refused, limitsVerdict, netVerdict, verdict, workAfter}
 use Rattle.verdict.proofs.Accepted.{WithinLimits, within-if, accepted-net}
 use Rattle.refinedfaces.proofs.Corners.{length-refined}
 use Rattle.scheme.specs.Step.{steps}
@@ -18,8 +19,8 @@ use Rattle.schemelaws.specs.Nets.{Refinable}
 use Rattle.schemelaws.proofs.Steps.{step-faces, step-count, refinable-steps}
 use Rattle.tables.proofs.Laws.{filled-at}
 use Rattle.roundfaces.proofs.Round.{vertices-refined}
-use Rattle.validate.proofs.Laws.{joined}
-use Rattle.outcome.specs.Outcome.{Buffers, Result, refinedTo, refusedWith, Outcome, callOf, outcomeBy, outcome}
+use Rattle.admission.proofs.Laws.{joined}
+use Rattle.outcome.specs.Outcome.{Buffers, Result, refinedTo, refusedWith, request, Outcome, callOf, outcomeBy, outcome}
 use Rattle.outcome.proofs.Accepted.{by-result, accepted-refinable}
 use Rattle.refine.specs.declared.Answer.the-variants.{Refined, Refused}
 use Rattle.refine.specs.Answer.{answered}
@@ -71,15 +72,18 @@ faceNumber (refinedTo v f) = f
 faceNumber (refusedWith r p) = p
 
 module _ (k : ℕ) (m : Net) (o : Buffers) (lv : length (o .vertices) ≡ 3072) (lf : length (o .faces) ≡ 1024) (lm : length (o .marks) ≡ 1024) (lw : length (o .work) ≡ 4096)
-    (h : limitsVerdict k (length (m .vertices)) (length (m .faces)) (length (m .marks)) programRoom ≡ accepted) where
-  by-net : verdict (callOf k m o) ≡ netVerdict m
+    (h : limitsVerdict k (lengthsOf m programRoom) ≡ accepted) where
+  abbrev called : Call
+  called = callOf (request k m o)
+
+  by-net : verdict called ≡ netVerdict m
   unfolding verdict
   by-net = rw (lv, lf, lm, lw, h)
 
   abbrev given : Verdict → Outcome
-  given v = outcomeBy v (steps kobbelt k m) o (workAfter (callOf k m o) (o .work))
+  given v = outcomeBy v (steps kobbelt k m) o (workAfter (called) (o .work))
 
-  outcome-is : outcome k m o ≡ given (netVerdict m)
+  outcome-is : outcome (request k m o) ≡ given (netVerdict m)
   unfolding outcome
   outcome-is = ap given by-net
 
@@ -88,16 +92,16 @@ module _ (k : ℕ) (m : Net) (o : Buffers) (lv : length (o .vertices) ≡ 3072) 
   by-refused accepted r p e = let z : _≡_ {A = ℕ} 0 1 = cc in absurd (omega arith)
   by-refused (refused s q) r p e = ap₂ refusalText (ap vertexNumber e) (ap faceNumber e)
 
-  module _ (vs : List ℤ) (fs ms w : List ℕ) where
-    pub refused-text : (r p : ℕ) → answered (Refused r p) vs fs ms w ≡ outcome k m o → refusalText r p ≡ answerBy (netVerdict m) (steps kobbelt k m)
+  module _ (t : Buffers) where
+    pub refused-text : (r p : ℕ) → answered (Refused r p) t ≡ outcome (request k m o) → refusalText r p ≡ answerBy (netVerdict m) (steps kobbelt k m)
     refused-text r p e = by-refused (netVerdict m) r p (ap (λ (x : Outcome). x .result) (e ∙ outcome-is))
 
     -- a refined net
-    module _ (v f : ℕ) (e : answered (Refined v f) vs fs ms w ≡ outcome k m o) where
+    module _ (v f : ℕ) (e : answered (Refined v f) t ≡ outcome (request k m o)) where
       accepts : netVerdict m ≡ accepted
-      accepts = by-result (netVerdict m) (steps kobbelt k m) o (workAfter (callOf k m o) (o .work)) v f (sym (ap (λ (x : Outcome). x .result) (e ∙ outcome-is)))
+      accepts = by-result (netVerdict m) (steps kobbelt k m) o (workAfter (called) (o .work)) v f (sym (ap (λ (x : Outcome). x .result) (e ∙ outcome-is)))
 
-      is : answered (Refined v f) vs fs ms w ≡ given accepted
+      is : answered (Refined v f) t ≡ given accepted
       is = e ∙ outcome-is ∙ ap given accepts
 
       vertex-count : v ≡ length (steps kobbelt k m .marks)
@@ -107,27 +111,27 @@ module _ (k : ℕ) (m : Net) (o : Buffers) (lv : length (o .vertices) ≡ 3072) 
       face-count = ap (λ (x : Outcome). faceNumber (x .result)) is
 
       refinable : Refinable m
-      refinable = accepted-refinable (callOf k m o) (by-net ∙ accepts)
+      refinable = accepted-refinable (called) (by-net ∙ accepts)
 
       pub served : (v ≤ 1024) × (f ≤ 256)
       served =
           let a = vertex-count in
           let b = face-count in
-          let w = within-if k _ _ _ programRoom h in
+          let w = within-if k (lengthsOf m programRoom) h in
           let c = w .roomFaces in
           let q = w .quadrilaterals in
           let g = corners-grown m k in
-          let l = few-vertices m (joined (m .faces) (length (m .marks)) (accepted-net (callOf k m o) (by-net ∙ accepts) .no8) .few) k in
+          let l = few-vertices m (joined (m .faces) (length (m .marks)) (accepted-net (called) (by-net ∙ accepts) .no8) .few) k in
           let s = by-faces (length (m .faces)) (4 ^ k) q in
           (omega arith, omega arith)
 
-      pub refined-text : answerText (verticesOf v vs ms) (facesOf f fs) ≡ answerBy (netVerdict m) (steps kobbelt k m)
+      pub refined-text : answerText (verticesOf v (t .vertices) (t .marks)) (facesOf f (t .faces)) ≡ answerBy (netVerdict m) (steps kobbelt k m)
       refined-text =
           let n = steps kobbelt k m in
-          let t = refinable-steps kobbelt m refinable k .threes in
-          let ev : verticesOf v vs ms ≡ verticesOf (length (n .marks)) (n .vertices) (n .marks) =
-          (λ i. verticesOf (vertex-count i) (is i .vertices) (is i .marks)) ∙ vertices-same n (o .vertices) (o .faces) (o .marks) t in
-          let ef : facesOf f fs ≡ facesOf (length (n .faces) / 4) (n .faces) = (λ i. facesOf (face-count i) (is i .faces)) ∙ faces-same n (o .vertices) (o .faces) (o .marks) t in
+          let s = refinable-steps kobbelt m refinable k .threes in
+          let ev : verticesOf v (t .vertices) (t .marks) ≡ verticesOf (length (n .marks)) (n .vertices) (n .marks) =
+          (λ i. verticesOf (vertex-count i) (is i .buffers .vertices) (is i .buffers .marks)) ∙ vertices-same n (o .vertices) (o .faces) (o .marks) s in
+          let ef : facesOf f (t .faces) ≡ facesOf (length (n .faces) / 4) (n .faces) = (λ i. facesOf (face-count i) (is i .buffers .faces)) ∙ faces-same n (o .vertices) (o .faces) (o .marks) s in
           ap₂ answerText ev ef ∙ ap (λ (x : Verdict). answerBy x n) (sym accepts)
 
 -- the same text, and a larger bound

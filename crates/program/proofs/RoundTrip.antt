@@ -24,7 +24,7 @@ use Rattle.schemelaws.specs.Nets.{Refinable}
 use Rattle.integers.specs.Within.{Within}
 use Rattle.schemelaws.proofs.Steps.{refinable-manifold, refinable-steps}
 use Rattle.schemelaws.proofs.Growth.{steps-within}
-use Rattle.validate.proofs.Laws.{joined}
+use Rattle.admission.proofs.Laws.{joined}
 use Rattle.outcome.proofs.Accepted.{accepted-refinable}
 use Rattle.refine.proofs.Laws.{by-faces, corners-grown}
 use Rattle.text.specs.Form.{Vertex, Face, Net, parsed, parse}

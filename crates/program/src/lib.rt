@@ -5,6 +5,7 @@ ghost use mathlib.Core.Path.{_≡_};
 ghost use Prim.Native.Nat.{_≤_};
 ghost use lib.ListN.{length};
 ghost use Rattle.nets.specs.Net.{net};
+ghost use Rattle.verdict.specs.Call.{lengthsOf};
 ghost use Rattle.verdict.specs.Verdict.{accepted, limitsVerdict};
 ghost use Rattle.reading.specs.Loaded.{programRoom};
 ghost use Rattle.printing.specs.Lines.{Written};
@@ -12,7 +13,7 @@ ghost use Rattle.program.specs.Answer.{refinedText, programText};
 
 // The answer to a net whose counts pass.
 fn refine_net(rounds: u32, vertices: &[i32], faces: &[u32], marks: &[u8], out: &mut [u8]) -> usize
-    requires { ⌜ (limitsVerdict rounds (length (now vertices)) (length (now faces)) (length (now marks)) programRoom ≡ accepted) × (52302 ≤ length (now out)) ⌝ }
+    requires { ⌜ (limitsVerdict rounds (lengthsOf (net (now vertices) (now faces) (now marks)) programRoom) ≡ accepted) × (52302 ≤ length (now out)) ⌝ }
     ensures { λ r. ⌜ Written (now (out .entry)) (now (out .exit)) r (refinedText rounds (net (now (vertices .entry)) (now (faces .entry)) (now (marks .entry)))) 52302 ⌝ }
 {
     let mut out_vertices = [0i32; 3072];

@@ -7,7 +7,7 @@ use lib.IntN.{ℤ}
 use lib.ListN.{length}
 use Rattle.nets.specs.Net as tables
 use Rattle.tables.specs.Tables.{filled}
-use Rattle.verdict.specs.Call.{Room}
+use Rattle.verdict.specs.Call.{Room, needed, lengths}
 use Rattle.verdict.specs.Verdict.{Verdict, accepted, refused, orElse, refusedIf, limitsVerdict}
 use Rattle.text.specs.Form.{Counts, Vertex, Face, Net, Parsed, parsed, badLine, parse}
 
@@ -45,13 +45,13 @@ tablesOf n = record { vertices = coordinates (n .vertices); faces = cornersOf (n
 
 -- ---- refusals from the counts alone
 
--- Paper 01: "Its tables serve G up to 256": 12G coordinates, 4G corners, 4G marks, 16G work numbers
+-- Paper 01: "Its tables serve G up to 256"
 abbrev pub programRoom : Room
-programRoom = record { vertices = 3072; faces = 1024; marks = 1024; work = 4096 }
+programRoom = needed 256
 
 -- Paper 01: "in the program, also V above 1,024"
 unfoldable pub countsVerdict : Counts → Verdict
-countsVerdict n = orElse (limitsVerdict (n .rounds) (3 * n .vertices) (4 * n .faces) (n .vertices) programRoom) (refusedIf 4 (ltb 1024 (n .vertices)))
+countsVerdict n = orElse (limitsVerdict (n .rounds) (lengths (3 * n .vertices) (4 * n .faces) (n .vertices) programRoom)) (refusedIf 4 (ltb 1024 (n .vertices)))
 
 -- ---- the whole text
 module _ (vs : List ℤ) (fs ms : List ℕ) where

@@ -1,4 +1,5 @@
 // A net read from a text in two passes: the first decides refusal 13 and finds where the lines stand, the second stores them.
+use limits::Lengths;
 use text::CountsLine;
 use text::FaceLine;
 use text::NamesLine;
@@ -205,7 +206,20 @@ fn refusal(vertices: u32, faces: u32, rounds: u32) -> u32
 {
     let v = vertices as usize;
     let f = faces as usize;
-    let reason = limits::limits(rounds, 3 * v, 4 * f, v, 3072, 1024, 1024, 4096);
+    let coordinates = 3 * v;
+    let corners = 4 * f;
+    let reason = limits::limits(
+        rounds,
+        Lengths {
+            coordinates,
+            corners,
+            marks: v,
+            out_vertices: 3072,
+            out_faces: 1024,
+            out_marks: 1024,
+            work: 4096,
+        },
+    );
     if reason != 0 {
         return reason;
     }

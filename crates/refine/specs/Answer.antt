@@ -1,8 +1,5 @@
 -- What the answers of a refining call mean.
-use mathlib.Core.List.{List}
-use Prim.Native.Nat.{ℕ}
-use lib.IntN.{ℤ}
-use Rattle.outcome.specs.Outcome.{Result, refinedTo, refusedWith, Outcome}
+use Rattle.outcome.specs.Outcome.{Buffers, Result, refinedTo, refusedWith, Outcome}
 use Rattle.refine.specs.declared.Answer.{Answer}
 use Rattle.refine.specs.declared.Answer.the-variants.{Refined, Refused}
 
@@ -12,5 +9,5 @@ resultOf (Refined vertices faces) = refinedTo vertices faces
 resultOf (Refused number place) = refusedWith number place
 
 -- the answer, and the caller's tables as the call returns
-abbrev pub answered : Answer → List ℤ → List ℕ → List ℕ → List ℕ → Outcome
-answered r vertices faces marks work = record { result = resultOf r; vertices = vertices; faces = faces; marks = marks; work = work }
+abbrev pub answered : Answer → Buffers → Outcome
+answered r o = record { result = resultOf r; buffers = o }

@@ -1,9 +1,11 @@
 // The refining call.
+use admission::Admission;
 ghost use mathlib.Core.Path.{_≡_};
 ghost use Rattle.nets.specs.Net.{net};
-ghost use Rattle.outcome.specs.Outcome.{buffers, outcome};
+ghost use Rattle.admission.specs.Admission.{AdmittedCall};
+ghost use Rattle.outcome.specs.Outcome.{buffers, request, callOf, outcome};
 ghost use Rattle.refine.specs.Answer.{answered};
-ghost use Rattle.refine.specs.Run.{Admitted, Ran};
+ghost use Rattle.refine.specs.Run.{Ran};
 
 pub enum Answer {
     Refined(usize, usize),
@@ -22,9 +24,9 @@ fn run(
     work: &mut [u32],
     last: usize,
 ) -> usize
-    requires { ⌜ Admitted rounds (net (now vertices) (now faces) (now marks)) (buffers (now «out_vertices») (now «out_faces») (now «out_marks») (now work)) last ⌝ }
-    ensures { λ r. ⌜ Ran rounds (net (now (vertices .entry)) (now (faces .entry)) (now (marks .entry)))
-        (buffers (now («out_vertices» .entry)) (now («out_faces» .entry)) (now («out_marks» .entry)) (now (work .entry)))
+    requires { ⌜ AdmittedCall (callOf (request rounds (net (now vertices) (now faces) (now marks)) (buffers (now «out_vertices») (now «out_faces») (now «out_marks») (now work)))) last (now work) ⌝ }
+    ensures { λ r. ⌜ Ran (request rounds (net (now (vertices .entry)) (now (faces .entry)) (now (marks .entry)))
+        (buffers (now («out_vertices» .entry)) (now («out_faces» .entry)) (now («out_marks» .entry)) (now (work .entry))))
         (buffers (now («out_vertices» .exit)) (now («out_faces» .exit)) (now («out_marks» .exit)) (now (work .exit))) last r ⌝ }
 {
     tables::copy_i32(vertices, &mut *out_vertices);
@@ -54,26 +56,21 @@ pub fn refine(
     out_marks: &mut [u8],
     work: &mut [u32],
 ) -> Answer
-    ensures { λ r. ⌜ answered r (now («out_vertices» .exit)) (now («out_faces» .exit)) (now («out_marks» .exit)) (now (work .exit)) ≡
-        outcome rounds (net (now (vertices .entry)) (now (faces .entry)) (now (marks .entry)))
-        (buffers (now («out_vertices» .entry)) (now («out_faces» .entry)) (now («out_marks» .entry)) (now (work .entry))) ⌝ }
+    ensures { λ r. ⌜ answered r (buffers (now («out_vertices» .exit)) (now («out_faces» .exit)) (now («out_marks» .exit)) (now (work .exit))) ≡
+        outcome (request rounds (net (now (vertices .entry)) (now (faces .entry)) (now (marks .entry)))
+        (buffers (now («out_vertices» .entry)) (now («out_faces» .entry)) (now («out_marks» .entry)) (now (work .entry)))) ⌝ }
 {
-    let fault = limits::limits(
+    match admission::admit(
         rounds,
-        vertices.len(),
-        faces.len(),
-        marks.len(),
+        vertices,
+        faces,
+        marks,
         out_vertices.len(),
         out_faces.len(),
         out_marks.len(),
-        work.len(),
-    );
-    if fault != 0 {
-        return Answer::Refused(fault, 0);
-    }
-    let last = faces.len() / 4 * limits::pow4(rounds);
-    match validate::examine_net(vertices, faces, marks, &mut *work) {
-        validate::Answer::Accepted => {
+        &mut *work,
+    ) {
+        Admission::Admitted(last) => {
             let count = run(
                 rounds,
                 vertices,
@@ -87,9 +84,6 @@ pub fn refine(
             );
             Answer::Refined(count, last)
         }
-        validate::Answer::Refused(number, place) => {
-            tables::clear(&mut *work, 16 * last);
-            Answer::Refused(number, place)
-        }
+        Admission::Refused(number, place) => Answer::Refused(number, place),
     }
 }

@@ -10,7 +10,7 @@ use lib.Seq.{length-take-le}
 use lib.Dec.{lit≤}
 use Rattle.lists.proofs.Parts.{drop-later}
 use Rattle.curve.specs.Weights.{kobbelt}
-use Rattle.nets.specs.Net.{Net, frontNet}
+use Rattle.nets.specs.Net.{Net}
 use Rattle.tables.specs.Tables.{filled}
 use Rattle.tables.proofs.Laws.{length-filled, take-filled, filled-over}
 use Rattle.nets.proofs.Laws.{same-net}
@@ -23,7 +23,7 @@ use Rattle.schemelaws.proofs.Growth.{steps-input}
 use Rattle.halfedges.specs.Tables.{MateTable}
 use Rattle.refinedfaces.specs.Mates.{refinedMates}
 use Rattle.roundmates.specs.Mates.{MatesIn}
-use Rattle.rounds.specs.Round.{Current, Refines}
+use Rattle.rounds.specs.Round.{Workspace, workspace, front, Current, Refines}
 use Rattle.rounds.specs.Rounds.{Prepared, After}
 use Rattle.rounds.proofs.Laws.{count-le, count-is, mates-ready, mates-next, mates-past}
 
@@ -40,9 +40,25 @@ next-size n i =
 pub again : (n i c : ℕ) → c ≡ n * 4 ^ i → c * 4 ≡ n * 4 ^ (i + 1)
 again n i c e = let g = next-size n i in omega arith
 
-module _ (k v n : ℕ) (points : List ℤ) (faces marks w : List ℕ) (ok : Prepared k v n points faces marks w) where
+-- the tables with another work table
+abbrev withWork : Workspace → List ℕ → Workspace
+withWork t u = workspace (t .points) (t .faces) (t .marks) u
+
+module _ (k v n : ℕ) (t : Workspace) (ok : Prepared k v n t) where
   abbrev m : Net
-  m = frontNet v n points faces marks
+  m = front v n t
+
+  abbrev points : List ℤ
+  points = t .points
+
+  abbrev faces : List ℕ
+  faces = t .faces
+
+  abbrev marks : List ℕ
+  marks = t .marks
+
+  abbrev w : List ℕ
+  w = t .work
 
   sized : (i : ℕ) → i < k → 4 * (n * 4 ^ i) ≤ n * 4 ^ k
   sized i h =
@@ -51,7 +67,7 @@ module _ (k v n : ℕ) (points : List ℤ) (faces marks w : List ℕ) (ok : Prep
       let s = next-size n i in
       omega arith
 
-  pub after-none : After 0 v n v points points faces faces marks marks w w
+  pub after-none : After 0 v n v t t
   unfolding steps
   after-none =
       let p : 1 ≤ 4 ^ k = one-le-pow k 4 (lit≤ tt) in
@@ -75,13 +91,25 @@ module _ (k v n : ℕ) (points : List ℤ) (faces marks w : List ℕ) (ok : Prep
   unfolding steps
   mated-none = ok .mated
 
-  module _ (i r : ℕ) (points₁ : List ℤ) (faces₁ marks₁ w₁ : List ℕ) (a : After i v n r points points₁ faces faces₁ marks marks₁ w w₁) where
+  module _ (i r : ℕ) (t₁ : Workspace) (a : After i v n r t t₁) where
+    abbrev points₁ : List ℤ
+    points₁ = t₁ .points
+
+    abbrev faces₁ : List ℕ
+    faces₁ = t₁ .faces
+
+    abbrev marks₁ : List ℕ
+    marks₁ = t₁ .marks
+
+    abbrev w₁ : List ℕ
+    w₁ = t₁ .work
+
     refinable : Refinable (steps kobbelt i m)
     refinable = refinable-steps kobbelt m (ok .refinable) i
 
-    front-is : frontNet r (n * 4 ^ i) points₁ faces₁ marks₁ ≡ steps kobbelt i m
+    front-is : front r (n * 4 ^ i) t₁ ≡ steps kobbelt i m
     front-is =
-        let t = refinable .threes in
+        let q = refinable .threes in
         let c = a .count in
         same-net
         (ap (take (3 * r)) (a .newPoints) ∙ take-filled _ points (3 * r) (omega arith))
@@ -95,7 +123,7 @@ module _ (k v n : ℕ) (points : List ℤ) (faces marks w : List ℕ) (ok : Prep
       pub kept-points : length points₁ ≡ length points
       kept-points =
           let s = reached in
-          let t = refinable .threes in
+          let q = refinable .threes in
           let c = a .count in
           let l = a .fewer in
           let b = ok .roomPoints in
@@ -116,8 +144,8 @@ module _ (k v n : ℕ) (points : List ℤ) (faces marks w : List ℕ) (ok : Prep
           let b = ok .roomMarks in
           ap length (a .newMarks) ∙ length-filled _ marks (omega arith)
 
-    module _ (t : MateTable (steps kobbelt i m .faces) w₁) (h : i < k) where
-      pub current : Current r (n * 4 ^ i) points₁ faces₁ marks₁ w₁
+    module _ (g : MateTable (steps kobbelt i m .faces) w₁) (h : i < k) where
+      pub current : Current r (n * 4 ^ i) t₁
       current =
           let s = sized i h in
           let e = ok .final in
@@ -139,25 +167,28 @@ module _ (k v n : ℕ) (points : List ℤ) (faces marks w : List ℕ) (ok : Prep
             roomFaces = omega arith;
             roomMarks = omega arith;
             roomWork = omega arith;
-            mated = rw (ap (λ (x : Net). x .faces) front-is) t;
+            mated = rw (ap (λ (x : Net). x .faces) front-is) g;
           }
 
-      module _ (r₂ : ℕ) (points₂ : List ℤ) (faces₂ marks₂ w₂ : List ℕ) (e : Refines r (n * 4 ^ i) r₂ points₁ points₂ faces₁ faces₂ marks₁ marks₂ w₁ w₂) (z : length w₂ ≡ length w₁) where
-        next : step kobbelt (frontNet r (n * 4 ^ i) points₁ faces₁ marks₁) ≡ steps kobbelt (i + 1) m
+      module _ (r₂ : ℕ) (t₂ : Workspace) (e : Refines r (n * 4 ^ i) r₂ t₁ t₂) (z : length (t₂ .work) ≡ length (t₁ .work)) where
+        abbrev w₂ : List ℕ
+        w₂ = t₂ .work
+
+        next : step kobbelt (front r (n * 4 ^ i) t₁) ≡ steps kobbelt (i + 1) m
         unfolding steps
         next = let q : i + 1 ≡ suc i = omega arith in rw (front-is, q) refl
 
         -- whatever stands in the work table where a round leaves it open
-        past : (w₃ : List ℕ) → length w₃ ≡ length w₂ → drop (8 * (n * 4 ^ i)) w₃ ≡ drop (8 * (n * 4 ^ i)) w₂ → After (i + 1) v n r₂ points points₂ faces faces₂ marks marks₂ w w₃
+        past : (w₃ : List ℕ) → length w₃ ≡ length w₂ → drop (8 * (n * 4 ^ i)) w₃ ≡ drop (8 * (n * 4 ^ i)) w₂ → After (i + 1) v n r₂ t (withWork t₂ w₃)
         past w₃ y d =
-            let t = refinable .threes in
+            let q = refinable .threes in
             let u : length (steps kobbelt (i + 1) m .vertices) ≡ 3 * length (steps kobbelt (i + 1) m .marks) = refinable-steps kobbelt m (ok .refinable) (i + 1) .threes in
             let g : n * 4 ^ (i + 1) ≡ 4 * (n * 4 ^ i) = next-size n i in
             let nx = next in
             let c₁ = a .count in
             let c₂ : r₂ ≡ length (steps kobbelt (i + 1) m .marks) = e .count ∙ ap (λ (x : Net). length (x .marks)) nx in
-            let b = count-le r (n * 4 ^ i) points₁ faces₁ marks₁ w₁ current in
-            let b₂ = e .count ∙ sym (count-is r (n * 4 ^ i) points₁ faces₁ marks₁ w₁ current) in
+            let b = count-le r (n * 4 ^ i) t₁ current in
+            let b₂ = e .count ∙ sym (count-is r (n * 4 ^ i) t₁ current) in
             let d₁ = a .corners in
             let d₂ : length (steps kobbelt (i + 1) m .faces) ≡ 4 * length (steps kobbelt i m .faces) =
             ap (λ (x : Net). length (x .faces)) (sym nx) ∙ ap length (step-faces kobbelt _) ∙ length-refined quads _ _ ∙ ap (λ (x : Net). 4 * length (x .faces)) front-is in
@@ -174,15 +205,15 @@ module _ (k v n : ℕ) (points : List ℤ) (faces marks w : List ℕ) (ok : Prep
                   ∙ ap (λ (x : ℕ). drop x w) (let j : 8 * (n * 4 ^ i) ≡ 2 * (n * 4 ^ (i + 1)) = omega arith in j);
             }
 
-        pub after-next : After (i + 1) v n r₂ points points₂ faces faces₂ marks marks₂ w w₂
+        pub after-next : After (i + 1) v n r₂ t t₂
         after-next = past w₂ refl refl
 
         pub ready-mates : MatesIn (n * 4 ^ i) w₂
-        ready-mates = mates-ready r (n * 4 ^ i) points₁ faces₁ marks₁ w₁ current w₂ z (e .mated)
+        ready-mates = mates-ready r (n * 4 ^ i) t₁ current w₂ z (e .mated)
 
         module _ (w₃ : List ℕ) (y : length w₃ ≡ length w₂) (d : w₃ ≡ filled (refinedMates quads (take (n * 4 ^ i) w₂)) w₂) where
-          pub after-mates : After (i + 1) v n r₂ points points₂ faces faces₂ marks marks₂ w w₃
-          after-mates = past w₃ y (mates-past r (n * 4 ^ i) points₁ faces₁ marks₁ w₁ current w₂ z (e .mated) w₃ d)
+          pub after-mates : After (i + 1) v n r₂ t (withWork t₂ w₃)
+          after-mates = past w₃ y (mates-past r (n * 4 ^ i) t₁ current w₂ z (e .mated) w₃ d)
 
           pub mated-next : MateTable (steps kobbelt (i + 1) m .faces) w₃
-          mated-next = rw (ap (λ (x : Net). x .faces) (sym next)) (mates-next r (n * 4 ^ i) points₁ faces₁ marks₁ w₁ current w₂ z (e .mated) w₃ d)
+          mated-next = rw (ap (λ (x : Net). x .faces) (sym next)) (mates-next r (n * 4 ^ i) t₁ current w₂ z (e .mated) w₃ d)

@@ -5,31 +5,45 @@ use Prim.Native.Nat.{ℕ, _*_, _≤_}
 use lib.IntN.{ℤ}
 use lib.ListN.{length, take, drop}
 use Rattle.curve.specs.Weights.{kobbelt}
-use Rattle.nets.specs.Net.{frontNet}
+use Rattle.nets.specs.Net.{Net, frontNet}
 use Rattle.tables.specs.Tables.{filled}
 use Rattle.scheme.specs.Step.{step}
 use Rattle.schemelaws.specs.Nets.{Refinable}
 use Rattle.integers.specs.Within.{Within}
 use Rattle.halfedges.specs.Tables.{MateTable}
 
--- the net at the front can be refined, its mates stand in w, and all tables have room for the refined net
-pub record Current (v n : ℕ) (points : List ℤ) (faces marks w : List ℕ) : Type 0 where
-  pub refinable : Refinable (frontNet v n points faces marks)
-  pub within : Within 66276137 (take (3 * v) points)
+-- the caller's tables
+pub record Workspace : Type 0 where
+  pub points : List ℤ
+  pub faces : List ℕ
+  pub marks : List ℕ
+  pub work : List ℕ
+
+abbrev pub workspace : List ℤ → List ℕ → List ℕ → List ℕ → Workspace
+workspace points faces marks work = record { points = points; faces = faces; marks = marks; work = work }
+
+-- the net of v vertices and n corners at their front
+abbrev pub front : (v n : ℕ) → Workspace → Net
+front v n t = frontNet v n (t .points) (t .faces) (t .marks)
+
+-- the net at the front can be refined, its mates stand in the work table, and all tables have room for the refined net
+pub record Current (v n : ℕ) (t : Workspace) : Type 0 where
+  pub refinable : Refinable (front v n t)
+  pub within : Within 66276137 (take (3 * v) (t .points))
   pub small : n ≤ 262144
   pub vertices : v ≤ n
-  pub roomPoints : 12 * n ≤ length points
-  pub roomFaces : 4 * n ≤ length faces
-  pub roomMarks : 4 * n ≤ length marks
-  pub roomWork : 8 * n ≤ length w
-  pub mated : MateTable (take n faces) w
+  pub roomPoints : 12 * n ≤ length (t .points)
+  pub roomFaces : 4 * n ≤ length (t .faces)
+  pub roomMarks : 4 * n ≤ length (t .marks)
+  pub roomWork : 8 * n ≤ length (t .work)
+  pub mated : MateTable (take n (t .faces)) (t .work)
 
--- the tables after the round: the refined net at their front, the mates of the net before it in the work table; past that all is as found.
+-- the tables after the round: the refined net of r vertices at their front, the mates of the net before it in the work table; past that all is as found.
 -- Open, and may differ between correct programs: what stands between the mates and place 8n of the work table
-pub record Refines (v n r : ℕ) (points points′ : List ℤ) (faces faces′ marks marks′ w w′ : List ℕ) : Type 0 where
-  pub count : r ≡ length (step kobbelt (frontNet v n points faces marks) .marks)
-  pub newPoints : points′ ≡ filled (step kobbelt (frontNet v n points faces marks) .vertices) points
-  pub newFaces : faces′ ≡ filled (step kobbelt (frontNet v n points faces marks) .faces) faces
-  pub newMarks : marks′ ≡ filled (step kobbelt (frontNet v n points faces marks) .marks) marks
-  pub mated : MateTable (take n faces) w′
-  pub rest : drop (8 * n) w′ ≡ drop (8 * n) w
+pub record Refines (v n r : ℕ) (t t′ : Workspace) : Type 0 where
+  pub count : r ≡ length (step kobbelt (front v n t) .marks)
+  pub newPoints : t′ .points ≡ filled (step kobbelt (front v n t) .vertices) (t .points)
+  pub newFaces : t′ .faces ≡ filled (step kobbelt (front v n t) .faces) (t .faces)
+  pub newMarks : t′ .marks ≡ filled (step kobbelt (front v n t) .marks) (t .marks)
+  pub mated : MateTable (take n (t .faces)) (t′ .work)
+  pub rest : drop (8 * n) (t′ .work) ≡ drop (8 * n) (t .work)

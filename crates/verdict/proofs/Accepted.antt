@@ -16,8 +16,8 @@ use Rattle.topology.proofs.Shape.{quads-lawful}
 use Rattle.refusals.proofs.Manifold.{manifold-if}
 use Rattle.refusals.specs.Refusals.{badMark, badCorner, isolated, repeatedSide, nonManifold, badValence, markedRing}
 use Rattle.nets.specs.Net.{Net}
-use Rattle.verdict.specs.Call.{Room, Call}
-use Rattle.verdict.specs.Verdict.{Verdict, accepted, refused, orElse, refusedIf, refusedAt, roomVerdict, limitsVerdict, callVerdict, badCoordinate, vertexVerdict, adjacencyVerdict, facesVerdict, netVerdict, verdict}
+use Rattle.verdict.specs.Call.{Lengths, lengthsOf, Call}
+use Rattle.verdict.specs.Verdict.{Verdict, accepted, refused, orElse, refusedIf, refusedAt, tablesVerdict, sizeVerdict, roomVerdict, limitsVerdict, callVerdict, badCoordinate, coordinatesVerdict, vertexVerdict, adjacencyVerdict, facesVerdict, shapeVerdict, netVerdict, verdict}
 use Rattle.verdict.proofs.Examples
 
 -- ---- the chain
@@ -29,6 +29,11 @@ never r p e = let z : _≡_ {A = ℕ} 0 1 = cc in absurd (omega arith)
 pub or-both : (u v : Verdict) → orElse u v ≡ accepted → (u ≡ accepted) × (v ≡ accepted)
 or-both accepted v e = (refl, e)
 or-both (refused r p) v e = never r p e
+
+-- past a refusal nothing matters
+pub or-refused : (u v w : Verdict) → (u ≡ accepted → ⊥) → orElse u v ≡ orElse u w
+or-refused accepted v w n = absurd (n refl)
+or-refused (refused r p) v w n = refl
 
 pub or-accepted : {u v : Verdict} → u ≡ accepted → v ≡ accepted → orElse u v ≡ accepted
 or-accepted e f = rw (e, f)
@@ -45,69 +50,78 @@ at-none r t n place e = go (ltb (first t n) n) refl e
     go false f e = let a = ltb-false (first t n) n f in let b = first-le t n in omega arith
 
 -- ---- 1 to 4 do not hold
-pub record WithinLimits (rounds coordinates corners marks : ℕ) (room : Room) : Type 0 where
+pub record WithinLimits (rounds : ℕ) (n : Lengths) : Type 0 where
   pub few : rounds ≤ 6
-  pub points : coordinates % 3 ≡ 0
-  pub quadrilaterals : corners % 4 ≡ 0
-  pub marked : marks ≡ coordinates / 3
-  pub vertices : coordinates / 3 ≤ 8192
-  pub faces : corners / 4 ≤ 4096
-  pub final : corners / 4 * 4 ^ rounds ≤ 262144
-  pub roomVertices : 12 * (corners / 4 * 4 ^ rounds) ≤ room .vertices
-  pub roomFaces : 4 * (corners / 4 * 4 ^ rounds) ≤ room .faces
-  pub roomMarks : 4 * (corners / 4 * 4 ^ rounds) ≤ room .marks
-  pub roomWork : 16 * (corners / 4 * 4 ^ rounds) ≤ room .work
+  pub points : n .coordinates % 3 ≡ 0
+  pub quadrilaterals : n .corners % 4 ≡ 0
+  pub marked : n .marks ≡ n .coordinates / 3
+  pub vertices : n .coordinates / 3 ≤ 8192
+  pub faces : n .corners / 4 ≤ 4096
+  pub final : n .corners / 4 * 4 ^ rounds ≤ 262144
+  pub roomVertices : 12 * (n .corners / 4 * 4 ^ rounds) ≤ n .room .vertices
+  pub roomFaces : 4 * (n .corners / 4 * 4 ^ rounds) ≤ n .room .faces
+  pub roomMarks : 4 * (n .corners / 4 * 4 ^ rounds) ≤ n .room .marks
+  pub roomWork : 16 * (n .corners / 4 * 4 ^ rounds) ≤ n .room .work
 
-module _ (k nv nf nm : ℕ) (room : Room) where
-  pub within-if : limitsVerdict k nv nf nm room ≡ accepted → WithinLimits k nv nf nm room
-  unfolding limitsVerdict roomVerdict
+pub sized-faces : (v f g : ℕ) → sizeVerdict v f g ≡ accepted → f ≤ 4096
+unfolding sizeVerdict
+sized-faces v f g e =
+    let a = or-both (refusedIf 3 (ltb 8192 v)) (orElse (refusedIf 3 (ltb 4096 f)) (refusedIf 3 (ltb 262144 g))) e in
+    let b = or-both (refusedIf 3 (ltb 4096 f)) (refusedIf 3 (ltb 262144 g)) (a .1) in
+    ltb-false 4096 f (if-false 3 _ (b .0))
+
+module _ (k : ℕ) (n : Lengths) where
+  pub within-if : limitsVerdict k n ≡ accepted → WithinLimits k n
+  unfolding limitsVerdict tablesVerdict sizeVerdict roomVerdict
   within-if e₀ =
+      let g = n .corners / 4 * 4 ^ k in
       let a₁ = or-both _ _ e₀ in
       let a₂ = or-both _ _ (a₁ .1) in
       let a₃ = or-both _ _ (a₂ .1) in
-      let a₄ = or-both _ _ (a₃ .1) in
-      let a₅ = or-both _ _ (a₄ .1) in
-      let a₆ = or-both _ _ (a₅ .1) in
-      let a₇ = or-both _ _ (a₆ .1) in
-      let a₈ = or-both _ _ (a₇ .1) in
-      let a₉ = or-both _ _ (a₈ .1) in
-      let b = or-both _ _ (a₉ .1) in
+      let b₁ = or-both _ _ (a₂ .0) in
+      let b₂ = or-both _ _ (b₁ .1) in
+      let c₁ = or-both _ _ (a₃ .0) in
+      let c₂ = or-both _ _ (c₁ .1) in
+      let d₁ = or-both _ _ (a₃ .1) in
+      let d₂ = or-both _ _ (d₁ .1) in
+      let d₃ = or-both _ _ (d₂ .1) in
       record {
         few = ltb-false 6 k (if-false 1 _ (a₁ .0));
-        points = eqb-true (nv % 3) 0 (not-false _ (if-false 2 _ (a₂ .0)));
-        quadrilaterals = eqb-true (nf % 4) 0 (not-false _ (if-false 2 _ (a₃ .0)));
-        marked = eqb-true nm (nv / 3) (not-false _ (if-false 2 _ (a₄ .0)));
-        vertices = ltb-false 8192 (nv / 3) (if-false 3 _ (a₅ .0));
-        faces = ltb-false 4096 (nf / 4) (if-false 3 _ (a₆ .0));
-        final = ltb-false 262144 (nf / 4 * 4 ^ k) (if-false 3 _ (a₇ .0));
-        roomVertices = ltb-false (room .vertices) (12 * (nf / 4 * 4 ^ k)) (if-false 4 _ (a₈ .0));
-        roomFaces = ltb-false (room .faces) (4 * (nf / 4 * 4 ^ k)) (if-false 4 _ (a₉ .0));
-        roomMarks = ltb-false (room .marks) (4 * (nf / 4 * 4 ^ k)) (if-false 4 _ (b .0));
-        roomWork = ltb-false (room .work) (16 * (nf / 4 * 4 ^ k)) (if-false 4 _ (b .1));
+        points = eqb-true (n .coordinates % 3) 0 (not-false _ (if-false 2 _ (b₁ .0)));
+        quadrilaterals = eqb-true (n .corners % 4) 0 (not-false _ (if-false 2 _ (b₂ .0)));
+        marked = eqb-true (n .marks) (n .coordinates / 3) (not-false _ (if-false 2 _ (b₂ .1)));
+        vertices = ltb-false 8192 (n .coordinates / 3) (if-false 3 _ (c₁ .0));
+        faces = ltb-false 4096 (n .corners / 4) (if-false 3 _ (c₂ .0));
+        final = ltb-false 262144 g (if-false 3 _ (c₂ .1));
+        roomVertices = ltb-false (n .room .vertices) (12 * g) (if-false 4 _ (d₁ .0));
+        roomFaces = ltb-false (n .room .faces) (4 * g) (if-false 4 _ (d₂ .0));
+        roomMarks = ltb-false (n .room .marks) (4 * g) (if-false 4 _ (d₃ .0));
+        roomWork = ltb-false (n .room .work) (16 * g) (if-false 4 _ (d₃ .1));
       }
 
-  pub if-within : WithinLimits k nv nf nm room → limitsVerdict k nv nf nm room ≡ accepted
-  unfolding limitsVerdict roomVerdict
+  pub if-within : WithinLimits k n → limitsVerdict k n ≡ accepted
+  unfolding limitsVerdict tablesVerdict sizeVerdict roomVerdict
   if-within w =
+      let g = n .corners / 4 * 4 ^ k in
       simp (
         le-ltb 6 k (w .few),
-        eq-eqb (nv % 3) 0 (w .points),
-        eq-eqb (nf % 4) 0 (w .quadrilaterals),
-        eq-eqb nm (nv / 3) (w .marked),
-        le-ltb 8192 (nv / 3) (w .vertices),
-        le-ltb 4096 (nf / 4) (w .faces),
-        le-ltb 262144 (nf / 4 * 4 ^ k) (w .final),
-        le-ltb (room .vertices) (12 * (nf / 4 * 4 ^ k)) (w .roomVertices),
-        le-ltb (room .faces) (4 * (nf / 4 * 4 ^ k)) (w .roomFaces),
-        le-ltb (room .marks) (4 * (nf / 4 * 4 ^ k)) (w .roomMarks),
-        le-ltb (room .work) (16 * (nf / 4 * 4 ^ k)) (w .roomWork),
+        eq-eqb (n .coordinates % 3) 0 (w .points),
+        eq-eqb (n .corners % 4) 0 (w .quadrilaterals),
+        eq-eqb (n .marks) (n .coordinates / 3) (w .marked),
+        le-ltb 8192 (n .coordinates / 3) (w .vertices),
+        le-ltb 4096 (n .corners / 4) (w .faces),
+        le-ltb 262144 g (w .final),
+        le-ltb (n .room .vertices) (12 * g) (w .roomVertices),
+        le-ltb (n .room .faces) (4 * g) (w .roomFaces),
+        le-ltb (n .room .marks) (4 * g) (w .roomMarks),
+        le-ltb (n .room .work) (16 * g) (w .roomWork),
       )
 
   -- fewer rounds need less room
-  pub within-fewer : (j : ℕ) → j ≤ k → WithinLimits k nv nf nm room → WithinLimits j nv nf nm room
+  pub within-fewer : (j : ℕ) → j ≤ k → WithinLimits k n → WithinLimits j n
   within-fewer j h w =
       let p : 4 ^ j ≤ 4 ^ k = pow-le-pow-right {n = 4} (omega arith) h in
-      let g : nf / 4 * 4 ^ j ≤ nf / 4 * 4 ^ k = mul-le-mul-left (nf / 4) p in
+      let g : n .corners / 4 * 4 ^ j ≤ n .corners / 4 * 4 ^ k = mul-le-mul-left (n .corners / 4) p in
       let a = w .few in
       let b = w .final in
       let c = w .roomVertices in
@@ -140,7 +154,7 @@ pub record NoRefusal (m : Net) : Type 0 where
   pub no12 : first (markedRing quads (m .faces) (m .marks)) (length (m .marks)) ≡ length (m .marks)
 
 pub none-if : (m : Net) → netVerdict m ≡ accepted → NoRefusal m
-unfolding netVerdict facesVerdict adjacencyVerdict vertexVerdict
+unfolding netVerdict coordinatesVerdict shapeVerdict facesVerdict adjacencyVerdict vertexVerdict
 none-if m e₀ =
     let a₅ = or-both _ _ e₀ in
     let a₆ = or-both _ _ (a₅ .1) in
@@ -161,9 +175,9 @@ none-if m e₀ =
     }
 
 -- ---- an accepted call
-pub accepted-limits : (c : Call) → verdict c ≡ accepted → WithinLimits (c .rounds) (length (c .net .vertices)) (length (c .net .faces)) (length (c .net .marks)) (c .room)
+pub accepted-limits : (c : Call) → verdict c ≡ accepted → WithinLimits (c .rounds) (lengthsOf (c .net) (c .room))
 unfolding verdict
-accepted-limits c e = within-if _ _ _ _ _ (or-both _ _ e .0)
+accepted-limits c e = within-if _ _ (or-both _ _ e .0)
 
 pub accepted-net : (c : Call) → verdict c ≡ accepted → NoRefusal (c .net)
 unfolding verdict
@@ -180,10 +194,8 @@ accepted-manifold c e =
 pub accepted-fewer : (c : Call) (j : ℕ) → j ≤ c .rounds → verdict c ≡ accepted → verdict (record { rounds = j; net = c .net; room = c .room }) ≡ accepted
 unfolding verdict
 accepted-fewer c j h e =
-    let nv = length (c .net .vertices) in
-    let nf = length (c .net .faces) in
-    let nm = length (c .net .marks) in
-    or-accepted (if-within j nv nf nm (c .room) (within-fewer (c .rounds) nv nf nm (c .room) j h (accepted-limits c e))) (or-both (callVerdict c) (netVerdict (c .net)) e .1)
+    let n = lengthsOf (c .net) (c .room) in
+    or-accepted (if-within j n (within-fewer (c .rounds) n j h (accepted-limits c e))) (or-both (callVerdict c) (netVerdict (c .net)) e .1)
 
 -- what 5 and 6 rule out is not there
 pub accepted-coordinate : (c : Call) → verdict c ≡ accepted → (i : ℕ) → i < length (c .net .vertices) → natAbs (getD (c .net .vertices) i (pos 0)) ≤ 1048576

@@ -10,29 +10,29 @@ use Rattle.topology.specs.Boundary.{isBoundaryFrom, boundaryFrom}
 use Rattle.topology.specs.Vertex.{leaves, valence, turn, start, stops, facesMet}
 use Rattle.refusals.specs.Refusals.{badMark, badCorner, isolated, repeatedSide, nonManifold, badValence, markedRing}
 use Rattle.nets.specs.Net.{Net}
-use Rattle.verdict.specs.Call.{Room}
-use Rattle.verdict.specs.Verdict.{Verdict, accepted, refused, roomVerdict, limitsVerdict, badCoordinate, vertexVerdict, adjacencyVerdict, facesVerdict, netVerdict}
+use Rattle.verdict.specs.Call.{Room, room, lengths}
+use Rattle.verdict.specs.Verdict.{Verdict, accepted, refused, tablesVerdict, sizeVerdict, roomVerdict, limitsVerdict, badCoordinate, coordinatesVerdict, vertexVerdict, adjacencyVerdict, facesVerdict, shapeVerdict, netVerdict}
 
 abbrev ample : Room
-ample = record { vertices = 4000000; faces = 4000000; marks = 4000000; work = 5000000 }
+ample = room 4000000 4000000 4000000 5000000
 
 -- 64 faces at 6 rounds pass 3, 65 do not
-sixty-four : limitsVerdict 6 300 256 100 ample ≡ accepted
-unfolding limitsVerdict roomVerdict
+sixty-four : limitsVerdict 6 (lengths 300 256 100 ample) ≡ accepted
+unfolding limitsVerdict tablesVerdict sizeVerdict roomVerdict
 sixty-four = refl
 
-sixty-five : limitsVerdict 6 300 260 100 ample ≡ refused 3 0
-unfolding limitsVerdict roomVerdict
+sixty-five : limitsVerdict 6 (lengths 300 260 100 ample) ≡ refused 3 0
+unfolding limitsVerdict tablesVerdict sizeVerdict roomVerdict
 sixty-five = refl
 
 -- the lowest number is given
-rounds-first : limitsVerdict 7 301 257 5 (record { vertices = 0; faces = 0; marks = 0; work = 0 }) ≡ refused 1 0
-unfolding limitsVerdict roomVerdict
+rounds-first : limitsVerdict 7 (lengths 301 257 5 (room 0 0 0 0)) ≡ refused 1 0
+unfolding limitsVerdict tablesVerdict sizeVerdict roomVerdict
 rounds-first = refl
 
 -- an empty net needs no room
-empty : limitsVerdict 6 0 0 0 (record { vertices = 0; faces = 0; marks = 0; work = 0 }) ≡ accepted
-unfolding limitsVerdict roomVerdict
+empty : limitsVerdict 6 (lengths 0 0 0 (room 0 0 0 0)) ≡ accepted
+unfolding limitsVerdict tablesVerdict sizeVerdict roomVerdict
 empty = refl
 
 -- ---- nets: coordinates are 0 but for the first
@@ -83,5 +83,5 @@ abbrev stated : List Verdict
 stated = accepted ∷ accepted ∷ refused 5 0 ∷ refused 8 4 ∷ refused 8 4 ∷ refused 8 0 ∷ refused 9 1 ∷ refused 5 0 ∷ refused 10 2 ∷ refused 10 16 ∷ refused 11 0 ∷ refused 12 4 ∷ []
 
 nets : computed ≡ stated
-unfolding netVerdict facesVerdict adjacencyVerdict vertexVerdict badCoordinate badMark badCorner isolated repeatedSide nonManifold badValence markedRing firstFrom first any count iterate quads from to opposed mate isBoundaryFrom boundaryFrom leaves valence turn start stops facesMet
+unfolding netVerdict coordinatesVerdict shapeVerdict facesVerdict adjacencyVerdict vertexVerdict badCoordinate badMark badCorner isolated repeatedSide nonManifold badValence markedRing firstFrom first any count iterate quads from to opposed mate isBoundaryFrom boundaryFrom leaves valence turn start stops facesMet
 nets = refl

@@ -13,6 +13,23 @@ pub record Room : Type 0 where
 abbrev pub room : (vertices faces marks work : ℕ) → Room
 room vertices faces marks work = record { vertices = vertices; faces = faces; marks = marks; work = work }
 
+-- "outputs of at least 12G coordinates, 4G corners and 4G marks, and a work table of at least 16G 32-bit numbers"
+abbrev pub needed : (g : ℕ) → Room
+needed g = room (12 * g) (4 * g) (4 * g) (16 * g)
+
+-- the lengths of all tables of a call
+pub record Lengths : Type 0 where
+  pub coordinates : ℕ
+  pub corners : ℕ
+  pub marks : ℕ
+  pub room : Room
+
+abbrev pub lengths : (coordinates corners marks : ℕ) → Room → Lengths
+lengths coordinates corners marks room = record { coordinates = coordinates; corners = corners; marks = marks; room = room }
+
+abbrev pub lengthsOf : Net → Room → Lengths
+lengthsOf m room = lengths (length (m .vertices)) (length (m .faces)) (length (m .marks)) room
+
 pub record Call : Type 0 where
   pub rounds : ℕ
   pub net : Net

@@ -10,7 +10,7 @@ use Rattle.search.specs.Search.{first}
 use Rattle.topology.specs.Shape.{quads}
 use Rattle.refusals.specs.Refusals.{badMark, badCorner, isolated, repeatedSide, nonManifold, badValence, markedRing}
 use Rattle.nets.specs.Net.{Net}
-use Rattle.verdict.specs.Call.{Room, Call, finalFaces}
+use Rattle.verdict.specs.Call.{Room, needed, Lengths, lengthsOf, Call, finalFaces}
 
 pub data Verdict : Type 0 where
   accepted : Verdict
@@ -34,37 +34,47 @@ abbrev pub afterCall : Verdict → List ℕ → List ℕ → List ℕ
 afterCall accepted untouched done = done
 afterCall (refused r p) untouched done = untouched
 
--- 4: "an output or the work table shorter than stated": "outputs of at least 12G coordinates, 4G corners and 4G marks, and a work table of at least 16G 32-bit
--- numbers"
-unfoldable pub roomVerdict : (g : ℕ) → Room → Verdict
-roomVerdict g room =
-    orElse (refusedIf 4 (ltb (room .vertices) (12 * g)))
-    (orElse (refusedIf 4 (ltb (room .faces) (4 * g)))
-    (orElse (refusedIf 4 (ltb (room .marks) (4 * g)))
-    (refusedIf 4 (ltb (room .work) (16 * g)))))
-
--- ---- "The calling program (place 0, all memory untouched)": from the numbers of rounds, coordinates, corners and marks, and the room
-unfoldable pub limitsVerdict : (rounds coordinates corners marks : ℕ) → Room → Verdict
-limitsVerdict rounds coordinates corners marks room =
-    -- 1: "rounds above 6."
-    orElse (refusedIf 1 (ltb 6 rounds))
-    -- 2: "vertex table not a multiple of 3, face table not of 4, or marks not V."
-    (orElse (refusedIf 2 (not (eqb (coordinates % 3) 0)))
+-- ---- "The calling program (place 0, all memory untouched)"
+-- 2: "vertex table not a multiple of 3, face table not of 4, or marks not V."
+unfoldable pub tablesVerdict : (coordinates corners marks : ℕ) → Verdict
+tablesVerdict coordinates corners marks =
+    orElse (refusedIf 2 (not (eqb (coordinates % 3) 0)))
     (orElse (refusedIf 2 (not (eqb (corners % 4) 0)))
-    (orElse (refusedIf 2 (not (eqb marks (coordinates / 3))))
-    -- 3: "V above 8,192, F above 4,096, or G above 262,144."
-    (orElse (refusedIf 3 (ltb 8192 (coordinates / 3)))
-    (orElse (refusedIf 3 (ltb 4096 (corners / 4)))
-    (orElse (refusedIf 3 (ltb 262144 (corners / 4 * 4 ^ rounds)))
-    (roomVerdict (corners / 4 * 4 ^ rounds) room)))))))
+    (refusedIf 2 (not (eqb marks (coordinates / 3)))))
+
+-- 3: "V above 8,192, F above 4,096, or G above 262,144."
+unfoldable pub sizeVerdict : (v f g : ℕ) → Verdict
+sizeVerdict v f g = orElse (refusedIf 3 (ltb 8192 v)) (orElse (refusedIf 3 (ltb 4096 f)) (refusedIf 3 (ltb 262144 g)))
+
+-- 4: "an output or the work table shorter than stated"
+abbrev pub shorter : (room stated : Room) → Verdict
+shorter room stated =
+    orElse (refusedIf 4 (ltb (room .vertices) (stated .vertices)))
+    (orElse (refusedIf 4 (ltb (room .faces) (stated .faces)))
+    (orElse (refusedIf 4 (ltb (room .marks) (stated .marks)))
+    (refusedIf 4 (ltb (room .work) (stated .work)))))
+
+unfoldable pub roomVerdict : (g : ℕ) → Room → Verdict
+roomVerdict g room = shorter room (needed g)
+
+-- 1: "rounds above 6."; then 2, 3 and 4
+unfoldable pub limitsVerdict : (rounds : ℕ) → Lengths → Verdict
+limitsVerdict rounds n =
+    orElse (refusedIf 1 (ltb 6 rounds))
+    (orElse (tablesVerdict (n .coordinates) (n .corners) (n .marks))
+    (orElse (sizeVerdict (n .coordinates / 3) (n .corners / 4) (n .corners / 4 * 4 ^ rounds))
+    (roomVerdict (n .corners / 4 * 4 ^ rounds) (n .room))))
 
 abbrev pub callVerdict : Call → Verdict
-callVerdict c = limitsVerdict (c .rounds) (length (c .net .vertices)) (length (c .net .faces)) (length (c .net .marks)) (c .room)
+callVerdict c = limitsVerdict (c .rounds) (lengthsOf (c .net) (c .room))
 
 -- ---- "Whoever drew the net"
 -- 5: "a coordinate outside -1,048,576 to 1,048,576; vertex."
 unfoldable pub badCoordinate : List ℤ → ℕ → Bool
 badCoordinate vs i = ltb 1048576 (natAbs (getD vs i (pos 0)))
+
+unfoldable pub coordinatesVerdict : List ℤ → Verdict
+coordinatesVerdict vs = refusedAt 5 (badCoordinate vs) (length vs) (λ i. i / 3)
 
 -- 10 to 12, then 9 to 12, then 8 to 12, of v vertices
 unfoldable pub vertexVerdict : ℕ → List ℕ → List ℕ → Verdict
@@ -79,12 +89,15 @@ adjacencyVerdict v l marks = orElse (refusedAt 9 (repeatedSide quads l) (length 
 unfoldable pub facesVerdict : ℕ → List ℕ → List ℕ → Verdict
 facesVerdict v l marks = orElse (refusedAt 8 (isolated l) v (λ p. p)) (adjacencyVerdict v l marks)
 
+-- 6 to 12
+unfoldable pub shapeVerdict : (faces marks : List ℕ) → Verdict
+shapeVerdict l marks =
+    orElse (refusedAt 6 (badMark marks) (length marks) (λ p. p))
+    (orElse (refusedAt 7 (badCorner quads (length marks) l) (length l) (quads .face))
+    (facesVerdict (length marks) l marks))
+
 unfoldable pub netVerdict : Net → Verdict
-netVerdict m =
-    orElse (refusedAt 5 (badCoordinate (m .vertices)) (length (m .vertices)) (λ i. i / 3))
-    (orElse (refusedAt 6 (badMark (m .marks)) (length (m .marks)) (λ p. p))
-    (orElse (refusedAt 7 (badCorner quads (length (m .marks)) (m .faces)) (length (m .faces)) (quads .face))
-    (facesVerdict (length (m .marks)) (m .faces) (m .marks))))
+netVerdict m = orElse (coordinatesVerdict (m .vertices)) (shapeVerdict (m .faces) (m .marks))
 
 unfoldable pub verdict : Call → Verdict
 verdict c = orElse (callVerdict c) (netVerdict (c .net))

@@ -1,8 +1,8 @@
 -- `capi::finding_of` meets its contract: by cases. Assumes nothing.
 use mathlib.Core.Path.{sym, ap}
 use Rattle.capi.specs.Export.{finding}
-use Rattle.validate.specs.Answer.{verdictOf}
-use Rattle.validate.specs.declared.Answer.{Answer}
+use Rattle.admission.specs.Answer.{verdictOf}
+use Rattle.admission.specs.declared.Answer.{Answer}
 use borrow.Author.Needs.{needs}
 use Rattle.capi.proofs.finding_of.Statement.{statement}
 use Rattle.capi.proofs.finding_of.Tie as tie

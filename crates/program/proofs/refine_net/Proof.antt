@@ -5,7 +5,7 @@ use native.Mathlib.Omega.{arith}
 use lib.IntN.{pos}
 use lib.ListN.{length, replicate, length-replicate}
 use Rattle.nets.specs.Net.{Net}
-use Rattle.outcome.specs.Outcome.{Buffers}
+use Rattle.outcome.specs.Outcome.{Buffers, buffers}
 use Rattle.refine.specs.declared.Answer.{Answer}
 use Rattle.refine.specs.Answer.{answered}
 use Rattle.printing.proofs.Writing.{every-answer-fits}
@@ -29,6 +29,10 @@ long-marks = length-replicate {A = ℕ} 1024 0
 
 long-work : length (zeros .work) ≡ 4096
 long-work = length-replicate {A = ℕ} 4096 0
+
+-- its tables after the call
+abbrev after : tie.After-refine → Buffers
+after x = let o = x .refine .last .1 .1 .1 .1 in buffers (o .0) (o .1 .0) (o .1 .1 .0) (o .1 .1 .1 .0)
 
 abbrev net : tie.Start → Net
 net s = record { vertices = s .args .vertices .now; faces = s .args .faces .now; marks = s .args .marks .now }
@@ -63,13 +67,12 @@ slice-aggregate-write-net-3 c = search needs
 write-net-requires : tie.Need-write-net-requires
 write-net-requires c κs =
     let s = c .before .before .before .before .before .before .before .before .before .before .before .before .before .before .before .before .before .before .before in
-    let x = c .before .before .before .before .before .before .before .before .before .before .before .refine in
-    let o = x .last .1 .1 .1 .1 in
-    let e = sym (ap (λ (a : Answer). answered a (o .0) (o .1 .0) (o .1 .1 .0) (o .1 .1 .1 .0)) (c .before .before .before .before .before .v .given .1)) ∙ x .ensures in
-    let t = served (s .args .rounds) (net s) zeros long-vertices long-corners long-marks long-work (s .pre .0) (o .0) (o .1 .0) (o .1 .1 .0) (o .1 .1 .1 .0) _ _ e in
+    let x = c .before .before .before .before .before .before .before .before .before .before .before in
+    let e = sym (ap (λ (a : Answer). answered a (after x)) (c .before .before .before .before .before .v .given .1)) ∙ x .refine .ensures in
+    let t = served (s .args .rounds) (net s) zeros long-vertices long-corners long-marks long-work (s .pre .0) (after x) _ _ e in
     let a = t .0 in
     let b = t .1 in
-    let k = x .kept .1 .1 .1 .1 in
+    let k = x .refine .kept .1 .1 .1 .1 in
     let lv = k .0 ∙ long-vertices in
     let lf = k .1 .0 ∙ long-corners in
     let lm = k .1 .1 .0 ∙ long-marks in
@@ -89,12 +92,11 @@ same-length c = search needs
 returns : tie.Need-returns
 returns c =
     let s = c .before .before .before .before .before .before .before .before .before .before .before .before .before .before .before .before .before .before .before .before .before .before in
-    let x = c .before .before .before .before .before .before .before .before .before .before .before .before .before .before .refine in
-    let o = x .last .1 .1 .1 .1 in
-    let e = sym (ap (λ (a : Answer). answered a (o .0) (o .1 .0) (o .1 .1 .0) (o .1 .1 .1 .0)) (c .before .before .before .before .before .before .before .before .v .given .1)) ∙ x .ensures in
+    let x = c .before .before .before .before .before .before .before .before .before .before .before .before .before .before in
+    let e = sym (ap (λ (a : Answer). answered a (after x)) (c .before .before .before .before .before .before .before .before .v .given .1)) ∙ x .refine .ensures in
     let y = c .before .before .write-net .ensures in
-    let t = served (s .args .rounds) (net s) zeros long-vertices long-corners long-marks long-work (s .pre .0) (o .0) (o .1 .0) (o .1 .1 .0) (o .1 .1 .1 .0) _ _ e in
-    wider _ _ _ _ _ _ y (refined-text (s .args .rounds) (net s) zeros long-vertices long-corners long-marks long-work (s .pre .0) (o .0) (o .1 .0) (o .1 .1 .0) (o .1 .1 .1 .0) _ _ e) (every-answer-fits _ _ (t .0) (t .1))
+    let t = served (s .args .rounds) (net s) zeros long-vertices long-corners long-marks long-work (s .pre .0) (after x) _ _ e in
+    wider _ _ _ _ _ _ y (refined-text (s .args .rounds) (net s) zeros long-vertices long-corners long-marks long-work (s .pre .0) (after x) _ _ e) (every-answer-fits _ _ (t .0) (t .1))
 
 same-length-2 : tie.Need-same-length-2
 same-length-2 c = search needs
@@ -102,11 +104,10 @@ same-length-2 c = search needs
 returns-2 : tie.Need-returns-2
 returns-2 c =
     let s = c .before .before .before .before .before .before .before .before .before .before .before .before .before .before .before .before .before .before .before in
-    let x = c .before .before .before .before .before .before .before .before .before .before .before .refine in
-    let o = x .last .1 .1 .1 .1 in
-    let e = sym (ap (λ (a : Answer). answered a (o .0) (o .1 .0) (o .1 .1 .0) (o .1 .1 .1 .0)) (c .before .before .before .before .before .reason .given .1)) ∙ x .ensures in
+    let x = c .before .before .before .before .before .before .before .before .before .before .before in
+    let e = sym (ap (λ (a : Answer). answered a (after x)) (c .before .before .before .before .before .reason .given .1)) ∙ x .refine .ensures in
     let y = c .before .before .write-refusal .ensures in
-    wider _ _ _ _ _ _ y (refused-text (s .args .rounds) (net s) zeros long-vertices long-corners long-marks long-work (s .pre .0) (o .0) (o .1 .0) (o .1 .1 .0) (o .1 .1 .1 .0) _ _ e) (omega arith)
+    wider _ _ _ _ _ _ y (refused-text (s .args .rounds) (net s) zeros long-vertices long-corners long-marks long-work (s .pre .0) (after x) _ _ e) (omega arith)
 
 pub refine-net-spec : {M : Type 1} → statement M
 refine-net-spec =

@@ -4,11 +4,11 @@ use borrow.Author.Needs.{needs}
 use Rattle.reading.proofs.refusal.Statement.{statement}
 use Rattle.reading.proofs.refusal.Tie as tie
 
-mul-limits : tie.Need-mul-limits
-mul-limits c = search needs
+mul-coordinates : tie.Need-mul-coordinates
+mul-coordinates c = search needs
 
-mul-limits-2 : tie.Need-mul-limits-2
-mul-limits-2 c = search needs
+mul-corners : tie.Need-mul-corners
+mul-corners c = search needs
 
 limits-requires : tie.Need-limits-requires
 limits-requires c κs = search needs
@@ -24,4 +24,4 @@ returns-3 c = within-tables _ _ _ _ (c .before .before .limits .ensures) (c .bef
 
 pub refusal-spec : {M : Type 1} → statement M
 refusal-spec =
-    tie.close (tie.spec mul-limits mul-limits-2 limits-requires returns returns-2 returns-3)
+    tie.close (tie.spec mul-coordinates mul-corners limits-requires returns returns-2 returns-3)

@@ -1,4 +1,4 @@
--- `rounds` meets its contract: before each round the mates are those of its net. Assumes nothing.
+-- `rounds::rounds` meets its contract: before each round the mates are those of its net. Assumes nothing.
 use mathlib.Core.Path.{_≡_}
 use Prim.Native.Nat.{_+_, _-_, _*_, _^_, _≤_}
 use native.Mathlib.Omega.{arith}
@@ -6,6 +6,7 @@ use Rattle.halfedges.specs.Tables.{MateTable}
 use Rattle.curve.specs.Weights.{kobbelt}
 use Rattle.scheme.specs.Step.{steps}
 use Rattle.nets.specs.Net.{frontNet}
+use Rattle.rounds.specs.Round.{Workspace, workspace, Current, Refines}
 use Rattle.rounds.specs.Rounds.{After}
 use Rattle.rounds.proofs.Steps.{again, after-none, mated-none, kept-points, kept-faces, kept-marks, current, after-next, ready-mates, after-mates, mated-next}
 use Rattle.rounds.proofs.rounds.Statement.{statement}
@@ -13,68 +14,118 @@ use Rattle.rounds.proofs.rounds.Tie as tie
 
 abbrev Inv-loop : tie.InvT-loop
 Inv-loop points₀ faces₀ marks₀ work₀ v n k count₀ corners₀ i₀ points faces marks work count corners i =
-    (i ≤ k) × (corners ≡ n * 4 ^ i) × After i v n count points₀ points faces₀ faces marks₀ marks work₀ work × MateTable (steps kobbelt i (frontNet v n points₀ faces₀ marks₀) .faces) work
+    (i ≤ k) × (corners ≡ n * 4 ^ i) × After i v n count (workspace points₀ faces₀ marks₀ work₀) (workspace points faces marks work)
+    × MateTable (steps kobbelt i (frontNet v n points₀ faces₀ marks₀) .faces) work
 
 abbrev μ-loop : tie.MeasureT-loop
 μ-loop points₀ faces₀ marks₀ work₀ v n k count₀ corners₀ i₀ points faces marks work count corners i = k - i
 
+abbrev tables : tie.Start Inv-loop μ-loop → Workspace
+tables s = workspace (s .args .points .now) (s .args .faces .now) (s .args .marks .now) (s .args .work .now)
+
+-- before a round
+abbrev start : tie.At-loop Inv-loop μ-loop → tie.Start Inv-loop μ-loop
+start x = x .before .before .before .before
+
+abbrev held : tie.At-loop Inv-loop μ-loop → Workspace
+held x = workspace (x .loop .points) (x .loop .faces) (x .loop .marks) (x .loop .work)
+
+open-round : (y : tie.In-loop Inv-loop μ-loop)
+    → (let x = y .before in Current (x .loop .count) (start x .args .n * 4 ^ x .loop .i) (held x))
+open-round y =
+    let x = y .before in
+    let s = start x in
+    let h = x .loop in
+    current (s .args .k) (s .args .v) (s .args .n) (tables s) (s .pre) (h .i) (h .count) (held x) (h .inv .2) (h .inv .3) (y .loop-test .taken)
+
+-- after it
+abbrev turn : tie.After-round Inv-loop μ-loop → tie.In-loop Inv-loop μ-loop
+turn z = z .before .before .before .before .before
+
+abbrev top : tie.After-round Inv-loop μ-loop → tie.At-loop Inv-loop μ-loop
+top z = turn z .before
+
+abbrev made : tie.After-round Inv-loop μ-loop → Workspace
+made z = let o = z .round .last in workspace (o .0) (o .1 .0) (o .1 .1 .0) (o .1 .1 .1 .0)
+
+refined : (z : tie.After-round Inv-loop μ-loop)
+    → (let x = top z in Refines (x .loop .count) (start x .args .n * 4 ^ x .loop .i) (z .round .result) (held x) (made z))
+refined z = let x = top z in let e : x .loop .corners ≡ start x .args .n * 4 ^ x .loop .i = x .loop .inv .1 in rw e at (z .round .ensures)
+
+done : (z : tie.After-round Inv-loop μ-loop)
+    → (let x = top z in let s = start x in After (x .loop .i + 1) (s .args .v) (s .args .n) (z .round .result) (tables s) (made z))
+done z =
+    let x = top z in
+    let s = start x in
+    let h = x .loop in
+    after-next (s .args .k) (s .args .v) (s .args .n) (tables s) (s .pre) (h .i) (h .count) (held x) (h .inv .2) (h .inv .3) (turn z .loop-test .taken) _ (made z)
+    (refined z) (z .round .kept .1 .1 .1 .0)
+
 loop-holds : tie.Need-loop-holds Inv-loop μ-loop
-loop-holds c = let s = c .before .before .before in (omega arith, omega arith, after-none (s .args .k) (s .args .v) (s .args .n) (s .args .points .now) (s .args .faces .now) (s .args .marks .now) (s .args .work .now) (s .pre), mated-none (s .args .k) (s .args .v) (s .args .n) (s .args .points .now) (s .args .faces .now) (s .args .marks .now) (s .args .work .now) (s .pre))
+loop-holds c =
+    let s = c .before .before .before in
+    (omega arith, omega arith, after-none (s .args .k) (s .args .v) (s .args .n) (tables s) (s .pre), mated-none (s .args .k) (s .args .v) (s .args .n) (tables s) (s .pre))
 
 round-requires : tie.Need-round-requires Inv-loop μ-loop
 round-requires c κs =
-    let s = c .before .before .before .before .before .before .before .before .before in
-    let h = c .before .before .before .before .before .loop in
-    let b = c .before .before .before .before .loop-test .taken in
-    let e : h .corners ≡ s .args .n * 4 ^ h .i = h .inv .1 in
-    rw e (current (s .args .k) (s .args .v) (s .args .n) (s .args .points .now) (s .args .faces .now) (s .args .marks .now) (s .args .work .now) (s .pre) (h .i) (h .count) (h .points) (h .faces) (h .marks) (h .work) (h .inv .2) (h .inv .3) b)
+    let y = c .before .before .before .before in
+    let x = y .before in
+    let e : x .loop .corners ≡ start x .args .n * 4 ^ x .loop .i = x .loop .inv .1 in
+    rw e (open-round y)
 
 add-i : tie.Need-add-i Inv-loop μ-loop
-add-i c = let b = c .before .before .before .before .before .before .before .before .before .before .before .before .loop-test .taken in let q = c .before .before .before .before .before .before .before .before .before .before .before .before .before .before .before .before .before .pre .few in omega arith
-
--- the tables after the last round
-done : (c : tie.Then1 Inv-loop μ-loop) → After (c .before .before .before .before .before .before .before .before .before .before .before .before .before .before .loop .i + 1) (c .before .before .before .before .before .before .before .before .before .before .before .before .before .before .before .before .before .before .args .v) (c .before .before .before .before .before .before .before .before .before .before .before .before .before .before .before .before .before .before .args .n) (c .before .before .before .before .before .before .before .before .round .result) (c .before .before .before .before .before .before .before .before .before .before .before .before .before .before .before .before .before .before .args .points .now) (c .before .before .before .before .before .before .before .before .round .last .0) (c .before .before .before .before .before .before .before .before .before .before .before .before .before .before .before .before .before .before .args .faces .now) (c .before .before .before .before .before .before .before .before .round .last .1 .0) (c .before .before .before .before .before .before .before .before .before .before .before .before .before .before .before .before .before .before .args .marks .now) (c .before .before .before .before .before .before .before .before .round .last .1 .1 .0) (c .before .before .before .before .before .before .before .before .before .before .before .before .before .before .before .before .before .before .args .work .now) (c .before .before .before .before .before .before .before .before .round .last .1 .1 .1 .0)
-done c =
-    let s = c .before .before .before .before .before .before .before .before .before .before .before .before .before .before .before .before .before .before in
-    let h = c .before .before .before .before .before .before .before .before .before .before .before .before .before .before .loop in
-    let b = c .before .before .before .before .before .before .before .before .before .before .before .before .before .loop-test .taken in
-    let e : h .corners ≡ s .args .n * 4 ^ h .i = h .inv .1 in
-    let r = c .before .before .before .before .before .before .before .before .round in
-    after-next (s .args .k) (s .args .v) (s .args .n) (s .args .points .now) (s .args .faces .now) (s .args .marks .now) (s .args .work .now) (s .pre) (h .i) (h .count) (h .points) (h .faces) (h .marks) (h .work) (h .inv .2) (h .inv .3) b _ _ _ _ _ (rw e at (r .ensures)) (r .kept .1 .1 .1 .0)
+add-i c = let y = turn (c .before .before .before .before .before .before .before) in let b = y .loop-test .taken in let q = start (y .before) .pre .few in omega arith
 
 same-length : tie.Need-same-length Inv-loop μ-loop
-same-length c = let s = c .before .before .before .before .before .before .before .before .before .before .before .before .before .before .before .before .before .before in let b = c .before .before .before .before .before .before .before .before .before .before .before .before .before .loop-test .taken in kept-points (s .args .k) (s .args .v) (s .args .n) (s .args .points .now) (s .args .faces .now) (s .args .marks .now) (s .args .work .now) (s .pre) _ _ _ _ _ _ (done c) (omega arith)
+same-length c =
+    let z = c .before .before .before .before .before .before .before .before in
+    let s = start (top z) in
+    let b = turn z .loop-test .taken in
+    kept-points (s .args .k) (s .args .v) (s .args .n) (tables s) (s .pre) _ _ (made z) (done z) (omega arith)
 
 same-length-2 : tie.Need-same-length-2 Inv-loop μ-loop
-same-length-2 c = let s = c .before .before .before .before .before .before .before .before .before .before .before .before .before .before .before .before .before .before in let b = c .before .before .before .before .before .before .before .before .before .before .before .before .before .loop-test .taken in kept-faces (s .args .k) (s .args .v) (s .args .n) (s .args .points .now) (s .args .faces .now) (s .args .marks .now) (s .args .work .now) (s .pre) _ _ _ _ _ _ (done c) (omega arith)
+same-length-2 c =
+    let z = c .before .before .before .before .before .before .before .before in
+    let s = start (top z) in
+    let b = turn z .loop-test .taken in
+    kept-faces (s .args .k) (s .args .v) (s .args .n) (tables s) (s .pre) _ _ (made z) (done z) (omega arith)
 
 same-length-3 : tie.Need-same-length-3 Inv-loop μ-loop
-same-length-3 c = let s = c .before .before .before .before .before .before .before .before .before .before .before .before .before .before .before .before .before .before in let b = c .before .before .before .before .before .before .before .before .before .before .before .before .before .loop-test .taken in kept-marks (s .args .k) (s .args .v) (s .args .n) (s .args .points .now) (s .args .faces .now) (s .args .marks .now) (s .args .work .now) (s .pre) _ _ _ _ _ _ (done c) (omega arith)
+same-length-3 c =
+    let z = c .before .before .before .before .before .before .before .before in
+    let s = start (top z) in
+    let b = turn z .loop-test .taken in
+    kept-marks (s .args .k) (s .args .v) (s .args .n) (tables s) (s .pre) _ _ (made z) (done z) (omega arith)
 
 same-length-4 : tie.Need-same-length-4 Inv-loop μ-loop
-same-length-4 c = done c .kept
+same-length-4 c = done (c .before .before .before .before .before .before .before .before) .kept
 
 returns : tie.Need-returns Inv-loop μ-loop
 returns c =
-    let q : c .before .before .before .before .before .before .before .before .before .before .before .before .before .before .before .before .before .before .args .k ≡ c .before .before .before .before .before .before .before .before .before .before .before .before .before .before .loop .i + 1 = (let t = c .if1 .taken in omega arith) in
-    rw q (done c)
+    let z = c .before .before .before .before .before .before .before .before in
+    let q : start (top z) .args .k ≡ top z .loop .i + 1 = (let t = c .if1 .taken in omega arith) in
+    rw q (done z)
 
 refine-mates-requires : tie.Need-refine-mates-requires Inv-loop μ-loop
 refine-mates-requires c κs =
-    let s = c .before .before .before .before .before .before .before .before .before .before .before .before .before .before .before .before .before .before .before in
-    let h = c .before .before .before .before .before .before .before .before .before .before .before .before .before .before .before .loop in
-    let b = c .before .before .before .before .before .before .before .before .before .before .before .before .before .before .loop-test .taken in
+    let z = c .before .before .before .before .before .before .before .before .before in
+    let x = top z in
+    let s = start x in
+    let h = x .loop in
     let e : h .corners ≡ s .args .n * 4 ^ h .i = h .inv .1 in
-    let r = c .before .before .before .before .before .before .before .before .before .round in
-    rw e (ready-mates (s .args .k) (s .args .v) (s .args .n) (s .args .points .now) (s .args .faces .now) (s .args .marks .now) (s .args .work .now) (s .pre) (h .i) (h .count) (h .points) (h .faces) (h .marks) (h .work) (h .inv .2) (h .inv .3) b _ _ _ _ _ (rw e at (r .ensures)) (r .kept .1 .1 .1 .0))
+    rw e (ready-mates (s .args .k) (s .args .v) (s .args .n) (tables s) (s .pre) (h .i) (h .count) (held x) (h .inv .2) (h .inv .3) (turn z .loop-test .taken) _ (made z)
+    (refined z) (z .round .kept .1 .1 .1 .0))
+
+-- after the mates are refined
+abbrev rounded : tie.After-refine-mates Inv-loop μ-loop → tie.After-round Inv-loop μ-loop
+rounded t = t .before .before .before .before .before .before .before .before .before .before
 
 mul-corners : tie.Need-mul-corners Inv-loop μ-loop
 mul-corners c =
-    let s = c .before .before .before .before .before .before .before .before .before .before .before .before .before .before .before .before .before .before .before .before .before .before in
-    let h = c .before .before .before .before .before .before .before .before .before .before .before .before .before .before .before .before .before .before .loop in
-    let b = c .before .before .before .before .before .before .before .before .before .before .before .before .before .before .before .before .before .loop-test .taken in
-    let e : h .corners ≡ s .args .n * 4 ^ h .i = h .inv .1 in
-    let q = current (s .args .k) (s .args .v) (s .args .n) (s .args .points .now) (s .args .faces .now) (s .args .marks .now) (s .args .work .now) (s .pre) (h .i) (h .count) (h .points) (h .faces) (h .marks) (h .work) (h .inv .2) (h .inv .3) b .small in
+    let y = turn (rounded (c .before .before)) in
+    let x = y .before in
+    let e : x .loop .corners ≡ start x .args .n * 4 ^ x .loop .i = x .loop .inv .1 in
+    let q = open-round y .small in
     omega arith
 
 loop-less : tie.Need-loop-less Inv-loop μ-loop
@@ -82,29 +133,53 @@ loop-less c = omega arith
 
 loop-again : tie.Need-loop-again Inv-loop μ-loop
 loop-again c =
-    let s = c .before .before .before .before .before .before .before .before .before .before .before .before .before .before .before .before .before .before .before .before .before .before in
-    let h = c .before .before .before .before .before .before .before .before .before .before .before .before .before .before .before .before .before .before .loop in
-    let b = c .before .before .before .before .before .before .before .before .before .before .before .before .before .before .before .before .before .loop-test .taken in
+    let t = c .before .before in
+    let z = rounded t in
+    let x = top z in
+    let s = start x in
+    let h = x .loop in
     let e : h .corners ≡ s .args .n * 4 ^ h .i = h .inv .1 in
-    let r = c .before .before .before .before .before .before .before .before .before .before .before .before .round in
-    let t = c .before .before .refine-mates in
-    let d = rw e at (t .ensures) in
-    (omega arith, again (s .args .n) (h .i) _ e, after-mates (s .args .k) (s .args .v) (s .args .n) (s .args .points .now) (s .args .faces .now) (s .args .marks .now) (s .args .work .now) (s .pre) (h .i) (h .count) (h .points) (h .faces) (h .marks) (h .work) (h .inv .2) (h .inv .3) b _ _ _ _ _ (rw e at (r .ensures)) (r .kept .1 .1 .1 .0) _ (t .kept .0) d, mated-next (s .args .k) (s .args .v) (s .args .n) (s .args .points .now) (s .args .faces .now) (s .args .marks .now) (s .args .work .now) (s .pre) (h .i) (h .count) (h .points) (h .faces) (h .marks) (h .work) (h .inv .2) (h .inv .3) b _ _ _ _ _ (rw e at (r .ensures)) (r .kept .1 .1 .1 .0) _ (t .kept .0) d)
+    let d = rw e at (t .refine-mates .ensures) in
+    let b = turn z .loop-test .taken in
+    let k = z .round .kept .1 .1 .1 .0 in
+    let y = t .refine-mates .kept .0 in (
+      omega arith,
+      again (s .args .n) (h .i) _ e,
+      after-mates (s .args .k) (s .args .v) (s .args .n) (tables s) (s .pre) (h .i) (h .count) (held x) (h .inv .2) (h .inv .3) b _ (made z) (refined z) k _ y d,
+      mated-next (s .args .k) (s .args .v) (s .args .n) (tables s) (s .pre) (h .i) (h .count) (held x) (h .inv .2) (h .inv .3) b _ (made z) (refined z) k _ y d,
+    )
 
+-- after the last round
 same-length-5 : tie.Need-same-length-5 Inv-loop μ-loop
-same-length-5 c = let s = c .before .before .before .before .before in let h = c .before .loop in kept-points (s .args .k) (s .args .v) (s .args .n) (s .args .points .now) (s .args .faces .now) (s .args .marks .now) (s .args .work .now) (s .pre) (h .i) (h .count) (h .points) (h .faces) (h .marks) (h .work) (h .inv .2) (h .inv .0)
+same-length-5 c =
+    let x = c .before in
+    let s = start x in
+    let h = x .loop in
+    kept-points (s .args .k) (s .args .v) (s .args .n) (tables s) (s .pre) (h .i) (h .count) (held x) (h .inv .2) (h .inv .0)
 
 same-length-6 : tie.Need-same-length-6 Inv-loop μ-loop
-same-length-6 c = let s = c .before .before .before .before .before in let h = c .before .loop in kept-faces (s .args .k) (s .args .v) (s .args .n) (s .args .points .now) (s .args .faces .now) (s .args .marks .now) (s .args .work .now) (s .pre) (h .i) (h .count) (h .points) (h .faces) (h .marks) (h .work) (h .inv .2) (h .inv .0)
+same-length-6 c =
+    let x = c .before in
+    let s = start x in
+    let h = x .loop in
+    kept-faces (s .args .k) (s .args .v) (s .args .n) (tables s) (s .pre) (h .i) (h .count) (held x) (h .inv .2) (h .inv .0)
 
 same-length-7 : tie.Need-same-length-7 Inv-loop μ-loop
-same-length-7 c = let s = c .before .before .before .before .before in let h = c .before .loop in kept-marks (s .args .k) (s .args .v) (s .args .n) (s .args .points .now) (s .args .faces .now) (s .args .marks .now) (s .args .work .now) (s .pre) (h .i) (h .count) (h .points) (h .faces) (h .marks) (h .work) (h .inv .2) (h .inv .0)
+same-length-7 c =
+    let x = c .before in
+    let s = start x in
+    let h = x .loop in
+    kept-marks (s .args .k) (s .args .v) (s .args .n) (tables s) (s .pre) (h .i) (h .count) (held x) (h .inv .2) (h .inv .0)
 
 same-length-8 : tie.Need-same-length-8 Inv-loop μ-loop
 same-length-8 c = c .before .loop .inv .2 .kept
 
 returns-2 : tie.Need-returns-2 Inv-loop μ-loop
-returns-2 c = let s = c .before .before .before .before .before in let h = c .before .loop in let e : s .args .k ≡ h .i = (let a = h .inv .0 in let b = c .loop-test .left in omega arith) in rw e (h .inv .2)
+returns-2 c =
+    let x = c .before in
+    let h = x .loop in
+    let e : start x .args .k ≡ h .i = (let a = h .inv .0 in let b = c .loop-test .left in omega arith) in
+    rw e (h .inv .2)
 
 pub rounds-spec : {M : Type 1} → statement M
 rounds-spec =

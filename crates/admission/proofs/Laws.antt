@@ -1,0 +1,150 @@
+-- How the parts of the check fit together. Assumes nothing.
+use mathlib.Core.Path.{_≡_, refl, sym, ap, _∙_}
+use mathlib.Core.Bool.{Bool}
+use mathlib.Core.List.{List}
+use Prim.Native.Nat.{ℕ, _*_, _/_, _^_, _≤_, _<_}
+use native.Mathlib.Nat.{one-le-pow, mul-le-mul-left}
+use native.Mathlib.Omega.{arith}
+use native.Mathlib.Decide.{decLt}
+use lib.Dec.{lit≤}
+use borrow.Author.Tests.{eq-eqb, ne-eqb}
+use lib.ListN.{length, drop}
+use Rattle.search.specs.Search.{first}
+use Rattle.search.proofs.First.{first-le}
+use Rattle.topology.specs.Shape.{quads}
+use Rattle.refusals.specs.Refusals.{isolated, repeatedSide, nonManifold, badValence, markedRing}
+use Rattle.refusals.proofs.Places.{isolated-soon}
+use Rattle.nets.specs.Net.{Net}
+use Rattle.tables.specs.Tables.{cleared}
+use Rattle.tables.proofs.Laws.{cleared-over}
+use Rattle.lists.proofs.Parts.{drop-later}
+use Rattle.verdict.specs.Call.{Room, lengthsOf, Call, finalFaces}
+use Rattle.verdict.specs.Verdict.{Verdict, accepted, refused, limitsVerdict, callVerdict, vertexVerdict, adjacencyVerdict, facesVerdict, netVerdict, verdict, workAfter}
+use Rattle.verdict.proofs.Accepted.{never, or-both, WithinLimits, within-if, accepted-limits, at-hit, at-pass, last-pass}
+use Rattle.limits.specs.Answer.{limitsOf, FinalFaces}
+use Rattle.adjacency.specs.Chains.{CornersBelow, Tables}
+use Rattle.halfedges.specs.Tables.{MateTable}
+use Rattle.adjacency.proofs.Chains.{corners-below-le}
+use Rattle.admission.specs.declared.Answer.the-variants.{Accepted, Refused}
+use Rattle.admission.specs.Answer.{found, checked}
+use Rattle.admission.specs.Admission.{RefusedCall, AdmittedCall}
+use Rattle.admission.specs.Examine.{CheckTables, Joined, Examined}
+
+-- no vertex is isolated, so there are no more than corners
+pub joined : (l : List ℕ) (v : ℕ) → first (isolated l) v ≡ v → Joined l v
+joined l v e = record { few = go (decLt (length l) v); none = e }
+  where
+    go : Dec (length l < v) → v ≤ length l
+    go (yes h) = let k = isolated-soon l v h in absurd (omega arith)
+    go (no h) = omega arith
+
+pub tables : (l w w′ : List ℕ) (v : ℕ) → CheckTables l w → Joined l v → CornersBelow v l → length w′ ≡ length w → Tables l w′
+tables l w w′ v t j r e =
+    let b = t .room in
+    record { sides = t .sides; corners = corners-below-le v (length l) l (j .few) r; room = omega arith }
+
+-- a search that passes all found nothing
+pub all : (t : ℕ → Bool) (n i : ℕ) → i ≡ first t n → n ≤ i → first t n ≡ n
+all t n i e h = let a = first-le t n in omega arith
+
+-- ---- no faces
+pub empty-faces : (l m w : List ℕ) → length l ≡ 0 → length m ≡ 0 → Examined (facesVerdict (length m) l m) l w Accepted w
+unfolding facesVerdict adjacencyVerdict vertexVerdict
+empty-faces l m w e f = record {
+  verdict =
+      at-pass 8 (isolated l) (length m) (λ p. p) _ _ _ refl (omega arith)
+      (at-pass 9 (repeatedSide quads l) (length l) (quads .face) _ _ _ refl (omega arith)
+      (at-pass 10 (nonManifold quads l) (length m) (λ p. p) _ _ _ refl (omega arith)
+      (at-pass 11 (badValence quads l) (length m) (λ p. p) _ _ _ refl (omega arith) (last-pass 12 (markedRing quads l m) (length m) (λ p. p) _ refl (omega arith)))));
+  mated = λ z. record { mates = λ g h. absurd (omega arith) };
+  rest = refl;
+}
+
+pub lonely-vertex : (l m w : List ℕ) → length l ≡ 0 → (length m ≡ 0 → ⊥) → Examined (facesVerdict (length m) l m) l w (Refused 8 0) w
+unfolding facesVerdict
+lonely-vertex l m w e f = record {
+  verdict = at-hit 8 (isolated l) (length m) (λ p. p) _ 0 (let k = isolated-soon l (length m) (omega arith) in omega arith) (omega arith);
+  mated = λ z. never 8 0 z;
+  rest = refl;
+}
+
+-- ---- the whole call
+pub passed : {v : Verdict} (f : ℕ) → v ≡ limitsOf f → f ≡ 0 → v ≡ accepted
+passed f e z = e ∙ rw (eq-eqb f 0 z) refl
+
+module _ (k : ℕ) (m : Net) (room : Room) (w : List ℕ) where
+  abbrev call : Call
+  call = record { rounds = k; net = m; room = room }
+
+  -- refused by the limits
+  pub refused-limits : (f : ℕ) → limitsVerdict k (lengthsOf m room) ≡ limitsOf f → (f ≡ 0 → ⊥) → RefusedCall call w f 0 w
+  unfolding verdict
+  refused-limits f e n = let z : callVerdict call ≡ refused f 0 = e ∙ rw (ne-eqb f 0 n) refl in record { refuses = rw z refl; work = rw z refl }
+
+  -- past the limits
+  module _ (past : callVerdict call ≡ accepted) where
+    within : WithinLimits k (lengthsOf m room)
+    within = within-if k (lengthsOf m room) past
+
+    once : length (m .faces) / 4 ≤ finalFaces call
+    once =
+        let p : 1 ≤ 4 ^ k = one-le-pow k 4 (lit≤ tt) in
+        let g : length (m .faces) / 4 * 1 ≤ length (m .faces) / 4 * 4 ^ k = mul-le-mul-left (length (m .faces) / 4) p in
+        omega arith
+
+    pub check-tables : room .work ≡ length w → CheckTables (m .faces) w
+    check-tables e =
+        let r = within in
+        let g = once in
+        let q = r .quadrilaterals in
+        let f = r .faces in
+        let t = r .roomWork in
+        record { sides = record { fours = q; few = omega arith }; room = omega arith }
+
+    module _ (g : ℕ) (f : FinalFaces k (length (m .faces)) g) (u : List ℕ) (r : drop (4 * length (m .faces)) u ≡ drop (4 * length (m .faces)) w) where
+      final : g ≡ finalFaces call
+      final = let r = within in f .final (r .few) (r .faces)
+
+      pub room-work : room .work ≡ length w → length u ≡ length w → 16 * g ≤ length u
+      room-work e h = let r = within in let t = r .roomWork in let z = final in omega arith
+
+      rest : drop (16 * g) u ≡ drop (16 * g) w
+      rest = let o = once in let z = final in let s = within in let q = s .quadrilaterals in drop-later (4 * length (m .faces)) (16 * g) u w (omega arith) r
+
+      pub admitted-net : accepted ≡ netVerdict m → MateTable (m .faces) u → AdmittedCall call g u × (drop (16 * g) u ≡ drop (16 * g) w)
+      unfolding verdict
+      admitted-net n t = (record { accepts = rw past (sym n); final = final; mated = t }, rest)
+
+      pub refused-net : (number place : ℕ) (w′ : List ℕ) → refused number place ≡ netVerdict m → w′ ≡ cleared (16 * g) u → RefusedCall call w number place w′
+      unfolding verdict
+      refused-net number place w′ n c = record {
+        refuses = rw past (sym n);
+        work = rw past (c ∙ cleared-over (16 * g) w u rest ∙ ap (λ (x : ℕ). cleared (16 * x) w) final);
+      }
+
+-- ---- an admitted call
+module _ (c : Call) (g : ℕ) (w : List ℕ) (a : AdmittedCall c g w) where
+  pub admitted-within : WithinLimits (c .rounds) (lengthsOf (c .net) (c .room))
+  admitted-within = accepted-limits c (a .accepts)
+
+  pub admitted-faces : g ≤ 262144
+  admitted-faces = let l = admitted-within in let b = l .final in let e = a .final in omega arith
+
+  pub admitted-room : 16 * g ≤ c .room .work
+  admitted-room = let l = admitted-within in let b = l .roomWork in let e = a .final in omega arith
+
+  -- the work table, once cleared
+  pub admitted-cleared : (w₀ w′ : List ℕ) → drop (16 * g) w ≡ drop (16 * g) w₀ → w′ ≡ cleared (16 * g) w → w′ ≡ workAfter c w₀
+  unfolding verdict
+  admitted-cleared w₀ w′ r h =
+      let e = a .accepts in
+      let p : callVerdict c ≡ accepted = or-both (callVerdict c) (netVerdict (c .net)) e .0 in
+      rw p (h ∙ cleared-over (16 * g) w₀ w r ∙ ap (λ (x : ℕ). cleared (16 * x) w₀) (a .final))
+
+  pub checked-admitted : (w₀ w′ : List ℕ) → drop (16 * g) w ≡ drop (16 * g) w₀ → w′ ≡ cleared (16 * g) w → found accepted w′ ≡ checked c w₀
+  unfolding checked
+  checked-admitted w₀ w′ r h = λ i. found (sym (a .accepts) i) (admitted-cleared w₀ w′ r h i)
+
+pub checked-refused : (c : Call) (w w′ : List ℕ) (number place : ℕ) → RefusedCall c w number place w′ → found (refused number place) w′ ≡ checked c w
+unfolding checked
+checked-refused c w w′ number place a = λ i. found (sym (a .refuses) i) (a .work i)
