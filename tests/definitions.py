@@ -34,13 +34,13 @@ SHOWN = 4
 
 # ---- the definitions that facts unfold: the modules of each group, and what else it names of them
 TOPOLOGY = {"search.Search": "", "topology.Shape": "", "topology.HalfEdge": "", "topology.Boundary": ""}
-NAMED = {"tables.Net": "Net", "curve.Weights": "kobbelt"}
+NAMED = {"nets.Net": "Net", "curve.Weights": "kobbelt"}
 GROUPS = {
     "Verdict": {
         **TOPOLOGY,
         "topology.Vertex": "",
         "refusals.Refusals": "",
-        "tables.Net": "Net",
+        "nets.Net": "Net",
         "verdict.Call": "Call, Room, lengths",
         "verdict.Verdict": "Verdict, accepted, refused",
     },
@@ -48,12 +48,13 @@ GROUPS = {
         **NAMED,
         **TOPOLOGY,
         "topology.Vertex": "",
+        "topology.Quads": "",
         "lists.Tabulate": "",
         "rounding.Rounding": "",
         "fractions.Fraction": "",
         "rings.Ring": "",
         "rules.Rules": "",
-        "refinement.Refined": "",
+        "refinedfaces.Refined": "",
         "scheme.Rings": "",
         "scheme.Points": "",
         "scheme.Step": "",
@@ -64,10 +65,8 @@ GROUPS = {
         **TOPOLOGY,
         "topology.Boundary": "withSides, againstSides",
         "lists.Tabulate": "",
-        "tables.Net": "Net",
+        "nets.Net": "Net",
         "curve.Curve": "Point",
-        "scheme.Points": "",
-        "scheme.Step": "",
         "seam.Reading": "",
     },
 }
@@ -313,7 +312,7 @@ def write_chunk(folder, name, cases, uses, crates):
         for case in cases:
             facts = [fact.text for fact in case.facts if fact.group == group]
             if facts:
-                parts += (case.nets if "tables.Net" in GROUPS[group] else []) + facts
+                parts += (case.nets if "nets.Net" in GROUPS[group] else []) + facts
         (target / "proofs" / f"{group}.antt").write_text("\n".join(parts), encoding="utf-8")
     (target / "proofs" / "Lib.antt").write_text("".join(f"pub mod {group}\n" for group in groups), encoding="utf-8")
     with open(folder / "crates.txt", "a", encoding="utf-8") as file:
@@ -422,7 +421,7 @@ MUTATIONS = {
     ),
     "the last edge of a segment taken as cyclic": ("Round", "single", "scheme/specs/Points.antt", [("endOfSegment insideSegment)", "insideSegment insideSegment)")]),
     "never the second direction alone": ("Round", "annulus", "scheme/specs/Points.antt", [("secondAlone bothDirections)", "bothDirections bothDirections)")]),
-    "side i+1 for side i-1 in refined faces": ("Round", "single", "refinement/specs/Refined.antt", [("edge S l (S .prev h)", "edge S l (S .next h)")]),
+    "side i+1 for side i-1 in refined faces": ("Round", "single", "refinedfaces/specs/Refined.antt", [("edge S l (S .prev h)", "edge S l (S .next h)")]),
     "a fan of 7 accepted": ("Verdict", "refused-11", "refusals/specs/Refusals.antt", [("(ltb 6 (valence l p))", "(ltb 7 (valence l p))")]),
     "refusal 12 before 11": (
         "Verdict",

@@ -1,38 +1,84 @@
 #!/usr/bin/env python3
-"""Holds docs/GUARANTEES.md to the tree: every specification file is listed with its line count, and every must-fail edit is named."""
+"""Holds the documents to the tree: what tools/guarantees.py makes, every name in the promises, the layers of docs/ARCHITECTURE.md, the lines of crates.txt."""
 import pathlib
 import re
+import subprocess
 import sys
 
 ROOT = pathlib.Path(__file__).resolve().parent.parent
-TEXT = (ROOT / "docs" / "GUARANTEES.md").read_text(encoding="utf-8")
+KIT = ["libc", "io", "os"]
 
 
-def specification_faults():
-    listed = dict(re.findall(r"^\| `(crates/\S+/specs/\S+\.antt)` \| (\d+) \|", TEXT, re.M))
-    for path in sorted(ROOT.glob("crates/*/specs/*.antt")):
-        if path.name == "Lib.antt":
+def read(name):
+    return (ROOT / name).read_text(encoding="utf-8")
+
+
+def crate_lines():
+    """The layers of crates.txt: for each its name and its crates, with the crates that each names."""
+    layers = []
+    for block in read("crates.txt").split("\n\n")[1:]:
+        title, *lines = block.strip().splitlines()
+        layers.append((title.removeprefix("# "), {name: under.split() for name, under in (line.split(":") for line in lines)}))
+    return layers
+
+
+def files_of(crate, endings):
+    return [path for path in sorted((ROOT / "crates" / crate).rglob("*")) if path.suffix in endings and "must-fail" not in path.parts]
+
+
+def guarantees_faults():
+    made = subprocess.run([sys.executable, str(ROOT / "tools" / "guarantees.py"), "--check"], capture_output=True, text=True)
+    if made.returncode != 0:
+        yield made.stderr.strip()
+
+
+def promise_faults():
+    """Every word between backticks in the table of promises is a name in the tree."""
+    known = set()
+    for path in ROOT.glob("crates/**/*"):
+        known.add(path.stem)
+        if path.suffix in (".antt", ".rt"):
+            known.update(re.findall(r"[^\s(){}.,;:λ«»]+", path.read_text(encoding="utf-8")))
+    promises = read("docs/GUARANTEES.md").split("## Functions that a maker can call")[1].split("## Must-fail edits")[0]
+    for word in sorted(set(re.findall(r"`([^`]+)`", promises))):
+        if (ROOT / word).exists():
             continue
-        name = str(path.relative_to(ROOT))
-        lines = len(path.read_text(encoding="utf-8").splitlines())
-        if name not in listed:
-            yield f"{name} ({lines} lines) is not listed"
-        elif int(listed[name]) != lines:
-            yield f"{name} has {lines} lines, not {listed[name]}"
-        listed.pop(name, None)
-    for name in listed:
-        yield f"{name} is listed and not there"
+        for part in re.split(r"::|/| ", word):
+            if part not in known:
+                yield f"GUARANTEES names `{word}`, and nothing in crates/ is called {part}"
 
 
-def edit_faults():
-    named = set(re.findall(r"`(\w+/\w+)`", TEXT))
-    for path in sorted(ROOT.glob("crates/*/must-fail/*.edit")):
-        name = f"{path.parent.parent.name}/{path.stem}"
-        if name not in named:
-            yield f"must-fail edit {name} is not named"
+def layer_faults():
+    rows = re.findall(r"^\| ([^|`]+) \| ((?:`\w+`(?:, )?)+) \|", read("docs/ARCHITECTURE.md").split("## Layers")[1].split("\n## ")[0], re.M)
+    told = [(title, re.findall(r"`(\w+)`", crates)) for title, crates in rows]
+    real = [(title, list(crates)) for title, crates in crate_lines()]
+    for title, crates in real:
+        if (title, crates) not in told:
+            yield f"ARCHITECTURE has no row '{title}' with {', '.join(crates)}"
+    for title, crates in told:
+        if (title, crates) not in real:
+            yield f"crates.txt has no layer '{title}' with {', '.join(crates)}"
 
 
-faults = [*specification_faults(), *edit_faults()]
+def dependency_faults():
+    """Each crate is listed with the crates that its own files name, and none of them stands later."""
+    under = {name: named for _, crates in crate_lines() for name, named in crates.items()}
+    order = list(under)
+    for place, name in enumerate(order):
+        named = set()
+        for path in files_of(name, (".antt", ".rt")):
+            text = path.read_text(encoding="utf-8")
+            named.update(re.findall(r"Rattle·(\w+)", text))
+            if path.suffix == ".rt":
+                named.update(word for word in re.findall(r"\b(\w+)::", text) if word in order + KIT)
+        named.discard(name)
+        if named != set(under[name]):
+            yield f"crates.txt: {name} names {', '.join(sorted(named ^ set(under[name])))} or does not, other than listed"
+        for later in named & set(order[place:]):
+            yield f"crates.txt: {name} stands before {later}, which it names"
+
+
+faults = [*guarantees_faults(), *promise_faults(), *layer_faults(), *dependency_faults()]
 for fault in faults:
     print(fault)
 sys.exit(1 if faults else 0)

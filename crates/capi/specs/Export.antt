@@ -4,7 +4,8 @@ use Prim.Native.Nat.{ℕ, _*_, _/_, _^_}
 use Rattle.admission.specs.Answer.{Checked}
 use Rattle.verdict.specs.Call.{Room, needed, lengths}
 use Rattle.verdict.specs.Verdict.{Verdict, accepted, refused, limitsVerdict}
-use Rattle.outcome.specs.Outcome.{Buffers, Result, refinedTo, refusedWith, Outcome}
+use Rattle.outcome.specs.Outcome.{Result, refinedTo, refusedWith, Outcome}
+use Rattle.nets.specs.Buffers.{Buffers}
 use Rattle.capi.specs.declared.Finding.{Finding}
 use Rattle.capi.specs.declared.Report.{Report}
 use Rattle.capi.specs.declared.Sizes.{Sizes}

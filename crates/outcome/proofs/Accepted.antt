@@ -14,7 +14,8 @@ use Rattle.verdict.proofs.Accepted.{accepted-limits, accepted-net}
 use Rattle.scheme.specs.Step.{steps}
 use Rattle.schemelaws.specs.Nets.{Refinable}
 use Rattle.schemelaws.proofs.Steps.{refinable-steps}
-use Rattle.outcome.specs.Outcome.{Buffers, refinedTo, Request, forRounds, Outcome, callOf, outcomeBy, outcome}
+use Rattle.outcome.specs.Outcome.{refinedTo, Request, forRounds, Outcome, callOf, outcomeBy, outcome}
+use Rattle.nets.specs.Buffers.{Buffers}
 use Rattle.outcome.specs.SharedSegment.{AcceptedFor, netBy, netAfter}
 
 -- ---- the verdict behind the result

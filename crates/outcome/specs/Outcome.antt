@@ -1,24 +1,14 @@
 -- What a refining call answers and leaves in the caller's tables, on every input.
 use mathlib.Core.List.{List}
 use Prim.Native.Nat.{ℕ}
-use lib.IntN.{ℤ}
 use lib.ListN.{length}
 use Rattle.curve.specs.Weights.{kobbelt}
 use Rattle.nets.specs.Net.{Net}
+use Rattle.nets.specs.Buffers.{Buffers, buffers}
 use Rattle.tables.specs.Tables.{filled}
 use Rattle.verdict.specs.Call.{Call, room, call, vertexCount, faceCount}
 use Rattle.verdict.specs.Verdict.{Verdict, accepted, refused, verdict, workAfter}
 use Rattle.scheme.specs.Step.{steps}
-
--- the caller's tables for the answer, as they are before the call
-pub record Buffers : Type 0 where
-  pub vertices : List ℤ
-  pub faces : List ℕ
-  pub marks : List ℕ
-  pub work : List ℕ
-
-abbrev pub buffers : List ℤ → List ℕ → List ℕ → List ℕ → Buffers
-buffers vertices faces marks work = record { vertices = vertices; faces = faces; marks = marks; work = work }
 
 -- "reports both counts", or the refusal's number and place
 pub data Result : Type 0 where

@@ -7,7 +7,8 @@ use Rattle.curve.specs.Weights.{kobbelt}
 use Rattle.curve.specs.Curve.{Kind, Point, curve}
 use Rattle.curve.specs.Near.{CloseToExact}
 use Rattle.topology.specs.Boundary.{Way}
-use Rattle.nets.specs.Net.{Net, frontNet}
+use Rattle.nets.specs.Net.{Net}
+use Rattle.nets.specs.Buffers.{front}
 use Rattle.seam.specs.Reading.{Reads}
 use Rattle.outcome.specs.Outcome.{Result, refinedTo, refusedWith, Request, forRounds, Outcome, outcome}
 
@@ -23,7 +24,7 @@ pub record AcceptedFor (a : Request) (k : ℕ) : Type 0 where
 
 -- the net at the front of the output tables, by the counts reported
 abbrev pub netBy : Result → Outcome → Net
-netBy (refinedTo v f) o = frontNet v (4 * f) (o .buffers .vertices) (o .buffers .faces) (o .buffers .marks)
+netBy (refinedTo v f) o = front v (4 * f) (o .buffers)
 netBy (refusedWith r p) o = record { vertices = []; faces = []; marks = [] }
 
 abbrev pub netAfter : Request → ℕ → Net

@@ -20,7 +20,8 @@ use Rattle.schemelaws.proofs.Steps.{step-faces, step-count, refinable-steps}
 use Rattle.tables.proofs.Laws.{filled-at}
 use Rattle.roundfaces.proofs.Round.{vertices-refined}
 use Rattle.admission.proofs.Laws.{joined}
-use Rattle.outcome.specs.Outcome.{Buffers, Result, refinedTo, refusedWith, request, Outcome, callOf, outcomeBy, outcome}
+use Rattle.outcome.specs.Outcome.{Result, refinedTo, refusedWith, request, Outcome, callOf, outcomeBy, outcome}
+use Rattle.nets.specs.Buffers.{Buffers}
 use Rattle.outcome.proofs.Accepted.{by-result, accepted-refinable}
 use Rattle.refine.specs.declared.Answer.the-variants.{Refined, Refused}
 use Rattle.refine.specs.Answer.{answered}

@@ -22,11 +22,11 @@ use Rattle.schemelaws.proofs.Steps.{step-faces, step-count, refinable-steps}
 use Rattle.refinedfaces.proofs.Corners.{length-refined}
 use Rattle.admission.specs.Admission.{RefusedCall, AdmittedCall}
 use Rattle.admission.proofs.Laws.{joined, admitted-faces, admitted-room, admitted-cleared}
-use Rattle.outcome.specs.Outcome.{Buffers, buffers, refinedTo, refusedWith, Request, request, callOf, outcome}
+use Rattle.outcome.specs.Outcome.{refinedTo, refusedWith, Request, request, callOf, outcome}
+use Rattle.nets.specs.Buffers.{Buffers, buffers, Buffers, buffers}
 use Rattle.refine.specs.declared.Answer.the-variants.{Refined, Refused}
 use Rattle.refine.specs.Answer.{answered}
 use Rattle.outcome.proofs.Accepted.{accepted-refinable}
-use Rattle.rounds.specs.Round.{Workspace, workspace}
 use Rattle.rounds.specs.Rounds.{Prepared, After}
 use Rattle.refine.specs.Run.{Ran}
 
@@ -101,7 +101,7 @@ module _ (a : Request) (last : ℕ) (ok : AdmittedCall (callOf a) last (a .buffe
         (ap (take (length (m .faces))) ef ∙ take-filled (m .faces) (o .faces) (length (m .faces)) refl)
         (ap (take (length (m .marks))) em ∙ take-filled (m .marks) (o .marks) (length (m .marks)) refl)
 
-    pub prepared : Prepared k (length (m .marks)) (length (m .faces)) (workspace vs fs ms (o .work))
+    pub prepared : Prepared k (length (m .marks)) (length (m .faces)) (buffers vs fs ms (o .work))
     prepared =
         let w = limits in
         let b = w .roomVertices in
@@ -127,8 +127,8 @@ module _ (a : Request) (last : ℕ) (ok : AdmittedCall (callOf a) last (a .buffe
           mated = rw (ap (λ (x : Net). x .faces) front-is) (ok .mated);
         }
 
-    module _ (r : ℕ) (t : Workspace) (w : List ℕ) (b : After k (length (m .marks)) (length (m .faces)) r (workspace vs fs ms (o .work)) t) (e : w ≡ cleared (16 * last) (t .work)) where
-      pub ran : Ran a (buffers (t .points) (t .faces) (t .marks) w) last r
+    module _ (r : ℕ) (t : Buffers) (w : List ℕ) (b : After k (length (m .marks)) (length (m .faces)) r (buffers vs fs ms (o .work)) t) (e : w ≡ cleared (16 * last) (t .work)) where
+      pub ran : Ran a (buffers (t .vertices) (t .faces) (t .marks) w) last r
       ran =
           let q = refinable .threes in
           let u = refinable-steps kobbelt m refinable k .threes in

@@ -1,5 +1,6 @@
 -- What the answers of a refining call mean.
-use Rattle.outcome.specs.Outcome.{Buffers, Result, refinedTo, refusedWith, Outcome}
+use Rattle.outcome.specs.Outcome.{Result, refinedTo, refusedWith, Outcome}
+use Rattle.nets.specs.Buffers.{Buffers}
 use Rattle.refine.specs.declared.Answer.{Answer}
 use Rattle.refine.specs.declared.Answer.the-variants.{Refined, Refused}
 

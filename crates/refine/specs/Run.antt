@@ -5,7 +5,8 @@ use lib.ListN.{length}
 use Rattle.curve.specs.Weights.{kobbelt}
 use Rattle.tables.specs.Tables.{filled, cleared}
 use Rattle.scheme.specs.Step.{steps}
-use Rattle.outcome.specs.Outcome.{Buffers, Request}
+use Rattle.outcome.specs.Outcome.{Request}
+use Rattle.nets.specs.Buffers.{Buffers}
 
 -- the tables after the rounds of the request a, and the final number of vertices; `last` is the final number of faces
 pub record Ran (a : Request) (o : Buffers) (last r : ℕ) : Type 0 where

@@ -3,7 +3,8 @@ use admission::Admission;
 ghost use mathlib.Core.Path.{_≡_};
 ghost use Rattle.nets.specs.Net.{net};
 ghost use Rattle.admission.specs.Admission.{AdmittedCall};
-ghost use Rattle.outcome.specs.Outcome.{buffers, request, callOf, outcome};
+ghost use Rattle.outcome.specs.Outcome.{request, callOf, outcome};
+ghost use Rattle.nets.specs.Buffers.{buffers};
 ghost use Rattle.refine.specs.Answer.{answered};
 ghost use Rattle.refine.specs.Run.{Ran};
 

@@ -30,15 +30,16 @@ use Rattle.roundmates.specs.Mates.{MatesIn}
 use Rattle.roundmates.proofs.Round.{mates-in, mated-refined, mates-rest}
 use Rattle.edgetable.specs.EdgeTable.{Round}
 use Rattle.roundpoints.specs.Passes.{Scratch}
-use Rattle.rounds.specs.Round.{Workspace, workspace, front, Current, Refines}
+use Rattle.rounds.specs.Round.{Current, Refines}
+use Rattle.nets.specs.Buffers.{Buffers, buffers, front}
 
 -- the rest of a list, by places
 drop-same : (k : ℕ) (u w : List ℕ) → length u ≡ length w → ((i : ℕ) → k ≤ i → getD u i 0 ≡ getD w i 0) → drop k u ≡ drop k w
 drop-same k u w e h = ext-getD 0 (drop k u) (drop k w) (length-drop k u ∙ ap (λ (x : ℕ). x - k) e ∙ sym (length-drop k w)) (λ i b. getD-drop k u i 0 ∙ h (k + i) (omega arith) ∙ sym (getD-drop k w i 0))
 
-module _ (v n : ℕ) (t : Workspace) (c : Current v n t) where
+module _ (v n : ℕ) (t : Buffers) (c : Current v n t) where
   abbrev points : List ℤ
-  points = t .points
+  points = t .vertices
 
   abbrev faces : List ℕ
   faces = t .faces
@@ -185,7 +186,7 @@ module _ (v n : ℕ) (t : Workspace) (c : Current v n t) where
             ∙ sym (step-marks kobbelt old ∙ ap (λ (j : ℕ). refinedMarks quads j l mk) marked)
 
         pub refines : points′ ≡ filled (step kobbelt (frontNet (length mk) (length l) points l mk) .vertices) points → faces′ ≡ filled (refined quads v l) faces
-            → marks′ ≡ filled (extended v (v + edge + n / 4) marks) marks → Refines v n (v + edge + n / 4) t (workspace points′ faces′ marks′ w₂)
+            → marks′ ≡ filled (extended v (v + edge + n / 4) marks) marks → Refines v n (v + edge + n / 4) t (buffers points′ faces′ marks′ w₂)
         refines hp hf hm =
             let e = corners in
             record {

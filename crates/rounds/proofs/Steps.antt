@@ -23,7 +23,8 @@ use Rattle.schemelaws.proofs.Growth.{steps-input}
 use Rattle.halfedges.specs.Tables.{MateTable}
 use Rattle.refinedfaces.specs.Mates.{refinedMates}
 use Rattle.roundmates.specs.Mates.{MatesIn}
-use Rattle.rounds.specs.Round.{Workspace, workspace, front, Current, Refines}
+use Rattle.rounds.specs.Round.{Current, Refines}
+use Rattle.nets.specs.Buffers.{Buffers, buffers, front}
 use Rattle.rounds.specs.Rounds.{Prepared, After}
 use Rattle.rounds.proofs.Laws.{count-le, count-is, mates-ready, mates-next, mates-past}
 
@@ -41,15 +42,15 @@ pub again : (n i c : ℕ) → c ≡ n * 4 ^ i → c * 4 ≡ n * 4 ^ (i + 1)
 again n i c e = let g = next-size n i in omega arith
 
 -- the tables with another work table
-abbrev withWork : Workspace → List ℕ → Workspace
-withWork t u = workspace (t .points) (t .faces) (t .marks) u
+abbrev withWork : Buffers → List ℕ → Buffers
+withWork t u = buffers (t .vertices) (t .faces) (t .marks) u
 
-module _ (k v n : ℕ) (t : Workspace) (ok : Prepared k v n t) where
+module _ (k v n : ℕ) (t : Buffers) (ok : Prepared k v n t) where
   abbrev m : Net
   m = front v n t
 
   abbrev points : List ℤ
-  points = t .points
+  points = t .vertices
 
   abbrev faces : List ℕ
   faces = t .faces
@@ -91,9 +92,9 @@ module _ (k v n : ℕ) (t : Workspace) (ok : Prepared k v n t) where
   unfolding steps
   mated-none = ok .mated
 
-  module _ (i r : ℕ) (t₁ : Workspace) (a : After i v n r t t₁) where
+  module _ (i r : ℕ) (t₁ : Buffers) (a : After i v n r t t₁) where
     abbrev points₁ : List ℤ
-    points₁ = t₁ .points
+    points₁ = t₁ .vertices
 
     abbrev faces₁ : List ℕ
     faces₁ = t₁ .faces
@@ -170,7 +171,7 @@ module _ (k v n : ℕ) (t : Workspace) (ok : Prepared k v n t) where
             mated = rw (ap (λ (x : Net). x .faces) front-is) g;
           }
 
-      module _ (r₂ : ℕ) (t₂ : Workspace) (e : Refines r (n * 4 ^ i) r₂ t₁ t₂) (z : length (t₂ .work) ≡ length (t₁ .work)) where
+      module _ (r₂ : ℕ) (t₂ : Buffers) (e : Refines r (n * 4 ^ i) r₂ t₁ t₂) (z : length (t₂ .work) ≡ length (t₁ .work)) where
         abbrev w₂ : List ℕ
         w₂ = t₂ .work
 

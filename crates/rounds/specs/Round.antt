@@ -1,38 +1,22 @@
 -- A round in the caller's tables.
 use mathlib.Core.Path.{_≡_}
-use mathlib.Core.List.{List}
 use Prim.Native.Nat.{ℕ, _*_, _≤_}
-use lib.IntN.{ℤ}
 use lib.ListN.{length, take, drop}
 use Rattle.curve.specs.Weights.{kobbelt}
-use Rattle.nets.specs.Net.{Net, frontNet}
+use Rattle.nets.specs.Buffers.{Buffers, front}
 use Rattle.tables.specs.Tables.{filled}
 use Rattle.scheme.specs.Step.{step}
 use Rattle.schemelaws.specs.Nets.{Refinable}
 use Rattle.integers.specs.Within.{Within}
 use Rattle.halfedges.specs.Tables.{MateTable}
 
--- the caller's tables
-pub record Workspace : Type 0 where
-  pub points : List ℤ
-  pub faces : List ℕ
-  pub marks : List ℕ
-  pub work : List ℕ
-
-abbrev pub workspace : List ℤ → List ℕ → List ℕ → List ℕ → Workspace
-workspace points faces marks work = record { points = points; faces = faces; marks = marks; work = work }
-
--- the net of v vertices and n corners at their front
-abbrev pub front : (v n : ℕ) → Workspace → Net
-front v n t = frontNet v n (t .points) (t .faces) (t .marks)
-
 -- the net at the front can be refined, its mates stand in the work table, and all tables have room for the refined net
-pub record Current (v n : ℕ) (t : Workspace) : Type 0 where
+pub record Current (v n : ℕ) (t : Buffers) : Type 0 where
   pub refinable : Refinable (front v n t)
-  pub within : Within 66276137 (take (3 * v) (t .points))
+  pub within : Within 66276137 (take (3 * v) (t .vertices))
   pub small : n ≤ 262144
   pub vertices : v ≤ n
-  pub roomPoints : 12 * n ≤ length (t .points)
+  pub roomPoints : 12 * n ≤ length (t .vertices)
   pub roomFaces : 4 * n ≤ length (t .faces)
   pub roomMarks : 4 * n ≤ length (t .marks)
   pub roomWork : 8 * n ≤ length (t .work)
@@ -40,9 +24,9 @@ pub record Current (v n : ℕ) (t : Workspace) : Type 0 where
 
 -- the tables after the round: the refined net of r vertices at their front, the mates of the net before it in the work table; past that all is as found.
 -- Open, and may differ between correct programs: what stands between the mates and place 8n of the work table
-pub record Refines (v n r : ℕ) (t t′ : Workspace) : Type 0 where
+pub record Refines (v n r : ℕ) (t t′ : Buffers) : Type 0 where
   pub count : r ≡ length (step kobbelt (front v n t) .marks)
-  pub newPoints : t′ .points ≡ filled (step kobbelt (front v n t) .vertices) (t .points)
+  pub newPoints : t′ .vertices ≡ filled (step kobbelt (front v n t) .vertices) (t .vertices)
   pub newFaces : t′ .faces ≡ filled (step kobbelt (front v n t) .faces) (t .faces)
   pub newMarks : t′ .marks ≡ filled (step kobbelt (front v n t) .marks) (t .marks)
   pub mated : MateTable (take n (t .faces)) (t′ .work)

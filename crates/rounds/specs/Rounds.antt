@@ -8,16 +8,16 @@ use Rattle.scheme.specs.Step.{steps}
 use Rattle.schemelaws.specs.Nets.{Refinable}
 use Rattle.integers.specs.Within.{Within}
 use Rattle.halfedges.specs.Tables.{MateTable}
-use Rattle.rounds.specs.Round.{Workspace, front}
+use Rattle.nets.specs.Buffers.{Buffers, front}
 
 -- the net of v vertices and n corners at the front can be refined k times, its mates stand in the work table, and all tables have room for the refined net
-pub record Prepared (k v n : ℕ) (t : Workspace) : Type 0 where
+pub record Prepared (k v n : ℕ) (t : Buffers) : Type 0 where
   pub refinable : Refinable (front v n t)
-  pub within : Within 1048576 (take (3 * v) (t .points))
+  pub within : Within 1048576 (take (3 * v) (t .vertices))
   pub few : k ≤ 6
   pub vertices : v ≤ n
   pub final : n * 4 ^ k ≤ 1048576
-  pub roomPoints : 3 * (n * 4 ^ k) ≤ length (t .points)
+  pub roomPoints : 3 * (n * 4 ^ k) ≤ length (t .vertices)
   pub roomFaces : n * 4 ^ k ≤ length (t .faces)
   pub roomMarks : n * 4 ^ k ≤ length (t .marks)
   pub roomWork : 4 * (n * 4 ^ k) ≤ length (t .work)
@@ -25,11 +25,11 @@ pub record Prepared (k v n : ℕ) (t : Workspace) : Type 0 where
 
 -- the tables after i rounds: r vertices of the refined net at their front; past that all is as found.
 -- Open, and may differ between correct programs: what stands before place 2n * 4^i of the work table
-pub record After (i v n r : ℕ) (t t′ : Workspace) : Type 0 where
+pub record After (i v n r : ℕ) (t t′ : Buffers) : Type 0 where
   pub count : r ≡ length (steps kobbelt i (front v n t) .marks)
   pub corners : n * 4 ^ i ≡ length (steps kobbelt i (front v n t) .faces)
   pub fewer : r ≤ n * 4 ^ i
-  pub newPoints : t′ .points ≡ filled (steps kobbelt i (front v n t) .vertices) (t .points)
+  pub newPoints : t′ .vertices ≡ filled (steps kobbelt i (front v n t) .vertices) (t .vertices)
   pub newFaces : t′ .faces ≡ filled (steps kobbelt i (front v n t) .faces) (t .faces)
   pub newMarks : t′ .marks ≡ filled (steps kobbelt i (front v n t) .marks) (t .marks)
   pub kept : length (t′ .work) ≡ length (t .work)

@@ -1,5 +1,6 @@
 // Rounds in the caller's tables: the net at their front is refined in place.
-ghost use Rattle.rounds.specs.Round.{workspace, Current, Refines};
+ghost use Rattle.rounds.specs.Round.{Current, Refines};
+ghost use Rattle.nets.specs.Buffers.{buffers};
 ghost use Rattle.rounds.specs.Rounds.{Prepared, After};
 
 // One round on the net of v vertices and n corners at the front of the tables; the mates stay as they are. The answer is the new number of vertices.
@@ -11,9 +12,9 @@ fn round(
     v: usize,
     n: usize,
 ) -> usize
-    requires { ⌜ Current v n (workspace (now points) (now faces) (now marks) (now work)) ⌝ }
-    ensures { λ r. ⌜ Refines v n r (workspace (now (points .entry)) (now (faces .entry)) (now (marks .entry)) (now (work .entry)))
-        (workspace (now (points .exit)) (now (faces .exit)) (now (marks .exit)) (now (work .exit))) ⌝ }
+    requires { ⌜ Current v n (buffers (now points) (now faces) (now marks) (now work)) ⌝ }
+    ensures { λ r. ⌜ Refines v n r (buffers (now (points .entry)) (now (faces .entry)) (now (marks .entry)) (now (work .entry)))
+        (buffers (now (points .exit)) (now (faces .exit)) (now (marks .exit)) (now (work .exit))) ⌝ }
 {
     let edges = roundfaces::number_edges(&faces[..n], &mut *work);
     roundpoints::new_points(&mut *points, &faces[..n], &marks[..v], &mut *work);
@@ -33,9 +34,9 @@ pub fn rounds(
     n: usize,
     k: u32,
 ) -> usize
-    requires { ⌜ Prepared k v n (workspace (now points) (now faces) (now marks) (now work)) ⌝ }
-    ensures { λ r. ⌜ After k v n r (workspace (now (points .entry)) (now (faces .entry)) (now (marks .entry)) (now (work .entry)))
-        (workspace (now (points .exit)) (now (faces .exit)) (now (marks .exit)) (now (work .exit))) ⌝ }
+    requires { ⌜ Prepared k v n (buffers (now points) (now faces) (now marks) (now work)) ⌝ }
+    ensures { λ r. ⌜ After k v n r (buffers (now (points .entry)) (now (faces .entry)) (now (marks .entry)) (now (work .entry)))
+        (buffers (now (points .exit)) (now (faces .exit)) (now (marks .exit)) (now (work .exit))) ⌝ }
 {
     let mut count = v;
     let mut corners = n;

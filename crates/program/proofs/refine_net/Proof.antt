@@ -5,7 +5,7 @@ use native.Mathlib.Omega.{arith}
 use lib.IntN.{pos}
 use lib.ListN.{length, replicate, length-replicate}
 use Rattle.nets.specs.Net.{Net}
-use Rattle.outcome.specs.Outcome.{Buffers, buffers}
+use Rattle.nets.specs.Buffers.{Buffers, buffers}
 use Rattle.refine.specs.declared.Answer.{Answer}
 use Rattle.refine.specs.Answer.{answered}
 use Rattle.printing.proofs.Writing.{every-answer-fits}

@@ -5,7 +5,8 @@ use Prim.Native.Nat.{ℕ}
 use Rattle.nets.specs.Net.{net}
 use Rattle.admission.specs.declared.Admission.{Admission}
 use Rattle.admission.specs.Admission.{Admits}
-use Rattle.outcome.specs.Outcome.{Buffers, buffers, Request, request, callOf}
+use Rattle.outcome.specs.Outcome.{Request, request, callOf}
+use Rattle.nets.specs.Buffers.{Buffers, buffers}
 use Rattle.refine.proofs.Laws.{admitted-work, refined-outcome, refused-outcome}
 use borrow.Author.Needs.{needs}
 use Rattle.refine.proofs.refine.Statement.{statement}

@@ -1,8 +1,8 @@
 -- `refine::run` meets its contract: copies, rounds, clearing. Assumes nothing.
 use native.Mathlib.Omega.{arith}
 use Rattle.nets.specs.Net.{net}
-use Rattle.outcome.specs.Outcome.{buffers, Request, request}
-use Rattle.rounds.specs.Round.{Workspace, workspace}
+use Rattle.outcome.specs.Outcome.{Request, request}
+use Rattle.nets.specs.Buffers.{buffers, Buffers, buffers}
 use Rattle.refine.proofs.Laws.{room-vertices, room-faces, room-marks, room-work, last-le, prepared, ran}
 use borrow.Author.Needs.{needs}
 use Rattle.refine.proofs.run.Statement.{statement}
@@ -26,8 +26,8 @@ corners z = z .before .before .before .before
 abbrev copied : tie.After-rounds → tie.After-copy-u8
 copied t = t .before .before .before .before .before .before .before
 
-abbrev left : tie.After-rounds → Workspace
-left t = let o = t .rounds .last in workspace (o .0) (o .1 .0) (o .1 .1 .0) (o .1 .1 .1 .0)
+abbrev left : tie.After-rounds → Buffers
+left t = let o = t .rounds .last in buffers (o .0) (o .1 .0) (o .1 .1 .0) (o .1 .1 .1 .0)
 
 abbrev begun : tie.After-rounds → tie.Start
 begun t = start (points (corners (copied t)))

@@ -2,14 +2,14 @@
 use mathlib.Core.Path.{sym, subst}
 use Prim.Native.Nat.{ℕ, _+_, _*_, _/_, _≤_}
 use native.Mathlib.Omega.{arith}
-use Rattle.rounds.specs.Round.{Workspace, workspace}
+use Rattle.nets.specs.Buffers.{Buffers, buffers}
 use Rattle.rounds.proofs.Laws.{corners, marked, mated, count-le, ready, net-ready, refines}
 use borrow.Author.Needs.{needs}
 use Rattle.rounds.proofs.round.Statement.{statement}
 use Rattle.rounds.proofs.round.Tie as tie
 
-abbrev tables : tie.Start → Workspace
-tables s = workspace (s .args .points .now) (s .args .faces .now) (s .args .marks .now) (s .args .work .now)
+abbrev tables : tie.Start → Buffers
+tables s = buffers (s .args .points .now) (s .args .faces .now) (s .args .marks .now) (s .args .work .now)
 
 -- after the edges are numbered, and after the new points
 abbrev start : tie.After-number-edges → tie.Start

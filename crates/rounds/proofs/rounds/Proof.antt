@@ -6,7 +6,8 @@ use Rattle.halfedges.specs.Tables.{MateTable}
 use Rattle.curve.specs.Weights.{kobbelt}
 use Rattle.scheme.specs.Step.{steps}
 use Rattle.nets.specs.Net.{frontNet}
-use Rattle.rounds.specs.Round.{Workspace, workspace, Current, Refines}
+use Rattle.rounds.specs.Round.{Current, Refines}
+use Rattle.nets.specs.Buffers.{Buffers, buffers}
 use Rattle.rounds.specs.Rounds.{After}
 use Rattle.rounds.proofs.Steps.{again, after-none, mated-none, kept-points, kept-faces, kept-marks, current, after-next, ready-mates, after-mates, mated-next}
 use Rattle.rounds.proofs.rounds.Statement.{statement}
@@ -14,21 +15,21 @@ use Rattle.rounds.proofs.rounds.Tie as tie
 
 abbrev Inv-loop : tie.InvT-loop
 Inv-loop points₀ faces₀ marks₀ work₀ v n k count₀ corners₀ i₀ points faces marks work count corners i =
-    (i ≤ k) × (corners ≡ n * 4 ^ i) × After i v n count (workspace points₀ faces₀ marks₀ work₀) (workspace points faces marks work)
+    (i ≤ k) × (corners ≡ n * 4 ^ i) × After i v n count (buffers points₀ faces₀ marks₀ work₀) (buffers points faces marks work)
     × MateTable (steps kobbelt i (frontNet v n points₀ faces₀ marks₀) .faces) work
 
 abbrev μ-loop : tie.MeasureT-loop
 μ-loop points₀ faces₀ marks₀ work₀ v n k count₀ corners₀ i₀ points faces marks work count corners i = k - i
 
-abbrev tables : tie.Start Inv-loop μ-loop → Workspace
-tables s = workspace (s .args .points .now) (s .args .faces .now) (s .args .marks .now) (s .args .work .now)
+abbrev tables : tie.Start Inv-loop μ-loop → Buffers
+tables s = buffers (s .args .points .now) (s .args .faces .now) (s .args .marks .now) (s .args .work .now)
 
 -- before a round
 abbrev start : tie.At-loop Inv-loop μ-loop → tie.Start Inv-loop μ-loop
 start x = x .before .before .before .before
 
-abbrev held : tie.At-loop Inv-loop μ-loop → Workspace
-held x = workspace (x .loop .points) (x .loop .faces) (x .loop .marks) (x .loop .work)
+abbrev held : tie.At-loop Inv-loop μ-loop → Buffers
+held x = buffers (x .loop .points) (x .loop .faces) (x .loop .marks) (x .loop .work)
 
 open-round : (y : tie.In-loop Inv-loop μ-loop)
     → (let x = y .before in Current (x .loop .count) (start x .args .n * 4 ^ x .loop .i) (held x))
@@ -45,8 +46,8 @@ turn z = z .before .before .before .before .before
 abbrev top : tie.After-round Inv-loop μ-loop → tie.At-loop Inv-loop μ-loop
 top z = turn z .before
 
-abbrev made : tie.After-round Inv-loop μ-loop → Workspace
-made z = let o = z .round .last in workspace (o .0) (o .1 .0) (o .1 .1 .0) (o .1 .1 .1 .0)
+abbrev made : tie.After-round Inv-loop μ-loop → Buffers
+made z = let o = z .round .last in buffers (o .0) (o .1 .0) (o .1 .1 .0) (o .1 .1 .1 .0)
 
 refined : (z : tie.After-round Inv-loop μ-loop)
     → (let x = top z in Refines (x .loop .count) (start x .args .n * 4 ^ x .loop .i) (z .round .result) (held x) (made z))
