@@ -1,14 +1,15 @@
 -- What the reader hands on, and the program's answer to it. Assumes nothing.
-use mathlib.Core.Path.{_≡_, refl, sym, ap, ap₂, _∙_, subst}
+use mathlib.Core.Path.{_≡_, refl, ap, ap₂, _∙_}
 use mathlib.Core.Bool.{Bool, true, false, cond}
 use mathlib.Core.List.{List, []}
-use Prim.Native.Nat.{ℕ, _*_, _≤_}
+use Prim.Native.Nat.{ℕ, _*_}
 use native.Mathlib.Omega.{arith}
 use lib.Dec.{ltb}
 use lib.IntN.{ℤ}
 use lib.ListN.{length, take}
 use Rattle.curve.specs.Weights.{kobbelt}
-use Rattle.nets.specs.Net as tables
+use Rattle.nets.specs.Net as nets
+use Rattle.nets.specs.Net.{frontNet}
 use Rattle.tables.proofs.Laws.{take-filled}
 use Rattle.verdict.specs.Call.{lengthsOf}
 use Rattle.verdict.specs.Verdict.{Verdict, accepted, refused, orElse, limitsVerdict, netVerdict}
@@ -22,15 +23,11 @@ use Rattle.reading.proofs.Storing.{length-coordinates, length-marks, length-cor
 use Rattle.reading.proofs.Limits.{Served, passed-served}
 use Rattle.program.specs.Answer.{answerBy, answerTo, programText}
 
--- the front of three tables
-abbrev pub front : ℕ → ℕ → List ℤ → List ℕ → List ℕ → tables.Net
-front v f vs fs ms = record { vertices = take (3 * v) vs; faces = take (4 * f) fs; marks = take v ms }
-
 -- tables with a net of k rounds at their front, whose counts pass and whose answer is `answer`
 pub record Handed (k v f : ℕ) (vs : List ℤ) (fs ms : List ℕ) (answer : List ℕ) : Type 0 where
   pub served : Served v f
-  pub limits : limitsVerdict k (lengthsOf (front v f vs fs ms) programRoom) ≡ accepted
-  pub text : answerBy (netVerdict (front v f vs fs ms)) (steps kobbelt k (front v f vs fs ms)) ≡ answer
+  pub limits : limitsVerdict k (lengthsOf (frontNet v (4 * f) vs fs ms) programRoom) ≡ accepted
+  pub text : answerBy (netVerdict (frontNet v (4 * f) vs fs ms)) (steps kobbelt k (frontNet v (4 * f) vs fs ms)) ≡ answer
 
 -- ---- what an answer says
 abbrev firstNumber : Answer → ℕ
@@ -67,14 +64,14 @@ module _ (zv : List ℤ) (zf zm : List ℕ) where
         let tv : take (3 * v) vs ≡ coordinates (n .vertices) = ap (λ (x : Loaded). take (3 * v) (x .vertices)) e ∙ take-filled (coordinates (n .vertices)) zv (3 * v) (omega arith) in
         let tf : take (4 * f) fs ≡ cornersOf (n .faces) = ap (λ (x : Loaded). take (4 * f) (x .faces)) e ∙ take-filled (cornersOf (n .faces)) zf (4 * f) (omega arith) in
         let tm : take v ms ≡ marksOf (n .vertices) = ap (λ (x : Loaded). take v (x .marks)) e ∙ take-filled (marksOf (n .vertices)) zm v (omega arith) in
-        let g : front v f vs fs ms ≡ tablesOf n = λ i. record { vertices = tv i; faces = tf i; marks = tm i } in
+        let g : frontNet v (4 * f) vs fs ms ≡ tablesOf n = λ i. record { vertices = tv i; faces = tf i; marks = tm i } in
         let jv : length (take (3 * v) vs) ≡ 3 * n .counts .vertices = ap length tv ∙ omega arith in
         let jf : length (take (4 * f) fs) ≡ 4 * n .counts .faces = ap length tf ∙ omega arith in
         let jm : length (take v ms) ≡ n .counts .vertices = ap length tm ∙ omega arith in
         record {
           served = rw (ev, ef) (passed-served (n .counts) a);
           limits = rw (ek, jv, jf, jm) (or-both _ _ a .0);
-          text = ap₂ (λ (j : ℕ) (m : tables.Net). answerBy (netVerdict m) (steps kobbelt j m)) ek g;
+          text = ap₂ (λ (j : ℕ) (m : nets.Net). answerBy (netVerdict m) (steps kobbelt j m)) ek g;
         }
 
     of-parsed : (q : Parsed Net) → Stated q → loaded (netRead k v f) vs fs ms ≡ ofParsed zv zf zm q → Handed k v f vs fs ms (answerTo q)

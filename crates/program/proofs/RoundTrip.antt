@@ -12,7 +12,7 @@ use Rattle.lists.specs.Tabulate.{tabulate}
 use Rattle.lists.proofs.Tabulate.{length-tabulate, tabulate-cong, tabulate-getD}
 use Rattle.search.proofs.First.{first-before}
 use Rattle.curve.specs.Weights.{kobbelt}
-use Rattle.nets.specs.Net as tables
+use Rattle.nets.specs.Net as nets
 use Rattle.tables.specs.Tables.{filled}
 use Rattle.topology.specs.HalfEdge.{from}
 use Rattle.refusals.specs.Refusals.{badMark}
@@ -89,7 +89,7 @@ mag-small (pos n) h = omega arith
 mag-small (negsuc n) h = omega arith
 
 -- ---- a net whose numbers the form can write
-module _ (k : ℕ) (few : k ≤ 2147483647) (m : tables.Net) (ok : Refinable m) (near : Within 268435456 (m .vertices)) (v : length (m .marks) ≤ 2147483647) (f : length (m .faces) ≤ 2147483647) where
+module _ (k : ℕ) (few : k ≤ 2147483647) (m : nets.Net) (ok : Refinable m) (near : Within 268435456 (m .vertices)) (v : length (m .marks) ≤ 2147483647) (f : length (m .faces) ≤ 2147483647) where
   mark-small : (i : ℕ) → i < length (m .marks) → getD (m .marks) i 0 ≤ 255
   unfolding badMark
   mark-small i h = let e = ok .no6 in let a = ltb-false 1 (getD (m .marks) i 0) (first-before (badMark (m .marks)) (length (m .marks)) i (omega arith)) in omega arith
@@ -138,7 +138,7 @@ module _ (k : ℕ) (few : k ≤ 2147483647) (m : tables.Net) (ok : Refinable m) 
     tables = tables-back;
     read = λ vs fs ms short passes.
         read-back (linesOf k m) vs fs ms net-fits short passes
-        ∙ ap (λ (n : tables.Net). loaded (netRead k (vertexCount m) (faceCount m)) (filled (n .vertices) vs) (filled (n .faces) fs) (filled (n .marks) ms)) tables-back;
+        ∙ ap (λ (n : nets.Net). loaded (netRead k (vertexCount m) (faceCount m)) (filled (n .vertices) vs) (filled (n .faces) fs) (filled (n .marks) ms)) tables-back;
   }
 
 -- ---- an accepted call

@@ -5,7 +5,7 @@ use Prim.Native.Nat.{ℕ}
 use lib.Dec.{ltb}
 use lib.ListN.{length}
 use Rattle.curve.specs.Weights.{kobbelt}
-use Rattle.nets.specs.Net as tables
+use Rattle.nets.specs.Net as nets
 use Rattle.verdict.specs.Call.{vertexCount, faceCount}
 use Rattle.verdict.specs.Verdict.{Verdict, accepted, refused, orElse, netVerdict}
 use Rattle.scheme.specs.Step.{steps}
@@ -15,12 +15,12 @@ use Rattle.reading.specs.Loaded.{tablesOf, countsVerdict}
 use Rattle.printing.specs.Tables.{tablesText}
 
 -- the refined net, or the refusal's number and place
-abbrev pub answerBy : Verdict → tables.Net → List ℕ
+abbrev pub answerBy : Verdict → nets.Net → List ℕ
 answerBy accepted m = tablesText (vertexCount m) (faceCount m) (m .vertices) (m .faces) (m .marks)
 answerBy (refused r p) m = refusalText r p
 
 -- the net n after k rounds, or refusal 5 to 12
-abbrev pub refinedText : ℕ → tables.Net → List ℕ
+abbrev pub refinedText : ℕ → nets.Net → List ℕ
 refinedText k n = answerBy (netVerdict n) (steps kobbelt k n)
 
 -- Paper 01: 13 "is tested before 1"; then 1, 3 and 4 from the counts, then 5 to 12 from the net

@@ -5,7 +5,7 @@ use Prim.Native.Nat.{ℕ, _≤_}
 use lib.IntN.{ℤ}
 use lib.ListN.{length}
 use Rattle.curve.specs.Weights.{kobbelt}
-use Rattle.nets.specs.Net as tables
+use Rattle.nets.specs.Net as nets
 use Rattle.tables.specs.Tables.{filled}
 use Rattle.verdict.specs.Call.{Call, vertexCount, faceCount}
 use Rattle.verdict.specs.Verdict.{accepted, verdict}
@@ -16,7 +16,7 @@ use Rattle.reading.specs.Loaded.{netRead, loaded, tablesOf, countsVerdict, read
 use Rattle.printing.specs.Tables.{verticesOf, facesOf}
 
 -- the lines that the program prints for the net m, with a header that states k rounds
-abbrev pub linesOf : ℕ → tables.Net → Net
+abbrev pub linesOf : ℕ → nets.Net → Net
 linesOf k m =
     record {
       counts = record { vertices = vertexCount m; faces = faceCount m; rounds = k };
@@ -24,7 +24,7 @@ linesOf k m =
       faces = facesOf (faceCount m) (m .faces);
     }
 
-pub record ReadsBack (k : ℕ) (m : tables.Net) : Type 0 where
+pub record ReadsBack (k : ℕ) (m : nets.Net) : Type 0 where
   -- the text has the form, the lines read are those written, and their tables are those of m
   pub form : parse (netText (linesOf k m)) ≡ parsed (linesOf k m) []
   pub tables : tablesOf (linesOf k m) ≡ m

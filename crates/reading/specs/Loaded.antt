@@ -5,7 +5,7 @@ use Prim.Native.Nat.{ℕ, _*_}
 use lib.Dec.{ltb}
 use lib.IntN.{ℤ}
 use lib.ListN.{length}
-use Rattle.nets.specs.Net as tables
+use Rattle.nets.specs.Net as nets
 use Rattle.tables.specs.Tables.{filled}
 use Rattle.verdict.specs.Call.{Room, needed, lengths}
 use Rattle.verdict.specs.Verdict.{Verdict, accepted, refused, orElse, refusedIf, limitsVerdict}
@@ -40,7 +40,7 @@ cornersOf [] = []
 cornersOf (f ∷ fs) = f .a ∷ f .b ∷ f .c ∷ f .d ∷ cornersOf fs
 
 -- the tables of a net that was written as lines
-abbrev pub tablesOf : Net → tables.Net
+abbrev pub tablesOf : Net → nets.Net
 tablesOf n = record { vertices = coordinates (n .vertices); faces = cornersOf (n .faces); marks = marksOf (n .vertices) }
 
 -- ---- refusals from the counts alone
