@@ -1,18 +1,16 @@
 -- Answers to short texts, computed; the program itself prints the longer ones. Assumes nothing.
 use mathlib.Core.Path.{_≡_, refl}
-use mathlib.Core.Bool.{Bool, true, _&&_}
 use mathlib.Core.List.{List, [], _∷_}
 use Prim.Native.Nat.{ℕ}
 use Prim.Native.String.{String}
-use lib.Dec.{T}
 use Rattle.lists.specs.Tabulate.{tabulate}
 use Rattle.search.specs.Search.{firstFrom, first}
 use Rattle.verdict.specs.Verdict.{limitsVerdict, tablesVerdict, sizeVerdict, roomVerdict, netVerdict, coordinatesVerdict, shapeVerdict, facesVerdict, adjacencyVerdict, vertexVerdict}
 use Rattle.scheme.specs.Step.{steps}
-use Rattle.decimal.specs.Decimal.{readDigits, readNatural, readInteger, naturalText, integerText}
+use Rattle.decimal.specs.Decimal.{readDigits, readNatural, readInteger, naturalText}
 use Rattle.text.specs.Bytes.{bytes}
 use Rattle.text.specs.Form.{readNames, coordinate, natural, readCounts, readVertex, readFace, rows, parseHead, parseBody, parse}
-use Rattle.text.specs.Text.{pairText, vertexText, faceText, texts, answerText, refusalText}
+use Rattle.text.specs.Text.{pairText, texts, answerText, refusalText}
 use Rattle.reading.specs.Loaded.{coordinates, marksOf, cornersOf, countsVerdict}
 use Rattle.printing.specs.Tables.{verticesOf, facesOf}
 use Rattle.program.specs.Answer.{programText}

@@ -1,10 +1,10 @@
 -- The refining call over the program's tables, and the text of what it gives. Assumes nothing.
-use mathlib.Core.Path.{_≡_, refl, sym, ap, ap₂, _∙_}
+use mathlib.Core.Path.{_≡_, sym, ap, ap₂, _∙_}
 use mathlib.Core.List.{List}
-use Prim.Native.Nat.{ℕ, zero, suc, _+_, _*_, _/_, _^_, _≤_, _<_}
+use Prim.Native.Nat.{ℕ, zero, suc, _+_, _*_, _/_, _^_, _≤_}
 use native.Mathlib.Omega.{arith}
 use lib.IntN.{ℤ, pos}
-use lib.ListN.{length, getD}
+use lib.ListN.{length}
 use Rattle.lists.proofs.Tabulate.{tabulate-cong}
 use Rattle.curve.specs.Weights.{kobbelt}
 use Rattle.nets.specs.Net.{Net}
@@ -12,7 +12,7 @@ use Rattle.tables.specs.Tables.{filled}
 use Rattle.topology.specs.Shape.{quads}
 use Rattle.verdict.specs.Call.{lengthsOf, Call}
 use Rattle.verdict.specs.Verdict.{Verdict, accepted, refused, limitsVerdict, netVerdict, verdict, workAfter}
-use Rattle.verdict.proofs.Accepted.{WithinLimits, within-if, accepted-net}
+use Rattle.verdict.proofs.Accepted.{within-if, accepted-net}
 use Rattle.refinedfaces.proofs.Corners.{length-refined}
 use Rattle.scheme.specs.Step.{steps}
 use Rattle.schemelaws.specs.Nets.{Refinable}
@@ -26,7 +26,6 @@ use Rattle.outcome.proofs.Accepted.{by-result, accepted-refinable}
 use Rattle.refine.specs.declared.Answer.the-variants.{Refined, Refused}
 use Rattle.refine.specs.Answer.{answered}
 use Rattle.refine.proofs.Laws.{by-faces, corners-grown}
-use Rattle.text.specs.Form.{Vertex, Face}
 use Rattle.text.specs.Text.{answerText, refusalText}
 use Rattle.reading.specs.Loaded.{programRoom}
 use Rattle.printing.specs.Lines.{Written}

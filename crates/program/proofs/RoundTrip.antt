@@ -1,9 +1,9 @@
 -- Reading what is written for a net gives that net back. Assumes nothing.
-use mathlib.Core.Path.{_≡_, refl, sym, ap, ap₂, _∙_}
+use mathlib.Core.Path.{_≡_, refl, ap, _∙_}
 use mathlib.Core.List.{List, [], _∷_}
 use Prim.Native.Nat.{ℕ, zero, suc, _+_, _*_, _/_, _^_, _≤_, _<_}
 use native.Mathlib.Omega.{arith}
-use native.Mathlib.Nat.{le-refl, le-suc, mul-le-mul-left, pow-le-pow-right}
+use native.Mathlib.Nat.{mul-le-mul-left, pow-le-pow-right}
 use lib.IntN.{ℤ, pos, negsuc, natAbs}
 use lib.Signed.{mag}
 use lib.ListN.{length, getD}
@@ -27,11 +27,10 @@ use Rattle.schemelaws.proofs.Growth.{steps-within}
 use Rattle.admission.proofs.Laws.{joined}
 use Rattle.outcome.proofs.Accepted.{accepted-refinable}
 use Rattle.refine.proofs.Laws.{by-faces, corners-grown}
-use Rattle.text.specs.Form.{Vertex, Face, Net, parsed, parse}
-use Rattle.text.specs.Text.{netText}
+use Rattle.text.specs.Form.{Vertex, Face, Net}
 use Rattle.text.specs.Written.{VertexFits, FaceFits, Each, NetFits}
 use Rattle.text.proofs.Back.{net-back}
-use Rattle.reading.specs.Loaded.{netRead, loaded, coordinates, marksOf, cornersOf, tablesOf, countsVerdict, readNet}
+use Rattle.reading.specs.Loaded.{netRead, loaded, coordinates, marksOf, cornersOf, tablesOf}
 use Rattle.reading.proofs.Back.{read-back}
 use Rattle.printing.specs.Tables.{vertexAt, faceAt, verticesOf, facesOf}
 use Rattle.program.specs.RoundTrip.{linesOf, ReadsBack, RoundTrip}

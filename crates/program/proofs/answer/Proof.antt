@@ -1,11 +1,9 @@
 -- `program::answer` meets its contract. Assumes nothing.
 use mathlib.Core.Path.{_≡_, sym, ap, _∙_}
-use Prim.Native.Nat.{_*_}
 use native.Mathlib.Omega.{arith}
 use lib.IntN.{pos}
 use lib.ListN.{replicate}
 use lib.Seq.{length-take-le}
-use mir.Val.{Fits}
 use Rattle.reading.specs.declared.Input.{Input}
 use Rattle.reading.specs.Loaded.{loaded, readNet}
 use Rattle.reading.specs.Answers.{answerOf}
