@@ -36,33 +36,17 @@ module _ (S : Shape) (v : ℕ) (l : List ℕ) (ok : Lawful S (length l)) (h : �
     pub circling-lt : g < length l
     circling-lt = let e = c .here in rw e (nexts-lt S (length l) ok (suc k) h lt)
 
-    -- one is back at h after all sides, and not before
-    before-end : (g ≡ h → ⊥) → suc k < S .sides h
-    before-end n = go (decLt (suc k) (S .sides h))
-      where
-        go : Dec (suc k < S .sides h) → suc k < S .sides h
-        go (yes b) = b
-        go (no b) = let e : suc k ≡ S .sides h = omega (arith, c .few) in absurd (n (c .here ∙ ap (λ (i : ℕ). iterate (S .next) i h) e ∙ ok .closes h lt))
-
-    at-end : g ≡ h → suc k ≡ S .sides h
-    at-end e = go (decLt (suc k) (S .sides h))
-      where
-        go : Dec (suc k < S .sides h) → suc k ≡ S .sides h
-        go (yes b) = absurd (ok .not-before h (suc k) lt (omega arith) b (sym (c .here) ∙ e))
-        go (no b) = omega (arith, c .few)
-
-    pub circling-hit : (g ≡ h → ⊥) → from l g ≡ from l h → badCorner S v l h ≡ true
+    pub circling-hit : suc k < S .sides h → from l g ≡ from l h → badCorner S v l h ≡ true
     unfolding badCorner
-    circling-hit n e =
-        let b = before-end n in
+    circling-hit b e =
         or-on (leb v (from l h)) _ (any-on (λ (k : ℕ). eqb (from l (iterate (S .next) (suc k) h)) (from l h)) (S .sides h - 1) k (omega arith)
         (eq-eqb _ _ (ap (from l) (sym (c .here)) ∙ e)))
 
-    pub circling-next : (g ≡ h → ⊥) → (from l g ≡ from l h → ⊥) → Circling S l h (S .next g) (k + 1)
+    pub circling-next : suc k < S .sides h → (from l g ≡ from l h → ⊥) → Circling S l h (S .next g) (k + 1)
     unfolding iterate
-    circling-next n d = let a = add-one k in rw a (record {
+    circling-next b d = let a = add-one k in rw a (record {
       here = ap (S .next) (c .here);
-      few = before-end n;
+      few = b;
       differ = λ j b. go j (decLt j k) b;
     })
       where
@@ -70,9 +54,8 @@ module _ (S : Shape) (v : ℕ) (l : List ℕ) (ok : Lawful S (length l)) (h : �
         go j (yes b) a = c .differ j b
         go j (no b) a = let e : j ≡ k = omega arith in λ x. d (ap (from l) (c .here) ∙ ap (λ (i : ℕ). from l (iterate (S .next) (suc i) h)) (sym e) ∙ x)
 
-    pub circling-end : g ≡ h → from l h < v → badCorner S v l h ≡ false
+    pub circling-end : suc k ≡ S .sides h → from l h < v → badCorner S v l h ≡ false
     unfolding badCorner
-    circling-end e b =
-        let z = at-end e in
+    circling-end z b =
         or-off (leb v (from l h)) _ (lt-leb v (from l h) b)
         (refuted _ (λ t. let x = any-which (λ (k : ℕ). eqb (from l (iterate (S .next) (suc k) h)) (from l h)) (S .sides h - 1) t in c .differ (x .0) (let y = x .1 in omega arith) (eqb-true _ _ (x .2))))

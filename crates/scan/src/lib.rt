@@ -94,7 +94,7 @@ pub fn first_isolated(faces: &[u32], nv: usize, work: &mut [u32]) -> usize
     first_unflagged(faces, n + 1, &*work)
 }
 
-// Whether the corner of half-edge h is not below nv, or equals another corner of its face. k counts the sides passed.
+// Whether the corner of half-edge h is not below nv, or equals another corner of its face.
 fn bad_corner(faces: &[u32], nv: usize, h: usize) -> bool
     requires { ⌜ Quadrilaterals (length (now faces)) × (h < length (now faces)) ⌝ }
     ensures { λ r. ⌜ r ≡ badCorner quads nv (now (faces .entry)) h ⌝ }
@@ -105,7 +105,7 @@ fn bad_corner(faces: &[u32], nv: usize, h: usize) -> bool
     }
     let mut g = halfedges::next_side(h);
     let mut k: usize = 0;
-    while g != h {
+    while k < 3 {
         if faces[g] == a {
             return true;
         }

@@ -1,4 +1,4 @@
--- `scan::bad_corner` meets its contract: the corners of the face are met side by side until one is back at h. Assumes nothing.
+-- `scan::bad_corner` meets its contract: the other corners of the face are met side by side. Assumes nothing.
 use mathlib.Core.Path.{sym}
 use Prim.Native.Nat.{_-_, _<_}
 use native.Mathlib.Omega.{arith}
@@ -54,11 +54,11 @@ shared-slice-read-if2 : tie.Need-shared-slice-read-if2 Inv-loop μ-loop
 shared-slice-read-if2 c = inside (c .before .before)
 
 returns-2 : tie.Need-returns-2 Inv-loop μ-loop
-unfolding from
+unfolding from quads
 returns-2 c =
     let q = c .before .before .before in
     let s = q .before .before .before .before .before in
-    sym (circling-hit quads (s .args .nv) (s .args .faces .now) (lawful s) (s .args .h) (s .pre .1) (q .loop .g) (q .loop .k) (q .loop .inv) (c .before .before .loop-test .taken) (c .if2 .taken))
+    sym (circling-hit quads (s .args .nv) (s .args .faces .now) (lawful s) (s .args .h) (s .pre .1) (q .loop .g) (q .loop .k) (q .loop .inv) (omega arith) (c .if2 .taken))
 
 next-side-requires-2 : tie.Need-next-side-requires-2 Inv-loop μ-loop
 next-side-requires-2 c κs = let b = inside (c .before .before .before) in let q = c .before .before .before .before .before .before .before .before .pre .0 .few in omega arith
@@ -72,19 +72,19 @@ unfolding quads
 loop-less c = let f = c .before .before .before .before .loop .inv .few in omega arith
 
 loop-again : tie.Need-loop-again Inv-loop μ-loop
-unfolding from
+unfolding from quads
 loop-again c =
     let q = c .before .before .before .before in
     let s = q .before .before .before .before .before in
     let e = c .next-side2 .ensures in
-    rw e (circling-next quads (s .args .nv) (s .args .faces .now) (lawful s) (s .args .h) (s .pre .1) (q .loop .g) (q .loop .k) (q .loop .inv) (c .before .before .before .loop-test .taken) (c .before .if2 .left))
+    rw e (circling-next quads (s .args .nv) (s .args .faces .now) (lawful s) (s .args .h) (s .pre .1) (q .loop .g) (q .loop .k) (q .loop .inv) (omega arith) (c .before .if2 .left))
 
 returns-3 : tie.Need-returns-3 Inv-loop μ-loop
-unfolding from
+unfolding from quads
 returns-3 c =
     let q = c .before in
     let s = q .before .before .before .before .before in
-    sym (circling-end quads (s .args .nv) (s .args .faces .now) (lawful s) (s .args .h) (s .pre .1) (q .loop .g) (q .loop .k) (q .loop .inv) (c .loop-test .left) (c .before .before .before .if1 .left))
+    sym (circling-end quads (s .args .nv) (s .args .faces .now) (lawful s) (s .args .h) (s .pre .1) (q .loop .g) (q .loop .k) (q .loop .inv) (let f = q .loop .inv .few in omega arith) (c .before .before .before .if1 .left))
 
 pub bad-corner-spec : {M : Type 1} → statement M
 bad-corner-spec =
