@@ -14,13 +14,13 @@ PAGE = ROOT / "docs" / "GUARANTEES.md"
 
 # The definitions that promises cite, in reading order. Every other file of specs/ is listed after them.
 CITED = """
-lists/Tabulate nets/Net tables/Tables search/Search
-topology/Shape topology/HalfEdge topology/Boundary topology/Vertex topology/Quads
+lists/Tabulate nets/Net nets/Buffers tables/Tables search/Search
+topology/Shape topology/HalfEdge topology/Boundary topology/Vertex topology/Quads topology/Manifold
 refusals/Refusals verdict/Call verdict/Verdict
 rounding/Rounding curve/Weights curve/Curve curve/Near fractions/Fraction rings/Ring rules/Rules
 refinedfaces/Refined scheme/Rings scheme/Points scheme/Step outcome/Outcome
 seam/Reading outcome/SharedSegment integers/Within outcome/Coordinates schemelaws/Nets schemelaws/Agreement
-admission/Answer refine/Answer capi/Export capi/Version cases/Cases
+admission/Answer admission/Admission refine/Answer capi/Export capi/Version cases/Cases
 decimal/Decimal text/Bytes text/Form text/Text text/Written reading/Loaded printing/Tables printing/Lines
 program/Answer program/RoundTrip
 """.split()
@@ -33,7 +33,12 @@ def opening_sentence(lines):
         if not line.startswith("-- "):
             break
         comment.append(line[3:])
-    return re.split(r"(?<=[^.])[.:;](?: |$)", " ".join(comment))[0].replace("|", "\\|")
+    text, depth = " ".join(comment), 0
+    for place, letter in enumerate(text):
+        depth += (letter == "(") - (letter == ")")
+        if depth == 0 and letter in ".:;" and text[place + 1 : place + 2] in ("", " ") and text[place - 1] != ".":
+            return text[:place].replace("|", "\\|")
+    return text.replace("|", "\\|")
 
 
 def rows(names):

@@ -17,8 +17,8 @@ use Rattle.topology.specs.Shape.{Shape, quads}
 use Rattle.topology.specs.HalfEdge.{from, mate}
 use Rattle.topology.specs.Vertex.{leaves}
 use Rattle.refusals.specs.Refusals.{badCorner}
-use Rattle.adjacency.specs.Chains.{chainFrom, CornersBelow, Tables, Chained, SameOutside}
-use Rattle.halfedges.specs.Tables.{MateTable}
+use Rattle.adjacency.specs.Chains.{chainFrom, CornersBelow, Tables, Chained, SameOutside, Adjacency}
+use Rattle.halfedges.specs.Tables.{MateTable, Connectivity}
 
 -- ---- the first half-edge from i on that leaves v
 
@@ -139,6 +139,10 @@ chained-drop l w w′ h e c = chained-cong l w w′ h (λ i a b. same-rest (leng
 
 pub tables-length : (l w w′ : List ℕ) → length w′ ≡ length w → Tables l w → Tables l w′
 tables-length l w w′ e t = record { sides = t .sides; corners = t .corners; room = omega (arith, t .room) }
+
+-- chains apart, corners and mates are connected
+pub connected : (l w : List ℕ) → Adjacency l w → Connectivity l w
+connected l w a = record { sides = a .tables .sides; room = omega (arith, a .tables .room); mated = a .mated }
 
 -- ---- corners in range
 

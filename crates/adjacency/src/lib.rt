@@ -95,7 +95,7 @@ pub fn boundary_from(faces: &[u32], work: &[u32], p: usize) -> usize
     let n = faces.len();
     let mut g = work[n + p] as usize;
     while g < n {
-        if work[g] as usize == n {
+        if halfedges::mate_side(faces, work, g) == n {
             return g;
         }
         g = work[2 * n + g] as usize;
@@ -143,7 +143,7 @@ pub fn meets_all(faces: &[u32], work: &[u32], h: usize, d: usize) -> bool
     let mut g = h;
     let mut k = 0;
     while k < d {
-        g = work[halfedges::prev_side(g)] as usize;
+        g = halfedges::turn_side(faces, work, g);
         k += 1;
         if g == n {
             return k == d;

@@ -32,26 +32,23 @@ edge-le S l h = let a = count-le (firstMet S l) (min h (mate S l h)) in omega ar
 
 -- ---- one half-edge
 
-module _ (l w : List ℕ) (h : ℕ) (lt : h < length l) (ok : Mated l w) (was : Numbered l w h) where
+module _ (l w : List ℕ) (h : ℕ) (lt : h < length l) (ok : Mated l w) (was : Numbered l w h) (m : ℕ) (e : m ≡ mate quads l h) where
   -- the mate comes later, or there is none
-  pub number-new : h < getD w h 0 → count (firstMet quads l) h ≡ edge quads l h
-  number-new b = let e = ok .table .mated .mates h lt in sym (edge-new quads l h (omega arith))
+  pub number-new : h < m → count (firstMet quads l) h ≡ edge quads l h
+  number-new b = sym (edge-new quads l h (omega arith))
 
-  pub counted-new : h < getD w h 0 → count (firstMet quads l) h + 1 ≡ count (firstMet quads l) (h + 1)
-  counted-new b = let e = ok .table .mated .mates h lt in rw (add-one h) (sym (count-new quads l h (omega arith)))
+  pub counted-new : h < m → count (firstMet quads l) h + 1 ≡ count (firstMet quads l) (h + 1)
+  counted-new b = rw (add-one h) (sym (count-new quads l h (omega arith)))
 
   -- the mate came before
-  pub mate-before : getD w h 0 ≤ h → getD w h 0 < h
-  mate-before b = let e = ok .table .mated .mates h lt in let n = mate-not quads (length l) l (ok .oriented) h lt in omega arith
+  mate-before : m ≤ h → m < h
+  mate-before b = let n = mate-not quads (length l) l (ok .oriented) h lt in omega arith
 
-  pub number-old : getD w h 0 ≤ h → getD w (length l + getD w h 0) 0 ≡ edge quads l h
-  number-old b =
-      let e = ok .table .mated .mates h lt in
-      let m = mate-before b in
-      was .numbers (getD w h 0) m ∙ ap (edge quads l) e ∙ sym (edge-old quads (length l) l (ok .oriented) h lt (omega arith))
+  pub number-old : m ≤ h → getD w (length l + m) 0 ≡ edge quads l h
+  number-old b = let k = mate-before b in was .numbers m k ∙ ap (edge quads l) e ∙ sym (edge-old quads (length l) l (ok .oriented) h lt (omega arith))
 
-  pub counted-old : getD w h 0 ≤ h → count (firstMet quads l) h ≡ count (firstMet quads l) (h + 1)
-  counted-old b = let e = ok .table .mated .mates h lt in rw (add-one h) (sym (count-old quads l h (omega arith)))
+  pub counted-old : m ≤ h → count (firstMet quads l) h ≡ count (firstMet quads l) (h + 1)
+  counted-old b = rw (add-one h) (sym (count-old quads l h (omega arith)))
 
 -- ---- the whole table: mates, then edge numbers
 

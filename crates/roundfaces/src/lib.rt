@@ -20,7 +20,7 @@ fn number_side(faces: &[u32], work: &mut [u32], h: usize, edges: usize) -> usize
     ensures { λ _. ⌜ now (work .exit) ≡ set (now (work .entry)) (length (now (faces .entry)) + h) (edge quads (now (faces .entry)) h) ⌝ }
 {
     let n = faces.len();
-    let mate = work[h] as usize;
+    let mate = halfedges::mate_side(faces, &*work, h);
     if h < mate {
         work[n + h] = edges as u32;
         return edges + 1;

@@ -21,7 +21,7 @@ use Rattle.nets.specs.Net.{Net, frontNet}
 use Rattle.tables.specs.Tables.{filled}
 use Rattle.nets.proofs.Laws.{same-net}
 use Rattle.topology.specs.Shape.{quads}
-use Rattle.topology.specs.HalfEdge.{mate, firstMet, edgeCount}
+use Rattle.topology.specs.HalfEdge.{firstMet, edgeCount}
 use Rattle.topology.proofs.Mates.{count-new, count-old}
 use Rattle.refinedfaces.specs.Refined.{refinedVertices}
 use Rattle.scheme.specs.Step.{step}
@@ -38,13 +38,6 @@ use Rattle.roundpoints.specs.Passes.{Turn, Turned, met, passed, Scratch}
 -- ---- one half-edge
 pub small-of : (f : ℕ → Fraction) (x y z : ℤ) → ExactPoint f x y z → Small x y z
 small-of f x y z k = record { on₀ = k .on₀ .small; on₁ = k .on₁ .small; on₂ = k .on₂ .small }
-
-module _ (l marks : List ℕ) (p : List ℤ) (w : List ℕ) (h e : ℕ) (ok : Turn l marks p w h e) where
-  pub first-met : h < getD w h 0 → h < mate quads l h
-  first-met b = let m = ok .ready .table .mated .mates h (ok .lt) in omega arith
-
-  pub met-before : getD w h 0 ≤ h → mate quads l h ≤ h
-  met-before b = let m = ok .ready .table .mated .mates h (ok .lt) in omega arith
 
 -- ---- a turn of the pass over the edges
 module _ (l marks : List ℕ) (p₀ : List ℤ) (w₀ : List ℕ) (ok : Round l marks p₀ w₀) (p : List ℤ) (w : List ℕ) (e h : ℕ) (done : Edges l marks p₀ w₀ p w e)

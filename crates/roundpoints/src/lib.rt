@@ -20,7 +20,7 @@ fn edge_side(
 {
     let n = faces.len();
     let v = marks.len();
-    let mate = work[h] as usize;
+    let mate = halfedges::mate_side(faces, &*work, h);
     if h < mate {
         let end = 3 * v;
         let e = edgepoints::edge_point(&points[..end], faces, marks, &*work, h);

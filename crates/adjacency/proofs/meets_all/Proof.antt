@@ -3,7 +3,7 @@ use Prim.Native.Nat.{ℕ, _-_, _≤_}
 use mathlib.Core.Path.{sym, ap}
 use native.Mathlib.Omega.{arith}
 use lib.Dec.{eqb}
-use Rattle.topology.specs.Shape.{quads}
+use Rattle.adjacency.proofs.Chains.{connected}
 use Rattle.adjacency.proofs.Turning.{Turned, turned-start, turned-next, met-none, met-back, met-more}
 use Rattle.adjacency.proofs.meets_all.Statement.{statement}
 use Rattle.adjacency.proofs.meets_all.Tie as tie
@@ -17,34 +17,37 @@ abbrev μ-loop : tie.MeasureT-loop
 loop-holds : tie.Need-loop-holds Inv-loop μ-loop
 loop-holds c = (omega arith, turned-start _ _ (c .before .before .pre .1 .0))
 
-prev-side-requires : tie.Need-prev-side-requires Inv-loop μ-loop
-prev-side-requires c κs = omega arith
-
-mul-g : tie.Need-mul-g Inv-loop μ-loop
-unfolding quads
-mul-g c = omega arith
-
-shared-slice-read-g : tie.Need-shared-slice-read-g Inv-loop μ-loop
-unfolding quads
-shared-slice-read-g c = omega arith
-
-cast-g : tie.Need-cast-g Inv-loop μ-loop
-cast-g c = omega (arith, c .shared-slice-known3 .given (c .before .prev-side .result))
+turn-side-requires : tie.Need-turn-side-requires Inv-loop μ-loop
+turn-side-requires c κs =
+    let q = c .before in
+    let s = q .before .before .before in
+    (connected (s .args .faces .now) (s .args .work .now) (s .pre .0), q .loop .inv .1 .inside)
 
 add-k : tie.Need-add-k Inv-loop μ-loop
 add-k c = omega arith
 
 returns : tie.Need-returns Inv-loop μ-loop
-returns c = ap (λ (m : ℕ). eqb m (c .before .before .before .before .before .before .before .args .d)) (met-none _ _ _ _ _ _ (c .before .before .before .before .before .before .before .pre .0) (c .before .before .before .before .loop .inv .1) (c .before .before .prev-side .ensures) (omega arith) (c .if1 .taken))
+returns c =
+    let x = c .before in
+    let q = x .before .before in
+    let s = q .before .before .before in
+    ap (λ (m : ℕ). eqb m (s .args .d)) (met-none _ _ _ _ _ (q .loop .inv .1) (x .turn-side .ensures) (omega arith) (c .if1 .taken))
 
 returns-2 : tie.Need-returns-2 Inv-loop μ-loop
-returns-2 c = ap (λ (m : ℕ). eqb m (c .before .before .before .before .before .before .before .before .args .d)) (met-back _ _ _ _ _ _ (c .before .before .before .before .before .before .before .before .pre .0) (c .before .before .before .before .before .loop .inv .1) (c .before .before .before .prev-side .ensures) (omega arith) (c .if2 .taken))
+returns-2 c =
+    let x = c .before .before in
+    let q = x .before .before in
+    let s = q .before .before .before in
+    ap (λ (m : ℕ). eqb m (s .args .d)) (met-back _ _ _ _ _ (q .loop .inv .1) (x .turn-side .ensures) (omega arith) (c .if2 .taken))
 
 loop-less : tie.Need-loop-less Inv-loop μ-loop
 loop-less c = omega arith
 
 loop-again : tie.Need-loop-again Inv-loop μ-loop
-loop-again c = (omega arith, turned-next _ _ _ _ _ _ (c .before .before .before .before .before .before .before .before .pre .0) (c .before .before .before .before .before .loop .inv .1) (c .before .before .before .prev-side .ensures) (c .before .if1 .left) (c .if2 .left))
+loop-again c =
+    let x = c .before .before in
+    let q = x .before .before in
+    (omega arith, turned-next _ _ _ _ _ (q .loop .inv .1) (x .turn-side .ensures) (c .before .if1 .left) (c .if2 .left))
 
 returns-3 : tie.Need-returns-3 Inv-loop μ-loop
 returns-3 c = sym (met-more _ _ _ _ _ (c .before .loop .inv .1) (c .loop-test .left) (omega arith))
@@ -56,10 +59,7 @@ meets-all-spec =
     Inv-loop
     μ-loop
     loop-holds
-    prev-side-requires
-    mul-g
-    shared-slice-read-g
-    cast-g
+    turn-side-requires
     add-k
     returns
     returns-2

@@ -11,17 +11,11 @@ use Rattle.roundfaces.proofs.Edges.{number-new, counted-new, number-old
 use Rattle.roundfaces.proofs.number_side.Statement.{statement}
 use Rattle.roundfaces.proofs.number_side.Tie as tie
 
-mul-mate : tie.Need-mul-mate
-mul-mate c = search needs
-
-slice-read-mate : tie.Need-slice-read-mate
-slice-read-mate c = search needs
-
-cast-mate : tie.Need-cast-mate
-cast-mate c = omega (arith, c .slice-known .given (c .before .args .h))
+mate-side-requires : tie.Need-mate-side-requires
+mate-side-requires c κs = let s = c .before .before .before in (s .pre .0 .table, s .pre .1 .1 .0)
 
 cast-work : tie.Need-cast-work
-cast-work c = let s = c .before .before in omega (arith, count-le (firstMet quads (s .args .faces .now)) (s .args .h))
+cast-work c = let s = c .before .before .before .before .before in omega (arith, count-le (firstMet quads (s .args .faces .now)) (s .args .h))
 
 add-work : tie.Need-add-work
 add-work c = search needs
@@ -33,20 +27,22 @@ slice-write-work : tie.Need-slice-write-work
 slice-write-work c = search needs
 
 add-result : tie.Need-add-result
-add-result c = let s = c .before .before in omega (arith, count-le (firstMet quads (s .args .faces .now)) (s .args .h))
+add-result c = let s = c .before .before .before .before .before in omega (arith, count-le (firstMet quads (s .args .faces .now)) (s .args .h))
 
 same-length : tie.Need-same-length
 same-length c = search needs
 
 returns : tie.Need-returns
 returns c =
-    let s = c .before .before in
+    let x = c .before in
+    let s = x .before .before .before .before in
     let l = s .args .faces .now in
     let w = s .args .work .now in
     let p = s .pre .1 .1 in
+    let e = x .mate-side .ensures in
     let b = c .if1 .taken in (
-      ap (λ (n : ℕ). n + 1) (p .1) ∙ counted-new l w (s .args .h) (p .0) (s .pre .0) (s .pre .1 .0) b,
-      ap (set w (length l + s .args .h)) (p .1 ∙ number-new l w (s .args .h) (p .0) (s .pre .0) (s .pre .1 .0) b),
+      ap (λ (n : ℕ). n + 1) (p .1) ∙ counted-new l w (s .args .h) (p .0) (s .pre .0) (s .pre .1 .0) _ e b,
+      ap (set w (length l + s .args .h)) (p .1 ∙ number-new l w (s .args .h) (p .0) (s .pre .0) (s .pre .1 .0) _ e b),
     )
 
 add-work-2 : tie.Need-add-work-2
@@ -72,22 +68,22 @@ same-length-2 c = search needs
 
 returns-2 : tie.Need-returns-2
 returns-2 c =
-    let s = c .before .before .before in
+    let x = c .before .before in
+    let s = x .before .before .before .before in
     let l = s .args .faces .now in
     let w = s .args .work .now in
     let p = s .pre .1 .1 in
+    let e = x .mate-side .ensures in
     let b = c .before .if1 .left in (
-      p .1 ∙ counted-old l w (s .args .h) (p .0) (s .pre .0) (s .pre .1 .0) b,
-      ap (set w (length l + s .args .h)) (number-old l w (s .args .h) (p .0) (s .pre .0) (s .pre .1 .0) b),
+      p .1 ∙ counted-old l w (s .args .h) (p .0) (s .pre .0) (s .pre .1 .0) _ e b,
+      ap (set w (length l + s .args .h)) (number-old l w (s .args .h) (p .0) (s .pre .0) (s .pre .1 .0) _ e b),
     )
 
 pub number-side-spec : {M : Type 1} → statement M
 number-side-spec =
     tie.close
     (tie.spec
-    mul-mate
-    slice-read-mate
-    cast-mate
+    mate-side-requires
     cast-work
     add-work
     mul-work

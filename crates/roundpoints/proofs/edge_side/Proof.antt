@@ -8,24 +8,16 @@ use borrow.Author.Needs.{needs}
 use Rattle.topology.specs.Shape.{quads}
 use Rattle.topology.specs.HalfEdge.{mate}
 use Rattle.roundpoints.specs.Passes.{met, passed}
-use Rattle.roundpoints.proofs.Passes.{small-of, first-met, met-before}
+use Rattle.roundpoints.proofs.Passes.{small-of}
 use Rattle.roundpoints.proofs.edge_side.Statement.{statement}
 use Rattle.roundpoints.proofs.edge_side.Tie as tie
 
 -- at a half-edge below its mate the edge is met first
-first : (x : tie.Then1) → let s = x .before .before .before .before .before in s .args .h < mate quads (s .args .faces .now) (s .args .h)
-first x =
-    let s = x .before .before .before .before .before in
-    first-met (s .args .faces .now) (s .args .marks .now) (s .args .points .now) (s .args .work .now) (s .args .h) (s .args .edges) (s .pre) (x .if1 .taken)
+first : (x : tie.Then1) → let s = x .before .before .before .before .before .before in s .args .h < mate quads (s .args .faces .now) (s .args .h)
+first x = let e = x .before .mate-side .ensures in let b = x .if1 .taken in omega arith
 
-mul-mate : tie.Need-mul-mate
-mul-mate c = search needs
-
-slice-read-mate : tie.Need-slice-read-mate
-slice-read-mate c = search needs
-
-cast-mate : tie.Need-cast-mate
-cast-mate c = omega (arith, c .slice-known2 .given (c .before .before .before .before .args .h))
+mate-side-requires : tie.Need-mate-side-requires
+mate-side-requires c κs = let s = c .before .before .before .before in (s .pre .ready .table, s .pre .lt)
 
 mul-end : tie.Need-mul-end
 mul-end c = search needs
@@ -35,7 +27,7 @@ slice-reshare-prefix-edge-point c = search needs
 
 slice-aggregate-edge-point : tie.Need-slice-aggregate-edge-point
 slice-aggregate-edge-point c =
-    let s = c .before .before .before .before .before .before in
+    let s = c .before .before .before .before .before .before .before in
     sym (length-take-le (3 * length (s .args .marks .now)) (s .args .points .now) (s .pre .old))
 
 edge-point-requires : tie.Need-edge-point-requires
@@ -47,7 +39,7 @@ add-put-rounded c = search needs
 put-rounded-requires : tie.Need-put-rounded-requires
 put-rounded-requires c κs =
     let x = c .before .before .before .before in
-    let s = x .before .before .before .before .before in
+    let s = x .before .before .before .before .before .before in
     (s .pre .room (first x), small-of _ _ _ _ (c .before .edge-point .ensures))
 
 mul-put-exact : tie.Need-mul-put-exact
@@ -63,7 +55,7 @@ put-exact-requires : tie.Need-put-exact-requires
 put-exact-requires c κs =
     let e = c .before .before .before .before in
     let x = e .before .before .before in
-    let s = x .before .before .before .before .before in
+    let s = x .before .before .before .before .before .before in
     (s .pre .exact (first x), small-of _ _ _ _ (e .edge-point .ensures))
 
 add-result : tie.Need-add-result
@@ -83,19 +75,17 @@ returns c =
     let x = e .before .before .before in
     met _ _ _ (first x) refl (e .edge-point .ensures) (r .put-rounded .ensures) (w .put-exact .ensures)
 
+same-length-3 : tie.Need-same-length-3
+same-length-3 c = search needs
+
 returns-2 : tie.Need-returns-2
-returns-2 c =
-    let s = c .before .before .before .before .before in
-    let b = met-before (s .args .faces .now) (s .args .marks .now) (s .args .points .now) (s .args .work .now) (s .args .h) (s .args .edges) (s .pre) (c .if1 .left) in
-    passed b refl refl refl
+returns-2 c = let e = c .before .mate-side .ensures in let b = c .if1 .left in passed (omega arith) refl refl refl
 
 pub edge-side-spec : {M : Type 1} → statement M
 edge-side-spec =
     tie.close
     (tie.spec
-    mul-mate
-    slice-read-mate
-    cast-mate
+    mate-side-requires
     mul-end
     slice-reshare-prefix-edge-point
     slice-aggregate-edge-point
@@ -110,4 +100,5 @@ edge-side-spec =
     same-length
     same-length-2
     returns
+    same-length-3
     returns-2)
