@@ -14,7 +14,7 @@ use Rattle.rings.specs.Ring.{virtual}
 use Rattle.rules.specs.Rules.{interiorPoint, endPoint, midpoint, extrapolated, extrapolatedCorner}
 use Rattle.search.specs.Search.{firstFrom, first, any, count, iterate}
 use Rattle.topology.specs.Shape.{quads}
-use Rattle.topology.specs.HalfEdge.{from, to, opposed, mate, firstMet, edgeCount, edge}
+use Rattle.topology.specs.HalfEdge.{from, to, opposed, mate, firstMet, edgeCount, edge, edgeAt}
 use Rattle.topology.specs.Boundary.{isBoundaryFrom, isBoundaryInto, boundaryFrom, boundaryInto, along, back}
 use Rattle.topology.specs.Vertex.{leaves, valence, turn, start, stops, facesMet}
 use Rattle.refusals.specs.Refusals.{badMark, badCorner, isolated, repeatedSide, nonManifold, badValence, markedRing}
@@ -23,7 +23,7 @@ use Rattle.scheme.specs.Rings.{extrapolatedAt, fanNeighbour, fanCorner, ringVir
 use Rattle.topology.specs.Quads.{oppositeCorner, fanEnd, fanPlace, across, beyond}
 use Rattle.nets.specs.Net.{marked, axis}
 use Rattle.scheme.specs.Points.{edgeRule, edgeValue, edgePoint, direction, inner, fourInner, faceRule, faceValue, facePoint}
-use Rattle.scheme.specs.Step.{edgeAt, refinedCoordinate}
+use Rattle.scheme.specs.Step.{refinedCoordinate}
 use Rattle.cases.specs.Cases.{Case, cases, AllHold}
 
 abbrev eqList : List ℤ → List ℤ → Bool

@@ -13,7 +13,7 @@ use Rattle.nets.specs.Net.{Net, marked, axis, pointOf}
 use Rattle.curve.specs.Weights.{kobbelt}
 use Rattle.curve.specs.Curve.{Open, Closed, Point, curve}
 use Rattle.topology.specs.Shape.{quads}
-use Rattle.topology.specs.HalfEdge.{from, to, opposed, mate, firstMet, edgeCount, edge}
+use Rattle.topology.specs.HalfEdge.{from, to, opposed, mate, firstMet, edgeCount, edge, edgeAt}
 use Rattle.topology.specs.Boundary.{isBoundaryFrom, isBoundaryInto, boundaryFrom, boundaryInto, along, back, Way, withSides, againstSides}
 use Rattle.topology.specs.Vertex.{leaves, valence, turn, start, stops, facesMet}
 use Rattle.topology.proofs.Shape.{quads-lawful}
@@ -22,7 +22,7 @@ use Rattle.refusals.proofs.Manifold.{manifold-if}
 use Rattle.refinedfaces.specs.Refined.{corner, refined, refinedMarks}
 use Rattle.rules.specs.Rules.{interiorPoint, endPoint, midpoint}
 use Rattle.scheme.specs.Points.{edgeRule, edgeValue, edgePoint}
-use Rattle.scheme.specs.Step.{edgeAt, refinedCoordinate, step}
+use Rattle.scheme.specs.Step.{refinedCoordinate, step}
 use Rattle.seam.specs.Reading.{nextVertex, vertexAt, points, Reads}
 use Rattle.seam.specs.Seam.{Admissible, Seam}
 use Rattle.seam.proofs.Seam.{seam}

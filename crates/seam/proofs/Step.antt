@@ -11,14 +11,14 @@ use Rattle.curve.specs.Weights.{Weights, scale}
 use Rattle.curve.specs.Curve.{Rules, rounded, Point, each}
 use Rattle.fractions.specs.Fraction.{toWhole}
 use Rattle.topology.specs.Shape.{quads}
-use Rattle.topology.specs.HalfEdge.{from, to, edge}
+use Rattle.topology.specs.HalfEdge.{from, to, edge, edgeAt}
 use Rattle.topology.specs.Boundary.{OnBoundary, along, back}
-use Rattle.topology.proofs.Mates.{edge-lt}
+use Rattle.topology.proofs.Mates.{edge-lt, edgeAt-edge}
 use Rattle.refinedfaces.proofs.Manifold.{manifold-refined}
 use Rattle.scheme.specs.Points.{edgePoint}
-use Rattle.scheme.specs.Step.{edgeAt, step}
+use Rattle.scheme.specs.Step.{step}
 use Rattle.scheme.proofs.BoundaryEdges.{inside-rounded, start-rounded, finish-rounded, whole-rounded}
-use Rattle.schemelaws.proofs.Coordinates.{edgeAt-edge, refined-old, refined-edge-at}
+use Rattle.schemelaws.proofs.Coordinates.{refined-old, refined-edge-at}
 use Rattle.schemelaws.proofs.Steps.{step-faces, step-marks, step-count, step-axis}
 use Rattle.seam.specs.BoundaryStep.{boundaryRule, boundaryPoint, BoundaryStep}
 use Rattle.seam.specs.Seam.{Admissible}
@@ -62,8 +62,8 @@ module _ (w : Weights) (some : 0 < scale w) (m : Net) (ok : Admissible m) (h : �
       go true true s t = whole-rounded w some (m .faces) (m .marks) p h o s t
 
   -- a boundary edge is first met at its only half-edge
-  first-at : edgeAt (m .faces) (edge quads (m .faces) h) ≡ h
-  first-at = let e = edgeAt-edge (length (m .marks)) (m .faces) (ok .oriented) h (o .lt) in let k = o .lt in let n = o .none in omega arith
+  first-at : edgeAt quads (m .faces) (edge quads (m .faces) h) ≡ h
+  first-at = let e = edgeAt-edge quads (length (m .marks)) (m .faces) (ok .oriented) h (o .lt) in let k = o .lt in let n = o .none in omega arith
 
   put : (a : ℕ) → a < 3 → axis (step w m .vertices) a (length (m .marks) + edge quads (m .faces) h) ≡ boundaryPoint (rounded w) m (axis (m .vertices) a) h
   put a b =
