@@ -14,7 +14,7 @@ use borrow.Author.Tests.{ltb-false, le-ltb, eqb-true, eq-eqb, ne-eqb, not-false}
 use Rattle.search.specs.Search.{first, any, iterate}
 use Rattle.search.proofs.Tests.{or-left, or-right, or-on}
 use Rattle.search.proofs.First.{any-off, any-on, Passed, passed-all}
-use Rattle.topology.specs.Shape.{Shape, Lawful}
+use Rattle.topology.specs.Shape.{Shape, Lawful, quads}
 use Rattle.topology.proofs.Shape.{quads-lawful}
 use Rattle.polygons.specs.Polygons.{sideAfter, sideBefore, faceThen, noFace, polygons, shapeOf, total, badCount, badSides, Sided}
 use Rattle.polygons.proofs.Faces.{side-after, in-first, in-later, then-lawful, no-face-lawful}
@@ -60,6 +60,11 @@ pub shape-lawful : (s : List ℕ) (n : ℕ) → Sided s n → Lawful (shapeOf s)
 unfolding shapeOf
 shape-lawful [] n k = quads-lawful n (k .fours refl)
 shape-lawful (c ∷ s) n k = polygons-lawful (c ∷ s) n (k .counts (omega arith))
+
+pub shape-none : (s : List ℕ) → length s ≡ 0 → shapeOf s ≡ quads
+unfolding shapeOf
+shape-none [] e = refl
+shape-none (c ∷ s) e = let z : ⊥ = omega arith in absurd z
 
 pub shape-some : (s : List ℕ) → 0 < length s → shapeOf s ≡ polygons s
 unfolding shapeOf
