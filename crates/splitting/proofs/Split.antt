@@ -8,7 +8,7 @@ use native.Mathlib.Omega.{arith}
 use lib.IntN.{ℤ, pos}
 use lib.ListN.{length, getD}
 use Rattle.lists.proofs.Tabulate.{length-tabulate, getD-tabulate}
-use Rattle.topology.specs.Shape.{Shape, Lawful, quads}
+use Rattle.topology.specs.Shape.{Shape, Lawful}
 use Rattle.topology.specs.Manifold.{Manifold}
 use Rattle.polygons.specs.Polygons.{shapeOf}
 use Rattle.polygons.proofs.Counts.{shape-lawful, shape-none}
