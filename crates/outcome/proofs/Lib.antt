@@ -1,3 +1,4 @@
 pub mod Accepted
 pub mod SharedSegment
 pub mod Coordinates
+pub mod AsBefore

@@ -1,3 +1,4 @@
 pub mod Outcome
 pub mod SharedSegment
 pub mod Coordinates
+pub mod AsBefore
