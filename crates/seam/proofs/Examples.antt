@@ -59,8 +59,8 @@ below marks = record {
 }
 
 -- ---- four marks: each side is a segment of one edge
-one-edge : (m : Net) (way : Way) (u : ℕ) → boundaryFrom quads (m .faces) u < length (m .faces) → marked (m .marks) u ≡ true → marked (m .marks) (vertexAt (m .faces) way u 1) ≡ true
-    → Reads m way Open u (points m way u 2)
+one-edge : (m : Net) (way : Way) (u : ℕ) → boundaryFrom quads (m .faces) u < length (m .faces) → marked (m .marks) u ≡ true → marked (m .marks) (vertexAt quads (m .faces) way u 1) ≡ true
+    → Reads m way Open u (points quads m way u 2)
 one-edge m way u b s e = record {
   boundary = b;
   starts = s;
@@ -92,7 +92,7 @@ one-mark = record {
   list = refl;
 }
   where
-    between : (i : ℕ) → 0 < i → i < 4 → marked (1 ∷ 0 ∷ 0 ∷ 0 ∷ []) (vertexAt (0 ∷ 1 ∷ 2 ∷ 3 ∷ []) withSides 0 i) ≡ false
+    between : (i : ℕ) → 0 < i → i < 4 → marked (1 ∷ 0 ∷ 0 ∷ 0 ∷ []) (vertexAt quads (0 ∷ 1 ∷ 2 ∷ 3 ∷ []) withSides 0 i) ≡ false
     between zero a b = absurd (omega arith)
     between (suc zero) a b = refl
     between (suc (suc zero)) a b = refl
@@ -104,7 +104,7 @@ no-marks : Reads (square (0 ∷ 0 ∷ 0 ∷ 0 ∷ [])) againstSides Closed 2 (c�
 unfolding tabulate firstFrom first iterate quads from to opposed mate isBoundaryFrom isBoundaryInto boundaryFrom boundaryInto marked axis pointOf nextVertex vertexAt points
 no-marks = record {
   boundary = omega arith;
-  unmarked = λ i. unmarked (vertexAt (0 ∷ 1 ∷ 2 ∷ 3 ∷ []) againstSides 2 i);
+  unmarked = λ i. unmarked (vertexAt quads (0 ∷ 1 ∷ 2 ∷ 3 ∷ []) againstSides 2 i);
   edges = 4;
   some = omega arith;
   once = once;
@@ -119,7 +119,7 @@ no-marks = record {
     unmarked (suc (suc (suc zero))) = refl
     unmarked (suc (suc (suc (suc v)))) = refl
 
-    once : (i : ℕ) → 0 < i → i < 4 → vertexAt (0 ∷ 1 ∷ 2 ∷ 3 ∷ []) againstSides 2 i ≡ 2 → ⊥
+    once : (i : ℕ) → 0 < i → i < 4 → vertexAt quads (0 ∷ 1 ∷ 2 ∷ 3 ∷ []) againstSides 2 i ≡ 2 → ⊥
     once zero a b e = absurd (omega arith)
     once (suc zero) a b e = let z : _≡_ {A = ℕ} 1 2 = e in omega arith
     once (suc (suc zero)) a b e = let z : _≡_ {A = ℕ} 0 2 = e in omega arith
@@ -127,7 +127,7 @@ no-marks = record {
     once (suc (suc (suc (suc i)))) a b e = absurd (omega arith)
 
 -- after a round, worked out on the net: the curves of the last two lists
-after-one : points (step kobbelt (square (1 ∷ 0 ∷ 0 ∷ 0 ∷ []))) withSides 0 9 ∷ points (step kobbelt (square (0 ∷ 0 ∷ 0 ∷ 0 ∷ []))) againstSides 2 8 ∷ []
+after-one : points quads (step kobbelt (square (1 ∷ 0 ∷ 0 ∷ 0 ∷ []))) withSides 0 9 ∷ points quads (step kobbelt (square (0 ∷ 0 ∷ 0 ∷ 0 ∷ []))) againstSides 2 8 ∷ []
     ≡ curve kobbelt Open 1 (c₀ ∷ c₁ ∷ c₂ ∷ c₃ ∷ c₀ ∷ []) ∷ curve kobbelt Closed 1 (c₂ ∷ c₁ ∷ c₀ ∷ c₃ ∷ []) ∷ []
 unfolding tabulate round interiorPoint endPoint midpoint firstFrom first count iterate quads from to opposed mate firstMet edgeCount edge isBoundaryFrom isBoundaryInto boundaryFrom boundaryInto along back corner refined refinedMarks marked edgeRule edgeValue edgePoint edgeAt refinedCoordinate axis step pointOf nextVertex vertexAt points curve
 after-one = refl

@@ -10,7 +10,7 @@ use Rattle.nets.specs.Net.{Net, marked, axis, pointOf}
 use Rattle.curve.specs.Weights.{Weights, scale}
 use Rattle.curve.specs.Curve.{Rules, rounded, Point, each}
 use Rattle.fractions.specs.Fraction.{toWhole}
-use Rattle.topology.specs.Shape.{quads}
+use Rattle.topology.specs.Shape.{Shape, quads}
 use Rattle.topology.specs.HalfEdge.{from, to, edge, edgeAt}
 use Rattle.topology.specs.Boundary.{OnBoundary, along, back}
 use Rattle.topology.proofs.Mates.{edge-lt, edgeAt-edge}
@@ -36,12 +36,12 @@ each-rule ℛ true false p q r s = refl
 each-rule ℛ false true p q r s = refl
 each-rule ℛ true true p q r s = refl
 
-each-point : (ℛ : Rules ℤ) (m : Net) (h : ℕ) → boundaryPoint (each ℛ) m (pointOf m) h
-    ≡ record { x = boundaryPoint ℛ m (axis (m .vertices) 0) h; y = boundaryPoint ℛ m (axis (m .vertices) 1) h; z = boundaryPoint ℛ m (axis (m .vertices) 2) h }
+each-point : (ℛ : Rules ℤ) (S : Shape) (m : Net) (h : ℕ) → boundaryPoint (each ℛ) S m (pointOf m) h
+    ≡ record { x = boundaryPoint ℛ S m (axis (m .vertices) 0) h; y = boundaryPoint ℛ S m (axis (m .vertices) 1) h; z = boundaryPoint ℛ S m (axis (m .vertices) 2) h }
 unfolding boundaryPoint pointOf
-each-point ℛ m h =
+each-point ℛ S m h =
     let l : List ℕ = m .faces in
-    each-rule ℛ (marked (m .marks) (from l h)) (marked (m .marks) (to quads l h)) (pointOf m (from l (back quads l h))) (pointOf m (from l h)) (pointOf m (to quads l h)) (pointOf m (to quads l (along quads l h)))
+    each-rule ℛ (marked (m .marks) (from l h)) (marked (m .marks) (to S l h)) (pointOf m (from l (back S l h))) (pointOf m (from l h)) (pointOf m (to S l h)) (pointOf m (to S l (along S l h)))
 
 module _ (w : Weights) (some : 0 < scale w) (m : Net) (ok : Admissible m) (h : ℕ) (o : OnBoundary quads (m .faces) h) where
   kept : (a : ℕ) → a < 3 → axis (step w m .vertices) a (from (m .faces) h) ≡ axis (m .vertices) a (from (m .faces) h)
@@ -50,7 +50,7 @@ module _ (w : Weights) (some : 0 < scale w) (m : Net) (ok : Admissible m) (h : �
       let c = ok .oriented .below h (o .lt) in
       step-axis w m a i b (omega arith) ∙ refined-old w (length (m .marks)) (m .faces) (m .marks) (axis (m .vertices) a) i c
 
-  by-marks : (p : ℕ → ℤ) → toWhole (edgePoint w (m .faces) (m .marks) p h) ≡ boundaryPoint (rounded w) m p h
+  by-marks : (p : ℕ → ℤ) → toWhole (edgePoint w (m .faces) (m .marks) p h) ≡ boundaryPoint (rounded w) quads m p h
   unfolding boundaryPoint boundaryRule
   by-marks p = go (marked (m .marks) (from (m .faces) h)) (marked (m .marks) (to quads (m .faces) h)) refl refl
     where
@@ -65,7 +65,7 @@ module _ (w : Weights) (some : 0 < scale w) (m : Net) (ok : Admissible m) (h : �
   first-at : edgeAt quads (m .faces) (edge quads (m .faces) h) ≡ h
   first-at = let e = edgeAt-edge quads (length (m .marks)) (m .faces) (ok .oriented) h (o .lt) in let k = o .lt in let n = o .none in omega arith
 
-  put : (a : ℕ) → a < 3 → axis (step w m .vertices) a (length (m .marks) + edge quads (m .faces) h) ≡ boundaryPoint (rounded w) m (axis (m .vertices) a) h
+  put : (a : ℕ) → a < 3 → axis (step w m .vertices) a (length (m .marks) + edge quads (m .faces) h) ≡ boundaryPoint (rounded w) quads m (axis (m .vertices) a) h
   put a b =
       let v : ℕ = length (m .marks) in
       let e : ℕ = edge quads (m .faces) h in
@@ -76,13 +76,13 @@ module _ (w : Weights) (some : 0 < scale w) (m : Net) (ok : Admissible m) (h : �
       ∙ ap (λ (g : ℕ). toWhole (edgePoint w (m .faces) (m .marks) p g)) first-at
       ∙ by-marks p
 
-pub step-boundary : (w : Weights) → 0 < scale w → (m : Net) → Admissible m → BoundaryStep (each (rounded w)) m (step w m)
+pub step-boundary : (w : Weights) → 0 < scale w → (m : Net) → Admissible m → BoundaryStep (each (rounded w)) quads m (step w m)
 unfolding pointOf
 step-boundary w some m ok = record {
   faces = step-faces w m;
   marks = step-marks w m;
   old = λ h o. λ t. record { x = kept w some m ok h o 0 (omega arith) t; y = kept w some m ok h o 1 (omega arith) t; z = kept w some m ok h o 2 (omega arith) t };
-  new = λ h o. (λ t. record { x = put w some m ok h o 0 (omega arith) t; y = put w some m ok h o 1 (omega arith) t; z = put w some m ok h o 2 (omega arith) t }) ∙ sym (each-point (rounded w) m h);
+  new = λ h o. (λ t. record { x = put w some m ok h o 0 (omega arith) t; y = put w some m ok h o 1 (omega arith) t; z = put w some m ok h o 2 (omega arith) t }) ∙ sym (each-point (rounded w) quads m h);
 }
 
 -- what the seam asks of a net passes from round to round
