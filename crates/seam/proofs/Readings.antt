@@ -1,6 +1,7 @@
 -- Readings: at most one of each kind and way from a vertex, on a manifold net one where 01 has one, and how long they are.
-use mathlib.Core.Path.{_≡_, refl, sym, ap, _∙_}
+use mathlib.Core.Path.{_≡_, refl, sym, subst, ap, _∙_}
 use mathlib.Core.Bool.{Bool, true, false}
+use mathlib.Core.Logic.{_↔_}
 use mathlib.Core.List.{List}
 use Prim.Native.Nat.{ℕ, zero, suc, _≤_, _<_}
 use native.Mathlib.Decide.{decLt}
@@ -32,7 +33,7 @@ same-number e f a b = go (decLt e f) (decLt f e)
     go (no h) (yes k) = absurd (b k)
     go (no h) (no k) = omega arith
 
-pub reads-one : (S : Shape) (m : Net) (way : Way) (c : Kind) (u : ℕ) (L M : List Point) → ReadsIn S m way c u L → ReadsIn S m way c u M → L ≡ M
+reads-one : (S : Shape) (m : Net) (way : Way) (c : Kind) (u : ℕ) (L M : List Point) → ReadsIn S m way c u L → ReadsIn S m way c u M → L ≡ M
 reads-one S m way Open u L M r t =
     let n : r .edges ≡ t .edges =
     same-number (r .edges) (t .edges)
@@ -43,6 +44,10 @@ reads-one S m way Closed u L M r t =
     let n : r .edges ≡ t .edges =
     same-number (r .edges) (t .edges) (λ h. t .once (r .edges) (r .some) h (r .returns)) (λ h. r .once (t .edges) (t .some) h (t .returns)) in
     cc
+
+-- one that is there is the only one
+pub reads-only : (S : Shape) (m : Net) (way : Way) (c : Kind) (u : ℕ) (L : List Point) → ReadsIn S m way c u L → (P : List Point) → ReadsIn S m way c u P ↔ (P ≡ L)
+reads-only S m way c u L r P = ((λ t. reads-one S m way c u P L t r), (λ e. subst (λ (l : List Point). ReadsIn S m way c u l) (sym e) r))
 
 -- and not of both kinds
 pub kinds-apart : (S : Shape) (m : Net) (way way′ : Way) (u : ℕ) (L M : List Point) → ReadsIn S m way Open u L → ReadsIn S m way′ Closed u M → ⊥
