@@ -2,3 +2,4 @@ pub mod Outcome
 pub mod SharedSegment
 pub mod Coordinates
 pub mod AsBefore
+pub mod SplitSegment
