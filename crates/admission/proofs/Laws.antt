@@ -1,7 +1,7 @@
 -- How the parts of the check fit together. Assumes nothing.
 use mathlib.Core.Path.{_≡_, refl, sym, ap, _∙_}
 use mathlib.Core.Bool.{Bool}
-use mathlib.Core.List.{List}
+use mathlib.Core.List.{List, [], _∷_}
 use Prim.Native.Nat.{ℕ, _*_, _/_, _^_, _≤_, _<_}
 use native.Mathlib.Nat.{one-le-pow, mul-le-mul-left}
 use native.Mathlib.Omega.{arith}
@@ -11,19 +11,22 @@ use borrow.Author.Tests.{eq-eqb, ne-eqb}
 use lib.ListN.{length, drop}
 use Rattle.search.specs.Search.{first}
 use Rattle.search.proofs.First.{first-le}
-use Rattle.topology.specs.Shape.{quads}
+use Rattle.topology.specs.Shape.{Shape}
+use Rattle.polygons.specs.Polygons.{shapeOf, Sided}
 use Rattle.refusals.specs.Refusals.{isolated, repeatedSide, nonManifold, badValence, markedRing}
 use Rattle.refusals.proofs.Places.{isolated-soon}
-use Rattle.nets.specs.Net.{Net}
+use Rattle.nets.specs.Net.{ControlNet}
 use Rattle.tables.specs.Tables.{cleared}
 use Rattle.tables.proofs.Laws.{cleared-over}
 use Rattle.lists.proofs.Parts.{drop-later}
-use Rattle.verdict.specs.Call.{Room, lengthsOf, Call, finalFaces}
+use Rattle.verdict.specs.Call.{Room, lengthsOf, Call, quadrilaterals, finalFaces}
 use Rattle.verdict.specs.Verdict.{Verdict, accepted, refused, limitsVerdict, callVerdict, vertexVerdict, adjacencyVerdict, facesVerdict, netVerdict, verdict, workAfter}
 use Rattle.verdict.proofs.Accepted.{never, or-both, WithinLimits, within-if, accepted-limits, at-hit, at-pass, last-pass}
 use Rattle.limits.specs.Answer.{limitsOf, FinalFaces}
 use Rattle.adjacency.specs.Chains.{CornersBelow, Tables}
-use Rattle.halfedges.specs.Tables.{MateTable}
+use Rattle.halfedges.specs.Tables.{MateTableOf}
+use Rattle.sidetable.specs.Table.{ShapeRoom, Shaped, ShapeBuilt}
+use Rattle.sidetable.proofs.Table.{shaped-kept}
 use Rattle.adjacency.proofs.Chains.{corners-below-le}
 use Rattle.admission.specs.declared.Answer.the-variants.{Accepted, Refused}
 use Rattle.admission.specs.Answer.{found, checked}
@@ -38,31 +41,31 @@ joined l v e = record { few = go (decLt (length l) v); none = e }
     go (yes h) = let k = isolated-soon l v h in absurd (omega arith)
     go (no h) = omega arith
 
-pub tables : (l w w′ : List ℕ) (v : ℕ) → CheckTables l w → Joined l v → CornersBelow v l → length w′ ≡ length w → Tables l w′
-tables l w w′ v t j r e =
+pub tables : (s l w w′ : List ℕ) (v : ℕ) → CheckTables s l w → Joined l v → CornersBelow v l → length w′ ≡ length w → drop (4 * length l) w′ ≡ drop (4 * length l) w → Tables s l w′
+tables s l w w′ v t j r e d =
     let b = t .room in
-    record { sides = t .sides; corners = corners-below-le v (length l) l (j .few) r; room = omega arith }
+    record { shaped = shaped-kept s (length l) w w′ e d (t .shaped); corners = corners-below-le v (length l) l (j .few) r; room = omega arith }
 
 -- a search that passes all found nothing
 pub all : (t : ℕ → Bool) (n i : ℕ) → i ≡ first t n → n ≤ i → first t n ≡ n
 all t n i e h = let a = first-le t n in omega arith
 
 -- ---- no faces
-pub empty-faces : (l m w : List ℕ) → length l ≡ 0 → length m ≡ 0 → Examined (facesVerdict (length m) l m) l w Accepted w
+pub empty-faces : (s l m w : List ℕ) → length l ≡ 0 → length m ≡ 0 → Examined (facesVerdict (shapeOf s) (length m) l m) s l w Accepted w
 unfolding facesVerdict adjacencyVerdict vertexVerdict
-empty-faces l m w e f = record {
+empty-faces s l m w e f = record {
   verdict =
       at-pass 8 (isolated l) (length m) (λ p. p) _ _ _ refl (omega arith)
-      (at-pass 9 (repeatedSide quads l) (length l) (quads .face) _ _ _ refl (omega arith)
-      (at-pass 10 (nonManifold quads l) (length m) (λ p. p) _ _ _ refl (omega arith)
-      (at-pass 11 (badValence quads l) (length m) (λ p. p) _ _ _ refl (omega arith) (last-pass 12 (markedRing quads l m) (length m) (λ p. p) _ refl (omega arith)))));
+      (at-pass 9 (repeatedSide (shapeOf s) l) (length l) (shapeOf s .face) _ _ _ refl (omega arith)
+      (at-pass 10 (nonManifold (shapeOf s) l) (length m) (λ p. p) _ _ _ refl (omega arith)
+      (at-pass 11 (badValence (shapeOf s) l) (length m) (λ p. p) _ _ _ refl (omega arith) (last-pass 12 (markedRing (shapeOf s) l m) (length m) (λ p. p) _ refl (omega arith)))));
   mated = λ z. record { mates = λ g h. absurd (omega arith) };
   rest = refl;
 }
 
-pub lonely-vertex : (l m w : List ℕ) → length l ≡ 0 → (length m ≡ 0 → ⊥) → Examined (facesVerdict (length m) l m) l w (Refused 8 0) w
+pub lonely-vertex : (s l m w : List ℕ) → length l ≡ 0 → (length m ≡ 0 → ⊥) → Examined (facesVerdict (shapeOf s) (length m) l m) s l w (Refused 8 0) w
 unfolding facesVerdict
-lonely-vertex l m w e f = record {
+lonely-vertex s l m w e f = record {
   verdict = at-hit 8 (isolated l) (length m) (λ p. p) _ 0 (let k = isolated-soon l (length m) (omega arith) in omega arith) (omega arith);
   mated = λ z. never 8 0 z;
   rest = refl;
@@ -72,59 +75,91 @@ lonely-vertex l m w e f = record {
 pub passed : {v : Verdict} (f : ℕ) → v ≡ limitsOf f → f ≡ 0 → v ≡ accepted
 passed f e z = e ∙ rw (eq-eqb f 0 z) refl
 
-module _ (k : ℕ) (m : Net) (room : Room) (w : List ℕ) where
+-- n corners against the faces where refining begins
+record Corners (s : List ℕ) (n : ℕ) : Type 0 where
+  four : n ≤ 4 * quadrilaterals s n
+  seven : 0 < length s → 7 * n ≤ 16 * quadrilaterals s n
+
+corners-of : (s : List ℕ) (n : ℕ) → Sided s n → Corners s n
+corners-of [] n k = let e = k .fours refl in record { four = omega arith; seven = λ p. let z : ⊥ = omega arith in absurd z }
+corners-of (c ∷ s) n k = record { four = omega arith; seven = λ p. omega arith }
+
+module _ (k : ℕ) (m : ControlNet) (room : Room) (w : List ℕ) where
   abbrev call : Call
   call = record { rounds = k; net = m; room = room }
 
   -- refused by the limits
-  pub refused-limits : (f : ℕ) → limitsVerdict k (lengthsOf m room) ≡ limitsOf f → (f ≡ 0 → ⊥) → RefusedCall call w f 0 w
+  pub refused-limits : (f : ℕ) → limitsVerdict k (m .sides) (lengthsOf m room) ≡ limitsOf f → (f ≡ 0 → ⊥) → RefusedCall call w f 0 w
   unfolding verdict
   refused-limits f e n = let z : callVerdict call ≡ refused f 0 = e ∙ rw (ne-eqb f 0 n) refl in record { refuses = rw z refl; work = rw z refl }
 
   -- past the limits
   module _ (past : callVerdict call ≡ accepted) where
-    within : WithinLimits k (lengthsOf m room)
-    within = within-if k (lengthsOf m room) past
+    within : WithinLimits k (m .sides) (lengthsOf m room)
+    within = within-if k (m .sides) (lengthsOf m room) past
 
-    once : length (m .faces) / 4 ≤ finalFaces call
+    corners : Corners (m .sides) (length (m .faces))
+    corners = corners-of (m .sides) (length (m .faces)) (within .sided)
+
+    once : quadrilaterals (m .sides) (length (m .faces)) ≤ finalFaces call
     once =
+        let q : ℕ = quadrilaterals (m .sides) (length (m .faces)) in
         let p : 1 ≤ 4 ^ k = one-le-pow k 4 (lit≤ tt) in
-        let g : length (m .faces) / 4 * 1 ≤ length (m .faces) / 4 * 4 ^ k = mul-le-mul-left (length (m .faces) / 4) p in
+        let g : q * 1 ≤ q * 4 ^ k = mul-le-mul-left q p in
         omega arith
 
-    pub check-tables : room .work ≡ length w → CheckTables (m .faces) w
-    check-tables e =
+    pub shape-room : room .work ≡ length w → ShapeRoom (m .sides) (length (m .faces)) w
+    shape-room e =
         let r = within in
-        let g = once in
-        let q = r .quadrilaterals in
-        let f = r .faces in
         let t = r .roomWork in
-        record { sides = record { fours = q; few = omega arith }; room = omega arith }
+        let f = r .faces in
+        let g = once in
+        let c = corners in
+        record { few = omega (arith, c .four); sided = r .sided; room = λ p. omega (arith, c .seven p) }
 
-    module _ (g : ℕ) (f : FinalFaces k (length (m .faces)) g) (u : List ℕ) (r : drop (4 * length (m .faces)) u ≡ drop (4 * length (m .faces)) w) where
-      final : g ≡ finalFaces call
-      final = let r = within in f .final (r .few) (r .faces)
+    -- w₁ is the work table with the shape, and u the one that the tests of the net leave
+    module _ (w₁ : List ℕ) (built : ShapeBuilt (m .sides) (length (m .faces)) w w₁) (kept : length w₁ ≡ length w) where
+      pub check-tables : room .work ≡ length w → CheckTables (m .sides) (m .faces) w₁
+      check-tables e =
+          let r = within in
+          let t = r .roomWork in
+          let g = once in
+          let c = corners in
+          record { shaped = built .shaped; room = omega (arith, c .four) }
 
-      pub room-work : room .work ≡ length w → length u ≡ length w → 16 * g ≤ length u
-      room-work e h = let r = within in let t = r .roomWork in let z = final in omega arith
+      module _ (g : ℕ) (f : FinalFaces k (quadrilaterals (m .sides) (length (m .faces))) g) (u : List ℕ) (r : drop (4 * length (m .faces)) u ≡ drop (4 * length (m .faces)) w₁) where
+        final : g ≡ finalFaces call
+        final = let r = within in f .final (r .few) (r .faces)
 
-      rest : drop (16 * g) u ≡ drop (16 * g) w
-      rest = let o = once in let z = final in let s = within in let q = s .quadrilaterals in drop-later (4 * length (m .faces)) (16 * g) u w (omega arith) r
+        pub room-work : room .work ≡ length w → length u ≡ length w₁ → 16 * g ≤ length u
+        room-work e h = let r = within in let t = r .roomWork in let z = final in omega arith
 
-      pub admitted-net : accepted ≡ netVerdict m → MateTable (m .faces) u → AdmittedCall call g u × (drop (16 * g) u ≡ drop (16 * g) w)
-      unfolding verdict
-      admitted-net n t = (record { accepts = rw past (sym n); final = final; mated = t }, rest)
+        -- past 16g nothing is built
+        built-rest : Dec (0 < length (m .sides)) → drop (16 * g) w₁ ≡ drop (16 * g) w
+        built-rest (yes p) = let o = once in let z = final in let c = corners in drop-later (7 * length (m .faces)) (16 * g) w₁ w (omega (arith, c .seven p)) (built .outside .rest)
+        built-rest (no p) = ap (drop (16 * g)) (built .none (omega arith))
 
-      pub refused-net : (number place : ℕ) (w′ : List ℕ) → refused number place ≡ netVerdict m → w′ ≡ cleared (16 * g) u → RefusedCall call w number place w′
-      unfolding verdict
-      refused-net number place w′ n c = record {
-        refuses = rw past (sym n);
-        work = rw past (c ∙ cleared-over (16 * g) w u rest ∙ ap (λ (x : ℕ). cleared (16 * x) w) final);
-      }
+        rest : drop (16 * g) u ≡ drop (16 * g) w
+        rest =
+            let o = once in
+            let z = final in
+            let c = corners in
+            drop-later (4 * length (m .faces)) (16 * g) u w₁ (omega (arith, c .four)) r ∙ built-rest (decLt 0 (length (m .sides)))
+
+        pub admitted-net : length u ≡ length w₁ → accepted ≡ netVerdict m → MateTableOf (shapeOf (m .sides)) (m .faces) u → AdmittedCall call g u × (drop (16 * g) u ≡ drop (16 * g) w)
+        unfolding verdict
+        admitted-net h n t = (record { accepts = rw past (sym n); final = final; mated = t; shaped = shaped-kept (m .sides) (length (m .faces)) w₁ u h r (built .shaped) }, rest)
+
+        pub refused-net : (number place : ℕ) (w′ : List ℕ) → refused number place ≡ netVerdict m → w′ ≡ cleared (16 * g) u → RefusedCall call w number place w′
+        unfolding verdict
+        refused-net number place w′ n c = record {
+          refuses = rw past (sym n);
+          work = rw past (c ∙ cleared-over (16 * g) w u rest ∙ ap (λ (x : ℕ). cleared (16 * x) w) final);
+        }
 
 -- ---- an admitted call
 module _ (c : Call) (g : ℕ) (w : List ℕ) (a : AdmittedCall c g w) where
-  pub admitted-within : WithinLimits (c .rounds) (lengthsOf (c .net) (c .room))
+  pub admitted-within : WithinLimits (c .rounds) (c .net .sides) (lengthsOf (c .net) (c .room))
   admitted-within = accepted-limits c (a .accepts)
 
   pub admitted-faces : g ≤ 262144

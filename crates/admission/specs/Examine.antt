@@ -5,14 +5,16 @@ use Prim.Native.Nat.{ℕ, _*_, _≤_}
 use lib.ListN.{length, drop}
 use Rattle.search.specs.Search.{first}
 use Rattle.refusals.specs.Refusals.{isolated}
-use Rattle.halfedges.specs.Tables.{Quadrilaterals, MateTable}
+use Rattle.polygons.specs.Polygons.{shapeOf}
+use Rattle.halfedges.specs.Tables.{MateTableOf}
+use Rattle.sidetable.specs.Table.{Shaped}
 use Rattle.verdict.specs.Verdict.{Verdict, accepted}
 use Rattle.admission.specs.declared.Answer.{Answer}
 use Rattle.admission.specs.Answer.{verdictOf}
 
--- corners l, and a work table w with room for four numbers per half-edge
-pub record CheckTables (l w : List ℕ) : Type 0 where
-  pub sides : Quadrilaterals (length l)
+-- corners l of faces with the side counts s, and a work table w with room for four numbers per half-edge, and with the shape
+pub record CheckTables (s l w : List ℕ) : Type 0 where
+  pub shaped : Shaped s (length l) w
   pub room : 4 * length l ≤ length w
 
 -- each of v vertices is in a face
@@ -22,7 +24,7 @@ pub record Joined (l : List ℕ) (v : ℕ) : Type 0 where
 
 -- the answer r means the verdict v; on acceptance the work table starts with the mates; past four numbers per half-edge it is as found.
 -- Open, and may differ between correct programs: the first 4n numbers on a refusal, those from n up to 4n on acceptance
-pub record Examined (v : Verdict) (l w : List ℕ) (r : Answer) (w′ : List ℕ) : Type 0 where
+pub record Examined (v : Verdict) (s l w : List ℕ) (r : Answer) (w′ : List ℕ) : Type 0 where
   pub verdict : verdictOf r ≡ v
-  pub mated : verdictOf r ≡ accepted → MateTable l w′
+  pub mated : verdictOf r ≡ accepted → MateTableOf (shapeOf s) l w′
   pub rest : drop (4 * length l) w′ ≡ drop (4 * length l) w

@@ -1,7 +1,8 @@
 // Admitting the net of a call, or refusing it; and the check, which only says which.
 ghost use mathlib.Core.Path.{_≡_};
 ghost use lib.ListN.{length};
-ghost use Rattle.nets.specs.Net.{net};
+ghost use Rattle.polygons.specs.Polygons.{shapeOf};
+ghost use Rattle.nets.specs.Net.{controlNet};
 ghost use Rattle.verdict.specs.Call.{room, call};
 ghost use Rattle.verdict.specs.Verdict.{vertexVerdict, adjacencyVerdict, facesVerdict, shapeVerdict, netVerdict};
 ghost use Rattle.adjacency.specs.Chains.{Tables, Adjacency, CornersBelow};
@@ -22,20 +23,20 @@ pub enum Admission {
 }
 
 // Refusals 10 to 12 of a net with its adjacency built.
-fn examine_vertices(faces: &[u32], marks: &[u8], work: &[u32]) -> Answer
-    requires { ⌜ Adjacency (now faces) (now work) ⌝ }
+fn examine_vertices(faces: &[u32], sides: &[u8], marks: &[u8], work: &[u32]) -> Answer
+    requires { ⌜ Adjacency (now sides) (now faces) (now work) ⌝ }
     requires { ⌜ Joined (now faces) (length (now marks)) ⌝ }
-    ensures { λ r. ⌜ verdictOf r ≡ vertexVerdict (length (now (marks .entry))) (now (faces .entry)) (now (marks .entry)) ⌝ }
+    ensures { λ r. ⌜ verdictOf r ≡ vertexVerdict (shapeOf (now (sides .entry))) (length (now (marks .entry))) (now (faces .entry)) (now (marks .entry)) ⌝ }
 {
-    let p = manifold::first_non_manifold(faces, marks.len(), work);
+    let p = manifold::first_non_manifold(faces, sides, marks.len(), work);
     if p < marks.len() {
         return Answer::Refused(10, p);
     }
-    let q = manifold::first_bad_valence(faces, marks.len(), work);
+    let q = manifold::first_bad_valence(faces, sides, marks.len(), work);
     if q < marks.len() {
         return Answer::Refused(11, q);
     }
-    let s = manifold::first_marked_ring(faces, marks, work);
+    let s = manifold::first_marked_ring(faces, sides, marks, work);
     if s < marks.len() {
         return Answer::Refused(12, s);
     }
@@ -43,25 +44,25 @@ fn examine_vertices(faces: &[u32], marks: &[u8], work: &[u32]) -> Answer
 }
 
 // Refusals 9 to 12 of a net whose vertices all are in faces. On acceptance the work table starts with the mates.
-fn examine_adjacency(faces: &[u32], marks: &[u8], work: &mut [u32]) -> Answer
-    requires { ⌜ Tables (now faces) (now work) ⌝ }
+fn examine_adjacency(faces: &[u32], sides: &[u8], marks: &[u8], work: &mut [u32]) -> Answer
+    requires { ⌜ Tables (now sides) (now faces) (now work) ⌝ }
     requires { ⌜ Joined (now faces) (length (now marks)) ⌝ }
-    ensures { λ r. ⌜ Examined (adjacencyVerdict (length (now (marks .entry))) (now (faces .entry)) (now (marks .entry))) (now (faces .entry)) (now (work .entry)) r (now (work .exit)) ⌝ }
+    ensures { λ r. ⌜ Examined (adjacencyVerdict (shapeOf (now (sides .entry))) (length (now (marks .entry))) (now (faces .entry)) (now (marks .entry))) (now (sides .entry)) (now (faces .entry)) (now (work .entry)) r (now (work .exit)) ⌝ }
 {
-    adjacency::build_chains(faces, &mut *work);
-    let h = manifold::first_repeated(faces, &*work);
+    adjacency::build_chains(faces, sides, &mut *work);
+    let h = manifold::first_repeated(faces, sides, &*work);
     if h < faces.len() {
-        return Answer::Refused(9, halfedges::face_of(h));
+        return Answer::Refused(9, sidetable::face_in(sides, &*work, faces.len(), h));
     }
-    adjacency::build_mates(faces, &mut *work);
-    examine_vertices(faces, marks, &*work)
+    adjacency::build_mates(faces, sides, &mut *work);
+    examine_vertices(faces, sides, marks, &*work)
 }
 
 // Refusals 8 to 12 of a net whose corners all are vertices.
-fn examine_faces(faces: &[u32], marks: &[u8], work: &mut [u32]) -> Answer
-    requires { ⌜ CheckTables (now faces) (now work) ⌝ }
+fn examine_faces(faces: &[u32], sides: &[u8], marks: &[u8], work: &mut [u32]) -> Answer
+    requires { ⌜ CheckTables (now sides) (now faces) (now work) ⌝ }
     requires { ⌜ CornersBelow (length (now marks)) (now faces) ⌝ }
-    ensures { λ r. ⌜ Examined (facesVerdict (length (now (marks .entry))) (now (faces .entry)) (now (marks .entry))) (now (faces .entry)) (now (work .entry)) r (now (work .exit)) ⌝ }
+    ensures { λ r. ⌜ Examined (facesVerdict (shapeOf (now (sides .entry))) (length (now (marks .entry))) (now (faces .entry)) (now (marks .entry))) (now (sides .entry)) (now (faces .entry)) (now (work .entry)) r (now (work .exit)) ⌝ }
 {
     if faces.len() == 0 {
         if marks.len() == 0 {
@@ -73,55 +74,65 @@ fn examine_faces(faces: &[u32], marks: &[u8], work: &mut [u32]) -> Answer
     if p < marks.len() {
         return Answer::Refused(8, p);
     }
-    examine_adjacency(faces, marks, &mut *work)
+    examine_adjacency(faces, sides, marks, &mut *work)
 }
 
 // Refusals 6 to 12.
-fn examine_shape(faces: &[u32], marks: &[u8], work: &mut [u32]) -> Answer
-    requires { ⌜ CheckTables (now faces) (now work) ⌝ }
-    ensures { λ r. ⌜ Examined (shapeVerdict (now (faces .entry)) (now (marks .entry))) (now (faces .entry)) (now (work .entry)) r (now (work .exit)) ⌝ }
+fn examine_shape(faces: &[u32], sides: &[u8], marks: &[u8], work: &mut [u32]) -> Answer
+    requires { ⌜ CheckTables (now sides) (now faces) (now work) ⌝ }
+    ensures { λ r. ⌜ Examined (shapeVerdict (shapeOf (now (sides .entry))) (now (faces .entry)) (now (marks .entry))) (now (sides .entry)) (now (faces .entry)) (now (work .entry)) r (now (work .exit)) ⌝ }
 {
     let m = scan::first_bad_mark(marks);
     if m < marks.len() {
         return Answer::Refused(6, m);
     }
-    let h = scan::first_bad_corner(faces, marks.len());
+    let h = scan::first_bad_corner(faces, sides, marks.len(), &*work);
     if h < faces.len() {
-        return Answer::Refused(7, halfedges::face_of(h));
+        return Answer::Refused(7, sidetable::face_in(sides, &*work, faces.len(), h));
     }
-    examine_faces(faces, marks, &mut *work)
+    examine_faces(faces, sides, marks, &mut *work)
 }
 
-// Refusals 5 to 12. Only the first 4n numbers of the work table are used, n being the number of corners; on acceptance it starts with the mates.
-fn examine_net(vertices: &[i32], faces: &[u32], marks: &[u8], work: &mut [u32]) -> Answer
-    requires { ⌜ CheckTables (now faces) (now work) ⌝ }
-    ensures { λ r. ⌜ Examined (netVerdict (net (now (vertices .entry)) (now (faces .entry)) (now (marks .entry)))) (now (faces .entry)) (now (work .entry)) r (now (work .exit)) ⌝ }
+// Refusals 5 to 12 of a net whose shape is in the work table. Of that table only the first 4n numbers are changed, n being the number of corners; on
+// acceptance it starts with the mates.
+fn examine_net(
+    vertices: &[i32],
+    faces: &[u32],
+    sides: &[u8],
+    marks: &[u8],
+    work: &mut [u32],
+) -> Answer
+    requires { ⌜ CheckTables (now sides) (now faces) (now work) ⌝ }
+    ensures { λ r. ⌜ Examined (netVerdict (controlNet (now (vertices .entry)) (now (faces .entry)) (now (sides .entry)) (now (marks .entry)))) (now (sides .entry)) (now (faces .entry)) (now (work .entry)) r (now (work .exit)) ⌝ }
 {
     let x = scan::first_bad_coordinate(vertices);
     if x < vertices.len() {
         return Answer::Refused(5, x / 3);
     }
-    examine_shape(faces, marks, &mut *work)
+    examine_shape(faces, sides, marks, &mut *work)
 }
 
-// Admits the net of a call, given the lengths of its output tables, and leaves its mates at the front of the work table; or refuses it.
+// Admits the net of a call, given the lengths of its output tables, and leaves its mates at the front of the work table, and its shape where there are side
+// counts; or refuses it.
 // Beside clearing the work table on a refusal the time is linear in the tables for nets of bounded valence; with d faces at a vertex, finding
 // the mates there takes d * d steps at most.
 pub fn admit(
     rounds: u32,
     vertices: &[i32],
     faces: &[u32],
+    sides: &[u8],
     marks: &[u8],
     out_vertices: usize,
     out_faces: usize,
     out_marks: usize,
     work: &mut [u32],
 ) -> Admission
-    ensures { λ r. ⌜ Admits (call rounds (net (now (vertices .entry)) (now (faces .entry)) (now (marks .entry))) (room «out_vertices» «out_faces» «out_marks» (length (now (work .entry)))))
+    ensures { λ r. ⌜ Admits (call rounds (controlNet (now (vertices .entry)) (now (faces .entry)) (now (sides .entry)) (now (marks .entry))) (room «out_vertices» «out_faces» «out_marks» (length (now (work .entry)))))
         (now (work .entry)) r (now (work .exit)) ⌝ }
 {
     let fault = limits::limits(
         rounds,
+        sides,
         Lengths {
             coordinates: vertices.len(),
             corners: faces.len(),
@@ -135,8 +146,9 @@ pub fn admit(
     if fault != 0 {
         return Admission::Refused(fault, 0);
     }
-    let last = limits::final_faces(rounds, faces.len());
-    match examine_net(vertices, faces, marks, &mut *work) {
+    let last = limits::final_faces(rounds, limits::quadrilaterals(sides, faces.len()));
+    sidetable::build_shape(sides, faces.len(), &mut *work);
+    match examine_net(vertices, faces, sides, marks, &mut *work) {
         Answer::Accepted => Admission::Admitted(last),
         Answer::Refused(number, place) => {
             tables::clear(&mut *work, 16 * last);
@@ -150,6 +162,7 @@ pub fn check(
     rounds: u32,
     vertices: &[i32],
     faces: &[u32],
+    sides: &[u8],
     marks: &[u8],
     out_vertices: usize,
     out_faces: usize,
@@ -157,12 +170,13 @@ pub fn check(
     work: &mut [u32],
 ) -> Answer
     ensures { λ r. ⌜ found (verdictOf r) (now (work .exit)) ≡
-        checked (call rounds (net (now (vertices .entry)) (now (faces .entry)) (now (marks .entry))) (room «out_vertices» «out_faces» «out_marks» (length (now (work .entry))))) (now (work .entry)) ⌝ }
+        checked (call rounds (controlNet (now (vertices .entry)) (now (faces .entry)) (now (sides .entry)) (now (marks .entry))) (room «out_vertices» «out_faces» «out_marks» (length (now (work .entry))))) (now (work .entry)) ⌝ }
 {
     match admit(
         rounds,
         vertices,
         faces,
+        sides,
         marks,
         out_vertices,
         out_faces,

@@ -4,9 +4,9 @@ ghost use mathlib.Core.Path.{_≡_};
 ghost use lib.ListN.{length, drop};
 ghost use Rattle.search.specs.Search.{first};
 ghost use Rattle.verdict.specs.Verdict.{badCoordinate};
-ghost use Rattle.topology.specs.Shape.{quads};
 ghost use Rattle.refusals.specs.Refusals.{badMark, badCorner, isolated};
-ghost use Rattle.halfedges.specs.Tables.{Quadrilaterals};
+ghost use Rattle.polygons.specs.Polygons.{shapeOf};
+ghost use Rattle.sidetable.specs.Table.{Shaped};
 ghost use Rattle.scan.specs.Flags.{Flagged, IsolatedFound};
 
 // The first coordinate out of range, or their number.
@@ -95,34 +95,34 @@ pub fn first_isolated(faces: &[u32], nv: usize, work: &mut [u32]) -> usize
 }
 
 // Whether the corner of half-edge h is not below nv, or equals another corner of its face.
-fn bad_corner(faces: &[u32], nv: usize, h: usize) -> bool
-    requires { ⌜ Quadrilaterals (length (now faces)) × (h < length (now faces)) ⌝ }
-    ensures { λ r. ⌜ r ≡ badCorner quads nv (now (faces .entry)) h ⌝ }
+fn bad_corner(faces: &[u32], sides: &[u8], nv: usize, work: &[u32], h: usize) -> bool
+    requires { ⌜ Shaped (now sides) (length (now faces)) (now work) ⌝ }
+    requires { ⌜ h < length (now faces) ⌝ }
+    ensures { λ r. ⌜ r ≡ badCorner (shapeOf (now (sides .entry))) nv (now (faces .entry)) h ⌝ }
 {
+    let n = faces.len();
     let a = faces[h];
     if a as usize >= nv {
         return true;
     }
-    let mut g = halfedges::next_side(h);
-    let mut k: usize = 0;
-    while k < 3 {
+    let mut g = sidetable::next_in(sides, work, n, h);
+    while g != h {
         if faces[g] == a {
             return true;
         }
-        g = halfedges::next_side(g);
-        k += 1;
+        g = sidetable::next_in(sides, work, n, g);
     }
     false
 }
 
 // The first half-edge with a bad corner, or their number.
-pub fn first_bad_corner(faces: &[u32], nv: usize) -> usize
-    requires { ⌜ Quadrilaterals (length (now faces)) ⌝ }
-    ensures { λ r. ⌜ r ≡ first (badCorner quads nv (now (faces .entry))) (length (now (faces .entry))) ⌝ }
+pub fn first_bad_corner(faces: &[u32], sides: &[u8], nv: usize, work: &[u32]) -> usize
+    requires { ⌜ Shaped (now sides) (length (now faces)) (now work) ⌝ }
+    ensures { λ r. ⌜ r ≡ first (badCorner (shapeOf (now (sides .entry))) nv (now (faces .entry))) (length (now (faces .entry))) ⌝ }
 {
     let mut h = 0;
     while h < faces.len() {
-        if bad_corner(faces, nv, h) {
+        if bad_corner(faces, sides, nv, work, h) {
             return h;
         }
         h += 1;

@@ -1,12 +1,12 @@
 -- The table of a shape, written half-edge by half-edge. Assumes nothing.
-use mathlib.Core.Path.{_≡_, refl, sym, ap, _∙_, subst}
+use mathlib.Core.Path.{_≡_, sym, ap, _∙_, subst}
 use mathlib.Core.List.{List, [], _∷_}
 use Prim.Native.Nat.{ℕ, _+_, _*_, _≤_, _<_}
 use native.Mathlib.Decide.{ℕ-discrete}
 use native.Mathlib.Omega.{arith}
 use lib.ListN.{length, getD, set, take, drop, length-set}
 use lib.Seq.{getD-set-same, getD-set-other}
-use Rattle.topology.specs.Shape.{Shape, quads}
+use Rattle.topology.specs.Shape.{Shape}
 use Rattle.polygons.specs.Polygons.{sideAfter, sideBefore, polygons, shapeOf, total}
 use Rattle.polygons.proofs.Counts.{counts-if, total-all, FaceAt, FaceFits}
 use Rattle.tables.specs.Tables.{SameOutside}
@@ -86,12 +86,7 @@ shaped-kept s n w w′ l e t =
       };
     }
 
--- ---- reading: by arithmetic without side counts, else from the table
-
-pub shape-none : (s : List ℕ) → length s ≡ 0 → shapeOf s ≡ quads
-unfolding shapeOf
-shape-none [] e = refl
-shape-none (c ∷ s) e = let z : ⊥ = omega arith in absurd z
+-- ---- reading from the table, where there are side counts
 
 pub record Held (s : List ℕ) (n : ℕ) (w : List ℕ) (h : ℕ) : Type 0 where
   pub next : getD w (4 * n + h) 0 ≡ shapeOf s .next h

@@ -11,16 +11,16 @@ use Rattle.admission.proofs.examine_faces.Statement.{statement}
 use Rattle.admission.proofs.examine_faces.Tie as tie
 
 abbrev start : tie.After-first-isolated → tie.Start
-start x = x .before .before .before .before .before .before
+start x = x .before .before .before .before .before .before .before
 
 returns : tie.Need-returns
-returns c = let s = c .before .before .before .before .before in empty-faces (s .args .faces .now) (s .args .marks .now) (s .args .work .now) (c .before .if1 .taken) (c .if2 .taken)
+returns c = let s = c .before .before .before .before .before .before in empty-faces (s .args .sides .now) (s .args .faces .now) (s .args .marks .now) (s .args .work .now) (c .before .if1 .taken) (c .if2 .taken)
 
 returns-2 : tie.Need-returns-2
-returns-2 c = let s = c .before .before .before .before .before in lonely-vertex (s .args .faces .now) (s .args .marks .now) (s .args .work .now) (c .before .if1 .taken) (c .if2 .left)
+returns-2 c = let s = c .before .before .before .before .before .before in lonely-vertex (s .args .sides .now) (s .args .faces .now) (s .args .marks .now) (s .args .work .now) (c .before .if1 .taken) (c .if2 .left)
 
 first-isolated-requires : tie.Need-first-isolated-requires
-first-isolated-requires c κs = let s = c .before .before .before .before .before in let r = s .pre .0 .room in let n = c .before .if1 .left in (omega arith, r)
+first-isolated-requires c κs = let s = c .before .before .before .before .before .before in let r = s .pre .0 .room in let n = c .before .if1 .left in (omega arith, r)
 
 same-length : tie.Need-same-length
 same-length c = search needs
@@ -41,7 +41,7 @@ examine-adjacency-requires c κs =
     let l = s .args .faces .now in
     let v = length (s .args .marks .now) in
     let j = joined l v (all (isolated l) v _ (x .first-isolated .ensures .0) (c .before .if3 .left)) in
-    (tables l _ _ v (s .pre .0) j (s .pre .1) (x .first-isolated .kept .1 .1 .0), j)
+    (tables (s .args .sides .now) l _ _ v (s .pre .0) j (s .pre .1) (x .first-isolated .kept .1 .1 .0) (x .first-isolated .ensures .1), j)
 
 same-length-2 : tie.Need-same-length-2
 same-length-2 c = search needs

@@ -9,7 +9,7 @@ use Rattle.admission.proofs.examine_net.Statement.{statement}
 use Rattle.admission.proofs.examine_net.Tie as tie
 
 abbrev start : tie.After-first-bad-coordinate → tie.Start
-start x = x .before .before .before .before
+start x = x .before .before .before .before .before
 
 first-bad-coordinate-requires : tie.Need-first-bad-coordinate-requires
 first-bad-coordinate-requires c κs = search needs

@@ -3,22 +3,22 @@ use Prim.Native.Nat.{_-_, _≤_}
 use mathlib.Core.Path.{sym, _∙_}
 use native.Mathlib.Omega.{arith}
 use Rattle.search.proofs.First.{Passed, passed-start, passed-next, passed-hit, passed-end}
-use Rattle.topology.specs.Shape.{quads}
+use Rattle.polygons.specs.Polygons.{shapeOf}
 use Rattle.refusals.specs.Refusals.{badValence}
 use Rattle.manifold.proofs.first_bad_valence.Statement.{statement}
 use Rattle.manifold.proofs.first_bad_valence.Tie as tie
 
 abbrev Inv-loop : tie.InvT-loop
-Inv-loop faces nv work p₀ p = (p ≤ nv) × Passed (badValence quads faces) p
+Inv-loop faces sides nv work p₀ p = (p ≤ nv) × Passed (badValence (shapeOf sides) faces) p
 
 abbrev μ-loop : tie.MeasureT-loop
-μ-loop faces nv work p₀ p = nv - p
+μ-loop faces sides nv work p₀ p = nv - p
 
 loop-holds : tie.Need-loop-holds Inv-loop μ-loop
 loop-holds c = (omega arith, passed-start _)
 
 bad-valence-requires : tie.Need-bad-valence-requires Inv-loop μ-loop
-bad-valence-requires c κs = (c .before .before .before .before .pre .0, omega arith)
+bad-valence-requires c κs = (c .before .before .before .before .before .pre .0, omega arith)
 
 returns : tie.Need-returns Inv-loop μ-loop
 returns c = passed-hit _ _ _ (c .before .before .before .loop .inv .1) (c .before .before .loop-test .taken) (sym (c .before .bad-valence .ensures) ∙ c .if1 .taken)

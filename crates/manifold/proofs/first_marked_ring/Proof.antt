@@ -4,22 +4,22 @@ use mathlib.Core.Path.{sym, _∙_}
 use native.Mathlib.Omega.{arith}
 use lib.ListN.{length}
 use Rattle.search.proofs.First.{Passed, passed-start, passed-next, passed-hit, passed-end}
-use Rattle.topology.specs.Shape.{quads}
+use Rattle.polygons.specs.Polygons.{shapeOf}
 use Rattle.refusals.specs.Refusals.{markedRing}
 use Rattle.manifold.proofs.first_marked_ring.Statement.{statement}
 use Rattle.manifold.proofs.first_marked_ring.Tie as tie
 
 abbrev Inv-loop : tie.InvT-loop
-Inv-loop faces marks work nv p₀ p = (p ≤ length marks) × Passed (markedRing quads faces marks) p
+Inv-loop faces sides marks work nv p₀ p = (p ≤ length marks) × Passed (markedRing (shapeOf sides) faces marks) p
 
 abbrev μ-loop : tie.MeasureT-loop
-μ-loop faces marks work nv p₀ p = length marks - p
+μ-loop faces sides marks work nv p₀ p = length marks - p
 
 loop-holds : tie.Need-loop-holds Inv-loop μ-loop
 loop-holds c = (omega arith, passed-start _)
 
 marked-ring-requires : tie.Need-marked-ring-requires Inv-loop μ-loop
-marked-ring-requires c κs = (c .before .before .before .before .before .pre .0, (omega arith, omega arith))
+marked-ring-requires c κs = (c .before .before .before .before .before .before .pre .0, (omega arith, omega arith))
 
 returns : tie.Need-returns Inv-loop μ-loop
 returns c = passed-hit _ _ _ (c .before .before .before .loop .inv .1) (c .before .before .loop-test .taken) (sym (c .before .marked-ring .ensures) ∙ c .if1 .taken)

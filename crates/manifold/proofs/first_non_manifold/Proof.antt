@@ -3,24 +3,24 @@ use Prim.Native.Nat.{_-_, _≤_}
 use mathlib.Core.Path.{sym, _∙_}
 use native.Mathlib.Omega.{arith}
 use Rattle.search.proofs.First.{Passed, passed-start, passed-next, passed-hit, passed-end, first-before}
-use Rattle.topology.specs.Shape.{quads}
+use Rattle.polygons.specs.Polygons.{shapeOf}
 use Rattle.refusals.specs.Refusals.{nonManifold, isolated}
 use Rattle.refusals.proofs.Places.{not-isolated}
 use Rattle.manifold.proofs.first_non_manifold.Statement.{statement}
 use Rattle.manifold.proofs.first_non_manifold.Tie as tie
 
 abbrev Inv-loop : tie.InvT-loop
-Inv-loop faces nv work p₀ p = (p ≤ nv) × Passed (nonManifold quads faces) p
+Inv-loop faces sides nv work p₀ p = (p ≤ nv) × Passed (nonManifold (shapeOf sides) faces) p
 
 abbrev μ-loop : tie.MeasureT-loop
-μ-loop faces nv work p₀ p = nv - p
+μ-loop faces sides nv work p₀ p = nv - p
 
 loop-holds : tie.Need-loop-holds Inv-loop μ-loop
 loop-holds c = (omega arith, passed-start _)
 
 non-manifold-requires : tie.Need-non-manifold-requires Inv-loop μ-loop
 non-manifold-requires c κs =
-    let s = c .before .before .before .before in
+    let s = c .before .before .before .before .before in
     let l = s .args .faces .now in
     let p = c .before .loop .p in
     (s .pre .0, (omega arith, not-isolated l p (first-before (isolated l) (s .args .nv) p (omega arith))))

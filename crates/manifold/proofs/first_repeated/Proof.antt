@@ -4,22 +4,22 @@ use mathlib.Core.Path.{sym, _∙_}
 use native.Mathlib.Omega.{arith}
 use lib.ListN.{length}
 use Rattle.search.proofs.First.{Passed, passed-start, passed-next, passed-hit, passed-end}
-use Rattle.topology.specs.Shape.{quads}
+use Rattle.polygons.specs.Polygons.{shapeOf}
 use Rattle.refusals.specs.Refusals.{repeatedSide}
 use Rattle.manifold.proofs.first_repeated.Statement.{statement}
 use Rattle.manifold.proofs.first_repeated.Tie as tie
 
 abbrev Inv-loop : tie.InvT-loop
-Inv-loop faces work n h₀ h = (h ≤ length faces) × Passed (repeatedSide quads faces) h
+Inv-loop faces sides work n h₀ h = (h ≤ length faces) × Passed (repeatedSide (shapeOf sides) faces) h
 
 abbrev μ-loop : tie.MeasureT-loop
-μ-loop faces work n h₀ h = length faces - h
+μ-loop faces sides work n h₀ h = length faces - h
 
 loop-holds : tie.Need-loop-holds Inv-loop μ-loop
 loop-holds c = (omega arith, passed-start _)
 
 repeated-side-requires : tie.Need-repeated-side-requires Inv-loop μ-loop
-repeated-side-requires c κs = (c .before .before .before .before .pre .0, (c .before .before .before .before .pre .1, c .loop-test .taken))
+repeated-side-requires c κs = (c .before .before .before .before .before .pre .0, (c .before .before .before .before .before .pre .1, c .loop-test .taken))
 
 returns : tie.Need-returns Inv-loop μ-loop
 returns c = passed-hit _ _ _ (c .before .before .before .loop .inv .1) (c .before .before .loop-test .taken) (sym (c .before .repeated-side .ensures) ∙ c .if1 .taken)

@@ -4,6 +4,7 @@ use borrow.Author.Needs.{needs}
 use lib.ListN.{length}
 use lib.Dec.{eqb}
 use Prim.Native.Nat.{ℕ}
+use Rattle.polygons.specs.Polygons.{shapeOf}
 use Rattle.manifold.proofs.Refused.{marked-on, marked-off}
 use Rattle.manifold.proofs.marked_ring.Statement.{statement}
 use Rattle.manifold.proofs.marked_ring.Tie as tie
@@ -16,12 +17,12 @@ boundary-from-requires c κs = search needs
 
 returns : tie.Need-returns
 returns c =
-    let s = c .before .before .before .before .before .before in
+    let s = c .before .before .before .before .before .before .before in
     let l = s .args .faces .now in
-    ap (λ (g : ℕ). eqb g (length l)) (c .boundary-from .ensures) ∙ sym (marked-on l (s .args .p) (s .args .marks .now) (c .before .if1 .taken))
+    ap (λ (g : ℕ). eqb g (length l)) (c .boundary-from .ensures) ∙ sym (marked-on (shapeOf (s .args .sides .now)) l (s .args .p) (s .args .marks .now) (c .before .if1 .taken))
 
 returns-2 : tie.Need-returns-2
-returns-2 c = sym (marked-off _ _ _ (c .if1 .left))
+returns-2 c = sym (marked-off _ _ _ _ (c .if1 .left))
 
 pub marked-ring-spec : {M : Type 1} → statement M
 marked-ring-spec =

@@ -2,6 +2,7 @@
 use native.Mathlib.Omega.{arith}
 use borrow.Author.Needs.{needs}
 use Rattle.refusals.specs.Refusals.{nonManifold}
+use Rattle.polygons.specs.Polygons.{shapeOf}
 use Rattle.adjacency.proofs.Queries.{start-lt, valence-le}
 use Rattle.manifold.proofs.non_manifold.Statement.{statement}
 use Rattle.manifold.proofs.non_manifold.Tie as tie
@@ -14,10 +15,10 @@ valence-at-requires c κs = search needs
 
 meets-all-requires : tie.Need-meets-all-requires
 meets-all-requires c κs =
-    let s = c .before .before .before .before in
+    let s = c .before .before .before .before .before in
     let l = s .args .faces .now in
     let p = s .args .p in
-    (s .pre .0, (omega (arith, c .before .start-at .ensures, start-lt l p (s .pre .1 .1)), omega (arith, c .valence-at .ensures, valence-le l p)))
+    (s .pre .0, (omega (arith, c .before .start-at .ensures, start-lt (shapeOf (s .args .sides .now)) l p (s .pre .1 .1)), omega (arith, c .valence-at .ensures, valence-le l p)))
 
 returns : tie.Need-returns
 unfolding nonManifold

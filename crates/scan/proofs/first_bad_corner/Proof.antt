@@ -5,26 +5,26 @@ use Prim.Native.Nat.{ℕ, _-_, _≤_, _<_}
 use native.Mathlib.Omega.{arith}
 use borrow.Author.Count.{below-more}
 use lib.ListN.{length}
-use Rattle.topology.specs.Shape.{quads}
+use Rattle.polygons.specs.Polygons.{shapeOf}
 use Rattle.refusals.specs.Refusals.{badCorner}
 use Rattle.scan.proofs.Laws.{hit, end}
 use Rattle.scan.proofs.first_bad_corner.Statement.{statement}
 use Rattle.scan.proofs.first_bad_corner.Tie as tie
 
 abbrev Inv-loop : tie.InvT-loop
-Inv-loop faces nv h₀ h = (h ≤ length faces) × ((k : ℕ) → k < h → badCorner quads nv faces k ≡ false)
+Inv-loop faces sides nv work h₀ h = (h ≤ length faces) × ((k : ℕ) → k < h → badCorner (shapeOf sides) nv faces k ≡ false)
 
 abbrev μ-loop : tie.MeasureT-loop
-μ-loop faces nv h₀ h = length faces - h
+μ-loop faces sides nv work h₀ h = length faces - h
 
 loop-holds : tie.Need-loop-holds Inv-loop μ-loop
 loop-holds c = (omega arith, λ k h. absurd (omega arith))
 
 bad-corner-requires : tie.Need-bad-corner-requires Inv-loop μ-loop
-bad-corner-requires c κs = (c .before .before .before .pre, c .loop-test .taken)
+bad-corner-requires c κs = (c .before .before .before .before .before .pre, c .loop-test .taken)
 
 returns : tie.Need-returns Inv-loop μ-loop
-returns c = let s = c .before .before .before .before .before in let l = s .args .faces .now in hit (badCorner quads (s .args .nv) l) (length l) (c .before .before .before .loop .h) (c .before .before .loop-test .taken) (c .before .before .before .loop .inv .1) (sym (c .before .bad-corner .ensures) ∙ c .if1 .taken)
+returns c = let s = c .before .before .before .before .before .before .before in let l = s .args .faces .now in hit (badCorner (shapeOf (s .args .sides .now)) (s .args .nv) l) (length l) (c .before .before .before .loop .h) (c .before .before .loop-test .taken) (c .before .before .before .loop .inv .1) (sym (c .before .bad-corner .ensures) ∙ c .if1 .taken)
 
 add-h : tie.Need-add-h Inv-loop μ-loop
 add-h c = omega arith
@@ -36,7 +36,7 @@ loop-again : tie.Need-loop-again Inv-loop μ-loop
 loop-again c = (omega arith, below-more _ _ (c .before .before .before .loop .inv .1) (sym (c .before .bad-corner .ensures) ∙ c .if1 .left))
 
 returns-2 : tie.Need-returns-2 Inv-loop μ-loop
-returns-2 c = let s = c .before .before .before in let l = s .args .faces .now in end (badCorner quads (s .args .nv) l) (length l) (c .before .loop .h) (omega arith) (omega arith) (c .before .loop .inv .1)
+returns-2 c = let s = c .before .before .before .before .before in let l = s .args .faces .now in end (badCorner (shapeOf (s .args .sides .now)) (s .args .nv) l) (length l) (c .before .loop .h) (omega arith) (omega arith) (c .before .loop .inv .1)
 
 pub first-bad-corner-spec : {M : Type 1} → statement M
 first-bad-corner-spec =
