@@ -11,13 +11,13 @@ use lib.ListN.{length, getD, take}
 use lib.Seq.{take-all}
 use lib.Dec.{eqb, ltb}
 use borrow.Author.Tests.{ltb-false, le-ltb, eqb-true, eq-eqb, ne-eqb, not-false}
-use Rattle.search.specs.Search.{first, any}
+use Rattle.search.specs.Search.{first, any, iterate}
 use Rattle.search.proofs.Tests.{or-left, or-right, or-on}
 use Rattle.search.proofs.First.{any-off, any-on, Passed, passed-all}
-use Rattle.topology.specs.Shape.{Shape, Lawful}
+use Rattle.topology.specs.Shape.{Shape, Lawful, quads}
 use Rattle.topology.proofs.Shape.{quads-lawful}
 use Rattle.polygons.specs.Polygons.{sideAfter, sideBefore, faceThen, noFace, polygons, shapeOf, total, badCount, badSides, Sided}
-use Rattle.polygons.proofs.Faces.{in-first, in-later, then-lawful, no-face-lawful}
+use Rattle.polygons.proofs.Faces.{side-after, in-first, in-later, then-lawful, no-face-lawful}
 
 -- what the test tells
 pub record Count (c : ℕ) : Type 0 where
@@ -61,6 +61,16 @@ unfolding shapeOf
 shape-lawful [] n k = quads-lawful n (k .fours refl)
 shape-lawful (c ∷ s) n k = polygons-lawful (c ∷ s) n (k .counts (omega arith))
 
+pub shape-none : (s : List ℕ) → length s ≡ 0 → shapeOf s ≡ quads
+unfolding shapeOf
+shape-none [] e = refl
+shape-none (c ∷ s) e = let z : ⊥ = omega arith in absurd z
+
+pub shape-some : (s : List ℕ) → 0 < length s → shapeOf s ≡ polygons s
+unfolding shapeOf
+shape-some [] k = absurd (not-suc-le-zero k)
+shape-some (c ∷ s) k = refl
+
 pub faces-polygons : (s : List ℕ) (n : ℕ) → polygons s .faces n ≡ length s
 unfolding polygons noFace faceThen
 faces-polygons [] n = refl
@@ -100,6 +110,7 @@ pub record FaceAt (S : Shape) (a c f : ℕ) : Type 0 where
   pub next : (j : ℕ) → j < c → S .next (a + j) ≡ a + sideAfter c j
   pub prev : (j : ℕ) → j < c → S .prev (a + j) ≡ a + sideBefore c j
   pub face : (j : ℕ) → j < c → S .face (a + j) ≡ f
+  pub sides : (j : ℕ) → j < c → S .sides (a + j) ≡ c
 
 pub face-at : (s : List ℕ) (f : ℕ) → f < length s → FaceAt (polygons s) (total (take f s)) (getD s f 0) f
 unfolding polygons total
@@ -108,6 +119,7 @@ face-at (c ∷ s) zero k = record {
   next = λ j i. ap (faceThen c (polygons s) .next) (nought j) ∙ in-first c (polygons s) j i .next ∙ sym (nought (sideAfter c j));
   prev = λ j i. ap (faceThen c (polygons s) .prev) (nought j) ∙ in-first c (polygons s) j i .prev ∙ sym (nought (sideBefore c j));
   face = λ j i. ap (faceThen c (polygons s) .face) (nought j) ∙ in-first c (polygons s) j i .face;
+  sides = λ j i. ap (faceThen c (polygons s) .sides) (nought j) ∙ in-first c (polygons s) j i .sides;
 }
   where
     nought : (j : ℕ) → 0 + j ≡ j
@@ -125,7 +137,15 @@ face-at (c ∷ s) (suc f) k = later (face-at s f (le-of-suc-le-suc k))
       next = λ j i. ap (faceThen c (polygons s) .next) (add j) ∙ in-later c (polygons s) (a + j) .next ∙ ap (λ (x : ℕ). c + x) (r .next j i) ∙ sym (add (sideAfter (getD s f 0) j));
       prev = λ j i. ap (faceThen c (polygons s) .prev) (add j) ∙ in-later c (polygons s) (a + j) .prev ∙ ap (λ (x : ℕ). c + x) (r .prev j i) ∙ sym (add (sideBefore (getD s f 0) j));
       face = λ j i. ap (faceThen c (polygons s) .face) (add j) ∙ in-later c (polygons s) (a + j) .face ∙ ap suc (r .face j i);
+      sides = λ j i. ap (faceThen c (polygons s) .sides) (add j) ∙ in-later c (polygons s) (a + j) .sides ∙ r .sides j i;
     }
+
+-- k sides on from its first
+pub nexts-at : {S : Shape} {a c f : ℕ} → FaceAt S a c f → (k : ℕ) → k < c → iterate (S .next) k a ≡ a + k
+unfolding iterate
+nexts-at {S} {a} r zero k = omega arith
+nexts-at {S} {a} {c} r (suc k) i =
+    ap (S .next) (nexts-at r k (omega arith)) ∙ r .next k (omega arith) ∙ side-after c k (λ x. a + x ≡ a + suc k) (λ b. omega arith) (λ b. let z : ⊥ = omega arith in absurd z)
 
 -- a face of side counts that pass the test, and where it begins
 pub record FaceFits (s : List ℕ) (n f : ℕ) : Type 0 where
