@@ -1,14 +1,14 @@
 -- Laws of chains and mates in a table.
-use mathlib.Core.Path.{_≡_, refl, sym, ap, _∙_, subst}
+use mathlib.Core.Path.{_≡_, refl, sym, _∙_}
 use mathlib.Core.Bool.{Bool, true, false}
 use mathlib.Core.List.{List}
 use Prim.Native.Nat.{ℕ, _+_, _-_, _*_, _≤_, _<_}
 use native.Mathlib.Nat.{le-refl, sub-zero}
 use native.Mathlib.Decide.{ℕ-discrete}
 use native.Mathlib.Omega.{arith}
-use lib.ListN.{length, getD, set, take, drop, length-set}
+use lib.ListN.{length, getD, set, drop, length-set}
 use lib.Dec.{leb}
-use lib.Seq.{getD-drop, getD-set-same, getD-set-other, take-set-le, drop-set-lt, take-take, drop-drop}
+use lib.Seq.{getD-set-same, getD-set-other}
 use borrow.Author.Tests.{eq-eqb, eqb-true, leb-false}
 use Rattle.search.specs.Search.{first}
 use Rattle.search.proofs.Tests.{refuted, clash, or-left}
@@ -17,7 +17,8 @@ use Rattle.topology.specs.Shape.{Shape, quads}
 use Rattle.topology.specs.HalfEdge.{from, mate}
 use Rattle.topology.specs.Vertex.{leaves}
 use Rattle.refusals.specs.Refusals.{badCorner}
-use Rattle.adjacency.specs.Chains.{chainFrom, CornersBelow, Tables, Chained, SameOutside, Adjacency}
+use Rattle.tables.proofs.Laws.{same-rest}
+use Rattle.adjacency.specs.Chains.{chainFrom, CornersBelow, Tables, Chained, Adjacency}
 use Rattle.halfedges.specs.Tables.{MateTable, Connectivity}
 
 -- ---- the first half-edge from i on that leaves v
@@ -128,11 +129,6 @@ chained-cong l w w′ h f c = record {
   nexts = λ g a b. f (2 * length l + g) (omega arith) (omega arith) ∙ c .nexts g a b;
 }
 
-same-rest : (m : ℕ) (w w′ : List ℕ) → drop m w′ ≡ drop m w → (i : ℕ) → m ≤ i → getD w′ i 0 ≡ getD w i 0
-same-rest m w w′ e i h =
-    let d : m + (i - m) ≡ i = omega arith in
-    subst (λ (k : ℕ). getD w′ k 0 ≡ getD w k 0) d (sym (getD-drop m w′ (i - m) 0) ∙ ap (λ (t : List ℕ). getD t (i - m) 0) e ∙ getD-drop m w (i - m) 0)
-
 -- the first n do not count for the chains
 pub chained-drop : (l w w′ : List ℕ) (h : ℕ) → drop (length l) w′ ≡ drop (length l) w → Chained l w h → Chained l w′ h
 chained-drop l w w′ h e c = chained-cong l w w′ h (λ i a b. same-rest (length l) w w′ e i a) c
@@ -153,25 +149,6 @@ corners-below-le u v l h r = record { below = λ g a. omega (arith, r .below g a
 pub corners-below-if : (S : Shape) (v : ℕ) (l : List ℕ) → first (badCorner S v l) (length l) ≡ length l → CornersBelow v l
 unfolding badCorner from
 corners-below-if S v l e = record { below = λ g h. leb-false v (getD l g 0) (or-left (leb v (getD l g 0)) _ (first-before (badCorner S v l) (length l) g (omega arith))) }
-
--- ---- stores from a up to e
-
-pub same-outside : (a e : ℕ) (w : List ℕ) → SameOutside a e w w
-same-outside a e w = record { front = refl; rest = refl }
-
-pub outside-set : (a e : ℕ) (w w′ : List ℕ) (i x : ℕ) → a ≤ i → i < e → SameOutside a e w w′ → SameOutside a e w (set w′ i x)
-outside-set a e w w′ i x h k s = record {
-  front = take-set-le a w′ i x h ∙ s .front;
-  rest = drop-set-lt e w′ i x k ∙ s .rest;
-}
-
-pub outside-then : (a e a′ e′ : ℕ) (w w₁ w₂ : List ℕ) → a ≤ a′ → e′ ≤ e → SameOutside a e w₁ w₂ → SameOutside a′ e′ w w₁ → SameOutside a e w w₂
-outside-then a e a′ e′ w w₁ w₂ h k s t =
-    let d : e′ + (e - e′) ≡ e = omega arith in
-    record {
-      front = s .front ∙ sym (take-take a a′ w₁ h) ∙ ap (take a) (t .front) ∙ take-take a a′ w h;
-      rest = s .rest ∙ subst (λ (m : ℕ). drop m w₁ ≡ drop m w) d (sym (drop-drop (e - e′) e′ w₁) ∙ ap (drop (e - e′)) (t .rest) ∙ drop-drop (e - e′) e′ w);
-    }
 
 -- ---- the heads below v are none
 pub record Cleared (l w : List ℕ) (v : ℕ) : Type 0 where

@@ -4,7 +4,7 @@ use mathlib.Core.Path.{_≡_}
 use mathlib.Core.Bool.{Bool, _&&_}
 use mathlib.Core.List.{List}
 use Prim.Native.Nat.{ℕ, _+_, _-_, _*_, _≤_, _<_}
-use lib.ListN.{length, getD, take, drop}
+use lib.ListN.{length, getD}
 use lib.Dec.{eqb}
 use Rattle.search.specs.Search.{firstFrom}
 use Rattle.topology.specs.Shape.{Shape}
@@ -40,8 +40,3 @@ pub record Adjacency (l w : List ℕ) : Type 0 where
   pub tables : Tables l w
   pub chains : Chained l w 0
   pub mated : MateTable l w
-
--- w′ is w but for the numbers from a up to e
-pub record SameOutside (a e : ℕ) (w w′ : List ℕ) : Type 0 where
-  pub front : take a w′ ≡ take a w
-  pub rest : drop e w′ ≡ drop e w

@@ -9,7 +9,8 @@ ghost use Rattle.topology.specs.Shape.{quads};
 ghost use Rattle.topology.specs.HalfEdge.{mate};
 ghost use Rattle.topology.specs.Boundary.{boundaryFrom};
 ghost use Rattle.topology.specs.Vertex.{valence, start, facesMet};
-ghost use Rattle.adjacency.specs.Chains.{side, Tables, Chained, Adjacency, SameOutside};
+ghost use Rattle.tables.specs.Tables.{SameOutside};
+ghost use Rattle.adjacency.specs.Chains.{side, Tables, Chained, Adjacency};
 
 // Makes every chain empty.
 fn clear_chains(faces: &[u32], work: &mut [u32])

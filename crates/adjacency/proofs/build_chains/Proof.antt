@@ -3,8 +3,10 @@ use Prim.Native.Nat.{_+_, _-_, _*_, _≤_}
 use mathlib.Core.Path.{_≡_, refl, _∙_, subst}
 use native.Mathlib.Omega.{arith}
 use lib.ListN.{length, length-set}
-use Rattle.adjacency.specs.Chains.{Chained, SameOutside}
-use Rattle.adjacency.proofs.Chains.{chained-link, tables-length, same-outside, outside-set, outside-then}
+use Rattle.tables.specs.Tables.{SameOutside}
+use Rattle.tables.proofs.Laws.{same-outside, outside-set, outside-then}
+use Rattle.adjacency.specs.Chains.{Chained}
+use Rattle.adjacency.proofs.Chains.{chained-link, tables-length}
 use Rattle.adjacency.proofs.build_chains.Statement.{statement}
 use Rattle.adjacency.proofs.build_chains.Tie as tie
 

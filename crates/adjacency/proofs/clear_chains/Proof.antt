@@ -3,8 +3,9 @@ use Prim.Native.Nat.{_-_, _*_, _≤_}
 use mathlib.Core.Path.{_≡_, refl}
 use native.Mathlib.Omega.{arith}
 use lib.ListN.{length, length-set}
-use Rattle.adjacency.specs.Chains.{SameOutside}
-use Rattle.adjacency.proofs.Chains.{Cleared, cleared-start, cleared-next, cleared-all, same-outside, outside-set}
+use Rattle.tables.specs.Tables.{SameOutside}
+use Rattle.tables.proofs.Laws.{same-outside, outside-set}
+use Rattle.adjacency.proofs.Chains.{Cleared, cleared-start, cleared-next, cleared-all}
 use Rattle.adjacency.proofs.clear_chains.Statement.{statement}
 use Rattle.adjacency.proofs.clear_chains.Tie as tie
 
