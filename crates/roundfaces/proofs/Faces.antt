@@ -14,7 +14,7 @@ use Rattle.topology.proofs.Mates.{edges-le}
 use Rattle.refinedfaces.specs.Refined.{corner, refined}
 use Rattle.tables.specs.Tables.{filled, putFour, Written}
 use Rattle.roundfaces.specs.Faces.{cornerBy, refinedBy, FaceIn, FacesIn}
-use Rattle.roundfaces.proofs.Edges.{edge-le}
+use Rattle.edgenumbers.proofs.Net.{edge-le}
 use Rattle.tables.proofs.Written.{written-as, written-face, Refining, refining-all}
 
 -- the numbers that a face's corners and edges give
@@ -66,7 +66,7 @@ module _ (n v count : ℕ) (faces w : List ℕ) (ok : FacesIn n v count faces w)
 
   number-at : (g : ℕ) → g < n → getD w (n + g) 0 ≡ edge quads l g
   unfolding l
-  number-at g b = let e = length-l in subst (λ (m : ℕ). getD w (m + g) 0 ≡ edge quads l g) e (ok .numbered .numbers g b)
+  number-at g b = let e = length-l in subst (λ (m : ℕ). getD w (m + g) 0 ≡ edge quads l g) e (ok .numbered .numbers g (omega arith))
 
   pub face-in : (c : List ℕ) (f : ℕ) → length c ≡ length faces → 4 * f + 4 ≤ n → FaceIn n v count f c w
   face-in c f e b = record {

@@ -1,4 +1,3 @@
-pub mod Edges
 pub mod Faces
 pub mod Marks
 pub mod Round

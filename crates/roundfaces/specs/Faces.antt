@@ -8,23 +8,9 @@ use lib.ListN.{length, getD, take}
 use lib.Dec.{ltb}
 use Rattle.lists.specs.Tabulate.{tabulate}
 use Rattle.topology.specs.Shape.{Shape, quads}
-use Rattle.topology.specs.HalfEdge.{edgeCount, edge}
-use Rattle.topology.specs.Manifold.{Oriented}
-use Rattle.halfedges.specs.Tables.{Quadrilaterals, Connectivity}
-
--- the edge numbers as a table
-unfoldable pub edges : Shape → List ℕ → List ℕ
-edges S l = tabulate (length l) (edge S l)
-
--- an oriented net with corners l, its mates at the front of w, and room behind them for its edge numbers
-pub record Mated (l w : List ℕ) : Type 0 where
-  pub oriented : Oriented quads (length l) l
-  pub table : Connectivity l w
-  pub room : 2 * length l ≤ length w
-
--- the edges of the half-edges below h are numbered
-pub record Numbered (l w : List ℕ) (h : ℕ) : Type 0 where
-  pub numbers : (g : ℕ) → g < h → getD w (length l + g) 0 ≡ edge quads l g
+use Rattle.topology.specs.HalfEdge.{edgeCount}
+use Rattle.halfedges.specs.Tables.{Quadrilaterals}
+use Rattle.edgenumbers.specs.Edges.{Numbered}
 
 -- corner j of the refined face h, from the corners c and the edge numbers e
 unfoldable pub cornerBy : Shape → ℕ → ℕ → (ℕ → ℕ) → (ℕ → ℕ) → ℕ → ℕ → ℕ
@@ -53,7 +39,7 @@ pub record FacesIn (n v count : ℕ) (faces w : List ℕ) : Type 0 where
   pub vertices : v ≤ n
   pub room : 4 * n ≤ length faces
   pub behind : 2 * n ≤ length w
-  pub numbered : Numbered (take n faces) w n
+  pub numbered : Numbered quads (take n faces) w
   pub counted : count ≡ edgeCount quads (take n faces)
 
 -- the first v marks, and 0 up to `count`

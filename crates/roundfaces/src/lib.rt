@@ -1,49 +1,11 @@
-// One round's topology on the caller's tables, in place: edge numbers, refined faces and refined marks.
+// One round's topology on the caller's tables, in place: refined faces and refined marks.
 ghost use mathlib.Core.Path.{_≡_};
-ghost use Prim.Native.Nat.{_+_, _*_, _/_, _≤_, _<_};
-ghost use mathlib.Core.List.{_++_};
-ghost use lib.ListN.{length, set, take};
-ghost use Rattle.search.specs.Search.{count};
+ghost use Prim.Native.Nat.{_+_, _*_, _≤_};
+ghost use lib.ListN.{length, take};
 ghost use Rattle.topology.specs.Shape.{quads};
-ghost use Rattle.topology.specs.HalfEdge.{firstMet, edgeCount, edge};
 ghost use Rattle.refinedfaces.specs.Refined.{refined};
-ghost use Rattle.refinedfaces.specs.Mates.{mates};
 ghost use Rattle.tables.specs.Tables.{filled, Written};
-ghost use Rattle.roundfaces.specs.Faces.{edges, Mated, Numbered, refinedBy, FaceIn, FacesIn, extended};
-
-// Numbers the edge of half-edge h, where `edges` are met before; the answer is how many are met then.
-fn number_side(faces: &[u32], work: &mut [u32], h: usize, edges: usize) -> usize
-    requires { ⌜ Mated (now faces) (now work) ⌝ }
-    requires { ⌜ Numbered (now faces) (now work) h ⌝ }
-    requires { ⌜ (h < length (now faces)) × (edges ≡ count (firstMet quads (now faces)) h) ⌝ }
-    ensures { λ r. ⌜ r ≡ count (firstMet quads (now (faces .entry))) (h + 1) ⌝ }
-    ensures { λ _. ⌜ now (work .exit) ≡ set (now (work .entry)) (length (now (faces .entry)) + h) (edge quads (now (faces .entry)) h) ⌝ }
-{
-    let n = faces.len();
-    let mate = halfedges::mate_side(faces, &*work, h);
-    if h < mate {
-        work[n + h] = edges as u32;
-        return edges + 1;
-    }
-    work[n + h] = work[n + mate];
-    edges
-}
-
-// Numbers the edges as they are first met; the answer is their number. The mates must be there and stay.
-pub fn number_edges(faces: &[u32], work: &mut [u32]) -> usize
-    requires { ⌜ Mated (now faces) (now work) ⌝ }
-    ensures { λ r. ⌜ r ≡ edgeCount quads (now (faces .entry)) ⌝ }
-    ensures { λ _. ⌜ now (work .exit) ≡ filled (mates quads (now (faces .entry)) ++ edges quads (now (faces .entry))) (now (work .entry)) ⌝ }
-{
-    let n = faces.len();
-    let mut edges = 0;
-    let mut h = 0;
-    while h < n {
-        edges = number_side(faces, &mut *work, h, edges);
-        h += 1;
-    }
-    edges
-}
+ghost use Rattle.roundfaces.specs.Faces.{refinedBy, FaceIn, FacesIn, extended};
 
 // Writes the refined faces of face f, the last first, from the corners a to d of the face and the points p to s of its sides.
 fn refine_face(faces: &mut [u32], work: &[u32], n: usize, v: usize, edges: usize, f: usize)

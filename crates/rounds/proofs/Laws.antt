@@ -1,6 +1,6 @@
 -- How the parts of a round fit together. Assumes nothing.
 use mathlib.Core.Path.{_≡_, sym, ap, _∙_, subst}
-use mathlib.Core.List.{List, _++_}
+use mathlib.Core.List.{List}
 use Prim.Native.Nat.{ℕ, _+_, _-_, _*_, _/_, _≤_}
 use native.Mathlib.Omega.{arith}
 use lib.Dec.{lit≤}
@@ -12,20 +12,20 @@ use Rattle.curve.specs.Weights.{kobbelt}
 use Rattle.nets.specs.Net.{Net, frontNet}
 use Rattle.integers.proofs.Within.{within-le}
 use Rattle.tables.specs.Tables.{filled}
-use Rattle.tables.proofs.Laws.{length-filled}
 use Rattle.nets.proofs.Laws.{same-net}
 use Rattle.topology.specs.Shape.{quads}
 use Rattle.topology.specs.HalfEdge.{edgeCount}
 use Rattle.topology.specs.Manifold.{Oriented}
 use Rattle.refinedfaces.specs.Refined.{refinedVertices, refined, refinedMarks}
-use Rattle.refinedfaces.specs.Mates.{mates, refinedMates}
+use Rattle.refinedfaces.specs.Mates.{refinedMates}
 use Rattle.scheme.specs.Step.{step}
 use Rattle.halfedges.specs.Tables.{Quadrilaterals, MateTable}
 use Rattle.halfedges.proofs.Tables.{mates-cong}
 use Rattle.schemelaws.proofs.Steps.{refinable-manifold, step-faces, step-marks, step-count}
-use Rattle.roundfaces.specs.Faces.{edges, extended, Mated, Numbered, FacesIn}
-use Rattle.roundfaces.proofs.Edges.{length-both}
-use Rattle.roundfaces.proofs.Round.{oriented-wider, numbered-mates, numbered-edges, numbered-rest, numbered-cong, vertices-refined, marks-refined, marks-cong}
+use Rattle.edgenumbers.specs.Edges.{edgeCountBy, withEdges, PairedIn, Numbered}
+use Rattle.edgenumbers.proofs.Net.{mates-paired, edges-counted, edges-mates, edges-numbered, edges-rest, edges-kept, numbered-cong}
+use Rattle.roundfaces.specs.Faces.{extended, FacesIn}
+use Rattle.roundfaces.proofs.Round.{vertices-refined, marks-refined, marks-cong}
 use Rattle.roundmates.specs.Mates.{MatesIn}
 use Rattle.roundmates.proofs.Round.{mates-in, mated-refined, mates-rest}
 use Rattle.edgetable.specs.EdgeTable.{Round}
@@ -72,16 +72,14 @@ module _ (v n : ℕ) (t : Buffers) (c : Current v n t) where
   sides : Quadrilaterals (length l)
   sides = let e = corners in let s = c .small in record { fours = c .refinable .fours; few = omega arith }
 
-  pub mated : Mated l w
-  mated =
-      let e = corners in
-      let r = c .roomWork in
-      let q = c .vertices in
-      record {
-        oriented = oriented-wider v (length l) l (omega arith) oriented;
-        table = record { sides = sides; room = omega arith; mated = c .mated };
-        room = omega arith;
-      }
+  room : 2 * length l ≤ length w
+  room = let e = corners in let r = c .roomWork in omega arith
+
+  pub mated : PairedIn n w
+  mated = subst (λ (k : ℕ). PairedIn k w) corners (mates-paired quads l w room (c .mated .mates) v oriented (sides .few))
+
+  pub counted : edgeCountBy (take n w) ≡ edgeCount quads l
+  counted = ap (λ (k : ℕ). edgeCountBy (take k w)) (sym corners) ∙ edges-counted quads l w room (c .mated .mates)
 
   -- the new number of vertices
   pub count-le : v + edgeCount quads l + n / 4 ≤ 4 * n
@@ -116,9 +114,18 @@ module _ (v n : ℕ) (t : Buffers) (c : Current v n t) where
       pub mates-past : drop (8 * n) w″ ≡ drop (8 * n) w′
       mates-past = let r = c .roomWork in ap (drop (8 * n)) h ∙ drop-later (4 * n) (8 * n) _ _ (omega arith) (mates-rest n w′ (omega arith))
 
-  module _ (w₁ : List ℕ) (e₁ : w₁ ≡ filled (mates quads l ++ edges quads l) w) where
+  module _ (w₁ : List ℕ) (e₁ : w₁ ≡ filled (withEdges (take n w)) w) where
+    all : w₁ ≡ filled (withEdges (take (length l) w)) w
+    all = e₁ ∙ ap (λ (k : ℕ). filled (withEdges (take k w)) w) (sym corners)
+
     length₁ : length w₁ ≡ length w
-    length₁ = let e = corners in let r = c .roomWork in let b = length-both l in ap length e₁ ∙ length-filled _ w (omega arith)
+    length₁ = edges-kept quads l w room (c .mated .mates) w₁ all
+
+    mated₁ : MateTable l w₁
+    mated₁ = record { mates = edges-mates quads l w room (c .mated .mates) w₁ all }
+
+    numbered₁ : Numbered quads l w₁
+    numbered₁ = edges-numbered quads l w room (c .mated .mates) w₁ all
 
     pub ready : Round l mk points w₁
     ready =
@@ -135,9 +142,9 @@ module _ (v n : ℕ) (t : Buffers) (c : Current v n t) where
             ready = record {
               vertices = length mk;
               net = net;
-              table = record { sides = sides; room = omega arith; mated = rw e₁ (numbered-mates l w) };
+              table = record { sides = sides; room = omega arith; mated = mated₁ };
             };
-            numbered = rw e₁ (numbered-edges l w);
+            numbered = numbered₁;
             room = omega arith;
           };
           net = net;
@@ -152,12 +159,10 @@ module _ (v n : ℕ) (t : Buffers) (c : Current v n t) where
 
     module _ (w₂ : List ℕ) (e₂ : Scratch l w₁ w₂) where
       mated₂ : MateTable l w₂
-      mated₂ = mates-cong l w₁ w₂ (λ i h. e₂ .front i (omega arith)) (rw e₁ (numbered-mates l w))
+      mated₂ = mates-cong l w₁ w₂ (λ i h. e₂ .front i (omega arith)) mated₁
 
-      numbered₂ : Numbered l w₂ n
-      numbered₂ =
-          subst (λ (k : ℕ). Numbered l w₂ k) corners
-          (numbered-cong l w₁ w₂ (λ i h g. e₂ .front i g) (rw e₁ (numbered-edges l w)))
+      numbered₂ : Numbered quads l w₂
+      numbered₂ = numbered-cong quads l w₁ w₂ (λ i h g. e₂ .front i g) numbered₁
 
       length₂ : length w₂ ≡ length w
       length₂ = e₂ .kept ∙ length₁
@@ -196,5 +201,5 @@ module _ (v n : ℕ) (t : Buffers) (c : Current v n t) where
               newMarks = hm ∙ ap (λ (x : List ℕ). filled x marks) new-marks;
               mated = mated₂;
               rest = ap (λ (j : ℕ). drop (8 * j) w₂) (sym e) ∙ rest₂ ∙ ap (λ (j : ℕ). drop (8 * j) w₁) e
-                  ∙ ap (drop (8 * n)) e₁ ∙ drop-later (2 * length l) (8 * n) _ _ (omega arith) (numbered-rest l w);
+                  ∙ drop-later (2 * length l) (8 * n) _ _ (omega arith) (edges-rest quads l w room (c .mated .mates) w₁ all);
             }

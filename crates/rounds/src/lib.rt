@@ -16,7 +16,7 @@ fn round(
     ensures { λ r. ⌜ Refines v n r (buffers (now (points .entry)) (now (faces .entry)) (now (marks .entry)) (now (work .entry)))
         (buffers (now (points .exit)) (now (faces .exit)) (now (marks .exit)) (now (work .exit))) ⌝ }
 {
-    let edges = roundfaces::number_edges(&faces[..n], &mut *work);
+    let edges = edgenumbers::number_edges(n, &mut *work);
     roundpoints::new_points(&mut *points, &faces[..n], &marks[..v], &mut *work);
     let count = v + edges + n / 4;
     roundfaces::extend_marks(&mut *marks, v, count);

@@ -11,7 +11,7 @@ use Rattle.topology.specs.HalfEdge.{edge}
 use Rattle.scheme.specs.Points.{directionBy, inner, FaceRule, firstAlone, secondAlone, bothDirections, faceRule}
 use Rattle.topology.specs.Quads.{beyond}
 use Rattle.walks.specs.Ready.{Ready}
-use Rattle.roundfaces.specs.Faces.{Numbered}
+use Rattle.edgenumbers.specs.Edges.{Numbered}
 use Rattle.stencils.specs.declared.Stencil.{Stencil}
 use Rattle.stencils.specs.declared.Stencil.the-variants.{Interior, End, Single}
 use Rattle.stencils.specs.declared.FaceStencil.{FaceStencil}
@@ -20,7 +20,7 @@ use Rattle.stencils.specs.declared.FaceStencil.the-variants.{Alone, Both
 -- corners l of a net, with mates and edge numbers in w and room behind them
 pub record Indexed (l w : List ℕ) : Type 0 where
   pub ready : Ready l w
-  pub numbered : Numbered l w (length l)
+  pub numbered : Numbered quads l w
   pub room : 8 * length l ≤ length w
 
 -- the place of the exact point on the edge of h

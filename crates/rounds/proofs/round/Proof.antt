@@ -1,9 +1,12 @@
 -- `rounds::round` meets its contract. Assumes nothing.
-use mathlib.Core.Path.{sym, subst}
+use mathlib.Core.Path.{_≡_, sym, subst, _∙_}
 use Prim.Native.Nat.{ℕ, _+_, _*_, _/_, _≤_}
 use native.Mathlib.Omega.{arith}
+use lib.ListN.{take}
+use Rattle.topology.specs.Shape.{quads}
+use Rattle.topology.specs.HalfEdge.{edgeCount}
 use Rattle.nets.specs.Buffers.{Buffers, buffers}
-use Rattle.rounds.proofs.Laws.{corners, marked, mated, count-le, ready, net-ready, refines}
+use Rattle.rounds.proofs.Laws.{corners, marked, mated, counted, count-le, ready, net-ready, refines}
 use borrow.Author.Needs.{needs}
 use Rattle.rounds.proofs.round.Statement.{statement}
 use Rattle.rounds.proofs.round.Tie as tie
@@ -13,25 +16,22 @@ tables s = buffers (s .args .points .now) (s .args .faces .now) (s .args .marks 
 
 -- after the edges are numbered, and after the new points
 abbrev start : tie.After-number-edges → tie.Start
-start x = x .before .before .before .before .before .before
+start x = x .before .before .before .before .before
 
 abbrev numbered : tie.After-new-points → tie.After-number-edges
 numbered y = y .before .before .before .before .before .before .before
+
+edges : (x : tie.After-number-edges) → (let s = start x in x .number-edges .result ≡ edgeCount quads (take (s .args .n) (s .args .faces .now)))
+edges x = let s = start x in x .number-edges .ensures .0 ∙ counted (s .args .v) (s .args .n) (tables s) (s .pre)
 
 -- the new number of vertices
 few : (x : tie.After-number-edges) → (let s = start x in s .args .v + x .number-edges .result + s .args .n / 4 ≤ 4 * s .args .n)
 few x =
     let s = start x in
-    subst (λ (j : ℕ). s .args .v + j + s .args .n / 4 ≤ 4 * s .args .n) (sym (x .number-edges .ensures .0)) (count-le (s .args .v) (s .args .n) (tables s) (s .pre))
-
-slice-reshare-prefix-number-edges : tie.Need-slice-reshare-prefix-number-edges
-slice-reshare-prefix-number-edges c = search needs
-
-slice-aggregate-number-edges : tie.Need-slice-aggregate-number-edges
-slice-aggregate-number-edges c = let s = c .before .before .before .before in sym (corners (s .args .v) (s .args .n) (tables s) (s .pre))
+    subst (λ (j : ℕ). s .args .v + j + s .args .n / 4 ≤ 4 * s .args .n) (sym (edges x)) (count-le (s .args .v) (s .args .n) (tables s) (s .pre))
 
 number-edges-requires : tie.Need-number-edges-requires
-number-edges-requires c κs = let s = c .before .before .before .before .before in mated (s .args .v) (s .args .n) (tables s) (s .pre)
+number-edges-requires c κs = let s = c .before .before .before .before in mated (s .args .v) (s .args .n) (tables s) (s .pre)
 
 slice-reshare-prefix-new-points : tie.Need-slice-reshare-prefix-new-points
 slice-reshare-prefix-new-points c = search needs
@@ -71,7 +71,7 @@ refine-faces-requires c κs =
     let y = c .before .before .before .before .before .before .before .before .before in
     let x = numbered y in
     let s = start x in
-    net-ready (s .args .v) (s .args .n) (tables s) (s .pre) _ (x .number-edges .ensures .1) _ (y .new-points .ensures .1) _ (x .number-edges .ensures .0)
+    net-ready (s .args .v) (s .args .n) (tables s) (s .pre) _ (x .number-edges .ensures .1) _ (y .new-points .ensures .1) _ (edges x)
 
 same-length : tie.Need-same-length
 same-length c = search needs
@@ -91,15 +91,13 @@ returns c =
     let y = z .before .before .before .before .before in
     let x = numbered y in
     let s = start x in
-    refines (s .args .v) (s .args .n) (tables s) (s .pre) _ (x .number-edges .ensures .1) _ (y .new-points .ensures .1) _ _ _ _ (x .number-edges .ensures .0)
+    refines (s .args .v) (s .args .n) (tables s) (s .pre) _ (x .number-edges .ensures .1) _ (y .new-points .ensures .1) _ _ _ _ (edges x)
     (y .new-points .ensures .0) (c .before .before .refine-faces .ensures) (z .extend-marks .ensures)
 
 pub round-spec : {M : Type 1} → statement M
 round-spec =
     tie.close
     (tie.spec
-    slice-reshare-prefix-number-edges
-    slice-aggregate-number-edges
     number-edges-requires
     slice-reshare-prefix-new-points
     slice-aggregate-new-points

@@ -2,20 +2,25 @@
 use mathlib.Core.Path.{ap, _∙_}
 use Prim.Native.Nat.{ℕ, _+_}
 use native.Mathlib.Omega.{arith}
-use lib.ListN.{length, set}
+use lib.ListN.{set, take}
 use borrow.Author.Needs.{needs}
 use Rattle.search.proofs.Count.{count-le}
-use Rattle.topology.specs.Shape.{quads}
-use Rattle.topology.specs.HalfEdge.{firstMet}
-use Rattle.roundfaces.proofs.Edges.{number-new, counted-new, number-old, counted-old}
-use Rattle.roundfaces.proofs.number_side.Statement.{statement}
-use Rattle.roundfaces.proofs.number_side.Tie as tie
+use Rattle.edgenumbers.specs.Edges.{metBy}
+use Rattle.edgenumbers.proofs.Edges.{side-new, met-new, side-old, met-old}
+use Rattle.edgenumbers.proofs.number_side.Statement.{statement}
+use Rattle.edgenumbers.proofs.number_side.Tie as tie
 
-mate-side-requires : tie.Need-mate-side-requires
-mate-side-requires c κs = let s = c .before .before .before in (s .pre .0 .table, s .pre .1 .1 .0)
+mul-mate : tie.Need-mul-mate
+mul-mate c = search needs
+
+slice-read-mate : tie.Need-slice-read-mate
+slice-read-mate c = search needs
+
+cast-mate : tie.Need-cast-mate
+cast-mate c = omega (arith, c .slice-known .given (c .before .args .h))
 
 cast-work : tie.Need-cast-work
-cast-work c = let s = c .before .before .before .before .before in omega (arith, count-le (firstMet quads (s .args .faces .now)) (s .args .h))
+cast-work c = let s = c .before .before in omega (arith, count-le (metBy (take (s .args .n) (s .args .work .now))) (s .args .h))
 
 add-work : tie.Need-add-work
 add-work c = search needs
@@ -27,22 +32,21 @@ slice-write-work : tie.Need-slice-write-work
 slice-write-work c = search needs
 
 add-result : tie.Need-add-result
-add-result c = let s = c .before .before .before .before .before in omega (arith, count-le (firstMet quads (s .args .faces .now)) (s .args .h))
+add-result c = let s = c .before .before in omega (arith, count-le (metBy (take (s .args .n) (s .args .work .now))) (s .args .h))
 
 same-length : tie.Need-same-length
 same-length c = search needs
 
 returns : tie.Need-returns
 returns c =
-    let x = c .before in
-    let s = x .before .before .before .before in
-    let l = s .args .faces .now in
+    let s = c .before .before in
+    let n = s .args .n in
+    let h = s .args .h in
     let w = s .args .work .now in
     let p = s .pre .1 .1 in
-    let e = x .mate-side .ensures in
     let b = c .if1 .taken in (
-      ap (λ (n : ℕ). n + 1) (p .1) ∙ counted-new l w (s .args .h) (p .0) (s .pre .0) (s .pre .1 .0) _ e b,
-      ap (set w (length l + s .args .h)) (p .1 ∙ number-new l w (s .args .h) (p .0) (s .pre .0) (s .pre .1 .0) _ e b),
+      ap (λ (k : ℕ). k + 1) (p .1) ∙ met-new n h w (p .0) (s .pre .0) b,
+      ap (set w (n + h)) (p .1 ∙ side-new n h w (p .0) (s .pre .0) b),
     )
 
 add-work-2 : tie.Need-add-work-2
@@ -68,22 +72,23 @@ same-length-2 c = search needs
 
 returns-2 : tie.Need-returns-2
 returns-2 c =
-    let x = c .before .before in
-    let s = x .before .before .before .before in
-    let l = s .args .faces .now in
+    let s = c .before .before .before in
+    let n = s .args .n in
+    let h = s .args .h in
     let w = s .args .work .now in
     let p = s .pre .1 .1 in
-    let e = x .mate-side .ensures in
     let b = c .before .if1 .left in (
-      p .1 ∙ counted-old l w (s .args .h) (p .0) (s .pre .0) (s .pre .1 .0) _ e b,
-      ap (set w (length l + s .args .h)) (number-old l w (s .args .h) (p .0) (s .pre .0) (s .pre .1 .0) _ e b),
+      p .1 ∙ met-old n h w (p .0) (s .pre .0) b,
+      ap (set w (n + h)) (side-old n h w (p .0) (s .pre .0) (s .pre .1 .0) b),
     )
 
 pub number-side-spec : {M : Type 1} → statement M
 number-side-spec =
     tie.close
     (tie.spec
-    mate-side-requires
+    mul-mate
+    slice-read-mate
+    cast-mate
     cast-work
     add-work
     mul-work
