@@ -2,7 +2,7 @@
 use mathlib.Core.Path.{_≡_, refl, sym, ap, _∙_}
 use mathlib.Core.Bool.{Bool}
 use mathlib.Core.List.{List, [], _∷_}
-use Prim.Native.Nat.{ℕ, _*_, _/_, _^_, _≤_, _<_}
+use Prim.Native.Nat.{ℕ, _*_, _^_, _≤_, _<_}
 use native.Mathlib.Nat.{one-le-pow, mul-le-mul-left}
 use native.Mathlib.Omega.{arith}
 use native.Mathlib.Decide.{decLt}
@@ -11,7 +11,6 @@ use borrow.Author.Tests.{eq-eqb, ne-eqb}
 use lib.ListN.{length, drop}
 use Rattle.search.specs.Search.{first}
 use Rattle.search.proofs.First.{first-le}
-use Rattle.topology.specs.Shape.{Shape}
 use Rattle.polygons.specs.Polygons.{shapeOf, Sided}
 use Rattle.refusals.specs.Refusals.{isolated, repeatedSide, nonManifold, badValence, markedRing}
 use Rattle.refusals.proofs.Places.{isolated-soon}
@@ -25,7 +24,7 @@ use Rattle.verdict.proofs.Accepted.{never, or-both, WithinLimits, within-if, ac
 use Rattle.limits.specs.Answer.{limitsOf, FinalFaces}
 use Rattle.adjacency.specs.Chains.{CornersBelow, Tables}
 use Rattle.halfedges.specs.Tables.{MateTableOf}
-use Rattle.sidetable.specs.Table.{ShapeRoom, Shaped, ShapeBuilt}
+use Rattle.sidetable.specs.Table.{ShapeRoom, ShapeBuilt}
 use Rattle.sidetable.proofs.Table.{shaped-kept}
 use Rattle.adjacency.proofs.Chains.{corners-below-le}
 use Rattle.admission.specs.declared.Answer.the-variants.{Accepted, Refused}
