@@ -1,6 +1,6 @@
 -- How the parts of the refining call fit together. Assumes nothing.
 use mathlib.Core.Path.{_≡_, refl, sym, ap, ap₂, _∙_, subst}
-use mathlib.Core.List.{List}
+use mathlib.Core.List.{List, [], _∷_}
 use Prim.Native.Nat.{ℕ, zero, suc, _*_, _/_, _%_, _^_, _≤_}
 use native.Mathlib.Nat.{one-le-pow, mul-le-mul-left, mul-assoc, pow-suc}
 use native.Mathlib.Decide.{ℕ-discrete}
@@ -37,7 +37,7 @@ use Rattle.splitting.proofs.Split.{split-corners, start-none, start-split}
 use Rattle.splitting.proofs.Growth.{start-within}
 use Rattle.splitting.proofs.Room.{start-vertices-le}
 use Rattle.outcome.proofs.Accepted.{accepted-drawn, accepted-refinable}
-use Rattle.loading.specs.Load.{Loadable, Loaded}
+use Rattle.loading.specs.Loading.{Loadable, Loaded}
 use Rattle.rounds.specs.Rounds.{Prepared, After}
 use Rattle.refine.specs.Run.{Ran}
 
@@ -75,6 +75,10 @@ start-four m s = go (ℕ-discrete (length (m .sides)) 0)
         let q = by-sides (m .sides) (length (m .faces)) z in
         let f = split-corners m in
         omega arith
+
+corners-le : (s : List ℕ) (n : ℕ) → Sided s n → n ≤ 4 * quadrilaterals s n
+corners-le [] n k = let f = k .fours refl in omega arith
+corners-le (c ∷ s) n k = omega arith
 
 pub start-corners : (c : Call) → verdict c ≡ accepted → (p : ℕ) → length (startNet (c .net) .faces) * p ≡ 4 * (quadrilaterals (c .net .sides) (length (c .net .faces)) * p)
 start-corners c e p =
@@ -121,13 +125,36 @@ module _ (a : Request) (last : ℕ) (ok : AdmittedCall (callOf a) last (a .buffe
   pub last-le : last ≤ 262144
   last-le = admitted-faces (callOf a) last (o .work) ok
 
-  -- corners for the rounds
-  pub corners-few : quadrilaterals (a .net .sides) (length (a .net .faces)) ≤ 4096
-  corners-few = limits .faces
+  -- the faces that count, before the rounds
+  pub faces-few : quadrilaterals (a .net .sides) (length (a .net .faces)) ≤ 4096
+  faces-few = limits .faces
 
-  LOADABLE
+  pub loadable : Loadable (a .net) o
+  loadable =
+      let w = limits in
+      let f = faces-few in
+      let s = size in
+      let g = once in
+      let e = ok .final in
+      let b = w .roomVertices in
+      let c = w .roomFaces in
+      let d = w .roomMarks in
+      let h = w .roomWork in
+      let l = corners-le (a .net .sides) (length (a .net .faces)) (w .sided) in
+      record {
+        drawn = drawn;
+        within = within;
+        few = omega arith;
+        fewSplit = λ p. let q = by-sides (a .net .sides) (length (a .net .faces)) (λ z. let y : ⊥ = omega arith in absurd y) in omega arith;
+        roomVertices = omega arith;
+        roomFaces = omega arith;
+        roomMarks = omega arith;
+        roomWork = λ p. omega arith;
+        mated = ok .mated;
+        shaped = ok .shaped;
+      }
 
-  module _ (t : Buffers) (r n : ℕ) (x : Loaded (a .net) o t r) (e : n ≡ quadrilaterals (a .net .sides) (length (a .net .faces))) where
+  module _ (t : Buffers) (r n : ℕ) (x : Loaded (a .net) o t r) (long : length (t .work) ≡ length (o .work)) (e : n ≡ quadrilaterals (a .net .sides) (length (a .net .faces))) where
     corners-are : 4 * n ≡ length (m .faces)
     corners-are = let f = start-four (a .net) (limits .sided) in omega arith
 
@@ -159,7 +186,6 @@ module _ (a : Request) (last : ℕ) (ok : AdmittedCall (callOf a) last (a .buffe
         let lv : length (t .vertices) ≡ length (o .vertices) = ap length (x .vertices) ∙ length-filled _ _ (omega arith) in
         let lf : length (t .faces) ≡ length (o .faces) = ap length (x .faces) ∙ length-filled _ _ (omega arith) in
         let lm : length (t .marks) ≡ length (o .marks) = ap length (x .marks) ∙ length-filled _ _ (omega arith) in
-        let lw = x .long in
         record {
           refinable = rw front-is refinable;
           within = rw (ap (λ (j : Net). j .vertices) front-is) (start-within (a .net) drawn 1048576 within);
