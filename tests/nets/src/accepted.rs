@@ -262,8 +262,8 @@ fn soup(size: Size, rng: &mut Rng) -> Net {
     for _ in 0..size.upto(3, [40, 200, 200], rng) {
         let corners = rng.permutation(net.points.len());
         let face = [corners[0], corners[1], corners[2], corners[3]];
-        if sides(face).iter().all(|side| !taken.contains(side)) {
-            taken.extend(sides(face));
+        if sides(&face).all(|side| !taken.contains(&side)) {
+            taken.extend(sides(&face));
             net.faces.push(face);
         }
     }

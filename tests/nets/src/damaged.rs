@@ -333,6 +333,7 @@ pub fn random_tables(rng: &mut Rng) -> Case {
         faces: (0..4 * faces)
             .map(|_| to_u32(rng.below(vertices + 1)))
             .collect(),
+        sides: vec![],
         marks: (0..vertices).map(|_| u8::from(rng.one_in(4))).collect(),
         capacity: Capacity::for_refined_faces(16 * faces),
         expected: Expected::Unknown,

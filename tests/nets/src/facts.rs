@@ -6,7 +6,7 @@
 use std::collections::BTreeSet;
 use std::fmt::Display;
 
-use reference::call::{Outcome, Tables, refine_into};
+use reference::call::{Outcome, Tables};
 use reference::curve::{Form, exact_curve, rounded_curve};
 use reference::net::Net;
 use reference::refusal::{Capacity, Refusal, check_call, check_net};
@@ -161,6 +161,7 @@ fn near_limits(rng: &mut Rng) -> Case {
         rounds,
         vertices: vec![0; 3 * vertices],
         faces: vec![0; 4 * faces],
+        sides: vec![],
         marks: vec![0; vertices],
         capacity: room,
         expected: Expected::Unknown,
@@ -199,6 +200,7 @@ fn call_text(case: &Case, with_net: bool) -> String {
             case.rounds,
             &case.vertices,
             &case.faces,
+            &case.sides,
             &case.marks,
             &room,
         )),
@@ -226,13 +228,7 @@ fn call_text(case: &Case, with_net: bool) -> String {
 fn lent_fields(case: &Case) -> [(&'static str, String); 3] {
     let before = case.tables(&mut Rng::new(0));
     let mut after = before.clone();
-    let outcome = refine_into(
-        case.rounds,
-        &case.vertices,
-        &case.faces,
-        &case.marks,
-        &mut after,
-    );
+    let outcome = case.outcome_in(&mut after);
     let counts = match outcome {
         Outcome::Refined { faces, marks, .. } => vec![marks.len(), faces.len() / 4],
         Outcome::Refused { .. } => vec![],

@@ -7,7 +7,7 @@ use nets::kind::{Kind, call, small_nets};
 use nets::pairs::shared_pair;
 use nets::refused::refused_call;
 use nets::rng::Rng;
-use reference::call::{Outcome, Tables, refine_into, refine_times};
+use reference::call::{Outcome, Tables, refine_times};
 use reference::curve::Form;
 use reference::refusal::check_net;
 use reference::seam::{Boundary, Way, shared_readings};
@@ -90,16 +90,12 @@ fn assert_frame(case: &Case, before: &Tables, after: &Tables, outcome: &Outcome)
             assert_eq!(after.marks[..marks.len()], *marks);
             ([vertices.len(), faces.len(), marks.len()], true)
         }
-        Outcome::Refused { reason, .. } => ([0; 3], *reason > 4),
+        Outcome::Refused { reason, .. } => ([0; 3], (5..=12).contains(reason)),
     };
     assert_eq!(after.vertices[filled[0]..], before.vertices[filled[0]..]);
     assert_eq!(after.faces[filled[1]..], before.faces[filled[1]..]);
     assert_eq!(after.marks[filled[2]..], before.marks[filled[2]..]);
-    let used = if cleared {
-        (4 * case.faces.len()) << (2 * case.rounds)
-    } else {
-        0
-    };
+    let used = if cleared { 16 * case.served_faces() } else { 0 };
     assert!(after.workspace[..used].iter().all(|&word| word == 0));
     assert_eq!(after.workspace[used..], before.workspace[used..]);
 }
@@ -110,13 +106,7 @@ fn calls_leave_every_table_as_the_paper_says() {
         let case = call(seed);
         let before = case.tables(&mut Rng::new(seed));
         let mut after = before.clone();
-        let outcome = refine_into(
-            case.rounds,
-            &case.vertices,
-            &case.faces,
-            &case.marks,
-            &mut after,
-        );
+        let outcome = case.outcome_in(&mut after);
         assert_eq!(outcome, case.outcome());
         assert_frame(&case, &before, &after, &outcome);
     }
