@@ -1,6 +1,7 @@
 //! Seeded nets and texts for testing the refiner.
 //!
 //! - [`accepted`]: nets that a call accepts, of every kind and size.
+//! - [`polygons`]: the same with side counts, so with faces of 3 to 8 sides.
 //! - [`refused`]: calls and texts with one or more reasons for a refusal.
 //! - [`damaged`]: texts that lost their form, and damaged tables.
 //! - [`pairs`]: pairs of nets that share a boundary segment.
@@ -37,6 +38,9 @@ pub mod damaged;
 pub mod facts;
 pub mod kind;
 pub mod pairs;
+pub mod polygons;
 pub mod refused;
+pub mod remodel;
 pub mod rng;
 pub mod shapes;
+pub mod solids;
