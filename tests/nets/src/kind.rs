@@ -7,8 +7,12 @@ use reference::text::PROGRAM_REFINED_FACES;
 use crate::accepted::{Shape, Size, accepted};
 use crate::build::to_u32;
 use crate::case::{Case, Expected, TextCase, document};
-use crate::damaged::{Damage, damage_text, damaged_tables, damaged_text, random_tables};
-use crate::refused::{TEXT_REASONS, refused_call, refused_text};
+use crate::damaged::{
+    Damage, damage_text, damaged_polygons, damaged_tables, damaged_text, random_polygons,
+    random_tables,
+};
+use crate::polygons::{PolygonShape, accepted_polygons};
+use crate::refused::{POLYGON_REASONS, TEXT_REASONS, refused_call, refused_polygons, refused_text};
 use crate::rng::Rng;
 
 /// A kind of text.
@@ -63,7 +67,7 @@ impl Kind {
         match self {
             Kind::Accepted(shape) => {
                 let net = accepted(*shape, Size::Medium, rng);
-                let most = most_rounds(&net, PROGRAM_REFINED_FACES).min(4);
+                let most = most_rounds(net.faces.len(), PROGRAM_REFINED_FACES).min(4);
                 let rounds = to_u32(rng.below(most as usize + 1));
                 accepted_text(&net, rounds, rng)
             }
@@ -99,11 +103,12 @@ fn accepted_text(net: &Net, rounds: u32, rng: &mut Rng) -> TextCase {
     }
 }
 
-/// The most rounds, up to 6, after which the net has at most `faces` faces.
-fn most_rounds(net: &Net, faces: usize) -> u32 {
+/// The most rounds, up to 6, after which so many quadrilaterals have become at
+/// most `faces`.
+fn most_rounds(quadrilaterals: usize, faces: usize) -> u32 {
     (0..=6)
         .rev()
-        .find(|&rounds| net.faces.len() << (2 * rounds) <= faces)
+        .find(|&rounds| quadrilaterals << (2 * rounds) <= faces)
         .unwrap_or(0)
 }
 
@@ -140,6 +145,30 @@ pub fn call(seed: u64) -> Case {
         6 => damaged_tables(Size::Medium, rng),
         _ => random_tables(rng),
     };
+    lengthen(&mut case, rng);
+    case
+}
+
+/// The same with side counts.
+pub fn polygon_call(seed: u64) -> Case {
+    let rng = &mut Rng::new(seed);
+    let mut case = match seed % 8 {
+        0..=3 => accepted_polygon_call(rng),
+        4 | 5 => {
+            let reasons: Vec<u32> = (0..rng.between(1, 3))
+                .map(|_| rng.pick(&POLYGON_REASONS))
+                .collect();
+            refused_polygons(&reasons, rng)
+        }
+        6 => damaged_polygons(rng.pick(&PolygonShape::ALL), Size::Small, rng),
+        _ => random_polygons(rng),
+    };
+    lengthen(&mut case, rng);
+    case
+}
+
+/// Makes some of the tables of an accepted call longer.
+fn lengthen(case: &mut Case, rng: &mut Rng) {
     if case.expected == Expected::Accepted {
         let surplus = |rng: &mut Rng| rng.pick(&[0, 0, 1, 7]);
         case.capacity = Capacity {
@@ -149,7 +178,6 @@ pub fn call(seed: u64) -> Case {
             workspace: case.capacity.workspace + surplus(rng),
         };
     }
-    case
 }
 
 /// An accepted call, rarely with many faces.
@@ -161,6 +189,17 @@ fn accepted_call(rng: &mut Rng) -> Case {
         _ => (Size::Small, 256),
     };
     let net = accepted(rng.pick(&Shape::ALL), size, rng);
-    let most = most_rounds(&net, faces) as usize;
+    let most = most_rounds(net.faces.len(), faces) as usize;
     Case::new(&net, to_u32(rng.below(most + 1)), Expected::Accepted)
+}
+
+/// An accepted call with side counts.
+fn accepted_polygon_call(rng: &mut Rng) -> Case {
+    let (size, faces) = match rng.below(100) {
+        0..=9 => (Size::Medium, 1_024),
+        _ => (Size::Small, 256),
+    };
+    let net = accepted_polygons(rng.pick(&PolygonShape::ALL), size, rng);
+    let most = most_rounds(net.corners().count(), faces) as usize;
+    Case::with_sides(&net, to_u32(rng.below(most + 1)), Expected::Accepted)
 }

@@ -3,9 +3,9 @@
 use std::collections::BTreeSet;
 
 use nets::case::{Case, Expected, TextCase};
-use nets::kind::{Kind, call, small_nets};
+use nets::kind::{Kind, call, polygon_call, small_nets};
 use nets::pairs::shared_pair;
-use nets::refused::refused_call;
+use nets::refused::{POLYGON_REASONS, refused_call, refused_polygons};
 use nets::rng::Rng;
 use reference::call::{Outcome, Tables, refine_times};
 use reference::curve::Form;
@@ -61,19 +61,54 @@ fn calls_with_one_or_two_reasons_get_the_lowest() {
     }
 }
 
+/// Place of a reason in the order of the refusals of a call with side counts,
+/// where the vertex part of 2 goes before 14 and its marks part after it.
+fn rank(reason: u32) -> u32 {
+    match reason {
+        1 => 0,
+        14 => 1,
+        _ => reason,
+    }
+}
+
 #[test]
-fn mixed_calls_get_their_answer() {
-    let mut met = BTreeSet::new();
-    for seed in 0..1200 {
+fn calls_with_side_counts_get_the_first_in_the_order() {
+    for &first in &POLYGON_REASONS {
+        for &second in &POLYGON_REASONS {
+            for seed in 0..6 {
+                let case = refused_polygons(&[first, second], &mut Rng::new(seed));
+                let Expected::Refused(refusal) = case.expected else {
+                    panic!("no refusal expected for {first} and {second}");
+                };
+                let lowest = rank(first).min(rank(second));
+                let is_first = rank(refusal.reason) == lowest;
+                assert!(is_first || (refusal.reason == 2 && lowest == rank(14)));
+                let outcome = case.outcome();
+                assert!(case.expected.agrees_with(&outcome), "{case:?} {outcome:?}");
+            }
+        }
+    }
+}
+
+/// The reasons of these calls, 0 for those accepted.
+fn reasons_met(call: impl Fn(u64) -> Case) -> BTreeSet<u32> {
+    let answered = |seed| {
         let case = call(seed);
         let outcome = case.outcome();
         assert!(case.expected.agrees_with(&outcome), "{seed}: {outcome:?}");
-        met.insert(match outcome {
+        match outcome {
             Outcome::Refined { .. } => 0,
             Outcome::Refused { reason, .. } => reason,
-        });
-    }
-    assert_eq!(met, (0..=12).collect());
+        }
+    };
+    (0..1200).map(answered).collect()
+}
+
+#[test]
+fn mixed_calls_get_their_answer() {
+    assert_eq!(reasons_met(call), (0..=12).collect());
+    let with_sides = (0..=14).filter(|&reason| reason != 13);
+    assert_eq!(reasons_met(polygon_call), with_sides.collect());
 }
 
 /// What the paper says of the tables after a call, apart from the contents of
@@ -102,8 +137,8 @@ fn assert_frame(case: &Case, before: &Tables, after: &Tables, outcome: &Outcome)
 
 #[test]
 fn calls_leave_every_table_as_the_paper_says() {
-    for seed in 0..200 {
-        let case = call(seed);
+    let plain = (0..200).map(call);
+    for (seed, case) in (0..).zip(plain.chain((0..200).map(polygon_call))) {
         let before = case.tables(&mut Rng::new(seed));
         let mut after = before.clone();
         let outcome = case.outcome_in(&mut after);
