@@ -4,7 +4,7 @@ use std::collections::BTreeSet;
 
 use nets::case::{Case, Expected, TextCase};
 use nets::kind::{Kind, call, polygon_call, small_nets};
-use nets::pairs::shared_pair;
+use nets::pairs::{Drawn, SharedPair, shared_pair, shared_polygon_pair};
 use nets::refused::{POLYGON_REASONS, refused_call, refused_polygons};
 use nets::rng::Rng;
 use reference::call::{Outcome, Tables, refine_times};
@@ -159,17 +159,29 @@ fn small_nets_are_small_distinct_and_accepted() {
     }
 }
 
-#[test]
-fn pairs_share_their_segment_after_every_round() {
+/// What occurs among the pairs that these seeds draw: a form and a way, and
+/// whether the net has side counts.
+fn shared_after_every_round(
+    draw: impl Fn(&mut Rng) -> SharedPair,
+    seeds: std::ops::Range<u64>,
+) -> BTreeSet<(Form, Way, bool)> {
     let mut met = BTreeSet::new();
-    for seed in 0..150 {
-        let pair = shared_pair(&mut Rng::new(seed));
-        let [first, second] = &pair.nets;
-        assert_eq!((check_net(first), check_net(second)), (Ok(()), Ok(())));
-        let shared = shared_readings(first, second);
-        assert!(shared.contains(&pair.readings.into()));
+    for seed in seeds {
+        let pair = draw(&mut Rng::new(seed));
+        let answers = pair
+            .nets
+            .each_ref()
+            .map(|net| net.accepted_case(0).outcome());
+        assert!(
+            answers
+                .iter()
+                .all(|answer| matches!(answer, Outcome::Refined { .. }))
+        );
+        let [first, second] = pair.nets.each_ref().map(Drawn::start);
+        let shared = shared_readings(&first, &second);
+        assert!(shared.contains(&pair.readings.into()), "{seed}");
         for rounds in 1..=2 {
-            let nets = [first, second].map(|net| refine_times(net.clone(), rounds));
+            let nets = [&first, &second].map(|net| refine_times(net.clone(), rounds));
             let [one, other] = nets.each_ref().map(Boundary::new);
             for &(a, b) in &shared {
                 let points = one.read(a);
@@ -177,10 +189,28 @@ fn pairs_share_their_segment_after_every_round() {
                 assert_eq!(points, other.read(b));
             }
         }
-        for reading in pair.readings {
-            met.insert((reading.form, reading.way));
+        for (reading, net) in pair.readings.iter().zip(&pair.nets) {
+            met.insert((
+                reading.form,
+                reading.way,
+                matches!(net, Drawn::WithSides(_)),
+            ));
         }
     }
-    let all = [Form::Open, Form::Round].map(|f| [Way::With, Way::Against].map(|w| (f, w)));
-    assert_eq!(met, all.into_iter().flatten().collect());
+    met
+}
+
+#[test]
+fn pairs_share_their_segment_after_every_round() {
+    let ways = [Way::With, Way::Against];
+    let both = [Form::Open, Form::Round].map(|form| ways.map(|way| (form, way)));
+    let all: Vec<(Form, Way)> = both.into_iter().flatten().collect();
+    let of = |sides: bool| all.iter().map(move |&(form, way)| (form, way, sides));
+    assert!(
+        shared_after_every_round(shared_pair, 0..150)
+            .into_iter()
+            .eq(of(false))
+    );
+    let met = shared_after_every_round(shared_polygon_pair, 0..150);
+    assert_eq!(met, of(false).chain(of(true)).collect());
 }
