@@ -1,4 +1,5 @@
-//! The kinds of texts by name, and mixed series of nets and calls.
+//! The kinds of texts and of calls with side counts by name, and mixed series
+//! of nets and calls.
 
 use reference::net::Net;
 use reference::refusal::Capacity;
@@ -53,10 +54,7 @@ impl Kind {
         match self {
             Kind::Accepted(shape) => shape.name().to_owned(),
             Kind::Small(shape) => format!("small-{}", shape.name()),
-            Kind::Refused(reasons) => {
-                let numbers: Vec<String> = reasons.iter().map(|r| format!("{r:02}")).collect();
-                format!("refused-{}", numbers.join("-"))
-            }
+            Kind::Refused(reasons) => refused_name(reasons),
             Kind::Damaged(damage) => format!("damaged-{}", damage.name()),
             Kind::DamagedAnd(reason) => format!("damaged-and-{reason:02}"),
         }
@@ -85,6 +83,66 @@ impl Kind {
             }
         }
     }
+}
+
+/// A kind of call with side counts.
+#[derive(Clone, Debug, PartialEq, Eq)]
+pub enum CallKind {
+    /// Accepted, at most 60 corners, up to two rounds.
+    Accepted(PolygonShape),
+    /// With these reasons for a refusal.
+    Refused(Vec<u32>),
+    /// A sound net changed at random.
+    Damaged,
+    /// Small random tables.
+    Random,
+}
+
+impl CallKind {
+    pub fn all() -> Vec<CallKind> {
+        let mut kinds: Vec<CallKind> = PolygonShape::ALL.map(CallKind::Accepted).to_vec();
+        for (at, &first) in POLYGON_REASONS.iter().enumerate() {
+            kinds.push(CallKind::Refused(vec![first]));
+            for &second in &POLYGON_REASONS[at + 1..] {
+                kinds.push(CallKind::Refused(vec![first, second]));
+            }
+        }
+        kinds.extend([CallKind::Damaged, CallKind::Random]);
+        kinds
+    }
+
+    pub fn named(name: &str) -> Option<CallKind> {
+        let mut kinds = CallKind::all().into_iter();
+        kinds.find(|kind| kind.name() == name)
+    }
+
+    pub fn name(&self) -> String {
+        match self {
+            CallKind::Accepted(shape) => shape.name().to_owned(),
+            CallKind::Refused(reasons) => refused_name(reasons),
+            CallKind::Damaged => "damaged".to_owned(),
+            CallKind::Random => "random".to_owned(),
+        }
+    }
+
+    pub fn make(&self, seed: u64) -> Case {
+        let rng = &mut Rng::new(seed);
+        match self {
+            CallKind::Accepted(shape) => {
+                let net = accepted_polygons(*shape, Size::Small, rng);
+                let rounds = to_u32(rng.below(3));
+                Case::with_sides(&net, rounds, Expected::Accepted)
+            }
+            CallKind::Refused(reasons) => refused_polygons(reasons, rng),
+            CallKind::Damaged => damaged_polygons(rng.pick(&PolygonShape::ALL), Size::Small, rng),
+            CallKind::Random => random_polygons(rng),
+        }
+    }
+}
+
+fn refused_name(reasons: &[u32]) -> String {
+    let numbers: Vec<String> = reasons.iter().map(|r| format!("{r:02}")).collect();
+    format!("refused-{}", numbers.join("-"))
 }
 
 /// The text of an accepted net; the mark column may be missing if all marks

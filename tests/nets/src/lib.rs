@@ -6,6 +6,7 @@
 //! - [`damaged`]: texts that lost their form, and damaged tables.
 //! - [`pairs`]: pairs of nets that share a boundary segment.
 //! - [`facts`]: small calls with all that the reference says of them.
+//! - [`stored`]: the stored form of calls.
 //! - [`kind`]: all kinds by name, small nets, and a mixed series of calls.
 
 #![forbid(unsafe_code)]
@@ -44,3 +45,4 @@ pub mod remodel;
 pub mod rng;
 pub mod shapes;
 pub mod solids;
+pub mod stored;
