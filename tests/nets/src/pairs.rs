@@ -31,6 +31,17 @@ impl Drawn {
         }
     }
 
+    pub fn has_sides(&self) -> bool {
+        matches!(self, Drawn::WithSides(_))
+    }
+
+    pub fn drawn_faces(&self) -> usize {
+        match self {
+            Drawn::Plain(net) => net.faces.len(),
+            Drawn::WithSides(net) => net.faces.len(),
+        }
+    }
+
     pub fn accepted_case(&self, rounds: u32) -> Case {
         match self {
             Drawn::Plain(net) => Case::new(net, rounds, Expected::Accepted),

@@ -190,11 +190,7 @@ fn shared_after_every_round(
             }
         }
         for (reading, net) in pair.readings.iter().zip(&pair.nets) {
-            met.insert((
-                reading.form,
-                reading.way,
-                matches!(net, Drawn::WithSides(_)),
-            ));
+            met.insert((reading.form, reading.way, net.has_sides()));
         }
     }
     met
