@@ -8,7 +8,7 @@ use crate::huge;
 
 pub const USAGE: &str = "usage: differential [--nets N] [--seed S] [--here] [MODE]
 
-Compares N seeded nets (20000), one with side counts for every 4 of them,
+Compares N seeded nets (20000), one with side counts for every 3 of them,
 pairs with seams, the stored calls, and calls with huge lengths. A second
 process does it, so that the call is known if that dies; with --here this one.
 MODE is one of
@@ -79,9 +79,9 @@ impl What {
     pub fn count(self, nets: u64) -> u64 {
         match self {
             What::Net => nets,
-            What::Polygons => nets.div_ceil(4),
+            What::Polygons => nets.div_ceil(3),
             What::Pair => nets.div_ceil(20),
-            What::PolygonPair => nets.div_ceil(80),
+            What::PolygonPair => nets.div_ceil(60),
             What::Stored => stored_calls().len() as u64,
             What::Huge => huge::COUNT,
         }

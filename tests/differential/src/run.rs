@@ -3,7 +3,6 @@
 use std::fs;
 
 use nets::case::Case;
-use nets::pairs::{shared_pair, shared_polygon_pair};
 use nets::rng::Rng;
 use nets::stored::{from_text, stored_calls};
 
@@ -99,8 +98,8 @@ impl Run {
                 self.net(what, drawn, rng)
             }
             What::Stored => self.net(what, stored(number), rng),
-            What::Pair => self.seams.compare_pair(shared_pair, rng),
-            What::PolygonPair => self.polygon_seams.compare_pair(shared_polygon_pair, rng),
+            What::Pair => self.seams.compare_pair(rng),
+            What::PolygonPair => self.polygon_seams.compare_pair(rng),
             What::Huge => huge::compare(number, rng),
         };
         let name = format!("{} {number} of seed {}", what.name(), self.seed);

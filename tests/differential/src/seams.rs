@@ -2,7 +2,7 @@
 
 use std::fmt::{self, Display, Formatter};
 
-use nets::pairs::{Drawn, SharedPair};
+use nets::pairs::{Drawn, SharedPair, shared_pair, shared_polygon_pair};
 use nets::rng::Rng;
 use reference::curve::{Form, exact_curve, rounded_curve};
 use reference::net::Net;
@@ -13,8 +13,13 @@ use crate::compare::Known;
 use crate::draw::most_rounds;
 use crate::tally::Tally;
 
+type DrawPair = fn(&mut Rng) -> SharedPair;
+
 /// What the compared seams were.
 pub struct Seams {
+    draw: DrawPair,
+    /// Faces where refining begins that are few enough for many rounds.
+    few: [usize; 2],
     pairs: u64,
     readings: u64,
     rounds: Tally<u32>,
@@ -23,18 +28,16 @@ pub struct Seams {
 
 impl Seams {
     pub fn without_sides() -> Self {
-        Self::new(MAX_ROUNDS, &[])
+        Self::new(shared_pair, [1, 4], MAX_ROUNDS, &[])
     }
 
     /// Six rounds do not occur: even one triangle becomes too many faces.
     pub fn with_sides() -> Self {
-        Self::new(
-            MAX_ROUNDS - 1,
-            &["with counts in both", "with counts in one"],
-        )
+        let counts = ["with counts in both", "with counts in one"];
+        Self::new(shared_polygon_pair, [4, 8], MAX_ROUNDS - 1, &counts)
     }
 
-    fn new(most_rounds: u32, counts: &[&'static str]) -> Self {
+    fn new(draw: DrawPair, few: [usize; 2], most_rounds: u32, counts: &[&'static str]) -> Self {
         let ways = ["run the same way", "run opposite ways"];
         let forms = [
             "between two marks",
@@ -42,6 +45,8 @@ impl Seams {
             "without marks",
         ];
         Self {
+            draw,
+            few,
             pairs: 0,
             readings: 0,
             rounds: Tally::new(0..=most_rounds),
@@ -55,8 +60,8 @@ impl Seams {
 
     /// Compares all readings of a pair of nets after each round. They are
     /// those of the nets where refining begins.
-    pub fn compare_pair(&mut self, draw: DrawPair, rng: &mut Rng) -> Result<(), String> {
-        let (pair, faces) = drawn_pair(draw, rng);
+    pub fn compare_pair(&mut self, rng: &mut Rng) -> Result<(), String> {
+        let (pair, faces) = self.drawn_pair(rng);
         let starts = pair.nets.each_ref().map(Drawn::start);
         let shared = shared_readings(&starts[0], &starts[1]);
         if !shared.contains(&pair.readings.into()) {
@@ -83,6 +88,21 @@ impl Seams {
         }
         self.pairs += 1;
         Ok(())
+    }
+
+    /// A pair of nets with the most faces after refining; some have so few
+    /// faces that many rounds are made.
+    fn drawn_pair(&self, rng: &mut Rng) -> (SharedPair, usize) {
+        if !rng.one_in(20) {
+            return ((self.draw)(rng), rng.pick(&[64, 256, 256, 256, 1_024]));
+        }
+        let few = rng.pick(&self.few);
+        loop {
+            let pair = (self.draw)(rng);
+            if pair.nets.iter().all(|net| net.start().faces.len() <= few) {
+                return (pair, 4_096);
+            }
+        }
     }
 
     fn add_sorts(&mut self, nets: &[Net; 2], (one, other): &(Reading, Reading)) {
@@ -114,23 +134,6 @@ impl Display for Seams {
         )?;
         writeln!(f, "{}", self.rounds.line("shared by rounds"))?;
         write!(f, "{}", self.sorts.line("shared by sort"))
-    }
-}
-
-type DrawPair = fn(&mut Rng) -> SharedPair;
-
-/// A pair of nets with the most faces after refining; some have so few faces
-/// that 5 or 6 rounds are made.
-fn drawn_pair(draw: DrawPair, rng: &mut Rng) -> (SharedPair, usize) {
-    if !rng.one_in(20) {
-        return (draw(rng), rng.pick(&[64, 256, 256, 256, 1_024]));
-    }
-    let few = rng.pick(&[1, 4]);
-    loop {
-        let pair = draw(rng);
-        if pair.nets.iter().all(|net| net.drawn_faces() <= few) {
-            return (pair, 4_096);
-        }
     }
 }
 

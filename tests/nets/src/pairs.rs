@@ -35,13 +35,6 @@ impl Drawn {
         matches!(self, Drawn::WithSides(_))
     }
 
-    pub fn drawn_faces(&self) -> usize {
-        match self {
-            Drawn::Plain(net) => net.faces.len(),
-            Drawn::WithSides(net) => net.faces.len(),
-        }
-    }
-
     pub fn accepted_case(&self, rounds: u32) -> Case {
         match self {
             Drawn::Plain(net) => Case::new(net, rounds, Expected::Accepted),
