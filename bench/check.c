@@ -50,8 +50,8 @@ static void measure(void)
     double best = 1e9;
     for (int run = 0; run <= RUNS; run++) {
         double taken = seconds();
-        found = gedrovit_check(net.rounds, net.vertices, 3 * net.vertex_count, net.faces, 4 * net.face_count, net.marks, net.vertex_count,
-                               12 * refined, 4 * refined, 4 * refined, work, WORK);
+        found = gedrovit_check(net.rounds, net.vertices, 3 * net.vertex_count, net.faces, 4 * net.face_count, net.marks, 0, net.marks,
+                               net.vertex_count, 12 * refined, 4 * refined, 4 * refined, work, WORK);
         taken = seconds() - taken;
         if (run > 0 && taken < best)
             best = taken;

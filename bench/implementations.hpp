@@ -27,8 +27,9 @@ public:
 
     Verdict refine(const Net &net, uint32_t rounds) override
     {
-        last = gedrovit_refine(rounds, &net.points.data()->x, 3 * net.points.size(), net.faces.data()->data(), 4 * net.faces.size(), net.marks.data(),
-                               net.marks.size(), vertices.data(), vertices.size(), faces.data(), faces.size(), marks.data(), marks.size(), work.data(), work.size());
+        last = gedrovit_refine(rounds, &net.points.data()->x, 3 * net.points.size(), net.faces.data()->data(), 4 * net.faces.size(), net.marks.data(), 0,
+                               net.marks.data(), net.marks.size(), vertices.data(), vertices.size(), faces.data(), faces.size(), marks.data(), marks.size(),
+                               work.data(), work.size());
         return {last.reason, last.place};
     }
 

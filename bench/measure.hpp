@@ -56,14 +56,14 @@ inline int count(const Calls &calls, const std::string &name)
     return std::fprintf(stderr, "no call %s\n", name.c_str()), 2;
 }
 
-inline int measure(int argc, char **argv, const std::function<Calls(int)> &prepare)
+inline int measure(int argc, char **argv, int nets, const std::function<Calls(int)> &prepare)
 {
     std::string mode = argc > 1 ? argv[1] : "";
     if (mode == "count" && argc == 4)
         return count(prepare(std::atoi(argv[2])), argv[3]);
     if (mode != "time" || argc != 2)
         return std::fprintf(stderr, "usage: %s time | count NET CALL\n", argv[0]), 2;
-    for (int which = 0; which < NET_COUNT; which++)
+    for (int which = 0; which < nets; which++)
         print_times(which, prepare(which));
     return 0;
 }

@@ -76,4 +76,4 @@ Calls prepare(int which)
 
 }
 
-int main(int argc, char **argv) { return measure(argc, argv, prepare); }
+int main(int argc, char **argv) { return measure(argc, argv, NET_COUNT, prepare); }

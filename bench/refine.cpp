@@ -12,5 +12,5 @@ int main(int argc, char **argv)
             calls.each.push_back({one->name, [=] { one->refine(made.net, made.rounds); }});
         return calls;
     };
-    return measure(argc, argv, prepare);
+    return measure(argc, argv, NET_COUNT, prepare);
 }

@@ -1,6 +1,6 @@
 #!/usr/bin/env bash
-# The benchmark. Compares the refining call with straightforward C++ result by result, then measures both, the check alone on hard nets, and OpenSubdiv
-# where it is installed.
+# The benchmark. Compares the refining call with straightforward C++ result by result, then measures both, the check alone on hard nets, the split
+# of a net of triangles, and OpenSubdiv where it is installed.
 #   bench/run.sh [ARCHIVE]    ARCHIVE is one that `rt staticlib capi` made; without it, it is made first
 set -euo pipefail
 load=$(cut -d' ' -f1 /proc/loadavg)
@@ -34,13 +34,13 @@ count() {
         valgrind --tool=callgrind --callgrind-out-file=/dev/null --toggle-collect=counted_call "$out/$1" count "$2" "$3" 2>&1 | sed -n 's/.*Collected : //p'
 }
 
-# measure PROGRAM PREFIX CALL ..: rows of times, and of instructions where valgrind is installed
+# measure PROGRAM PREFIX NETS CALL ..: rows of times, and of instructions where valgrind is installed
 measure() {
-    local program=$1 prefix=$2 net call collected
-    shift 2
+    local program=$1 prefix=$2 nets=$3 net call collected
+    shift 3
     "$out/$program" time | sed "s/^/${prefix}time /"
     command -v valgrind >/dev/null || return 0
-    for net in 0 1 2; do
+    for net in $nets; do
         for call in "$@"; do
             collected=$(count "$program" "$net" "$call")
             echo "${prefix}count $net $call $collected"
@@ -52,6 +52,8 @@ build plain "$plain"
 build native "$native"
 # shellcheck disable=SC2086
 cc -std=gnu11 $warnings $plain -o "$out/check" bench/check.c "$archive"
+# shellcheck disable=SC2086
+g++ -std=c++17 $warnings $plain -o "$out/split" bench/split.cpp "$archive"
 
 counted="of one call after another one, by callgrind --toggle-collect, C++ with $plain; memory cleared and copied by vector instructions"
 command -v valgrind >/dev/null || counted="not counted, for valgrind is not installed"
@@ -75,7 +77,7 @@ Ratio: Gedrovit divided by that row; above 1 it takes more.
 
 TEXT
 {
-    measure plain/refine "" gedrovit rebuilt carried
+    measure plain/refine "" "0 1 2" gedrovit rebuilt carried
     "$out/native/refine" time | sed 's/^/native-time /'
 } | python3 bench/table.py refine
 
@@ -86,6 +88,14 @@ Tables: touched before; the call itself clears 16 work numbers for each refined 
 
 TEXT
 "$out/check"
+
+cat <<TEXT
+
+THE SPLIT, zero rounds on 4,095 corners of triangles
+The net is checked and its 1,365 faces are split into 4,095 quadrilaterals. Tables, times and instructions as for the refinement.
+
+TEXT
+measure split split- 0 split | python3 bench/table.py split
 
 echo
 echo "OPENSUBDIV"
@@ -105,4 +115,4 @@ refine one topology many times, are not measured. The results differ, so no rati
 Tables: positions touched before; OpenSubdiv allocates the topology anew where it is made. Times and instructions as above.
 
 TEXT
-measure opensubdiv osd- whole positions | python3 bench/table.py opensubdiv
+measure opensubdiv osd- "0 1 2" whole positions | python3 bench/table.py opensubdiv

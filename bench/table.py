@@ -10,6 +10,7 @@ LABELS = {
     PRODUCT: "Gedrovit",
     "rebuilt": "C++, adjacency built anew in each round",
     "carried": "C++, adjacency carried on to the next round",
+    "split": "Gedrovit, zero rounds",
     "whole": "topology made and refined, positions",
     "positions": "positions alone, topology kept",
 }
@@ -53,6 +54,8 @@ def main():
     if sys.argv[1] == "refine":
         heads = ["instructions", "ns, C++ -O2", "ns, C++ native"]
         print_table("for each refined face", heads, ["count", "time", "native-time"], [PRODUCT, "rebuilt", "carried"], values, nets)
+    elif sys.argv[1] == "split":
+        print_table("for each quadrilateral", ["instructions", "ns"], ["split-count", "split-time"], ["split"], values, nets)
     else:
         print_table("for each refined face", ["instructions", "ns"], ["osd-count", "osd-time"], ["whole", "positions"], values, nets)
 

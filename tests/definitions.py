@@ -205,8 +205,8 @@ def reading_facts(label, place, reading, case, with_seam):
         if with_seam and len(net[1]) <= SEAM_CORNERS:
             read = [value for vertex in vertices for value in net[0][3 * vertex:3 * vertex + 3]]
             marks = ["true" if net[2][vertex] == 1 else "false" for vertex in vertices]
-            marked = f"(λ (i : ℕ). marked ({name} .marks) (vertexAt ({name} .faces) {way} {start} i))"
-            yield "Seam", f"points{place}-{rounds}", f"points {name} {way} {start} {count}", points(read), cost
+            marked = f"(λ (i : ℕ). marked ({name} .marks) (vertexAt quads ({name} .faces) {way} {start} i))"
+            yield "Seam", f"points{place}-{rounds}", f"points quads {name} {way} {start} {count}", points(read), cost
             yield "Seam", f"marks{place}-{rounds}", f"tabulate {count} {marked}", sequence(marks), cost
 
 

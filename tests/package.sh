@@ -92,6 +92,7 @@ flags() {
 # outputs FOLDER: the examples built there write what is stored, also where a call is refused
 outputs() {
     diff "$root/tests/nets/cases/paper-raised-centre.out" <("$1/panel") \
+        && diff "$root/tests/package/triangles.out" <("$1/triangles" && "$1/triangles" 1) \
         && diff "$root/tests/package/seam.out" <("$1/seam") \
         && ! "$1/panel" 7 2>"$1/refused" && diff <(echo 'panel: refusal 1, place 0: more than 6 rounds') "$1/refused"
 }
@@ -100,6 +101,7 @@ by_pkg_config() {
     local to=$scratch/pkg-config
     rm -rf "$to" && mkdir "$to" \
         && "${c[@]}" $(flags --cflags) "$root/package/examples/panel.c" $(flags --libs) -o "$to/panel" \
+        && "${c[@]}" $(flags --cflags) "$root/package/examples/triangles.c" $(flags --libs) -o "$to/triangles" \
         && "${cxx[@]}" $(flags --cflags) "$root/package/examples/seam.cpp" $(flags --libs) -o "$to/seam" \
         && outputs "$to"
 }
@@ -134,14 +136,14 @@ cmake_finds() {
         && cmake -S "$scratch/find" -B "$scratch/find/build" -DCMAKE_PREFIX_PATH="$prefix" "${@:2}"
 }
 
-# of version 0.1.1, say
+# of version 0.2.0, say
 cmake_versions() {
     local major minor patch
     IFS=. read -r major minor patch <<<"$version"
     local series=$major.$minor next=$major.$((minor + 1)) later=$major.$minor.$((patch + 1))
     cmake_finds "$version EXACT" && cmake_finds "$series" && ! cmake_finds "$later" && ! cmake_finds "$next" && ! cmake_finds 99.0 \
         && cmake_finds "$series...<$next" && cmake_finds "0.0...$version" && ! cmake_finds "$series...<$version" && ! cmake_finds "$later...<$next" \
-        && ! cmake_finds "0.0...$series"
+        && ! cmake_finds "0.0...<$series"
 }
 
 cmake_processors() {
@@ -186,12 +188,14 @@ wrong_header() {
 }
 
 wrong_constants() {
-    for wrong in ROUNDS/5 ROUNDS/7 VERTICES/8190 VERTICES/8194 FACES/4095 FACES/5000 REFINED_FACES/262143 REFINED_FACES/266240 COORDINATE/1048575 COORDINATE/1048577 \
-        RING/7 RING/9 FAN/5 FAN/7; do
-        wrong_header "s/(define GEDROVIT_MAX_${wrong%/*}) .*/\\1 ${wrong#*/}/" || return
+    for wrong in MAX_ROUNDS/5 MAX_ROUNDS/7 MAX_VERTICES/8190 MAX_VERTICES/8194 MAX_FACES/4095 MAX_FACES/5000 MAX_REFINED_FACES/262143 MAX_REFINED_FACES/266240 \
+        MAX_COORDINATE/1048575 MAX_COORDINATE/1048577 MAX_RING/7 MAX_RING/9 MAX_FAN/5 MAX_FAN/7 MIN_SIDES/2 MIN_SIDES/4 MAX_SIDES/7 MAX_SIDES/9; do
+        wrong_header "s/(define GEDROVIT_${wrong%/*}) .*/\\1 ${wrong#*/}/" || return
     done
-    for reason in {1..11}; do
-        wrong_header "s/^(    GEDROVIT_.* = )$reason,/\\1@,/; s/^(    GEDROVIT_.* = )$((reason + 1))(,?)$/\\1$reason\\2/; s/@/$((reason + 1))/" || return
+    local reason=1 next
+    for next in {2..12} 14; do
+        wrong_header "s/^(    GEDROVIT_.* = )$reason,/\\1@,/; s/^(    GEDROVIT_.* = )$next(,?)$/\\1$reason\\2/; s/@/$next/" || return
+        reason=$next
     done
 }
 

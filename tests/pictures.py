@@ -15,8 +15,8 @@ import xml.etree.ElementTree
 ROOT = pathlib.Path(__file__).resolve().parent.parent
 REFINE = os.environ.get("REFINE", "./refine")
 MARKS = {"panel": 4, "topside": 4, "bottom": 4, "dome": 3, "hatch": 4, "unmarked": 0}
-DRAWN = {"panel": 16 + 256, "seam": 25 + 400, "extraordinary": 16 + 256, "corners": 256 + 256}
-DIAGRAMS = ["numbering", "boundary", "extrapolated", "virtual", "face"]
+DRAWN = {"panel": 16 + 256, "seam": 25 + 400, "extraordinary": 16 + 256, "corners": 256 + 256, "skylight": 11 + 160}
+DIAGRAMS = ["numbering", "split", "boundary", "extrapolated", "virtual", "face"]
 SVG = "{http://www.w3.org/2000/svg}"
 DRAW = [sys.executable, "tools/draw.py"]
 
@@ -220,6 +220,8 @@ def failing_faults(folder):
     for refine in "cat", "false":
         if run("bash", "tools/pictures.sh", "--check", refine=refine).returncode != 1:
             yield f"tools/pictures.sh --check passes with {refine}"
+    if run(sys.executable, "tools/skylight.py", "--refine", "false").returncode != 1:
+        yield "tools/skylight.py draws without a refiner"
     if run(sys.executable, "tools/diagrams.py", "nothing").returncode != 1:
         yield "tools/diagrams.py draws nothing"
     if run("bash", "tools/pictures.sh", "--chekc").returncode != 2:

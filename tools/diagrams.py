@@ -32,6 +32,10 @@ def middle(p, q):
     return mix((1 / 2, p), (1 / 2, q))
 
 
+def centroid(points):
+    return mix(*((1 / len(points), point) for point in points))
+
+
 def mirrored(point, others):
     """2 P minus the mean of the others."""
     return mix((2, point), *((-1 / len(others), other) for other in others))
@@ -114,6 +118,35 @@ def numbering():
     picture.points("n", *sides, centre)
     for i, corner in enumerate(corners):
         picture.word(middle(corner, centre), f"4f+{i}" if i else "4f", y=5)
+    return picture
+
+
+def split():
+    """A triangle and a pentagon become eight quadrilaterals."""
+    picture = Picture(336)
+    vertices = [(14, 140), (110, 216), (110, 64), (236, 232), (316, 140), (236, 48)]
+    faces = [(0, 1, 2), (1, 3, 4, 5, 2)]
+    shifts = [(-14, 18), (-4, 26), (-4, -14), (14, 22), (14, 18), (14, -12)]
+    for panel, words in (0.2, "drawn: 3 + 5 sides"), (1.8, "split: 3 + 5 quadrilaterals"):
+        picture.move(panel)
+        picture.faces(*([vertices[v] for v in face] for face in faces))
+        picture.points("o", *vertices)
+        picture.caption(words)
+    picture.move(0.2)
+    for number, (x, y) in enumerate(shifts):
+        picture.word(vertices[number], number, x, y)
+    for face, name in zip(faces, ("0 1 2", "1 3 4 5 2")):
+        picture.word(centroid([vertices[v] for v in face]), name, y=5)
+    picture.move(1.8)
+    number = 0
+    for face in faces:
+        corners = [vertices[v] for v in face]
+        centre, middles = centroid(corners), [middle(p, q) for p, q in zip(corners, corners[1:] + corners[:1])]
+        for i, corner in enumerate(corners):
+            picture.path("", middles[i], centre)
+            picture.word(centroid([corner, middles[i], centre, middles[i - 1]]), number, y=5)
+            number += 1
+        picture.points("n", *middles, centre)
     return picture
 
 
@@ -267,7 +300,7 @@ def face_points():
     return picture
 
 
-DIAGRAMS = {"numbering": numbering, "boundary": boundary, "extrapolated": extrapolated, "virtual": virtual_points, "face": face_points}
+DIAGRAMS = {"numbering": numbering, "split": split, "boundary": boundary, "extrapolated": extrapolated, "virtual": virtual_points, "face": face_points}
 
 
 def main():

@@ -126,7 +126,7 @@ def shared_edges(nets):
 
 def fill(corners, paint, view):
     """The colour of a face by the light on the side that is seen; its reverse side is duller."""
-    normal = cross(minus(corners[2], corners[0]), minus(corners[3], corners[1]))
+    normal = [sum(axis) for axis in zip(*(cross(a, b) for a, b in sides(corners)))]
     front = dot(normal, view.eye) > 0
     lit = dot(unit(normal), view.light) * (1 if front else -1)
     shade = (0.5 + 0.14 * (1 + lit) * (1 + lit)) * (1 if front else 0.8)
@@ -138,7 +138,7 @@ def surface(net, paint, view, place, shared):
     spots, depths = [place(point) for point in net.points], [dot(view.eye, point) for point in net.points]
     for face in net.faces:
         corners = [net.points[v] for v in face]
-        depth = sum(depths[v] for v in face)
+        depth = sum(depths[v] for v in face) / len(face)
         yield depth, 0, f'<path d="M{" ".join(spots[v] for v in face)}z" fill="{fill(corners, paint, view)}"/>'
         for a, b in net.boundary.intersection(sides(face)):
             kind = "s" if frozenset((net.points[a], net.points[b])) in shared else "b"
@@ -175,7 +175,7 @@ def cells(nets, points, view):
 
 
 def hidden(point, faces, eye):
-    return any(covers(face[:3], point, eye) or covers([*face[2:], face[0]], point, eye) for face in faces if point not in face)
+    return any(covers((face[0], b, c), point, eye) for face in faces if point not in face for b, c in zip(face[1:], face[2:]))
 
 
 def symbols(net, drawn):

@@ -1,5 +1,5 @@
 #!/usr/bin/env bash
-# Makes the pictures in docs/pictures, from the nets in examples/ and by tools/diagrams.py, or compares them with --check.
+# Makes the pictures in docs/pictures, from the nets in examples/ and by tools/skylight.py and tools/diagrams.py, or compares them with --check.
 # REFINE is the refiner command, as seen from the repository's root; without it, ./refine.
 set -eu
 cd "$(dirname "$0")/.."
@@ -21,6 +21,7 @@ picture panel 1,-3,1 examples/panel.txt
 picture seam -6,-5,-1 examples/topside.txt examples/bottom.txt
 picture extraordinary 4,3,2 examples/dome.txt
 picture corners 0,-2,5 --beside examples/hatch.txt examples/unmarked.txt
+python3 tools/skylight.py --refine "${REFINE:-./refine}" >"$made/skylight.svg"
 for name in $(python3 tools/diagrams.py --list); do
     python3 tools/diagrams.py "$name" >"$made/$name.svg"
 done

@@ -1,26 +1,33 @@
 /*
  * Gedrovit refines nets of quadrilateral faces by Kobbelt's interpolatory subdivision at weight 1.
- * Every new coordinate is worked out exactly and rounded once, to the nearest whole number, halves
- * away from zero. Two nets that share a boundary segment before refining share it afterwards, point
- * for point, whatever the rest of either net is.
+ * Nets with faces of 3 to 8 sides are first split into quadrilaterals. Every new coordinate is worked
+ * out exactly and rounded once, to the nearest whole number, halves away from zero. Two nets that
+ * share a boundary segment before refining share it afterwards, point for point, whatever the rest
+ * of either net is.
  *
  * C11 and C++17, x86-64 Linux (System V ABI). Link with libgedrovit.a; nothing but the C library is
  * needed beside it.
  *
  *
- * The net: three tables
+ * The net: three tables, and a fourth one for faces of other than four sides
  *
  *   vertices   int32_t    x, y, z of each vertex, from -1,048,576 to 1,048,576
- *   faces      uint32_t   the four corners of each face, as vertex numbers from 0, in order round it
+ *   faces      uint32_t   the corners of each face, as vertex numbers from 0, in order round it
  *   marks      uint8_t    for each vertex 1 if the boundary has a corner there, 0 if not
+ *   sides      uint8_t    the side counts: for each face how many sides it has, from 3 to 8
  *
- * V is the number of vertices, F the number of faces, and G = F * 4^rounds the number of faces after
- * refining. V = 0 with F = 0 is allowed.
+ * Without side counts, that is with a table of length 0, every face has four sides. With side counts
+ * the corners of the faces follow each other in the face table without gaps, and the counts add up to
+ * its length.
  *
- * Side s of a face runs from corner s to corner s + 1, modulo 4. Two faces that share an edge run
- * along it in opposite directions. An edge of one face is a boundary edge. Marked vertices cut a
- * boundary loop into segments, from one mark to the next; a loop without marks is one closed segment.
- * Each segment is refined as a curve of its own points alone.
+ * V is the number of vertices. F is the number of faces without side counts; with them it is the
+ * number of corners, for a face of n sides becomes n quadrilaterals. G = F * 4^rounds is the number
+ * of faces after refining. V = 0 with F = 0 is allowed.
+ *
+ * Side s of a face runs from corner s to corner s + 1, the last side from the last corner to corner
+ * 0. Two faces that share an edge run along it in opposite directions. An edge of one face is a
+ * boundary edge. Marked vertices cut a boundary loop into segments, from one mark to the next; a loop
+ * without marks is one closed segment. Each segment is refined as a curve of its own points alone.
  *
  * An open segment is read from one end to the other, both included; with one mark on a loop both
  * ends are that vertex. A closed segment is read once round from any of its vertices, the first not
@@ -28,10 +35,26 @@
  * reading in one and a reading in the other are the same list of points, and both segments are open
  * or both closed. The same points as an open segment here and as a closed one there are not shared.
  *
+ * A net with side counts is read after its split, where refining begins. A segment that two nets
+ * share as they are drawn is shared there if both have side counts or neither has. If only one has
+ * them it need not be: one net has the midpoints of its edges, the other has not.
+ *
+ *
+ * The split
+ *
+ * With side counts every face is split once, before the first step: a face of n sides into n
+ * quadrilaterals, a face of four sides too. The vertices are the drawn ones, with their numbers,
+ * coordinates and marks; then the midpoint of each edge, in the order in which the edges are first
+ * met, face by face and from side 0 on; then for each face the mean of its corners. New coordinates
+ * are rounded as above, new marks are 0. Element h of the face table gives quadrilateral h, with the
+ * corners: that corner, point of the side that begins there, point of the face, point of the side
+ * before. A net without side counts is not split.
+ *
  *
  * The refined net
  *
- * `rounds` refinement steps are done, from 0 to 6; 0 copies the net. In each step the vertices are
+ * `rounds` refinement steps are done, from 0 to 6; 0 copies the net, or gives the split net where
+ * there are side counts. Every face of the answer has four sides. In each step the vertices are
  * the old ones, with their numbers, coordinates and marks; then one for each edge, in the order in
  * which the edges are first met, face by face and from side 0 to 3; then one for each face. New marks
  * are 0. Face f becomes the faces 4f + i, for i = 0 to 3, with the corners: old corner i, point of
@@ -58,6 +81,7 @@
  *   0          from the front, the refined vertices, faces    the first 16 G are 0
  *              and marks
  *   1 to 4     as before                                      as before
+ *   and 14
  *   5 to 12    as before                                      the first 16 G are 0
  *
  * Output elements beyond the refined net and work elements beyond 16 G are never written. The
@@ -109,8 +133,9 @@
  * function of the C library. It needs no other functions.
  *
  * The net is checked first, in time linear in its tables where few faces meet at each vertex; where
- * d faces meet, finding the neighbours there takes at most d * d steps. After that the time is
- * linear in G, for a net that is refused as well: its work table is cleared.
+ * d faces meet, finding the neighbours there takes at most d * d steps. Side counts take time linear
+ * in the face table, however many there are. After that the time is linear in G, for a net that is
+ * refused as well: its work table is cleared.
  *
  * The archive has no unwind tables, no frame pointers and no debug information. A trace that a crash
  * handler, debugger or profiler takes while a call runs ends at the archive's innermost function or
@@ -127,10 +152,10 @@
 #include <stdint.h>
 
 /* The version of this header. */
-#define GEDROVIT_VERSION "0.1.1"
+#define GEDROVIT_VERSION "0.2.0"
 #define GEDROVIT_VERSION_MAJOR 0
-#define GEDROVIT_VERSION_MINOR 1
-#define GEDROVIT_VERSION_PATCH 1
+#define GEDROVIT_VERSION_MINOR 2
+#define GEDROVIT_VERSION_PATCH 0
 
 /* The same as a number, to be compared with gedrovit_version(), and at the end of a name. */
 #define GEDROVIT_VERSION_NUMBER \
@@ -140,7 +165,7 @@
 #define GEDROVIT_VERSIONED(name) \
     GEDROVIT_JOIN(name, GEDROVIT_VERSION_MAJOR, GEDROVIT_VERSION_MINOR, GEDROVIT_VERSION_PATCH)
 
-/* Limits of a call. */
+/* Limits of a call. With side counts, that on faces is one on corners: F above. */
 #define GEDROVIT_MAX_ROUNDS 6
 #define GEDROVIT_MAX_VERTICES 8192
 #define GEDROVIT_MAX_FACES 4096
@@ -148,6 +173,8 @@
 #define GEDROVIT_MAX_COORDINATE 1048576
 #define GEDROVIT_MAX_RING 8
 #define GEDROVIT_MAX_FAN 6
+#define GEDROVIT_MIN_SIDES 3
+#define GEDROVIT_MAX_SIDES 8
 
 /* What calls stay within, as said above. */
 #define GEDROVIT_MAX_REFINED_COORDINATE 268435456
@@ -167,8 +194,13 @@ extern "C" {
 #endif
 
 /*
- * Why a call was refused. If several reasons hold, the lowest number is reported, with the lowest
- * vertex or face number concerned as the place.
+ * Why a call was refused. If several reasons hold, the first in this order is reported:
+ *
+ *   1; 2 by the vertex table; with side counts 14, without them 2 by the face table;
+ *   2 by the marks; 3; 4; then 5 to 12, as they are numbered.
+ *
+ * The place is the lowest vertex or face number concerned. 5 to 12 speak of the net as it is drawn,
+ * before its split.
  */
 enum gedrovit_reason {
     GEDROVIT_ACCEPTED = 0,
@@ -177,7 +209,8 @@ enum gedrovit_reason {
 
     /* rounds above 6 */
     GEDROVIT_TOO_MANY_ROUNDS = 1,
-    /* vertices_length not a multiple of 3, faces_length not of 4, or marks_length not V */
+    /* vertices_length not a multiple of 3, faces_length not of 4 (without side counts), or
+       marks_length not V */
     GEDROVIT_INVALID_LENGTHS = 2,
     /* V above 8,192, F above 4,096 or G above 262,144 */
     GEDROVIT_NET_TOO_LARGE = 3,
@@ -202,7 +235,12 @@ enum gedrovit_reason {
     /* vertex with a ring of fewer than 3 or more than 8 faces, or a fan of more than 6 */
     GEDROVIT_VALENCE_OUT_OF_RANGE = 11,
     /* vertex with mark 1 and a full ring, so not on the boundary */
-    GEDROVIT_MARKED_INTERIOR_VERTEX = 12
+    GEDROVIT_MARKED_INTERIOR_VERTEX = 12,
+
+    /* The calling program can cause this one too. The place is 0. */
+
+    /* a side count outside 3 to 8, or counts that do not add up to faces_length */
+    GEDROVIT_INVALID_SIDE_COUNTS = 14
 };
 
 /* What a reason says, in English; the place is not in it. */
@@ -222,6 +260,7 @@ GEDROVIT_INLINE const char *gedrovit_reason_text(uint32_t reason) GEDROVIT_NOEXC
     case GEDROVIT_NON_MANIFOLD_VERTEX: return "the faces at the vertex form neither one full ring nor one open fan";
     case GEDROVIT_VALENCE_OUT_OF_RANGE: return "the ring is not of 3 to 8 faces, or the fan is of more than 6";
     case GEDROVIT_MARKED_INTERIOR_VERTEX: return "the vertex is marked and not on the boundary";
+    case GEDROVIT_INVALID_SIDE_COUNTS: return "a side count is not from 3 to 8, or the counts do not add up to the corners";
     default: return "a reason that this version does not know";
     }
 }
@@ -242,7 +281,7 @@ typedef struct {
 
 /* What gedrovit_sizes_for answers: the least lengths, in elements. All are 0 unless reason is 0. */
 typedef struct {
-    uint32_t reason; /* 0, or 1, 2 or 3 if no call with these lengths is accepted, whatever tables it gets */
+    uint32_t reason; /* 0; or 1, 2, 3 or 14 if no call with these lengths and side counts is accepted, whatever tables it gets */
     uint64_t out_vertices;
     uint64_t out_faces;
     uint64_t out_marks;
@@ -251,7 +290,8 @@ typedef struct {
 
 /*
  * A net, only read. Start it by gedrovit_net_of, never by {0} or a list of its fields: a field that a
- * later version adds then has the value that keeps the old behaviour, and that need not be 0.
+ * later version adds then has the value that keeps the old behaviour, and that need not be 0. It has
+ * no side counts then; set `sides` and `sides_length` afterwards for a net with other faces.
  */
 typedef struct {
     const int32_t *vertices;
@@ -260,6 +300,8 @@ typedef struct {
     size_t faces_length;
     const uint8_t *marks;
     size_t marks_length;
+    const uint8_t *sides;
+    size_t sides_length; /* 0: every face has four sides */
 } gedrovit_net;
 
 GEDROVIT_INLINE gedrovit_net gedrovit_net_of(const int32_t *vertices, size_t vertices_length,
@@ -273,6 +315,8 @@ GEDROVIT_INLINE gedrovit_net gedrovit_net_of(const int32_t *vertices, size_t ver
     net.faces_length = faces_length;
     net.marks = marks;
     net.marks_length = marks_length;
+    net.sides = NULL;
+    net.sides_length = 0;
     return net;
 }
 
@@ -328,6 +372,7 @@ GEDROVIT_KEPT static uint32_t (*const gedrovit_same_version)(void) = GEDROVIT_VE
 GEDROVIT_API gedrovit_report gedrovit_refine(uint32_t rounds,
                                              const int32_t *vertices, size_t vertices_length,
                                              const uint32_t *faces, size_t faces_length,
+                                             const uint8_t *sides, size_t sides_length,
                                              const uint8_t *marks, size_t marks_length,
                                              int32_t *out_vertices, size_t out_vertices_length,
                                              uint32_t *out_faces, size_t out_faces_length,
@@ -341,13 +386,15 @@ GEDROVIT_API gedrovit_report gedrovit_refine(uint32_t rounds,
 GEDROVIT_API gedrovit_finding gedrovit_check(uint32_t rounds,
                                              const int32_t *vertices, size_t vertices_length,
                                              const uint32_t *faces, size_t faces_length,
+                                             const uint8_t *sides, size_t sides_length,
                                              const uint8_t *marks, size_t marks_length,
                                              size_t out_vertices_length, size_t out_faces_length,
                                              size_t out_marks_length,
                                              uint32_t *work, size_t work_length) GEDROVIT_NOEXCEPT;
 
-/* The lengths of tables that serve a net of these lengths. */
+/* The lengths of tables that serve a net of these lengths, with these side counts. */
 GEDROVIT_API gedrovit_sizes gedrovit_sizes_for(uint32_t rounds, size_t vertices_length, size_t faces_length,
+                                               const uint8_t *sides, size_t sides_length,
                                                size_t marks_length) GEDROVIT_NOEXCEPT;
 
 /*
@@ -359,14 +406,15 @@ GEDROVIT_INLINE gedrovit_report gedrovit_refine_net(uint32_t rounds, const gedro
 {
     int32_t coordinate = 0;
     uint32_t number = 0;
-    uint8_t mark = 0;
+    uint8_t byte = 0;
     return gedrovit_refine(rounds,
                            net->vertices_length == 0 ? &coordinate : net->vertices, net->vertices_length,
                            net->faces_length == 0 ? &number : net->faces, net->faces_length,
-                           net->marks_length == 0 ? &mark : net->marks, net->marks_length,
+                           net->sides_length == 0 ? &byte : net->sides, net->sides_length,
+                           net->marks_length == 0 ? &byte : net->marks, net->marks_length,
                            tables->vertices_length == 0 ? &coordinate : tables->vertices, tables->vertices_length,
                            tables->faces_length == 0 ? &number : tables->faces, tables->faces_length,
-                           tables->marks_length == 0 ? &mark : tables->marks, tables->marks_length,
+                           tables->marks_length == 0 ? &byte : tables->marks, tables->marks_length,
                            tables->work_length == 0 ? &number : tables->work, tables->work_length);
 }
 
@@ -375,18 +423,21 @@ GEDROVIT_INLINE gedrovit_finding gedrovit_check_net(uint32_t rounds, const gedro
 {
     int32_t coordinate = 0;
     uint32_t number = 0;
-    uint8_t mark = 0;
+    uint8_t byte = 0;
     return gedrovit_check(rounds,
                           net->vertices_length == 0 ? &coordinate : net->vertices, net->vertices_length,
                           net->faces_length == 0 ? &number : net->faces, net->faces_length,
-                          net->marks_length == 0 ? &mark : net->marks, net->marks_length,
+                          net->sides_length == 0 ? &byte : net->sides, net->sides_length,
+                          net->marks_length == 0 ? &byte : net->marks, net->marks_length,
                           tables->vertices_length, tables->faces_length, tables->marks_length,
                           tables->work_length == 0 ? &number : tables->work, tables->work_length);
 }
 
 GEDROVIT_INLINE gedrovit_sizes gedrovit_sizes_for_net(uint32_t rounds, const gedrovit_net *net) GEDROVIT_NOEXCEPT
 {
-    return gedrovit_sizes_for(rounds, net->vertices_length, net->faces_length, net->marks_length);
+    const uint8_t byte = 0;
+    return gedrovit_sizes_for(rounds, net->vertices_length, net->faces_length,
+                              net->sides_length == 0 ? &byte : net->sides, net->sides_length, net->marks_length);
 }
 
 #endif

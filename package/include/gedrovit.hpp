@@ -18,20 +18,22 @@ namespace gedrovit {
 // The version is part of every name, so that code with another version's header keeps apart.
 inline namespace GEDROVIT_VERSIONED(version) {
 
-// A net. Made from its three tables, or by default and assigned to: later versions add members.
+// A net. Made from its tables, or by default and assigned to: later versions add members.
 struct net {
     std::vector<std::int32_t> vertices; // three coordinates for each vertex
-    std::vector<std::uint32_t> faces;   // four vertex numbers for each face
+    std::vector<std::uint32_t> faces;   // the vertex numbers of each face
     std::vector<std::uint8_t> marks;    // for each vertex 1 if the boundary has a corner there, 0 if not
+    std::vector<std::uint8_t> sides;    // for each face how many sides it has; empty if all have four
 
     net() = default;
-    net(std::vector<std::int32_t> vertices_, std::vector<std::uint32_t> faces_, std::vector<std::uint8_t> marks_)
-        : vertices(std::move(vertices_)), faces(std::move(faces_)), marks(std::move(marks_))
+    net(std::vector<std::int32_t> vertices_, std::vector<std::uint32_t> faces_, std::vector<std::uint8_t> marks_,
+        std::vector<std::uint8_t> sides_ = {})
+        : vertices(std::move(vertices_)), faces(std::move(faces_)), marks(std::move(marks_)), sides(std::move(sides_))
     {
     }
 };
 
-// Why a call was refused: the lowest reason that holds, an enum gedrovit_reason, and its place.
+// Why a call was refused: the first reason that holds, an enum gedrovit_reason in the order that stands there, and its place.
 struct refusal {
     std::uint32_t reason;
     std::uint64_t place;
@@ -42,12 +44,16 @@ struct refusal {
 // The net as a record, valid as long as its tables are.
 GEDROVIT_INLINE gedrovit_net view(const net &n) noexcept
 {
-    return gedrovit_net_of(n.vertices.data(), n.vertices.size(), n.faces.data(), n.faces.size(), n.marks.data(), n.marks.size());
+    gedrovit_net record =
+        gedrovit_net_of(n.vertices.data(), n.vertices.size(), n.faces.data(), n.faces.size(), n.marks.data(), n.marks.size());
+    record.sides = n.sides.data();
+    record.sides_length = n.sides.size();
+    return record;
 }
 
 #ifndef GEDROVIT_TYPES_ONLY
 
-// The net after this many refinement steps, in tables allocated for it, or why not. std::bad_alloc may be thrown.
+// The net after this many refinement steps, all faces with four sides, in tables allocated for it, or why not. std::bad_alloc may be thrown.
 GEDROVIT_INLINE std::variant<net, refusal> refine(std::uint32_t rounds, const net &coarse)
 {
     const gedrovit_net record = view(coarse);

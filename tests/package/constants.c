@@ -13,7 +13,7 @@ enum { VERTICES = 40000, FACES = 20000, REFINED = 300000 };
 
 static int32_t vertices[3 * VERTICES], out_vertices[12 * REFINED];
 static uint32_t faces[4 * FACES], out_faces[4 * REFINED], work[16 * REFINED];
-static uint8_t marks[VERTICES], out_marks[4 * REFINED];
+static uint8_t marks[VERTICES], sides[VERTICES], out_marks[4 * REFINED];
 static size_t vertex_count, face_count;
 static int faults;
 
@@ -135,6 +135,58 @@ static void limits_of_nets(void)
     answer("MAX_FAN + 1", 1, GEDROVIT_VALENCE_OUT_OF_RANGE, 0);
 }
 
+/* Faces of their own vertices: so many of n sides, and one of the rest, if any. */
+static gedrovit_net loose(size_t n, size_t corners)
+{
+    clear(corners);
+    for (size_t i = 0; i < corners; i++)
+        faces[i] = (uint32_t)i;
+    memset(sides, (int)n, corners / n);
+    sides[corners / n] = (uint8_t)(corners % n);
+    gedrovit_net drawn = gedrovit_net_of(vertices, 3 * corners, faces, corners, marks, corners);
+    drawn.sides = sides;
+    drawn.sides_length = corners / n + (corners % n > 0);
+    return drawn;
+}
+
+static void limits_of_sides(void)
+{
+    for (size_t n = GEDROVIT_MIN_SIDES; n <= GEDROVIT_MAX_SIDES; n++)
+        answer_by("sides", 1, loose(n, 2 * n), tables(), GEDROVIT_ACCEPTED, 0);
+    answer_by("MIN_SIDES - 1", 1, loose(GEDROVIT_MIN_SIDES - 1, 12), tables(), GEDROVIT_INVALID_SIDE_COUNTS, 0);
+    answer_by("MAX_SIDES + 1", 1, loose(GEDROVIT_MAX_SIDES + 1, 18), tables(), GEDROVIT_INVALID_SIDE_COUNTS, 0);
+    answer_by("MAX_FACES corners", 0, loose(4, GEDROVIT_MAX_FACES), tables(), GEDROVIT_ACCEPTED, 0);
+    answer_by("MAX_FACES + 1 corners", 0, loose(4, GEDROVIT_MAX_FACES + 3), tables(), GEDROVIT_NET_TOO_LARGE, 0);
+}
+
+/* The first in the order that the header states: each fault beside those that come later. */
+static void order(void)
+{
+    const gedrovit_tables none = gedrovit_tables_of(NULL, 0, NULL, 0, NULL, 0, NULL, 0);
+    gedrovit_net n = loose(GEDROVIT_MAX_SIDES + 1, 9000);
+    n.marks_length = 7;
+    n.vertices_length--;
+    answer_by("1 before 2", GEDROVIT_MAX_ROUNDS + 1, n, none, GEDROVIT_TOO_MANY_ROUNDS, 0);
+    answer_by("2 by the vertices before 14", 1, n, none, GEDROVIT_INVALID_LENGTHS, 0);
+    n.vertices_length++;
+    answer_by("14 before 2 by the marks", 1, n, none, GEDROVIT_INVALID_SIDE_COUNTS, 0);
+    expect("14 by the sizes", gedrovit_sizes_for_net(1, &n).reason, GEDROVIT_INVALID_SIDE_COUNTS);
+    memset(sides, 4, n.sides_length = 9000 / 4);
+    answer_by("2 by the marks before 3", 1, n, none, GEDROVIT_INVALID_LENGTHS, 0);
+    n.marks_length = 9000;
+    answer_by("3 before 4", 1, n, none, GEDROVIT_NET_TOO_LARGE, 0);
+    n = loose(5, 10);
+    vertices[0] = GEDROVIT_MAX_COORDINATE + 1;
+    answer_by("4 before 5", 1, n, none, GEDROVIT_TABLE_TOO_SHORT, 0);
+    n.sides_length--;
+    answer_by("counts below the corners", 1, n, none, GEDROVIT_INVALID_SIDE_COUNTS, 0);
+    n.sides_length += 2;
+    sides[2] = 5;
+    answer_by("counts above the corners", 1, n, none, GEDROVIT_INVALID_SIDE_COUNTS, 0);
+    n.sides_length = 0;
+    answer_by("ten corners by fours", 1, n, none, GEDROVIT_INVALID_LENGTHS, 0);
+}
+
 static void lengths(void)
 {
     square();
@@ -205,8 +257,8 @@ static void empty(void)
 static void texts(void)
 {
     const char *unknown = gedrovit_reason_text(UINT32_MAX);
-    for (uint32_t reason = 0; reason <= GEDROVIT_MARKED_INTERIOR_VERTEX; reason++) {
-        expect("reason without a text", strcmp(gedrovit_reason_text(reason), unknown) == 0, 0);
+    for (uint32_t reason = 0; reason <= GEDROVIT_INVALID_SIDE_COUNTS; reason++) {
+        expect("reason without a text", strcmp(gedrovit_reason_text(reason), unknown) == 0, reason == 13);
         for (uint32_t other = 0; other < reason; other++)
             expect("two reasons with one text", strcmp(gedrovit_reason_text(reason), gedrovit_reason_text(other)) == 0, 0);
     }
@@ -218,6 +270,8 @@ int main(void)
     expect("version by its name", GEDROVIT_VERSIONED(gedrovit_version)(), GEDROVIT_VERSION_NUMBER);
     limits_of_counts();
     limits_of_nets();
+    limits_of_sides();
+    order();
     lengths();
     reasons_of_nets();
     empty();

@@ -3,5 +3,6 @@
 
 int main(void)
 {
-    return (int)gedrovit_sizes_for(0, 0, 0, 0).reason;
+    const uint8_t none = 0;
+    return (int)gedrovit_sizes_for(0, 0, 0, &none, 0, 0).reason;
 }

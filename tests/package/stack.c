@@ -1,8 +1,8 @@
 /*
  * Measures the stack that calls use.
  *
- *   stack TEXT ..      refines the net of each text that can be read on a painted stack and prints the deepest use;
- *                      the exit status is 1 if it is not below GEDROVIT_STACK_BYTES
+ *   stack TEXT ..      refines the net of each text that can be read, without side counts and with counts of 4, on a painted
+ *                      stack and prints the deepest use; the exit status is 1 if it is not below GEDROVIT_STACK_BYTES
  */
 #define _POSIX_C_SOURCE 200809L /* pthread_attr_setstack */
 
@@ -12,14 +12,15 @@
 #include <pthread.h>
 #include <stdio.h>
 #include <stdlib.h>
+#include <string.h>
 
 enum { STACK = 1 << 18, PAINT = 0xA5 };
 
 static int32_t vertices[3 * GEDROVIT_MAX_VERTICES], out_vertices[12 * GEDROVIT_MAX_REFINED_FACES];
 static uint32_t faces[4 * GEDROVIT_MAX_FACES], out_faces[4 * GEDROVIT_MAX_REFINED_FACES], work[16 * GEDROVIT_MAX_REFINED_FACES];
-static uint8_t marks[GEDROVIT_MAX_VERTICES], out_marks[4 * GEDROVIT_MAX_REFINED_FACES];
+static uint8_t marks[GEDROVIT_MAX_VERTICES], sides[GEDROVIT_MAX_FACES], out_marks[4 * GEDROVIT_MAX_REFINED_FACES];
 static uint32_t rounds;
-static size_t vertex_count, face_count;
+static size_t vertex_count, face_count, sides_length;
 
 static int read_vertices(FILE *text)
 {
@@ -58,10 +59,10 @@ static void *calls(void *wanted)
 {
     if (wanted == NULL)
         return NULL;
-    gedrovit_check(rounds, vertices, 3 * vertex_count, faces, 4 * face_count, marks, vertex_count, sizeof out_vertices / 4, sizeof out_faces / 4,
-                   sizeof out_marks, work, sizeof work / 4);
-    gedrovit_refine(rounds, vertices, 3 * vertex_count, faces, 4 * face_count, marks, vertex_count, out_vertices, sizeof out_vertices / 4,
-                    out_faces, sizeof out_faces / 4, out_marks, sizeof out_marks, work, sizeof work / 4);
+    gedrovit_check(rounds, vertices, 3 * vertex_count, faces, 4 * face_count, sides, sides_length, marks, vertex_count, sizeof out_vertices / 4,
+                   sizeof out_faces / 4, sizeof out_marks, work, sizeof work / 4);
+    gedrovit_refine(rounds, vertices, 3 * vertex_count, faces, 4 * face_count, sides, sides_length, marks, vertex_count, out_vertices,
+                    sizeof out_vertices / 4, out_faces, sizeof out_faces / 4, out_marks, sizeof out_marks, work, sizeof work / 4);
     return NULL;
 }
 
@@ -87,10 +88,14 @@ int main(int count, char **words)
 {
     size_t nets = 0, deepest = 0;
     const size_t idle = depth(NULL);
+    memset(sides, 4, sizeof sides);
     for (int i = 1; i < count; i++)
         if (read_net(words[i])) {
-            const size_t used = depth(&nets) - idle;
-            deepest = used > deepest ? used : deepest;
+            for (int counted = 0; counted < 2; counted++) {
+                sides_length = counted ? face_count : 0;
+                const size_t used = depth(&nets) - idle;
+                deepest = used > deepest ? used : deepest;
+            }
             nets++;
         }
     printf("%zu nets, %zu bytes of stack\n", nets, deepest);

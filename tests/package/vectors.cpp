@@ -28,14 +28,14 @@ void empty_tables()
 {
     std::int32_t coordinate = 7;
     std::uint32_t number = 7;
-    std::uint8_t mark = 7;
-    const gedrovit_sizes sizes = gedrovit_sizes_for(6, 0, 0, 0);
-    const gedrovit_finding finding = gedrovit_check(6, &coordinate, 0, &number, 0, &mark, 0, 0, 0, 0, &number, 0);
+    std::uint8_t byte = 7;
+    const gedrovit_sizes sizes = gedrovit_sizes_for(6, 0, 0, &byte, 0, 0);
+    const gedrovit_finding finding = gedrovit_check(6, &coordinate, 0, &number, 0, &byte, 0, &byte, 0, 0, 0, 0, &number, 0);
     const gedrovit_report report =
-        gedrovit_refine(6, &coordinate, 0, &number, 0, &mark, 0, &coordinate, 0, &number, 0, &mark, 0, &number, 0);
+        gedrovit_refine(6, &coordinate, 0, &number, 0, &byte, 0, &byte, 0, &coordinate, 0, &number, 0, &byte, 0, &number, 0);
     expect("empty: lengths", sizes.reason == 0 && sizes.out_vertices + sizes.out_faces + sizes.out_marks + sizes.work == 0);
     expect("empty: accepted", finding.reason == 0 && report.reason == 0 && report.vertices + report.faces == 0);
-    expect("empty: untouched", coordinate == 7 && number == 7 && mark == 7);
+    expect("empty: untouched", coordinate == 7 && number == 7 && byte == 7);
 }
 
 void empty_vectors()
@@ -66,6 +66,19 @@ void refusals()
     net = square;
     net.vertices[7] = GEDROVIT_MAX_COORDINATE + 1;
     refused(1, net, GEDROVIT_COORDINATE_OUT_OF_RANGE, 2);
+    net.sides = {3};
+    refused(1, net, GEDROVIT_INVALID_SIDE_COUNTS, 0);
+}
+
+// A net with side counts: zero rounds give the split net, which has none.
+void other_faces()
+{
+    const gedrovit::net triangle{{0, 0, 0, 6, 0, 0, 0, 6, 0}, {0, 1, 2}, {1, 0, 0}, {3}};
+    const auto result = gedrovit::refine(0, triangle);
+    const auto *split = std::get_if<gedrovit::net>(&result);
+    expect("triangle: points", split != nullptr && split->vertices == std::vector<std::int32_t>{0, 0, 0, 6, 0, 0, 0, 6, 0, 3, 0, 0, 3, 3, 0, 0, 3, 0, 2, 2, 0});
+    expect("triangle: faces", split != nullptr && split->faces == std::vector<std::uint32_t>{0, 3, 6, 5, 1, 4, 6, 3, 2, 5, 6, 4});
+    expect("triangle: marks", split != nullptr && split->marks == std::vector<std::uint8_t>{1, 0, 0, 0, 0, 0, 0} && split->sides.empty());
 }
 
 // The point of side 0 after one step.
@@ -92,6 +105,7 @@ int main()
     empty_tables();
     empty_vectors();
     refusals();
+    other_faces();
     closed_and_open();
     return faults == 0 ? 0 : 1;
 }

@@ -1,24 +1,30 @@
 -- Laws of chains and mates in a table.
-use mathlib.Core.Path.{_≡_, refl, sym, ap, _∙_, subst}
+use mathlib.Core.Path.{_≡_, refl, sym, _∙_}
 use mathlib.Core.Bool.{Bool, true, false}
 use mathlib.Core.List.{List}
 use Prim.Native.Nat.{ℕ, _+_, _-_, _*_, _≤_, _<_}
 use native.Mathlib.Nat.{le-refl, sub-zero}
 use native.Mathlib.Decide.{ℕ-discrete}
 use native.Mathlib.Omega.{arith}
-use lib.ListN.{length, getD, set, take, drop, length-set}
+use lib.ListN.{length, getD, set, drop, length-set}
 use lib.Dec.{leb}
-use lib.Seq.{getD-drop, getD-set-same, getD-set-other, take-set-le, drop-set-lt, take-take, drop-drop}
+use lib.Seq.{getD-set-same, getD-set-other}
 use borrow.Author.Tests.{eq-eqb, eqb-true, leb-false}
 use Rattle.search.specs.Search.{first}
 use Rattle.search.proofs.Tests.{refuted, clash, or-left}
 use Rattle.search.proofs.First.{from-le, from-ge, from-holds, from-before, from-hit, from-pass, from-end, Passed, passed-start, passed-skip, passed-next, passed-hit, passed-end, first-before}
-use Rattle.topology.specs.Shape.{Shape, quads}
+use Rattle.lists.proofs.Parts.{drop-later}
+use Rattle.topology.specs.Shape.{Shape, Lawful}
 use Rattle.topology.specs.HalfEdge.{from, mate}
 use Rattle.topology.specs.Vertex.{leaves}
 use Rattle.refusals.specs.Refusals.{badCorner}
-use Rattle.adjacency.specs.Chains.{chainFrom, CornersBelow, Tables, Chained, SameOutside, Adjacency}
-use Rattle.halfedges.specs.Tables.{MateTable, Connectivity}
+use Rattle.polygons.specs.Polygons.{shapeOf}
+use Rattle.polygons.proofs.Counts.{shape-lawful}
+use Rattle.tables.proofs.Laws.{same-rest}
+use Rattle.halfedges.specs.Tables.{MateTableOf}
+use Rattle.sidetable.specs.Table.{Linked}
+use Rattle.sidetable.proofs.Table.{shaped-kept}
+use Rattle.adjacency.specs.Chains.{chainFrom, CornersBelow, Tables, Chained, Adjacency}
 
 -- ---- the first half-edge from i on that leaves v
 
@@ -76,38 +82,36 @@ passed-chain q l v i imp w = passed-skip q i (chainFrom l v i) w (λ j a b. refu
 -- ---- the table, half-edge by half-edge
 
 -- the half-edge j goes to the front of the chain of its vertex
-module _ (l w : List ℕ) (j : ℕ) (ok : Tables l w) (lt : j < length l) (was : Chained l w (j + 1)) where
-  linked : List ℕ
-  linked = set w (2 * length l + j) (getD w (length l + getD l j 0) 0)
+module _ (l w : List ℕ) (j : ℕ) (ok : CornersBelow (length l) l) (r : 3 * length l ≤ length w) (lt : j < length l) (was : Chained l w (j + 1)) where
+  relinked : List ℕ
+  relinked = set w (2 * length l + j) (getD w (length l + getD l j 0) 0)
 
-  link-head : (v : ℕ) → v < length l → Dec (v ≡ getD l j 0) → getD (set linked (length l + getD l j 0) j) (length l + v) 0 ≡ chainFrom l v j
-  unfolding linked
+  link-head : (v : ℕ) → v < length l → Dec (v ≡ getD l j 0) → getD (set relinked (length l + getD l j 0) j) (length l + v) 0 ≡ chainFrom l v j
+  unfolding relinked
   link-head v h (yes e) =
-      let b = ok .corners .below j lt in
-      let r = ok .room in
-      rw e (getD-set-same linked (length l + getD l j 0) j 0 (simp length-set (omega arith)) ∙ sym (chain-here l j lt))
+      let b = ok .below j lt in
+      rw e (getD-set-same relinked (length l + getD l j 0) j 0 (simp length-set (omega arith)) ∙ sym (chain-here l j lt))
   link-head v h (no n) =
-      getD-set-other linked (length l + getD l j 0) (length l + v) j 0 (omega arith)
+      getD-set-other relinked (length l + getD l j 0) (length l + v) j 0 (omega arith)
       ∙ getD-set-other w (2 * length l + j) (length l + v) (getD w (length l + getD l j 0) 0) 0 (omega arith)
       ∙ was .heads v h
       ∙ sym (chain-past l v j lt (λ e. n (sym e)))
 
-  link-next : (g : ℕ) → j ≤ g → g < length l → Dec (g ≡ j) → getD (set linked (length l + getD l j 0) j) (2 * length l + g) 0 ≡ chainFrom l (getD l g 0) (g + 1)
-  unfolding linked
+  link-next : (g : ℕ) → j ≤ g → g < length l → Dec (g ≡ j) → getD (set relinked (length l + getD l j 0) j) (2 * length l + g) 0 ≡ chainFrom l (getD l g 0) (g + 1)
+  unfolding relinked
   link-next g h k (yes e) =
-      let b = ok .corners .below j lt in
-      let r = ok .room in
-      rw e (getD-set-other linked (length l + getD l j 0) (2 * length l + j) j 0 (omega arith)
+      let b = ok .below j lt in
+      rw e (getD-set-other relinked (length l + getD l j 0) (2 * length l + j) j 0 (omega arith)
       ∙ getD-set-same w (2 * length l + j) (getD w (length l + getD l j 0) 0) 0 (omega arith)
       ∙ was .heads (getD l j 0) b)
   link-next g h k (no n) =
-      let b = ok .corners .below j lt in
-      getD-set-other linked (length l + getD l j 0) (2 * length l + g) j 0 (omega arith)
+      let b = ok .below j lt in
+      getD-set-other relinked (length l + getD l j 0) (2 * length l + g) j 0 (omega arith)
       ∙ getD-set-other w (2 * length l + j) (2 * length l + g) (getD w (length l + getD l j 0) 0) 0 (omega arith)
       ∙ was .nexts g (omega arith) k
 
   pub chained-link : Chained l (set (set w (2 * length l + j) (getD w (length l + getD l j 0) 0)) (length l + getD l j 0) j) j
-  unfolding linked
+  unfolding relinked
   chained-link = record {
     heads = λ v h. link-head v h (ℕ-discrete v (getD l j 0));
     nexts = λ g h k. link-next g h k (ℕ-discrete g j);
@@ -128,21 +132,24 @@ chained-cong l w w′ h f c = record {
   nexts = λ g a b. f (2 * length l + g) (omega arith) (omega arith) ∙ c .nexts g a b;
 }
 
-same-rest : (m : ℕ) (w w′ : List ℕ) → drop m w′ ≡ drop m w → (i : ℕ) → m ≤ i → getD w′ i 0 ≡ getD w i 0
-same-rest m w w′ e i h =
-    let d : m + (i - m) ≡ i = omega arith in
-    subst (λ (k : ℕ). getD w′ k 0 ≡ getD w k 0) d (sym (getD-drop m w′ (i - m) 0) ∙ ap (λ (t : List ℕ). getD t (i - m) 0) e ∙ getD-drop m w (i - m) 0)
-
 -- the first n do not count for the chains
 pub chained-drop : (l w w′ : List ℕ) (h : ℕ) → drop (length l) w′ ≡ drop (length l) w → Chained l w h → Chained l w′ h
 chained-drop l w w′ h e c = chained-cong l w w′ h (λ i a b. same-rest (length l) w w′ e i a) c
 
-pub tables-length : (l w w′ : List ℕ) → length w′ ≡ length w → Tables l w → Tables l w′
-tables-length l w w′ e t = record { sides = t .sides; corners = t .corners; room = omega (arith, t .room) }
+-- past m all is as it was
+pub tables-kept : (s l w w′ : List ℕ) (m : ℕ) → m ≤ 4 * length l → length w′ ≡ length w → drop m w′ ≡ drop m w → Tables s l w → Tables s l w′
+tables-kept s l w w′ m h e d t = record {
+  shaped = shaped-kept s (length l) w w′ e (drop-later m (4 * length l) w′ w h d) (t .shaped);
+  corners = t .corners;
+  room = omega (arith, t .room);
+}
 
--- chains apart, corners and mates are connected
-pub connected : (l w : List ℕ) → Adjacency l w → Connectivity l w
-connected l w a = record { sides = a .tables .sides; room = omega (arith, a .tables .room); mated = a .mated }
+pub tables-lawful : (s l w : List ℕ) → Tables s l w → Lawful (shapeOf s) (length l)
+tables-lawful s l w t = shape-lawful s (length l) (t .shaped .space .sided)
+
+-- chains apart, corners and mates are linked
+pub linked : (s l w : List ℕ) → Adjacency s l w → Linked s l w
+linked s l w a = record { shaped = a .tables .shaped; room = omega (arith, a .tables .room); mated = a .mated }
 
 -- ---- corners in range
 
@@ -153,25 +160,6 @@ corners-below-le u v l h r = record { below = λ g a. omega (arith, r .below g a
 pub corners-below-if : (S : Shape) (v : ℕ) (l : List ℕ) → first (badCorner S v l) (length l) ≡ length l → CornersBelow v l
 unfolding badCorner from
 corners-below-if S v l e = record { below = λ g h. leb-false v (getD l g 0) (or-left (leb v (getD l g 0)) _ (first-before (badCorner S v l) (length l) g (omega arith))) }
-
--- ---- stores from a up to e
-
-pub same-outside : (a e : ℕ) (w : List ℕ) → SameOutside a e w w
-same-outside a e w = record { front = refl; rest = refl }
-
-pub outside-set : (a e : ℕ) (w w′ : List ℕ) (i x : ℕ) → a ≤ i → i < e → SameOutside a e w w′ → SameOutside a e w (set w′ i x)
-outside-set a e w w′ i x h k s = record {
-  front = take-set-le a w′ i x h ∙ s .front;
-  rest = drop-set-lt e w′ i x k ∙ s .rest;
-}
-
-pub outside-then : (a e a′ e′ : ℕ) (w w₁ w₂ : List ℕ) → a ≤ a′ → e′ ≤ e → SameOutside a e w₁ w₂ → SameOutside a′ e′ w w₁ → SameOutside a e w w₂
-outside-then a e a′ e′ w w₁ w₂ h k s t =
-    let d : e′ + (e - e′) ≡ e = omega arith in
-    record {
-      front = s .front ∙ sym (take-take a a′ w₁ h) ∙ ap (take a) (t .front) ∙ take-take a a′ w h;
-      rest = s .rest ∙ subst (λ (m : ℕ). drop m w₁ ≡ drop m w) d (sym (drop-drop (e - e′) e′ w₁) ∙ ap (drop (e - e′)) (t .rest) ∙ drop-drop (e - e′) e′ w);
-    }
 
 -- ---- the heads below v are none
 pub record Cleared (l w : List ℕ) (v : ℕ) : Type 0 where
@@ -223,18 +211,18 @@ module _ (q : ℕ → Bool) (l : List ℕ) (v g : ℕ) (k : Walk q l v g) where
   walk-end h = passed-end q (length l) g (k .passed) (k .chain .within) h
 
 -- ---- the mates of the half-edges below h are written
-pub record MatedBelow (l w : List ℕ) (h : ℕ) : Type 0 where
-  pub mates : (g : ℕ) → g < h → getD w g 0 ≡ mate quads l g
+pub record MatedBelow (S : Shape) (l w : List ℕ) (h : ℕ) : Type 0 where
+  pub mates : (g : ℕ) → g < h → getD w g 0 ≡ mate S l g
 
-pub mated-start : (l w : List ℕ) → MatedBelow l w 0
-mated-start l w = record { mates = λ g a. let z : ⊥ = omega arith in absurd z }
+pub mated-start : (S : Shape) (l w : List ℕ) → MatedBelow S l w 0
+mated-start S l w = record { mates = λ g a. let z : ⊥ = omega arith in absurd z }
 
-pub mated-next : (l w : List ℕ) (h x : ℕ) → h < length w → x ≡ mate quads l h → MatedBelow l w h → MatedBelow l (set w h x) (h + 1)
-mated-next l w h x b e m = record { mates = λ g a. go g a (ℕ-discrete g h) }
+pub mated-next : (S : Shape) (l w : List ℕ) (h x : ℕ) → h < length w → x ≡ mate S l h → MatedBelow S l w h → MatedBelow S l (set w h x) (h + 1)
+mated-next S l w h x b e m = record { mates = λ g a. go g a (ℕ-discrete g h) }
   where
-    go : (g : ℕ) → g < h + 1 → Dec (g ≡ h) → getD (set w h x) g 0 ≡ mate quads l g
+    go : (g : ℕ) → g < h + 1 → Dec (g ≡ h) → getD (set w h x) g 0 ≡ mate S l g
     go g a (yes i) = rw i (getD-set-same w h x 0 b ∙ e)
     go g a (no n) = getD-set-other w h g x 0 n ∙ m .mates g (omega arith)
 
-pub mated-all : (l w : List ℕ) (h : ℕ) → length l ≤ h → MatedBelow l w h → MateTable l w
-mated-all l w h b m = record { mates = λ g a. m .mates g (omega arith) }
+pub mated-all : (S : Shape) (l w : List ℕ) (h : ℕ) → length l ≤ h → MatedBelow S l w h → MateTableOf S l w
+mated-all S l w h b m = record { mates = λ g a. m .mates g (omega arith) }

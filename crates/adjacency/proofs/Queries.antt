@@ -11,7 +11,7 @@ use borrow.Author.Tests.{eq-eqb}
 use Rattle.search.specs.Search.{first, count}
 use Rattle.search.proofs.Tests.{refuted}
 use Rattle.search.proofs.Count.{count-more, count-skip, count-le}
-use Rattle.topology.specs.Shape.{quads}
+use Rattle.topology.specs.Shape.{Shape}
 use Rattle.topology.specs.HalfEdge.{from, mate}
 use Rattle.topology.specs.Boundary.{isBoundaryFrom, boundaryFrom}
 use Rattle.topology.specs.Vertex.{leaves, valence, start}
@@ -21,25 +21,25 @@ use Rattle.adjacency.proofs.Chains.{leaves-if, chain-ge, chain-gap, OnC
 
 -- ---- boundary half-edges that leave p
 
-module _ (l : List ℕ) (p : ℕ) where
-  pub boundary-leaves : (g : ℕ) → isBoundaryFrom quads l p g ≡ true → leaves l p g ≡ true
+module _ (S : Shape) (l : List ℕ) (p : ℕ) where
+  pub boundary-leaves : (g : ℕ) → isBoundaryFrom S l p g ≡ true → leaves l p g ≡ true
   unfolding leaves
-  boundary-leaves g t = eq-eqb (from l g) p (from-at quads l p g t)
+  boundary-leaves g t = eq-eqb (from l g) p (from-at S l p g t)
 
-  pub boundary-on : (g : ℕ) → mate quads l g ≡ length l → getD l g 0 ≡ p → isBoundaryFrom quads l p g ≡ true
+  pub boundary-on : (g : ℕ) → mate S l g ≡ length l → getD l g 0 ≡ p → isBoundaryFrom S l p g ≡ true
   unfolding from
-  boundary-on g m e = from-on quads l p g m e
+  boundary-on g m e = from-on S l p g m e
 
-  pub boundary-off : (g : ℕ) → (mate quads l g ≡ length l → ⊥) → isBoundaryFrom quads l p g ≡ false
-  boundary-off g n = refuted (isBoundaryFrom quads l p g) (λ t. n (from-none quads l p g t))
+  pub boundary-off : (g : ℕ) → (mate S l g ≡ length l → ⊥) → isBoundaryFrom S l p g ≡ false
+  boundary-off g n = refuted (isBoundaryFrom S l p g) (λ t. n (from-none S l p g t))
 
   -- where turning round p starts is a half-edge, if one leaves p
-  pub start-lt : first (leaves l p) (length l) < length l → start quads l p < length l
-  start-lt h = go (decLt (boundaryFrom quads l p) (length l))
+  pub start-lt : first (leaves l p) (length l) < length l → start S l p < length l
+  start-lt h = go (decLt (boundaryFrom S l p) (length l))
     where
-      go : Dec (boundaryFrom quads l p < length l) → start quads l p < length l
-      go (yes b) = let e = start-open quads l p b in rw e b
-      go (no b) = let i = boundaryFrom-le quads l p in let e = start-closed quads l p (omega arith) in rw e h
+      go : Dec (boundaryFrom S l p < length l) → start S l p < length l
+      go (yes b) = let e = start-open S l p b in rw e b
+      go (no b) = let i = boundaryFrom-le S l p in let e = start-closed S l p (omega arith) in rw e h
 
 -- ---- how many half-edges of the chain lie before g
 

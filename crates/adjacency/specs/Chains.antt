@@ -4,13 +4,15 @@ use mathlib.Core.Path.{_≡_}
 use mathlib.Core.Bool.{Bool, _&&_}
 use mathlib.Core.List.{List}
 use Prim.Native.Nat.{ℕ, _+_, _-_, _*_, _≤_, _<_}
-use lib.ListN.{length, getD, take, drop}
+use lib.ListN.{length, getD}
 use lib.Dec.{eqb}
 use Rattle.search.specs.Search.{firstFrom}
 use Rattle.topology.specs.Shape.{Shape}
 use Rattle.topology.specs.HalfEdge.{from, to}
 use Rattle.topology.specs.Vertex.{leaves}
-use Rattle.halfedges.specs.Tables.{Quadrilaterals, MateTable}
+use Rattle.polygons.specs.Polygons.{shapeOf}
+use Rattle.halfedges.specs.Tables.{MateTableOf}
+use Rattle.sidetable.specs.Table.{Shaped}
 
 -- whether the half-edge g runs from the vertex a to the vertex b
 unfoldable pub side : Shape → List ℕ → ℕ → ℕ → ℕ → Bool
@@ -24,9 +26,9 @@ chainFrom l v i = firstFrom (leaves l v) (length l - i) i
 pub record CornersBelow (v : ℕ) (l : List ℕ) : Type 0 where
   pub below : (g : ℕ) → g < length l → getD l g 0 < v
 
--- corners l, each below their number, and a table w with room for three numbers per half-edge
-pub record Tables (l w : List ℕ) : Type 0 where
-  pub sides : Quadrilaterals (length l)
+-- corners l of faces with the side counts s, each below their number, and a table w with room for three numbers per half-edge, and with the shape
+pub record Tables (s l w : List ℕ) : Type 0 where
+  pub shaped : Shaped s (length l) w
   pub corners : CornersBelow (length l) l
   pub room : 3 * length l ≤ length w
 
@@ -36,12 +38,7 @@ pub record Chained (l w : List ℕ) (h : ℕ) : Type 0 where
   pub nexts : (g : ℕ) → h ≤ g → g < length l → getD w (2 * length l + g) 0 ≡ chainFrom l (getD l g 0) (g + 1)
 
 -- what w holds once chains and mates are built
-pub record Adjacency (l w : List ℕ) : Type 0 where
-  pub tables : Tables l w
+pub record Adjacency (s l w : List ℕ) : Type 0 where
+  pub tables : Tables s l w
   pub chains : Chained l w 0
-  pub mated : MateTable l w
-
--- w′ is w but for the numbers from a up to e
-pub record SameOutside (a e : ℕ) (w w′ : List ℕ) : Type 0 where
-  pub front : take a w′ ≡ take a w
-  pub rest : drop e w′ ≡ drop e w
+  pub mated : MateTableOf (shapeOf s) l w

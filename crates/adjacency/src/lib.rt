@@ -5,15 +5,16 @@ ghost use Prim.Native.Nat.{_*_, _≤_, _<_};
 ghost use lib.ListN.{length, drop};
 ghost use lib.Dec.{eqb};
 ghost use Rattle.search.specs.Search.{first};
-ghost use Rattle.topology.specs.Shape.{quads};
 ghost use Rattle.topology.specs.HalfEdge.{mate};
 ghost use Rattle.topology.specs.Boundary.{boundaryFrom};
 ghost use Rattle.topology.specs.Vertex.{valence, start, facesMet};
-ghost use Rattle.adjacency.specs.Chains.{side, Tables, Chained, Adjacency, SameOutside};
+ghost use Rattle.polygons.specs.Polygons.{shapeOf};
+ghost use Rattle.tables.specs.Tables.{SameOutside};
+ghost use Rattle.adjacency.specs.Chains.{side, Tables, Chained, Adjacency};
 
 // Makes every chain empty.
-fn clear_chains(faces: &[u32], work: &mut [u32])
-    requires { ⌜ Tables (now faces) (now work) ⌝ }
+fn clear_chains(faces: &[u32], sides: &[u8], work: &mut [u32])
+    requires { ⌜ Tables (now sides) (now faces) (now work) ⌝ }
     ensures { λ _. ⌜ Chained (now (faces .entry)) (now (work .exit)) (length (now (faces .entry))) ⌝ }
     ensures { λ _. ⌜ SameOutside (length (now (faces .entry))) (2 * length (now (faces .entry))) (now (work .entry)) (now (work .exit)) ⌝ }
 {
@@ -26,12 +27,12 @@ fn clear_chains(faces: &[u32], work: &mut [u32])
 }
 
 // Builds the chains: each half-edge, from the last to the first, goes to the front of the chain of its vertex.
-pub fn build_chains(faces: &[u32], work: &mut [u32])
-    requires { ⌜ Tables (now faces) (now work) ⌝ }
+pub fn build_chains(faces: &[u32], sides: &[u8], work: &mut [u32])
+    requires { ⌜ Tables (now sides) (now faces) (now work) ⌝ }
     ensures { λ _. ⌜ Chained (now (faces .entry)) (now (work .exit)) 0 ⌝ }
     ensures { λ _. ⌜ SameOutside (length (now (faces .entry))) (3 * length (now (faces .entry))) (now (work .entry)) (now (work .exit)) ⌝ }
 {
-    clear_chains(faces, &mut *work);
+    clear_chains(faces, sides, &mut *work);
     let n = faces.len();
     let mut h = n;
     while h > 0 {
@@ -43,16 +44,16 @@ pub fn build_chains(faces: &[u32], work: &mut [u32])
 }
 
 // The first half-edge from the vertex a to the vertex b, or the number of half-edges.
-pub fn find_side(faces: &[u32], work: &[u32], a: u32, b: u32) -> usize
-    requires { ⌜ Tables (now faces) (now work) ⌝ }
+pub fn find_side(faces: &[u32], sides: &[u8], work: &[u32], a: u32, b: u32) -> usize
+    requires { ⌜ Tables (now sides) (now faces) (now work) ⌝ }
     requires { ⌜ Chained (now faces) (now work) 0 ⌝ }
     requires { ⌜ a < length (now faces) ⌝ }
-    ensures { λ r. ⌜ r ≡ first (side quads (now (faces .entry)) a b) (length (now (faces .entry))) ⌝ }
+    ensures { λ r. ⌜ r ≡ first (side (shapeOf (now (sides .entry))) (now (faces .entry)) a b) (length (now (faces .entry))) ⌝ }
 {
     let n = faces.len();
     let mut g = work[n + a as usize] as usize;
     while g < n {
-        if faces[halfedges::next_side(g)] == b {
+        if faces[sidetable::next_in(sides, work, n, g)] == b {
             return g;
         }
         g = work[2 * n + g] as usize;
@@ -61,41 +62,41 @@ pub fn find_side(faces: &[u32], work: &[u32], a: u32, b: u32) -> usize
 }
 
 // The mate of h, or the number of half-edges.
-fn find_mate(faces: &[u32], work: &[u32], h: usize) -> usize
-    requires { ⌜ Tables (now faces) (now work) ⌝ }
+fn find_mate(faces: &[u32], sides: &[u8], work: &[u32], h: usize) -> usize
+    requires { ⌜ Tables (now sides) (now faces) (now work) ⌝ }
     requires { ⌜ Chained (now faces) (now work) 0 ⌝ }
     requires { ⌜ h < length (now faces) ⌝ }
-    ensures { λ r. ⌜ r ≡ mate quads (now (faces .entry)) h ⌝ }
+    ensures { λ r. ⌜ r ≡ mate (shapeOf (now (sides .entry))) (now (faces .entry)) h ⌝ }
 {
-    let b = faces[halfedges::next_side(h)];
-    find_side(faces, work, b, faces[h])
+    let b = faces[sidetable::next_in(sides, work, faces.len(), h)];
+    find_side(faces, sides, work, b, faces[h])
 }
 
 // Writes the mate of each half-edge; the chains must be there and stay.
-pub fn build_mates(faces: &[u32], work: &mut [u32])
-    requires { ⌜ Tables (now faces) (now work) ⌝ }
+pub fn build_mates(faces: &[u32], sides: &[u8], work: &mut [u32])
+    requires { ⌜ Tables (now sides) (now faces) (now work) ⌝ }
     requires { ⌜ Chained (now faces) (now work) 0 ⌝ }
-    ensures { λ _. ⌜ Adjacency (now (faces .entry)) (now (work .exit)) ⌝ }
+    ensures { λ _. ⌜ Adjacency (now (sides .entry)) (now (faces .entry)) (now (work .exit)) ⌝ }
     ensures { λ _. ⌜ drop (length (now (faces .entry))) (now (work .exit)) ≡ drop (length (now (faces .entry))) (now (work .entry)) ⌝ }
 {
     let n = faces.len();
     let mut h = 0;
     while h < n {
-        work[h] = find_mate(faces, &*work, h) as u32;
+        work[h] = find_mate(faces, sides, &*work, h) as u32;
         h += 1;
     }
 }
 
 // The boundary half-edge that leaves the vertex p, or the number of half-edges.
-pub fn boundary_from(faces: &[u32], work: &[u32], p: usize) -> usize
-    requires { ⌜ Adjacency (now faces) (now work) ⌝ }
+pub fn boundary_from(faces: &[u32], sides: &[u8], work: &[u32], p: usize) -> usize
+    requires { ⌜ Adjacency (now sides) (now faces) (now work) ⌝ }
     requires { ⌜ p < length (now faces) ⌝ }
-    ensures { λ r. ⌜ r ≡ boundaryFrom quads (now (faces .entry)) p ⌝ }
+    ensures { λ r. ⌜ r ≡ boundaryFrom (shapeOf (now (sides .entry))) (now (faces .entry)) p ⌝ }
 {
     let n = faces.len();
     let mut g = work[n + p] as usize;
     while g < n {
-        if halfedges::mate_side(faces, work, g) == n {
+        if sidetable::mate_in(faces, sides, work, g) == n {
             return g;
         }
         g = work[2 * n + g] as usize;
@@ -104,8 +105,8 @@ pub fn boundary_from(faces: &[u32], work: &[u32], p: usize) -> usize
 }
 
 // The number of faces at the vertex p.
-pub fn valence_at(faces: &[u32], work: &[u32], p: usize) -> usize
-    requires { ⌜ Adjacency (now faces) (now work) ⌝ }
+pub fn valence_at(faces: &[u32], sides: &[u8], work: &[u32], p: usize) -> usize
+    requires { ⌜ Adjacency (now sides) (now faces) (now work) ⌝ }
     requires { ⌜ p < length (now faces) ⌝ }
     ensures { λ r. ⌜ r ≡ valence (now (faces .entry)) p ⌝ }
 {
@@ -120,13 +121,13 @@ pub fn valence_at(faces: &[u32], work: &[u32], p: usize) -> usize
 }
 
 // Where turning round the vertex p starts.
-pub fn start_at(faces: &[u32], work: &[u32], p: usize) -> usize
-    requires { ⌜ Adjacency (now faces) (now work) ⌝ }
+pub fn start_at(faces: &[u32], sides: &[u8], work: &[u32], p: usize) -> usize
+    requires { ⌜ Adjacency (now sides) (now faces) (now work) ⌝ }
     requires { ⌜ p < length (now faces) ⌝ }
-    ensures { λ r. ⌜ r ≡ start quads (now (faces .entry)) p ⌝ }
+    ensures { λ r. ⌜ r ≡ start (shapeOf (now (sides .entry))) (now (faces .entry)) p ⌝ }
 {
     let n = faces.len();
-    let g = boundary_from(faces, work, p);
+    let g = boundary_from(faces, sides, work, p);
     if g < n {
         return g;
     }
@@ -134,16 +135,16 @@ pub fn start_at(faces: &[u32], work: &[u32], p: usize) -> usize
 }
 
 // Whether turning from h meets d faces. It takes at most d turns.
-pub fn meets_all(faces: &[u32], work: &[u32], h: usize, d: usize) -> bool
-    requires { ⌜ Adjacency (now faces) (now work) ⌝ }
+pub fn meets_all(faces: &[u32], sides: &[u8], work: &[u32], h: usize, d: usize) -> bool
+    requires { ⌜ Adjacency (now sides) (now faces) (now work) ⌝ }
     requires { ⌜ (h < length (now faces)) × (d ≤ length (now faces)) ⌝ }
-    ensures { λ r. ⌜ r ≡ eqb (facesMet quads (now (faces .entry)) h) d ⌝ }
+    ensures { λ r. ⌜ r ≡ eqb (facesMet (shapeOf (now (sides .entry))) (now (faces .entry)) h) d ⌝ }
 {
     let n = faces.len();
     let mut g = h;
     let mut k = 0;
     while k < d {
-        g = halfedges::turn_side(faces, work, g);
+        g = sidetable::turn_in(faces, sides, work, g);
         k += 1;
         if g == n {
             return k == d;

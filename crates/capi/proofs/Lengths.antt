@@ -1,61 +1,72 @@
 -- The lengths to provide. Assumes nothing.
-use mathlib.Core.Path.{_≡_, refl, sym, ap, _∙_}
-use mathlib.Core.List.{[], _∷_}
+use mathlib.Core.Path.{_≡_, refl, sym, ap, _∙_, subst}
+use mathlib.Core.List.{List, [], _∷_}
 use Prim.Native.Nat.{ℕ, _*_, _/_, _^_, _<_}
 use native.Mathlib.Decide.{decLt}
 use native.Mathlib.Omega.{arith}
 use lib.Dec.{ltb}
 use borrow.Author.Tests.{lt-ltb, eq-eqb, ne-eqb}
-use Rattle.verdict.specs.Call.{Room, needed, lengths}
+use Rattle.verdict.specs.Call.{Room, needed, lengths, quadrilaterals}
 use Rattle.verdict.specs.Verdict.{Verdict, accepted, refused, orElse, refusedIf, limitsVerdict, tablesVerdict, sizeVerdict, roomVerdict}
 use Rattle.verdict.proofs.Accepted.{or-refused, sized-faces, within-if}
+use Rattle.search.specs.Search.{firstFrom, first, any}
+use Rattle.polygons.specs.Polygons.{total, badCount, badSides}
 use Rattle.limits.specs.Answer.{limitsOf, FinalFaces}
 use Rattle.capi.specs.Export.{sizesBy, sizes}
 
--- 64 faces can be refined six times, 65 cannot; the empty net needs no tables; marks too few
-examples : sizes 6 243 256 81 ∷ sizes 6 243 260 81 ∷ sizes 6 0 0 0 ∷ sizes 7 12 4 4 ∷ sizes 1 12 4 3 ∷ []
+-- 64 faces can be refined six times, 65 cannot; the empty net needs no tables; marks too few; a triangle and a square, and side counts that do not add up
+examples : sizes 6 243 256 [] 81 ∷ sizes 6 243 260 [] 81 ∷ sizes 6 0 0 [] 0 ∷ sizes 7 12 4 [] 4 ∷ sizes 1 12 4 [] 3 ∷ sizes 1 12 7 (3 ∷ 4 ∷ []) 4 ∷ sizes 1 12 7 (3 ∷ 3 ∷ []) 4 ∷ []
     ≡ record { reason = 0; «out_vertices» = 3145728; «out_faces» = 1048576; «out_marks» = 1048576; work = 4194304 }
     ∷ record { reason = 3; «out_vertices» = 0; «out_faces» = 0; «out_marks» = 0; work = 0 }
     ∷ record { reason = 0; «out_vertices» = 0; «out_faces» = 0; «out_marks» = 0; work = 0 }
     ∷ record { reason = 1; «out_vertices» = 0; «out_faces» = 0; «out_marks» = 0; work = 0 }
     ∷ record { reason = 2; «out_vertices» = 0; «out_faces» = 0; «out_marks» = 0; work = 0 }
+    ∷ record { reason = 0; «out_vertices» = 336; «out_faces» = 112; «out_marks» = 112; work = 448 }
+    ∷ record { reason = 14; «out_vertices» = 0; «out_faces» = 0; «out_marks» = 0; work = 0 }
     ∷ []
-unfolding sizes limitsVerdict tablesVerdict sizeVerdict roomVerdict
+unfolding sizes limitsVerdict tablesVerdict sizeVerdict roomVerdict badSides badCount total firstFrom first any
 examples = refl
 
-module _ (k nv nf nm : ℕ) where
+module _ (k nv nf : ℕ) (s : List ℕ) (nm : ℕ) where
+  -- the faces that count
+  abbrev F : ℕ
+  F = quadrilaterals s nf
+
   -- past these limits the room does not matter
-  many-rounds : (a b : Room) → 6 < k → limitsVerdict k (lengths nv nf nm a) ≡ limitsVerdict k (lengths nv nf nm b)
+  many-rounds : (a b : Room) → 6 < k → limitsVerdict k s (lengths nv nf nm a) ≡ limitsVerdict k s (lengths nv nf nm b)
   unfolding limitsVerdict
   many-rounds a b h = rw (lt-ltb 6 k h)
 
-  many-faces : (a b : Room) → 4096 < nf / 4 → limitsVerdict k (lengths nv nf nm a) ≡ limitsVerdict k (lengths nv nf nm b)
+  many-faces : (a b : Room) → 4096 < F → limitsVerdict k s (lengths nv nf nm a) ≡ limitsVerdict k s (lengths nv nf nm b)
   unfolding limitsVerdict
   many-faces a b h =
-      ap (λ (v : Verdict). orElse (refusedIf 1 (ltb 6 k)) (orElse (tablesVerdict nv nf nm) v))
-      (or-refused (sizeVerdict (nv / 3) (nf / 4) (nf / 4 * 4 ^ k)) _ _ (λ e. let l = sized-faces (nv / 3) (nf / 4) (nf / 4 * 4 ^ k) e in omega arith))
+      ap (λ (v : Verdict). orElse (refusedIf 1 (ltb 6 k)) (orElse (tablesVerdict nv nf s nm) v))
+      (or-refused (sizeVerdict (nv / 3) (F) (F * 4 ^ k)) _ _ (λ e. let l = sized-faces (nv / 3) (F) (F * 4 ^ k) e in omega arith))
 
   -- g is worked out, and the room is what it needs
-  module _ (g : ℕ) (f : FinalFaces k nf g) (least : Room) (n : least ≡ needed g) where
-    same-verdict : limitsVerdict k (lengths nv nf nm least) ≡ limitsVerdict k (lengths nv nf nm (needed (nf / 4 * 4 ^ k)))
-    same-verdict = go (decLt 6 k) (decLt 4096 (nf / 4))
+  module _ (q : ℕ) (same : q ≡ F) (g : ℕ) (f₀ : FinalFaces k q g) (least : Room) (n : least ≡ needed g) where
+    f : FinalFaces k F g
+    f = subst (λ (x : ℕ). FinalFaces k x g) same f₀
+
+    same-verdict : limitsVerdict k s (lengths nv nf nm least) ≡ limitsVerdict k s (lengths nv nf nm (needed (F * 4 ^ k)))
+    same-verdict = go (decLt 6 k) (decLt 4096 (F))
       where
-        go : Dec (6 < k) → Dec (4096 < nf / 4) → limitsVerdict k (lengths nv nf nm least) ≡ limitsVerdict k (lengths nv nf nm (needed (nf / 4 * 4 ^ k)))
+        go : Dec (6 < k) → Dec (4096 < F) → limitsVerdict k s (lengths nv nf nm least) ≡ limitsVerdict k s (lengths nv nf nm (needed (F * 4 ^ k)))
         go (yes h) d = many-rounds _ _ h
         go (no h) (yes d) = many-faces _ _ d
-        go (no h) (no d) = ap (λ (x : Room). limitsVerdict k (lengths nv nf nm x)) (n ∙ ap needed (f .final (omega arith) (omega arith)))
+        go (no h) (no d) = ap (λ (x : Room). limitsVerdict k s (lengths nv nf nm x)) (n ∙ ap needed (f .final (omega arith) (omega arith)))
 
-    module _ (r : ℕ) (l : limitsVerdict k (lengths nv nf nm least) ≡ limitsOf r) where
-      verdict-is : limitsVerdict k (lengths nv nf nm (needed (nf / 4 * 4 ^ k))) ≡ limitsOf r
+    module _ (r : ℕ) (l : limitsVerdict k s (lengths nv nf nm least) ≡ limitsOf r) where
+      verdict-is : limitsVerdict k s (lengths nv nf nm (needed (F * 4 ^ k))) ≡ limitsOf r
       verdict-is = sym same-verdict ∙ l
 
-      pub refused-sizes : (r ≡ 0 → ⊥) → record { reason = r; «out_vertices» = 0; «out_faces» = 0; «out_marks» = 0; work = 0 } ≡ sizes k nv nf nm
+      pub refused-sizes : (r ≡ 0 → ⊥) → record { reason = r; «out_vertices» = 0; «out_faces» = 0; «out_marks» = 0; work = 0 } ≡ sizes k nv nf s nm
       unfolding sizes
-      refused-sizes z = let v : limitsVerdict k (lengths nv nf nm (needed (nf / 4 * 4 ^ k))) ≡ refused r 0 = verdict-is ∙ rw (ne-eqb r 0 z) in rw v
+      refused-sizes z = let v : limitsVerdict k s (lengths nv nf nm (needed (F * 4 ^ k))) ≡ refused r 0 = verdict-is ∙ rw (ne-eqb r 0 z) in rw v
 
-      pub given-sizes : r ≡ 0 → sizesBy accepted least ≡ sizes k nv nf nm
+      pub given-sizes : r ≡ 0 → sizesBy accepted least ≡ sizes k nv nf s nm
       unfolding sizes
       given-sizes z =
-          let v : limitsVerdict k (lengths nv nf nm (needed (nf / 4 * 4 ^ k))) ≡ accepted = verdict-is ∙ rw (eq-eqb r 0 z) in
-          let w = within-if k _ v in
+          let v : limitsVerdict k s (lengths nv nf nm (needed (F * 4 ^ k))) ≡ accepted = verdict-is ∙ rw (eq-eqb r 0 z) in
+          let w = within-if k s _ v in
           rw v (ap (sizesBy accepted) (n ∙ ap needed (f .final (w .few) (w .faces))))

@@ -1,8 +1,8 @@
 -- What crosses the C boundary: paper 01's number and place of each answer.
 use mathlib.Core.List.{List}
-use Prim.Native.Nat.{ℕ, _*_, _/_, _^_}
+use Prim.Native.Nat.{ℕ, _*_, _^_}
 use Rattle.admission.specs.Answer.{Checked}
-use Rattle.verdict.specs.Call.{Room, needed, lengths}
+use Rattle.verdict.specs.Call.{Room, needed, lengths, quadrilaterals}
 use Rattle.verdict.specs.Verdict.{Verdict, accepted, refused, limitsVerdict}
 use Rattle.outcome.specs.Outcome.{Result, refinedTo, refusedWith, Outcome}
 use Rattle.nets.specs.Buffers.{Buffers}
@@ -47,6 +47,8 @@ abbrev pub sizesBy : Verdict → Room → Sizes
 sizesBy accepted n = record { reason = 0; «out_vertices» = n .vertices; «out_faces» = n .faces; «out_marks» = n .marks; work = n .work }
 sizesBy (refused r p) n = record { reason = r; «out_vertices» = 0; «out_faces» = 0; «out_marks» = 0; work = 0 }
 
--- the verdict of the limits on a call with just these lengths
-unfoldable pub sizes : (rounds coordinates corners marks : ℕ) → Sizes
-sizes k nv nf nm = sizesBy (limitsVerdict k (lengths nv nf nm (needed (nf / 4 * 4 ^ k)))) (needed (nf / 4 * 4 ^ k))
+-- the verdict of the limits on a call with just these lengths, and these side counts
+unfoldable pub sizes : (rounds coordinates corners : ℕ) (sides : List ℕ) (marks : ℕ) → Sizes
+sizes k nv nf s nm =
+    let g = quadrilaterals s nf * 4 ^ k in
+    sizesBy (limitsVerdict k s (lengths nv nf nm (needed g))) (needed g)

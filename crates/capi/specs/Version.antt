@@ -5,11 +5,11 @@ abbrev pub major : ℕ
 major = 0
 
 abbrev pub minor : ℕ
-minor = 1
+minor = 2
 
 abbrev pub patch : ℕ
-patch = 1
+patch = 0
 
--- as one number: 0.1.1 is 1001
+-- as one number: 0.2.0 is 2000
 abbrev pub version : ℕ
 version = 1000000 * major + 1000 * minor + patch

@@ -2,7 +2,7 @@
 ghost use Rattle.capi.specs.Version.{version};
 ghost use mathlib.Core.Path.{_≡_};
 ghost use lib.ListN.{length};
-ghost use Rattle.nets.specs.Net.{net};
+ghost use Rattle.nets.specs.Net.{controlNet};
 ghost use Rattle.verdict.specs.Call.{room, call};
 ghost use Rattle.admission.specs.Answer.{verdictOf, checked};
 ghost use Rattle.outcome.specs.Outcome.{request, outcome};
@@ -49,6 +49,7 @@ pub extern "C" fn gedrovit_check(
     rounds: u32,
     vertices: &[i32],
     faces: &[u32],
+    sides: &[u8],
     marks: &[u8],
     out_vertices: usize,
     out_faces: usize,
@@ -56,12 +57,13 @@ pub extern "C" fn gedrovit_check(
     work: &mut [u32],
 ) -> Finding
     ensures { λ r. ⌜ checkExportOf r (now (work .exit)) ≡
-        checkExport (checked (call rounds (net (now (vertices .entry)) (now (faces .entry)) (now (marks .entry))) (room «out_vertices» «out_faces» «out_marks» (length (now (work .entry))))) (now (work .entry))) ⌝ }
+        checkExport (checked (call rounds (controlNet (now (vertices .entry)) (now (faces .entry)) (now (sides .entry)) (now (marks .entry))) (room «out_vertices» «out_faces» «out_marks» (length (now (work .entry))))) (now (work .entry))) ⌝ }
 {
     let answer = admission::check(
         rounds,
         vertices,
         faces,
+        sides,
         marks,
         out_vertices,
         out_faces,
@@ -96,6 +98,7 @@ pub extern "C" fn gedrovit_refine(
     rounds: u32,
     vertices: &[i32],
     faces: &[u32],
+    sides: &[u8],
     marks: &[u8],
     out_vertices: &mut [i32],
     out_faces: &mut [u32],
@@ -103,13 +106,14 @@ pub extern "C" fn gedrovit_refine(
     work: &mut [u32],
 ) -> Report
     ensures { λ r. ⌜ refineExportOf r (buffers (now («out_vertices» .exit)) (now («out_faces» .exit)) (now («out_marks» .exit)) (now (work .exit))) ≡
-        refineExport (outcome (request rounds (net (now (vertices .entry)) (now (faces .entry)) (now (marks .entry)))
+        refineExport (outcome (request rounds (controlNet (now (vertices .entry)) (now (faces .entry)) (now (sides .entry)) (now (marks .entry)))
         (buffers (now («out_vertices» .entry)) (now («out_faces» .entry)) (now («out_marks» .entry)) (now (work .entry))))) ⌝ }
 {
     let answer = refine::refine(
         rounds,
         vertices,
         faces,
+        sides,
         marks,
         &mut *out_vertices,
         &mut *out_faces,
@@ -129,20 +133,24 @@ pub struct Sizes {
     pub work: u64,
 }
 
-// The lengths to provide for a call, from the lengths of the net's tables; or refusal 1, 2 or 3, which no tables avert, and lengths 0.
+// The lengths to provide for a call, from the side counts and the lengths of the net's other tables; or refusal 1, 2, 3 or 14, which no tables avert, and
+// lengths 0.
 #[no_mangle]
 pub extern "C" fn gedrovit_sizes_for(
     rounds: u32,
     vertices: usize,
     faces: usize,
+    sides: &[u8],
     marks: usize,
 ) -> Sizes
-    ensures { λ r. ⌜ r ≡ sizes rounds vertices faces marks ⌝ }
+    ensures { λ r. ⌜ r ≡ sizes rounds vertices faces (now (sides .entry)) marks ⌝ }
 {
-    let g = limits::final_faces(rounds, faces);
+    let quadrilaterals = limits::quadrilaterals(sides, faces);
+    let g = limits::final_faces(rounds, quadrilaterals);
     let least = limits::needed(g);
     let reason = limits::limits(
         rounds,
+        sides,
         Lengths {
             coordinates: vertices,
             corners: faces,
@@ -176,12 +184,12 @@ pub extern "C" fn gedrovit_sizes_for(
 pub extern "C" fn gedrovit_version() -> u32
     ensures { λ r. ⌜ r ≡ version ⌝ }
 {
-    1001
+    2000
 }
 
 // The same under a name that has the version in it: a program that was compiled with another version's header does not link.
 #[no_mangle]
-pub extern "C" fn gedrovit_version_0_1_1() -> u32
+pub extern "C" fn gedrovit_version_0_2_0() -> u32
     ensures { λ r. ⌜ r ≡ version ⌝ }
 {
     gedrovit_version()

@@ -14,7 +14,7 @@ use Rattle.rings.specs.Ring.{virtual}
 use Rattle.rules.specs.Rules.{interiorPoint, endPoint, midpoint, extrapolated, extrapolatedCorner}
 use Rattle.search.specs.Search.{firstFrom, first, any, count, iterate}
 use Rattle.topology.specs.Shape.{quads}
-use Rattle.topology.specs.HalfEdge.{from, to, opposed, mate, firstMet, edgeCount, edge}
+use Rattle.topology.specs.HalfEdge.{from, to, opposed, mate, firstMet, edgeCount, edge, edgeAt}
 use Rattle.topology.specs.Boundary.{isBoundaryFrom, isBoundaryInto, boundaryFrom, boundaryInto, along, back}
 use Rattle.topology.specs.Vertex.{leaves, valence, turn, start, stops, facesMet}
 use Rattle.refusals.specs.Refusals.{badMark, badCorner, isolated, repeatedSide, nonManifold, badValence, markedRing}
@@ -23,7 +23,11 @@ use Rattle.scheme.specs.Rings.{extrapolatedAt, fanNeighbour, fanCorner, ringVir
 use Rattle.topology.specs.Quads.{oppositeCorner, fanEnd, fanPlace, across, beyond}
 use Rattle.nets.specs.Net.{marked, axis}
 use Rattle.scheme.specs.Points.{edgeRule, edgeValue, edgePoint, direction, inner, fourInner, faceRule, faceValue, facePoint}
-use Rattle.scheme.specs.Step.{edgeAt, refinedCoordinate}
+use Rattle.scheme.specs.Step.{refinedCoordinate}
+use Rattle.lists.specs.Tabulate.{tabulate}
+use Rattle.polygons.specs.Polygons.{sideAfter, sideBefore, faceThen, noFace, polygons, shapeOf}
+use Rattle.refinedfaces.specs.Refined.{corner, refined, refinedMarks}
+use Rattle.splitting.specs.Splitting.{sideMidpoint, cornerMean, firstSide, splitCoordinate, split, startNet}
 use Rattle.cases.specs.Cases.{Case, cases, AllHold}
 
 abbrev eqList : List ℤ → List ℤ → Bool
@@ -42,7 +46,7 @@ abbrev agrees : ℕ → Case → Bool
 agrees k c = eqList (c .computed) (c .stated)
 
 passes : T (every agrees 0 cases)
-unfolding cases step curve round limitsVerdict tablesVerdict sizeVerdict roomVerdict netVerdict coordinatesVerdict shapeVerdict facesVerdict adjacencyVerdict vertexVerdict badCoordinate badMark badCorner isolated repeatedSide nonManifold badValence markedRing firstFrom first any count iterate quads from to opposed mate firstMet edgeCount edge isBoundaryFrom isBoundaryInto boundaryFrom boundaryInto along back leaves valence turn start stops facesMet sumᶠ virtual interiorPoint endPoint midpoint extrapolated extrapolatedCorner oppositeCorner fanEnd extrapolatedAt fanNeighbour fanCorner fanPlace ringVirtual fanVirtual virtualAt marked edgeRule edgeValue edgePoint across beyond direction inner fourInner faceRule faceValue facePoint edgeAt refinedCoordinate axis
+unfolding cases step curve round limitsVerdict tablesVerdict sizeVerdict roomVerdict netVerdict coordinatesVerdict shapeVerdict facesVerdict adjacencyVerdict vertexVerdict badCoordinate badMark badCorner isolated repeatedSide nonManifold badValence markedRing firstFrom first any count iterate quads from to opposed mate firstMet edgeCount edge isBoundaryFrom isBoundaryInto boundaryFrom boundaryInto along back leaves valence turn start stops facesMet sumᶠ virtual interiorPoint endPoint midpoint extrapolated extrapolatedCorner oppositeCorner fanEnd extrapolatedAt fanNeighbour fanCorner fanPlace ringVirtual fanVirtual virtualAt marked edgeRule edgeValue edgePoint across beyond direction inner fourInner faceRule faceValue facePoint edgeAt refinedCoordinate axis tabulate sideAfter sideBefore faceThen noFace polygons shapeOf corner refined refinedMarks sideMidpoint cornerMean firstSide splitCoordinate split startNet
 passes = tt
 
 pub cases-hold : AllHold cases

@@ -1,16 +1,18 @@
--- The cases that paper 01 marks P, in one table: what the definitions give, and what the paper states. The last row is not one of them.
+-- The cases that paper 01 marks P, in one table: what the definitions give, and what the paper states. The last row of the nets and the rows of nets with other
+-- faces are not among them.
 use mathlib.Core.Path.{_≡_}
 use mathlib.Core.List.{List, [], _∷_, _++_}
 use Prim.Native.Nat.{ℕ, zero, suc, _<_}
 use lib.IntN.{ℤ, pos, negsuc, _*ℤ_}
-use lib.ListN.{length, getD}
+use lib.ListN.{length, getD, take, drop}
 use Rattle.curve.specs.Weights.{kobbelt}
-use Rattle.nets.specs.Net.{Net, axis}
+use Rattle.nets.specs.Net.{Net, ControlNet, controlNet, plain, axis}
 use Rattle.verdict.specs.Call.{Room, room, lengths}
 use Rattle.verdict.specs.Verdict.{Verdict, accepted, refused, limitsVerdict, netVerdict}
 use Rattle.fractions.specs.Fraction.{Fraction}
 use Rattle.scheme.specs.Points.{facePoint}
 use Rattle.scheme.specs.Step.{refinedCoordinate}
+use Rattle.splitting.specs.Splitting.{startNet}
 use Rattle.curve.specs.Curve.{Open, Closed, rounded, step, Point, curve}
 
 pub record Case : Type 0 where
@@ -69,14 +71,14 @@ squareFrom x = record { vertices = x ∷ pos 0 ∷ pos 0 ∷ flat 3; faces = 0 �
 abbrev pub refusalCases : List Case
 refusalCases =
     -- "64 faces, 6 rounds pass 3; 65 do not."
-    record { computed = answer (limitsVerdict 6 (lengths 300 256 100 ample)); stated = [] }
-    ∷ record { computed = answer (limitsVerdict 6 (lengths 300 260 100 ample)); stated = pos 3 ∷ pos 0 ∷ [] }
+    record { computed = answer (limitsVerdict 6 [] (lengths 300 256 100 ample)); stated = [] }
+    ∷ record { computed = answer (limitsVerdict 6 [] (lengths 300 260 100 ample)); stated = pos 3 ∷ pos 0 ∷ [] }
     -- "two squares touching at one vertex: 10. One face listed twice: 9, place 1."
-    ∷ record { computed = answer (netVerdict (record { vertices = flat 7; faces = 0 ∷ 1 ∷ 2 ∷ 3 ∷ 2 ∷ 4 ∷ 5 ∷ 6 ∷ []; marks = unmarked 7 })); stated = pos 10 ∷ pos 2 ∷ [] }
-    ∷ record { computed = answer (netVerdict (record { vertices = flat 4; faces = 0 ∷ 1 ∷ 2 ∷ 3 ∷ 0 ∷ 1 ∷ 2 ∷ 3 ∷ []; marks = unmarked 4 })); stated = pos 9 ∷ pos 1 ∷ [] }
+    ∷ record { computed = answer (netVerdict (plain (record { vertices = flat 7; faces = 0 ∷ 1 ∷ 2 ∷ 3 ∷ 2 ∷ 4 ∷ 5 ∷ 6 ∷ []; marks = unmarked 7 }))); stated = pos 10 ∷ pos 2 ∷ [] }
+    ∷ record { computed = answer (netVerdict (plain (record { vertices = flat 4; faces = 0 ∷ 1 ∷ 2 ∷ 3 ∷ 0 ∷ 1 ∷ 2 ∷ 3 ∷ []; marks = unmarked 4 }))); stated = pos 9 ∷ pos 1 ∷ [] }
     -- "coordinate 1,048,576 passes; 1,048,577 gives 5."
-    ∷ record { computed = answer (netVerdict (squareFrom (pos 1048576))); stated = [] }
-    ∷ record { computed = answer (netVerdict (squareFrom (pos 1048577))); stated = pos 5 ∷ pos 0 ∷ [] }
+    ∷ record { computed = answer (netVerdict (plain (squareFrom (pos 1048576)))); stated = [] }
+    ∷ record { computed = answer (netVerdict (plain (squareFrom (pos 1048577)))); stated = pos 5 ∷ pos 0 ∷ [] }
     ∷ []
 
 -- ---- nets after one round
@@ -156,9 +158,45 @@ netCases =
     ∷ record { computed = refinedPoint tilted 6 ++ refinedPoint tilted 8; stated = coordinates (at (pos 8) (pos 18) (pos 1) ∷ at (pos 8) (pos 8) (pos 0) ∷ []) }
     ∷ []
 
+-- ---- nets with other faces, split; worked out by hand from paper 02
+abbrev pub numbers : List ℕ → List ℤ
+numbers [] = []
+numbers (n ∷ l) = pos n ∷ numbers l
+
+abbrev pub triangle : ControlNet
+triangle = controlNet (coordinates (at (pos 0) (pos 0) (pos 0) ∷ at (pos 6) (pos 0) (pos 0) ∷ at (pos 0) (pos 6) (pos 0) ∷ [])) (0 ∷ 1 ∷ 2 ∷ []) (3 ∷ []) (unmarked 3)
+
+-- a pentagon with the heights 0, 0, -1, 0, -2
+abbrev pub pentagon : ControlNet
+pentagon =
+    controlNet (coordinates (at (pos 0) (pos 0) (pos 0) ∷ at (pos 0) (pos 0) (pos 0) ∷ at (pos 0) (pos 0) (negsuc 0) ∷ at (pos 0) (pos 0) (pos 0) ∷ at (pos 0) (pos 0) (negsuc 1) ∷ []))
+    (0 ∷ 1 ∷ 2 ∷ 3 ∷ 4 ∷ []) (5 ∷ []) (unmarked 5)
+
+-- z of the vertex i
+abbrev pub heightOf : Net → ℕ → ℤ
+heightOf m i = axis (m .vertices) 2 i
+
+abbrev pub splitCases : List Case
+splitCases =
+    -- "The face point is the mean of its corners and each edge point the midpoint": a triangle 0 0, 6 0, 0 6 gives 3 0, 3 3, 0 3 and 2 2
+    record {
+      computed = drop 9 (startNet triangle .vertices);
+      stated = coordinates (at (pos 3) (pos 0) (pos 0) ∷ at (pos 3) (pos 3) (pos 0) ∷ at (pos 0) (pos 3) (pos 0) ∷ at (pos 2) (pos 2) (pos 0) ∷ []);
+    }
+    -- "Sides and numbering follow the round in 01"
+    ∷ record { computed = numbers (startNet triangle .faces); stated = numbers (0 ∷ 3 ∷ 6 ∷ 5 ∷ 1 ∷ 4 ∷ 6 ∷ 3 ∷ 2 ∷ 5 ∷ 6 ∷ 4 ∷ []) }
+    -- "Four-sided faces are split too, and zero rounds gives the split net.": 8 0 on the first side, where a round gives 8 -2
+    ∷ record { computed = take 3 (drop 12 (startNet (controlNet (square .vertices) (square .faces) (4 ∷ []) (square .marks)) .vertices)); stated = coordinates (at (pos 8) (pos 0) (pos 0) ∷ []) }
+    -- "rounded like any new point": -1/2, -1/2, -1 and -1 on the sides, -3/5 on the face
+    ∷ record {
+      computed = (let m = startNet pentagon in heightOf m 5 ∷ heightOf m 6 ∷ heightOf m 7 ∷ heightOf m 8 ∷ heightOf m 9 ∷ heightOf m 10 ∷ []);
+      stated = pos 0 ∷ negsuc 0 ∷ negsuc 0 ∷ negsuc 0 ∷ negsuc 0 ∷ negsuc 0 ∷ [];
+    }
+    ∷ []
+
 -- ---- the table
 unfoldable pub cases : List Case
-cases = curveCases ++ refusalCases ++ netCases
+cases = curveCases ++ refusalCases ++ netCases ++ splitCases
 
 -- at every row the definitions give what the paper states
 pub record AllHold (table : List Case) : Type 0 where

@@ -1,12 +1,16 @@
--- How the tests of refusals 1 to 4 make one. Assumes nothing.
-use mathlib.Core.Path.{_≡_, sym, ap, _∙_}
-use Prim.Native.Nat.{ℕ, _*_, _/_, _^_, _≤_, _<_}
+-- How the tests of refusals 1 to 4 and 14 make one. Assumes nothing.
+use mathlib.Core.Path.{_≡_, refl, sym, ap, _∙_, subst}
+use mathlib.Core.Bool.{true, false}
+use mathlib.Core.List.{List, [], _∷_}
+use Prim.Native.Nat.{ℕ, _*_, _/_, _%_, _^_, _≤_, _<_}
+use lib.ListN.{length}
+use Rattle.polygons.specs.Polygons.{badSides}
 use native.Mathlib.Decide.{decLt}
 use native.Mathlib.Omega.{arith}
 use lib.Dec.{ltb}
 use borrow.Author.Tests.{lt-ltb, le-ltb, eq-eqb, ne-eqb}
-use Rattle.verdict.specs.Call.{Room, needed, Lengths}
-use Rattle.verdict.specs.Verdict.{Verdict, refusedIf, shorter, tablesVerdict, sizeVerdict, roomVerdict, limitsVerdict}
+use Rattle.verdict.specs.Call.{Room, needed, Lengths, quadrilaterals}
+use Rattle.verdict.specs.Verdict.{Verdict, refusedIf, shorter, cornersVerdict, tablesVerdict, sizeVerdict, roomVerdict, limitsVerdict}
 use Rattle.verdict.proofs.Accepted.{sized-faces}
 use Rattle.limits.specs.Answer.{limitsOf, FinalFaces}
 
@@ -19,35 +23,91 @@ pub by-needed : (g : ℕ) (room least : Room) {v : Verdict} → least ≡ needed
 unfolding roomVerdict
 by-needed g room least e h = ap (shorter room) (sym e) ∙ h
 
-module _ (k : ℕ) (n : Lengths) where
-  pub many-rounds : 6 < k → limitsVerdict k n ≡ limitsOf 1
+-- ---- 14 and the face part of 2
+pub fours-hit : (s : List ℕ) (n : ℕ) → length s ≡ 0 → (n % 4 ≡ 0 → ⊥) → cornersVerdict s n ≡ limitsOf 2
+fours-hit [] n z h = rw (ne-eqb (n % 4) 0 h)
+fours-hit (c ∷ s) n z h = let y : ⊥ = omega arith in absurd y
+
+pub fours-pass : (s : List ℕ) (n : ℕ) → length s ≡ 0 → n % 4 ≡ 0 → cornersVerdict s n ≡ limitsOf 0
+fours-pass [] n z h = rw (eq-eqb (n % 4) 0 h)
+fours-pass (c ∷ s) n z h = let y : ⊥ = omega arith in absurd y
+
+pub counts-hit : (s : List ℕ) (n : ℕ) → (length s ≡ 0 → ⊥) → badSides s n ≡ true → cornersVerdict s n ≡ limitsOf 14
+counts-hit [] n z h = absurd (z refl)
+counts-hit (c ∷ s) n z h = rw h
+
+pub counts-pass : (s : List ℕ) (n : ℕ) → (length s ≡ 0 → ⊥) → badSides s n ≡ false → cornersVerdict s n ≡ limitsOf 0
+counts-pass [] n z h = absurd (z refl)
+counts-pass (c ∷ s) n z h = rw h
+
+-- F
+pub by-fours : (s : List ℕ) (n : ℕ) → length s ≡ 0 → n / 4 ≡ quadrilaterals s n
+by-fours [] n z = refl
+by-fours (c ∷ s) n z = let y : ⊥ = omega arith in absurd y
+
+pub by-sides : (s : List ℕ) (n : ℕ) → (length s ≡ 0 → ⊥) → n ≡ quadrilaterals s n
+by-sides [] n z = absurd (z refl)
+by-sides (c ∷ s) n z = refl
+
+-- ---- the tables
+module _ (v n : ℕ) (s : List ℕ) (m : ℕ) where
+  pub coordinates-hit : (v % 3 ≡ 0 → ⊥) → tablesVerdict v n s m ≡ limitsOf 2
+  unfolding tablesVerdict
+  coordinates-hit h = rw (ne-eqb (v % 3) 0 h)
+
+  module _ (r : ℕ) (h : v % 3 ≡ 0) (e : cornersVerdict s n ≡ limitsOf r) where
+    pub corners-hit : (r ≡ 0 → ⊥) → tablesVerdict v n s m ≡ limitsOf r
+    unfolding tablesVerdict
+    corners-hit z = rw (eq-eqb (v % 3) 0 h, e, ne-eqb r 0 z)
+
+    pub marks-hit : r ≡ 0 → (m ≡ v / 3 → ⊥) → tablesVerdict v n s m ≡ limitsOf 2
+    unfolding tablesVerdict
+    marks-hit z d = rw (eq-eqb (v % 3) 0 h, e, eq-eqb r 0 z, ne-eqb m (v / 3) d)
+
+    pub tables-pass : r ≡ 0 → m ≡ v / 3 → tablesVerdict v n s m ≡ limitsOf 0
+    unfolding tablesVerdict
+    tables-pass z d = rw (eq-eqb (v % 3) 0 h, e, eq-eqb r 0 z, eq-eqb m (v / 3) d)
+
+-- ---- the whole
+module _ (k : ℕ) (c : List ℕ) (n : Lengths) where
+  -- the number of faces that counts
+  abbrev F : ℕ
+  F = quadrilaterals c (n .corners)
+
+  pub many-rounds : 6 < k → limitsVerdict k c n ≡ limitsOf 1
   unfolding limitsVerdict
   many-rounds h = rw (lt-ltb 6 k h)
 
-  module _ (few : k ≤ 6) (t : ℕ) (e : tablesVerdict (n .coordinates) (n .corners) (n .marks) ≡ limitsOf t) where
-    pub by-tables : (t ≡ 0 → ⊥) → limitsVerdict k n ≡ limitsOf t
+  module _ (few : k ≤ 6) (t : ℕ) (e : tablesVerdict (n .coordinates) (n .corners) c (n .marks) ≡ limitsOf t) where
+    pub by-tables : (t ≡ 0 → ⊥) → limitsVerdict k c n ≡ limitsOf t
     unfolding limitsVerdict
     by-tables h = rw (le-ltb 6 k few, e, ne-eqb t 0 h)
 
-    module _ (z : t ≡ 0) (g s : ℕ) (f : FinalFaces k (n .corners) g) (d : sizeVerdict (n .coordinates / 3) (n .corners / 4) g ≡ limitsOf s) where
+    module _ (z : t ≡ 0) (q : ℕ) (same : q ≡ F) (g s : ℕ) (f₀ : FinalFaces k q g) (d₀ : sizeVerdict (n .coordinates / 3) q g ≡ limitsOf s) where
+      f : FinalFaces k F g
+      f = subst (λ (x : ℕ). FinalFaces k x g) same f₀
+
+      d : sizeVerdict (n .coordinates / 3) F g ≡ limitsOf s
+      d = ap (λ (x : ℕ). sizeVerdict (n .coordinates / 3) x g) (sym same) ∙ d₀
+
       -- with too many faces their number after the rounds does not matter
-      many-faces : (h : ℕ) → 4096 < n .corners / 4 → sizeVerdict (n .coordinates / 3) (n .corners / 4) g ≡ sizeVerdict (n .coordinates / 3) (n .corners / 4) h
+      many-faces : (h : ℕ) → 4096 < F → sizeVerdict (n .coordinates / 3) F g ≡ sizeVerdict (n .coordinates / 3) F h
       unfolding sizeVerdict
-      many-faces h b = rw (lt-ltb 4096 (n .corners / 4) b)
+      many-faces h b = rw (lt-ltb 4096 F b)
 
-      size : sizeVerdict (n .coordinates / 3) (n .corners / 4) (n .corners / 4 * 4 ^ k) ≡ limitsOf s
-      size = go (decLt 4096 (n .corners / 4))
+      size : sizeVerdict (n .coordinates / 3) F (F * 4 ^ k) ≡ limitsOf s
+      size = go (decLt 4096 F)
         where
-          go : Dec (4096 < n .corners / 4) → sizeVerdict (n .coordinates / 3) (n .corners / 4) (n .corners / 4 * 4 ^ k) ≡ limitsOf s
-          go (yes b) = sym (many-faces (n .corners / 4 * 4 ^ k) b) ∙ d
-          go (no b) = ap (sizeVerdict (n .coordinates / 3) (n .corners / 4)) (sym (f .final few (omega arith))) ∙ d
+          go : Dec (4096 < F) → sizeVerdict (n .coordinates / 3) F (F * 4 ^ k) ≡ limitsOf s
+          go (yes b) = sym (many-faces (F * 4 ^ k) b) ∙ d
+          go (no b) = ap (sizeVerdict (n .coordinates / 3) F) (sym (f .final few (omega arith))) ∙ d
 
-      pub by-size : (s ≡ 0 → ⊥) → limitsVerdict k n ≡ limitsOf s
+      pub by-size : (s ≡ 0 → ⊥) → limitsVerdict k c n ≡ limitsOf s
       unfolding limitsVerdict
       by-size h = rw (le-ltb 6 k few, e, eq-eqb t 0 z, size, ne-eqb s 0 h)
 
-      pub by-room : s ≡ 0 → (r : ℕ) → roomVerdict g (n .room) ≡ limitsOf r → limitsVerdict k n ≡ limitsOf r
+      pub by-room : s ≡ 0 → (r : ℕ) → roomVerdict g (n .room) ≡ limitsOf r → limitsVerdict k c n ≡ limitsOf r
       unfolding limitsVerdict
       by-room y r h =
           rw (le-ltb 6 k few, e, eq-eqb t 0 z, size, eq-eqb s 0 y)
-          (ap (λ (x : ℕ). roomVerdict x (n .room)) (sym (f .final few (sized-faces (n .coordinates / 3) (n .corners / 4) g (d ∙ rw (eq-eqb s 0 y))))) ∙ h)
+          (ap (λ (x : ℕ). roomVerdict x (n .room)) (sym (f .final few (sized-faces (n .coordinates / 3) F g (d ∙ rw (eq-eqb s 0 y))))) ∙ h)

@@ -1,6 +1,6 @@
 -- What the numbers of the test of limits mean.
 use mathlib.Core.Bool.{cond}
-use Prim.Native.Nat.{ℕ, _*_, _/_, _^_, _≤_}
+use Prim.Native.Nat.{ℕ, _*_, _^_, _≤_}
 use mathlib.Core.Path.{_≡_}
 use lib.Dec.{eqb}
 use Rattle.verdict.specs.Call as call
@@ -19,6 +19,6 @@ abbrev pub lengthsIn : Lengths → call.Lengths
 lengthsIn n = call.lengths (n .coordinates) (n .corners) (n .marks) (call.room (n .«out_vertices») (n .«out_faces») (n .«out_marks») (n .work))
 
 -- g is the number of refined faces, where rounds and faces are within their limits
-pub record FinalFaces (rounds corners g : ℕ) : Type 0 where
+pub record FinalFaces (rounds faces g : ℕ) : Type 0 where
   pub few : g ≤ 16777216
-  pub final : rounds ≤ 6 → corners / 4 ≤ 4096 → g ≡ corners / 4 * 4 ^ rounds
+  pub final : rounds ≤ 6 → faces ≤ 4096 → g ≡ faces * 4 ^ rounds

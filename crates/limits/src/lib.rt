@@ -1,11 +1,12 @@
-// Refusals 1 to 4, from the lengths of the tables alone.
+// Refusals 1 to 4 and 14, from the side counts and the lengths of the other tables.
 ghost use Prim.Native.Nat.{_≤_, _/_, _*_, _^_};
 ghost use mathlib.Core.Path.{_≡_};
-ghost use Rattle.verdict.specs.Verdict.{tablesVerdict, sizeVerdict, roomVerdict, limitsVerdict};
+ghost use Rattle.polygons.specs.Polygons.{badCount, badSides};
+ghost use Rattle.verdict.specs.Verdict.{cornersVerdict, tablesVerdict, sizeVerdict, roomVerdict, limitsVerdict};
 ghost use Rattle.verdict.specs.Call as call;
 ghost use Rattle.limits.specs.Answer.{limitsOf, roomIn, lengthsIn, FinalFaces};
 
-// The lengths of the tables of a call, in its order.
+// The lengths of the tables of a call but the side counts, in its order.
 pub struct Lengths {
     pub coordinates: usize,
     pub corners: usize,
@@ -40,14 +41,23 @@ fn pow4(k: u32) -> usize
     }
 }
 
+// The number of four-sided faces where refining begins: with side counts each side of a face gives one.
+pub fn quadrilaterals(sides: &[u8], corners: usize) -> usize
+    ensures { λ r. ⌜ r ≡ call.quadrilaterals (now (sides .entry)) corners ⌝ }
+{
+    if sides.len() == 0 {
+        return corners / 4;
+    }
+    corners
+}
+
 // The number of refined faces, where rounds and faces are within their limits; else 0.
-pub fn final_faces(rounds: u32, corners: usize) -> usize
-    ensures { λ g. ⌜ FinalFaces rounds corners g ⌝ }
+pub fn final_faces(rounds: u32, faces: usize) -> usize
+    ensures { λ g. ⌜ FinalFaces rounds faces g ⌝ }
 {
     if rounds > 6 {
         return 0;
     }
-    let faces = corners / 4;
     if faces > 4096 {
         return 0;
     }
@@ -67,15 +77,62 @@ pub fn needed(g: usize) -> Room
     }
 }
 
-// Refusal 2, or 0.
-fn test_tables(n: Lengths) -> u32
-    ensures { λ r. ⌜ tablesVerdict (n .coordinates) (n .corners) (n .marks) ≡ limitsOf r ⌝ }
+// Whether c is outside 3 to 8.
+fn bad_count(c: usize) -> bool
+    ensures { λ r. ⌜ r ≡ badCount c ⌝ }
+{
+    if c < 3 {
+        return true;
+    }
+    c > 8
+}
+
+// Whether a side count is outside 3 to 8, or their sum is not the number of corners. It stops as soon as the sum passes that number.
+fn bad_sides(sides: &[u8], corners: usize) -> bool
+    ensures { λ r. ⌜ r ≡ badSides (now (sides .entry)) corners ⌝ }
+{
+    let mut left = corners;
+    let mut f = 0;
+    while f < sides.len() {
+        let c = sides[f] as usize;
+        if bad_count(c) {
+            return true;
+        }
+        if left < c {
+            return true;
+        }
+        left -= c;
+        f += 1;
+    }
+    left != 0
+}
+
+// Refusal 14 of side counts; without them refusal 2 of the face table; or 0.
+fn test_corners(sides: &[u8], corners: usize) -> u32
+    ensures { λ r. ⌜ cornersVerdict (now (sides .entry)) corners ≡ limitsOf r ⌝ }
+{
+    if sides.len() == 0 {
+        if corners % 4 != 0 {
+            return 2;
+        }
+        return 0;
+    }
+    if bad_sides(sides, corners) {
+        return 14;
+    }
+    0
+}
+
+// Refusal 2 or 14, or 0.
+fn test_tables(sides: &[u8], n: Lengths) -> u32
+    ensures { λ r. ⌜ tablesVerdict (n .coordinates) (n .corners) (now (sides .entry)) (n .marks) ≡ limitsOf r ⌝ }
 {
     if n.coordinates % 3 != 0 {
         return 2;
     }
-    if n.corners % 4 != 0 {
-        return 2;
+    let corners = test_corners(sides, n.corners);
+    if corners != 0 {
+        return corners;
     }
     if n.marks != n.coordinates / 3 {
         return 2;
@@ -120,19 +177,20 @@ fn test_room(g: usize, n: Lengths) -> u32
     0
 }
 
-// The first of refusals 1 to 4 that holds, or 0.
-pub fn limits(rounds: u32, n: Lengths) -> u32
-    ensures { λ r. ⌜ limitsVerdict rounds (lengthsIn n) ≡ limitsOf r ⌝ }
+// The first of refusals 1 to 4 and 14 that holds, or 0.
+pub fn limits(rounds: u32, sides: &[u8], n: Lengths) -> u32
+    ensures { λ r. ⌜ limitsVerdict rounds (now (sides .entry)) (lengthsIn n) ≡ limitsOf r ⌝ }
 {
     if rounds > 6 {
         return 1;
     }
-    let tables = test_tables(n);
+    let tables = test_tables(sides, n);
     if tables != 0 {
         return tables;
     }
-    let g = final_faces(rounds, n.corners);
-    let size = test_size(n.coordinates / 3, n.corners / 4, g);
+    let f = quadrilaterals(sides, n.corners);
+    let g = final_faces(rounds, f);
+    let size = test_size(n.coordinates / 3, f, g);
     if size != 0 {
         return size;
     }

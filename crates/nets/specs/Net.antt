@@ -1,6 +1,6 @@
--- The three tables of a net, and what they say of a vertex.
+-- The tables of a net, and what they say of a vertex.
 use mathlib.Core.Bool.{Bool}
-use mathlib.Core.List.{List}
+use mathlib.Core.List.{List, []}
 use Prim.Native.Nat.{ℕ, _+_, _*_}
 use lib.Dec.{eqb}
 use lib.IntN.{ℤ, pos}
@@ -19,6 +19,24 @@ net vertices faces marks = record { vertices = vertices; faces = faces; marks = 
 -- the net of v vertices and n corners at the front of the tables
 abbrev pub frontNet : ℕ → ℕ → List ℤ → List ℕ → List ℕ → Net
 frontNet v n vertices faces marks = net (take (3 * v) vertices) (take n faces) (take v marks)
+
+-- a net as it is drawn: "A table of side counts comes with the corners"; without one, faces have four sides
+pub record ControlNet : Type 0 where
+  pub vertices : List ℤ
+  pub faces : List ℕ
+  pub sides : List ℕ
+  pub marks : List ℕ
+
+abbrev pub controlNet : (vertices : List ℤ) (faces sides marks : List ℕ) → ControlNet
+controlNet vertices faces sides marks = record { vertices = vertices; faces = faces; sides = sides; marks = marks }
+
+-- "a call without one": a net without side counts
+abbrev pub plain : Net → ControlNet
+plain m = controlNet (m .vertices) (m .faces) [] (m .marks)
+
+-- its vertices, corners and marks alone
+abbrev pub drawnTables : ControlNet → Net
+drawnTables m = net (m .vertices) (m .faces) (m .marks)
 
 -- coordinate a of vertex v of a table
 unfoldable pub axis : List ℤ → ℕ → ℕ → ℤ

@@ -12,6 +12,9 @@ use Rattle.verdict.specs.Call.{Call}
 use Rattle.verdict.specs.Verdict.{Verdict, accepted, refused, verdict, workAfter}
 use Rattle.verdict.proofs.Accepted.{accepted-limits, accepted-net}
 use Rattle.scheme.specs.Step.{steps}
+use Rattle.splitting.specs.Splitting.{startNet}
+use Rattle.splitting.specs.Drawn.{Drawn}
+use Rattle.splitting.proofs.Split.{start-refinable}
 use Rattle.schemelaws.specs.Nets.{Refinable}
 use Rattle.schemelaws.proofs.Steps.{refinable-steps}
 use Rattle.outcome.specs.Outcome.{refinedTo, Request, forRounds, Outcome, callOf, outcomeBy, outcome}
@@ -27,44 +30,48 @@ pub accepted-verdict : (a : Request) (k : ℕ) → AcceptedFor a k → verdict (
 unfolding outcome
 accepted-verdict a k h =
     let c = callOf (forRounds k a) in
-    by-result (verdict c) (steps kobbelt k (a .net)) (a .buffers) (workAfter c (a .buffers .work)) (h .vertices) (h .faces) (h .result)
+    by-result (verdict c) (steps kobbelt k (startNet (a .net))) (a .buffers) (workAfter c (a .buffers .work)) (h .vertices) (h .faces) (h .result)
 
 -- ---- what an accepted net has
-pub accepted-refinable : (c : Call) → verdict c ≡ accepted → Refinable (c .net)
-accepted-refinable c e =
+pub accepted-drawn : (c : Call) → verdict c ≡ accepted → Drawn (c .net)
+accepted-drawn c e =
     let w = accepted-limits c e in
     let n = accepted-net c e in
     let p = w .points in
     let q = w .marked in
     record {
       threes = omega arith;
-      fours = w .quadrilaterals;
+      sided = w .sided;
       no6 = n .no6;
       no7to11 = record { no7 = n .no7; no8 = n .no8; no9 = n .no9; no10 = n .no10; no11 = n .no11 };
       no12 = n .no12;
     }
 
+-- and where refining begins
+pub accepted-refinable : (c : Call) → verdict c ≡ accepted → Refinable (startNet (c .net))
+accepted-refinable c e = start-refinable (c .net) (accepted-drawn c e)
+
 -- ---- the net at the front of the outputs
 module _ (a : Request) (k : ℕ) (e : verdict (callOf (forRounds k a)) ≡ accepted) where
-  after : Refinable (steps kobbelt k (a .net))
-  after = refinable-steps kobbelt (a .net) (accepted-refinable (callOf (forRounds k a)) e) k
+  after : Refinable (steps kobbelt k (startNet (a .net)))
+  after = refinable-steps kobbelt (startNet (a .net)) (accepted-refinable (callOf (forRounds k a)) e) k
 
   -- the outcome, were v the verdict
   abbrev given : Verdict → Outcome
-  given v = outcomeBy v (steps kobbelt k (a .net)) (a .buffers) (workAfter (callOf (forRounds k a)) (a .buffers .work))
+  given v = outcomeBy v (steps kobbelt k (startNet (a .net))) (a .buffers) (workAfter (callOf (forRounds k a)) (a .buffers .work))
 
   pub accepted-result : AcceptedFor a k
   unfolding outcome
   accepted-result = record {
-    vertices = length (steps kobbelt k (a .net) .marks);
-    faces = length (steps kobbelt k (a .net) .faces) / 4;
+    vertices = length (steps kobbelt k (startNet (a .net)) .marks);
+    faces = length (steps kobbelt k (startNet (a .net)) .faces) / 4;
     result = ap (λ (v : Verdict). given v .result) e;
   }
 
-  pub accepted-after : netAfter a k ≡ steps kobbelt k (a .net)
+  pub accepted-after : netAfter a k ≡ steps kobbelt k (startNet (a .net))
   unfolding outcome
   accepted-after =
-      let n : Net = steps kobbelt k (a .net) in
+      let n : Net = steps kobbelt k (startNet (a .net)) in
       let o = a .buffers in
       let t = after .threes in
       let f = after .fours in

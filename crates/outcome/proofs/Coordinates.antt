@@ -6,10 +6,12 @@ use Rattle.nets.specs.Net.{Net}
 use Rattle.verdict.proofs.Accepted.{accepted-limits, accepted-fewer, accepted-coordinate}
 use Rattle.integers.specs.Within.{Within}
 use Rattle.schemelaws.proofs.Growth.{steps-within}
+use Rattle.splitting.specs.Splitting.{startNet}
+use Rattle.splitting.proofs.Growth.{start-within}
 use Rattle.outcome.specs.Outcome.{Request, callOf}
 use Rattle.outcome.specs.SharedSegment.{AcceptedFor, netAfter}
 use Rattle.outcome.specs.Coordinates.{CoordinatesStay}
-use Rattle.outcome.proofs.Accepted.{accepted-verdict, accepted-refinable, accepted-after}
+use Rattle.outcome.proofs.Accepted.{accepted-verdict, accepted-drawn, accepted-refinable, accepted-after}
 
 stays : (a : Request) → AcceptedFor a (a .rounds) → (k : ℕ) → k ≤ a .rounds → Within 268435456 (netAfter a k .vertices)
 stays a h k b =
@@ -17,7 +19,7 @@ stays a h k b =
     let e = accepted-verdict a (a .rounds) h in
     let f = accepted-limits c e .few in
     subst (λ (n : Net). Within 268435456 (n .vertices)) (sym (accepted-after a k (accepted-fewer c k b e)))
-    (steps-within (a .net) (accepted-refinable c e) (record { at = accepted-coordinate c e }) k (omega arith))
+    (steps-within (startNet (a .net)) (accepted-refinable c e) (start-within (a .net) (accepted-drawn c e) 1048576 (record { at = accepted-coordinate c e })) k (omega arith))
 
 pub coordinates-stay : CoordinatesStay
 coordinates-stay = record { stay = stays }

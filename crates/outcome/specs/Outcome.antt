@@ -3,25 +3,26 @@ use mathlib.Core.List.{List}
 use Prim.Native.Nat.{ℕ}
 use lib.ListN.{length}
 use Rattle.curve.specs.Weights.{kobbelt}
-use Rattle.nets.specs.Net.{Net}
+use Rattle.nets.specs.Net.{Net, ControlNet}
 use Rattle.nets.specs.Buffers.{Buffers, buffers}
 use Rattle.tables.specs.Tables.{filled}
 use Rattle.verdict.specs.Call.{Call, room, call, vertexCount, faceCount}
 use Rattle.verdict.specs.Verdict.{Verdict, accepted, refused, verdict, workAfter}
 use Rattle.scheme.specs.Step.{steps}
+use Rattle.splitting.specs.Splitting.{startNet}
 
 -- "reports both counts", or the refusal's number and place
 pub data Result : Type 0 where
   refinedTo : (vertices faces : ℕ) → Result
   refusedWith : (number place : ℕ) → Result
 
--- the rounds asked for, the net and the caller's tables
+-- the rounds asked for, the net as it is drawn and the caller's tables
 pub record Request : Type 0 where
   pub rounds : ℕ
-  pub net : Net
+  pub net : ControlNet
   pub buffers : Buffers
 
-abbrev pub request : ℕ → Net → Buffers → Request
+abbrev pub request : ℕ → ControlNet → Buffers → Request
 request rounds net buffers = record { rounds = rounds; net = net; buffers = buffers }
 
 -- the same, asked for k rounds
@@ -53,5 +54,6 @@ abbrev pub outcomeBy : Verdict → Net → Buffers → List ℕ → Outcome
 outcomeBy accepted n o w = refinedOutcome n o w
 outcomeBy (refused r p) n o w = refusedOutcome r p o w
 
+-- the rounds of paper 01 start from the net that the split gives, or from the drawn net itself
 unfoldable pub outcome : Request → Outcome
-outcome a = outcomeBy (verdict (callOf a)) (steps kobbelt (a .rounds) (a .net)) (a .buffers) (workAfter (callOf a) (a .buffers .work))
+outcome a = outcomeBy (verdict (callOf a)) (steps kobbelt (a .rounds) (startNet (a .net))) (a .buffers) (workAfter (callOf a) (a .buffers .work))

@@ -9,6 +9,7 @@ use Rattle.curve.specs.Near.{CloseToExact}
 use Rattle.topology.specs.Boundary.{Way}
 use Rattle.nets.specs.Net.{Net}
 use Rattle.nets.specs.Buffers.{front}
+use Rattle.splitting.specs.Splitting.{startNet}
 use Rattle.seam.specs.Reading.{Reads}
 use Rattle.outcome.specs.Outcome.{Result, refinedTo, refusedWith, Request, forRounds, Outcome, outcome}
 
@@ -41,6 +42,7 @@ pub record SharedAfter (a b : Request) (v w : Way) (c : Kind) (s t : ℕ) (L : L
   -- each coordinate lies within the seam distance of the exact curve
   pub close : CloseToExact c k L
 
+-- "The seam guarantee covers the stretch after this split": a segment is read in the net where refining begins
 pub record SharedSegments : Type 0 where
   pub shared : (a b : Request) → AcceptedFor a (a .rounds) → AcceptedFor b (b .rounds) → (v w : Way) (c : Kind) (s t : ℕ) (L : List Point)
-      → Reads (a .net) v c s L → Reads (b .net) w c t L → (k : ℕ) → k ≤ a .rounds → k ≤ b .rounds → SharedAfter a b v w c s t L k
+      → Reads (startNet (a .net)) v c s L → Reads (startNet (b .net)) w c t L → (k : ℕ) → k ≤ a .rounds → k ≤ b .rounds → SharedAfter a b v w c s t L k

@@ -6,6 +6,7 @@ use Prim.Native.String.{String}
 use Rattle.lists.specs.Tabulate.{tabulate}
 use Rattle.search.specs.Search.{firstFrom, first}
 use Rattle.verdict.specs.Verdict.{limitsVerdict, tablesVerdict, sizeVerdict, roomVerdict, netVerdict, coordinatesVerdict, shapeVerdict, facesVerdict, adjacencyVerdict, vertexVerdict}
+use Rattle.polygons.specs.Polygons.{shapeOf}
 use Rattle.scheme.specs.Step.{steps}
 use Rattle.decimal.specs.Decimal.{readDigits, readNatural, readInteger, naturalText}
 use Rattle.text.specs.Bytes.{bytes}
@@ -41,5 +42,5 @@ programOf [] = []
 programOf (e ∷ es) = programText (bytes (e .text)) ∷ programOf es
 
 all-examples : programOf examples ≡ answersOf examples
-unfolding programOf answersOf programText bytes parse parseHead parseBody readNames readCounts readVertex readFace coordinate natural rows readInteger readNatural readDigits naturalText pairText refusalText answerText texts countsVerdict limitsVerdict tablesVerdict sizeVerdict roomVerdict netVerdict coordinatesVerdict shapeVerdict facesVerdict adjacencyVerdict vertexVerdict first firstFrom steps coordinates marksOf cornersOf verticesOf facesOf tabulate
+unfolding programOf answersOf programText bytes parse parseHead parseBody readNames readCounts readVertex readFace coordinate natural rows readInteger readNatural readDigits naturalText pairText refusalText answerText texts countsVerdict limitsVerdict tablesVerdict sizeVerdict roomVerdict netVerdict coordinatesVerdict shapeVerdict facesVerdict adjacencyVerdict vertexVerdict shapeOf first firstFrom steps coordinates marksOf cornersOf verticesOf facesOf tabulate
 all-examples = refl

@@ -26,8 +26,8 @@ use Rattle.program.specs.Answer.{answerBy, answerTo, programText}
 -- tables with a net of k rounds at their front, whose counts pass and whose answer is `answer`
 pub record Handed (k v f : ℕ) (vs : List ℤ) (fs ms : List ℕ) (answer : List ℕ) : Type 0 where
   pub served : Served v f
-  pub limits : limitsVerdict k (lengthsOf (frontNet v (4 * f) vs fs ms) programRoom) ≡ accepted
-  pub text : answerBy (netVerdict (frontNet v (4 * f) vs fs ms)) (steps kobbelt k (frontNet v (4 * f) vs fs ms)) ≡ answer
+  pub limits : limitsVerdict k [] (lengthsOf (nets.plain (frontNet v (4 * f) vs fs ms)) programRoom) ≡ accepted
+  pub text : answerBy (netVerdict (nets.plain (frontNet v (4 * f) vs fs ms))) (steps kobbelt k (frontNet v (4 * f) vs fs ms)) ≡ answer
 
 -- ---- what an answer says
 abbrev firstNumber : Answer → ℕ
@@ -50,7 +50,7 @@ module _ (zv : List ℤ) (zf zm : List ℕ) where
     by-counts (refused r p) n e = let a : netRead k v f ≡ refusedWith r p = ap (λ (x : Loaded). x .answer) e in let z : _≡_ {A = ℕ} 0 1 = cc in absurd (omega arith)
 
     of-net : (n : Net) → Stated (parsed n []) → countsVerdict (n .counts) ≡ accepted → loaded (netRead k v f) vs fs ms ≡ stored zv zf zm n
-        → Handed k v f vs fs ms (answerBy (netVerdict (tablesOf n)) (steps kobbelt (n .counts .rounds) (tablesOf n)))
+        → Handed k v f vs fs ms (answerBy (netVerdict (nets.plain (tablesOf n))) (steps kobbelt (n .counts .rounds) (tablesOf n)))
     unfolding countsVerdict
     of-net n s a e =
         let ek : k ≡ n .counts .rounds = ap (λ (x : Loaded). firstNumber (x .answer)) e in
@@ -71,7 +71,7 @@ module _ (zv : List ℤ) (zf zm : List ℕ) where
         record {
           served = rw (ev, ef) (passed-served (n .counts) a);
           limits = rw (ek, jv, jf, jm) (or-both _ _ a .0);
-          text = ap₂ (λ (j : ℕ) (m : nets.Net). answerBy (netVerdict m) (steps kobbelt j m)) ek g;
+          text = ap₂ (λ (j : ℕ) (m : nets.Net). answerBy (netVerdict (nets.plain m)) (steps kobbelt j m)) ek g;
         }
 
     of-parsed : (q : Parsed Net) → Stated q → loaded (netRead k v f) vs fs ms ≡ ofParsed zv zf zm q → Handed k v f vs fs ms (answerTo q)
@@ -94,7 +94,7 @@ module _ (zv : List ℤ) (zf zm : List ℕ) where
     same-text : (s q : ℕ) → loaded (refusedWith r p) vs fs ms ≡ untouched zv zf zm (refusedWith s q) → refusalText r p ≡ refusalText s q
     same-text s q e = ap₂ refusalText (ap (λ (x : Loaded). firstNumber (x .answer)) e) (ap (λ (x : Loaded). secondNumber (x .answer)) e)
 
-    of-counts : (d : Verdict) (n : Net) → loaded (refusedWith r p) vs fs ms ≡ judged zv zf zm d n → refusalText r p ≡ answerBy (orElse d (netVerdict (tablesOf n))) (steps kobbelt (n .counts .rounds) (tablesOf n))
+    of-counts : (d : Verdict) (n : Net) → loaded (refusedWith r p) vs fs ms ≡ judged zv zf zm d n → refusalText r p ≡ answerBy (orElse d (netVerdict (nets.plain (tablesOf n)))) (steps kobbelt (n .counts .rounds) (tablesOf n))
     of-counts accepted n e = let a : refusedWith r p ≡ netRead (n .counts .rounds) (n .counts .vertices) (n .counts .faces) = ap (λ (x : Loaded). x .answer) e in let z : _≡_ {A = ℕ} 0 1 = cc in absurd (omega arith)
     of-counts (refused s q) n e = same-text s q e
 

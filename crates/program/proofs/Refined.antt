@@ -1,13 +1,13 @@
 -- The refining call over the program's tables, and the text of what it gives. Assumes nothing.
-use mathlib.Core.Path.{_≡_, sym, ap, ap₂, _∙_}
-use mathlib.Core.List.{List}
+use mathlib.Core.Path.{_≡_, refl, sym, ap, ap₂, _∙_}
+use mathlib.Core.List.{List, []}
 use Prim.Native.Nat.{ℕ, zero, suc, _+_, _*_, _/_, _^_, _≤_}
 use native.Mathlib.Omega.{arith}
 use lib.IntN.{ℤ, pos}
 use lib.ListN.{length}
 use Rattle.lists.proofs.Tabulate.{tabulate-cong}
 use Rattle.curve.specs.Weights.{kobbelt}
-use Rattle.nets.specs.Net.{Net}
+use Rattle.nets.specs.Net.{Net, plain}
 use Rattle.tables.specs.Tables.{filled}
 use Rattle.topology.specs.Shape.{quads}
 use Rattle.verdict.specs.Call.{lengthsOf, Call}
@@ -15,6 +15,7 @@ use Rattle.verdict.specs.Verdict.{Verdict, accepted, refused, limitsVerdict, ne
 use Rattle.verdict.proofs.Accepted.{within-if, accepted-net}
 use Rattle.refinedfaces.proofs.Corners.{length-refined}
 use Rattle.scheme.specs.Step.{steps}
+use Rattle.splitting.specs.Splitting.{startNet}
 use Rattle.schemelaws.specs.Nets.{Refinable}
 use Rattle.schemelaws.proofs.Steps.{step-faces, step-count, refinable-steps}
 use Rattle.tables.proofs.Laws.{filled-at}
@@ -72,19 +73,19 @@ faceNumber (refinedTo v f) = f
 faceNumber (refusedWith r p) = p
 
 module _ (k : ℕ) (m : Net) (o : Buffers) (lv : length (o .vertices) ≡ 3072) (lf : length (o .faces) ≡ 1024) (lm : length (o .marks) ≡ 1024) (lw : length (o .work) ≡ 4096)
-    (h : limitsVerdict k (lengthsOf m programRoom) ≡ accepted) where
+    (h : limitsVerdict k [] (lengthsOf (plain m) programRoom) ≡ accepted) where
   abbrev called : Call
-  called = callOf (request k m o)
+  called = callOf (request k (plain m) o)
 
-  by-net : verdict called ≡ netVerdict m
+  by-net : verdict called ≡ netVerdict (plain m)
   unfolding verdict
   by-net = rw (lv, lf, lm, lw, h)
 
   abbrev given : Verdict → Outcome
   given v = outcomeBy v (steps kobbelt k m) o (workAfter (called) (o .work))
 
-  outcome-is : outcome (request k m o) ≡ given (netVerdict m)
-  unfolding outcome
+  outcome-is : outcome (request k (plain m) o) ≡ given (netVerdict (plain m))
+  unfolding outcome startNet
   outcome-is = ap given by-net
 
   -- a refusal
@@ -93,13 +94,13 @@ module _ (k : ℕ) (m : Net) (o : Buffers) (lv : length (o .vertices) ≡ 3072) 
   by-refused (refused s q) r p e = ap₂ refusalText (ap vertexNumber e) (ap faceNumber e)
 
   module _ (t : Buffers) where
-    pub refused-text : (r p : ℕ) → answered (Refused r p) t ≡ outcome (request k m o) → refusalText r p ≡ answerBy (netVerdict m) (steps kobbelt k m)
-    refused-text r p e = by-refused (netVerdict m) r p (ap (λ (x : Outcome). x .result) (e ∙ outcome-is))
+    pub refused-text : (r p : ℕ) → answered (Refused r p) t ≡ outcome (request k (plain m) o) → refusalText r p ≡ answerBy (netVerdict (plain m)) (steps kobbelt k m)
+    refused-text r p e = by-refused (netVerdict (plain m)) r p (ap (λ (x : Outcome). x .result) (e ∙ outcome-is))
 
     -- a refined net
-    module _ (v f : ℕ) (e : answered (Refined v f) t ≡ outcome (request k m o)) where
-      accepts : netVerdict m ≡ accepted
-      accepts = by-result (netVerdict m) (steps kobbelt k m) o (workAfter (called) (o .work)) v f (sym (ap (λ (x : Outcome). x .result) (e ∙ outcome-is)))
+    module _ (v f : ℕ) (e : answered (Refined v f) t ≡ outcome (request k (plain m) o)) where
+      accepts : netVerdict (plain m) ≡ accepted
+      accepts = by-result (netVerdict (plain m)) (steps kobbelt k m) o (workAfter (called) (o .work)) v f (sym (ap (λ (x : Outcome). x .result) (e ∙ outcome-is)))
 
       is : answered (Refined v f) t ≡ given accepted
       is = e ∙ outcome-is ∙ ap given accepts
@@ -111,21 +112,22 @@ module _ (k : ℕ) (m : Net) (o : Buffers) (lv : length (o .vertices) ≡ 3072) 
       face-count = ap (λ (x : Outcome). faceNumber (x .result)) is
 
       refinable : Refinable m
+      unfolding startNet
       refinable = accepted-refinable (called) (by-net ∙ accepts)
 
       pub served : (v ≤ 1024) × (f ≤ 256)
       served =
           let a = vertex-count in
           let b = face-count in
-          let w = within-if k (lengthsOf m programRoom) h in
+          let w = within-if k [] (lengthsOf (plain m) programRoom) h in
           let c = w .roomFaces in
-          let q = w .quadrilaterals in
+          let q = w .sided .fours refl in
           let g = corners-grown m k in
           let l = few-vertices m (joined (m .faces) (length (m .marks)) (accepted-net (called) (by-net ∙ accepts) .no8) .few) k in
           let s = by-faces (length (m .faces)) (4 ^ k) q in
           (omega arith, omega arith)
 
-      pub refined-text : answerText (verticesOf v (t .vertices) (t .marks)) (facesOf f (t .faces)) ≡ answerBy (netVerdict m) (steps kobbelt k m)
+      pub refined-text : answerText (verticesOf v (t .vertices) (t .marks)) (facesOf f (t .faces)) ≡ answerBy (netVerdict (plain m)) (steps kobbelt k m)
       refined-text =
           let n = steps kobbelt k m in
           let s = refinable-steps kobbelt m refinable k .threes in

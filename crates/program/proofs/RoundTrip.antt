@@ -16,17 +16,19 @@ use Rattle.nets.specs.Net as nets
 use Rattle.tables.specs.Tables.{filled}
 use Rattle.topology.specs.HalfEdge.{from}
 use Rattle.refusals.specs.Refusals.{badMark}
-use Rattle.verdict.specs.Call.{Call, vertexCount, faceCount}
+use Rattle.verdict.specs.Call.{Call, vertexCount, faceCount, quadrilaterals}
 use Rattle.verdict.specs.Verdict.{accepted, verdict}
-use Rattle.verdict.proofs.Accepted.{accepted-limits, accepted-net, accepted-coordinate}
+use Rattle.verdict.proofs.Accepted.{accepted-limits, accepted-coordinate}
 use Rattle.scheme.specs.Step.{steps}
 use Rattle.schemelaws.specs.Nets.{Refinable}
 use Rattle.integers.specs.Within.{Within}
 use Rattle.schemelaws.proofs.Steps.{refinable-manifold, refinable-steps}
 use Rattle.schemelaws.proofs.Growth.{steps-within}
-use Rattle.admission.proofs.Laws.{joined}
-use Rattle.outcome.proofs.Accepted.{accepted-refinable}
-use Rattle.refine.proofs.Laws.{by-faces, corners-grown}
+use Rattle.splitting.specs.Splitting.{startNet}
+use Rattle.splitting.proofs.Growth.{start-within}
+use Rattle.splitting.proofs.Room.{start-vertices-le}
+use Rattle.outcome.proofs.Accepted.{accepted-drawn, accepted-refinable}
+use Rattle.refine.proofs.Laws.{corners-grown, start-corners}
 use Rattle.text.specs.Form.{Vertex, Face, Net}
 use Rattle.text.specs.Written.{VertexFits, FaceFits, Each, NetFits}
 use Rattle.text.proofs.Back.{net-back}
@@ -142,24 +144,27 @@ module _ (k : ℕ) (few : k ≤ 2147483647) (m : nets.Net) (ok : Refinable m) (n
 
 -- ---- an accepted call
 module _ (c : Call) (e : verdict c ≡ accepted) (j : ℕ) (h : j ≤ c .rounds) where
-  corners-few : length (steps kobbelt j (c .net) .faces) ≤ 1048576
+  abbrev m : nets.Net
+  m = startNet (c .net)
+
+  corners-few : length (steps kobbelt j m .faces) ≤ 1048576
   corners-few =
       let w = accepted-limits c e in
       let p : 4 ^ j ≤ 4 ^ c .rounds = pow-le-pow-right {n = 4} (omega arith) h in
-      let n = length (c .net .faces) in
-      let g : n / 4 * 4 ^ j ≤ n / 4 * 4 ^ c .rounds = mul-le-mul-left (n / 4) p in
-      let a = corners-grown (c .net) j in
-      let b = by-faces n (4 ^ j) (w .quadrilaterals) in
+      let q = quadrilaterals (c .net .sides) (length (c .net .faces)) in
+      let g : q * 4 ^ j ≤ q * 4 ^ c .rounds = mul-le-mul-left q p in
+      let a = corners-grown m j ∙ start-corners c e (4 ^ j) in
       let f = w .final in
       omega arith
 
-  pub accepted-back : (k : ℕ) → k ≤ 2147483647 → ReadsBack k (steps kobbelt j (c .net))
+  pub accepted-back : (k : ℕ) → k ≤ 2147483647 → ReadsBack k (steps kobbelt j m)
   accepted-back k few =
+      let d = accepted-drawn c e in
       let ok = accepted-refinable c e in
-      let near = steps-within (c .net) ok (record { at = accepted-coordinate c e }) j (let w = accepted-limits c e .few in omega arith) in
-      let l = few-vertices (c .net) (joined (c .net .faces) (length (c .net .marks)) (accepted-net c e .no8) .few) j in
+      let near = steps-within m ok (start-within (c .net) d 1048576 (record { at = accepted-coordinate c e })) j (let w = accepted-limits c e .few in omega arith) in
+      let l = few-vertices m (start-vertices-le (c .net) d) j in
       let n = corners-few in
-      reads-back k few (steps kobbelt j (c .net)) (refinable-steps kobbelt (c .net) ok j) near (omega arith) (omega arith)
+      reads-back k few (steps kobbelt j m) (refinable-steps kobbelt m ok j) near (omega arith) (omega arith)
 
 pub round-trip : RoundTrip
 round-trip = record { back = λ c e j h k few. accepted-back c e j h k few }

@@ -19,13 +19,13 @@ abbrev pub answerBy : Verdict → nets.Net → List ℕ
 answerBy accepted m = tablesText (vertexCount m) (faceCount m) (m .vertices) (m .faces) (m .marks)
 answerBy (refused r p) m = refusalText r p
 
--- the net n after k rounds, or refusal 5 to 12
+-- the net n after k rounds, or refusal 5 to 12; the text form has no side counts
 abbrev pub refinedText : ℕ → nets.Net → List ℕ
-refinedText k n = answerBy (netVerdict n) (steps kobbelt k n)
+refinedText k n = answerBy (netVerdict (nets.plain n)) (steps kobbelt k n)
 
 -- Paper 01: 13 "is tested before 1"; then 1, 3 and 4 from the counts, then 5 to 12 from the net
 abbrev pub answerTo : Parsed Net → List ℕ
-answerTo (parsed n l) = answerBy (orElse (countsVerdict (n .counts)) (netVerdict (tablesOf n))) (steps kobbelt (n .counts .rounds) (tablesOf n))
+answerTo (parsed n l) = answerBy (orElse (countsVerdict (n .counts)) (netVerdict (nets.plain (tablesOf n)))) (steps kobbelt (n .counts .rounds) (tablesOf n))
 answerTo (badLine n) = refusalText 13 n
 
 -- Paper 01: "more than 32,768 bytes; the place is .. 0 for length, which goes first"

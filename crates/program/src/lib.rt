@@ -3,8 +3,9 @@ use reading::Input;
 use refine::Answer;
 ghost use mathlib.Core.Path.{_≡_};
 ghost use Prim.Native.Nat.{_≤_};
+ghost use mathlib.Core.List.{[]};
 ghost use lib.ListN.{length};
-ghost use Rattle.nets.specs.Net.{net};
+ghost use Rattle.nets.specs.Net.{net, plain};
 ghost use Rattle.verdict.specs.Call.{lengthsOf};
 ghost use Rattle.verdict.specs.Verdict.{accepted, limitsVerdict};
 ghost use Rattle.reading.specs.Loaded.{programRoom};
@@ -13,17 +14,19 @@ ghost use Rattle.program.specs.Answer.{refinedText, programText};
 
 // The answer to a net whose counts pass.
 fn refine_net(rounds: u32, vertices: &[i32], faces: &[u32], marks: &[u8], out: &mut [u8]) -> usize
-    requires { ⌜ (limitsVerdict rounds (lengthsOf (net (now vertices) (now faces) (now marks)) programRoom) ≡ accepted) × (52302 ≤ length (now out)) ⌝ }
+    requires { ⌜ (limitsVerdict rounds [] (lengthsOf (plain (net (now vertices) (now faces) (now marks))) programRoom) ≡ accepted) × (52302 ≤ length (now out)) ⌝ }
     ensures { λ r. ⌜ Written (now (out .entry)) (now (out .exit)) r (refinedText rounds (net (now (vertices .entry)) (now (faces .entry)) (now (marks .entry)))) 52302 ⌝ }
 {
     let mut out_vertices = [0i32; 3072];
     let mut out_faces = [0u32; 1024];
     let mut out_marks = [0u8; 1024];
     let mut work = [0u32; 4096];
+    let none = [0u8; 0];
     match refine::refine(
         rounds,
         vertices,
         faces,
+        &none,
         marks,
         &mut out_vertices,
         &mut out_faces,

@@ -1,5 +1,6 @@
 -- What the refusals of counts leave to be read. Assumes nothing.
 use mathlib.Core.Path.{_≡_, _∙_}
+use mathlib.Core.List.{[]}
 use Prim.Native.Nat.{ℕ, _*_, _/_, _^_, _≤_, _<_}
 use native.Mathlib.Nat.{one-le-pow, mul-le-mul-left}
 use native.Mathlib.Omega.{arith}
@@ -24,7 +25,7 @@ passed-served n e =
     let v = n .vertices in
     let f = n .faces in
     let a = or-both _ _ e in
-    let w = within-if (n .rounds) (lengths (3 * v) (4 * f) v programRoom) (a .0) .roomFaces in
+    let w = within-if (n .rounds) [] (lengths (3 * v) (4 * f) v programRoom) (a .0) .roomFaces in
     let p : 1 ≤ 4 ^ n .rounds = one-le-pow (n .rounds) 4 (lit≤ tt) in
     let g : 4 * f / 4 * 1 ≤ 4 * f / 4 * 4 ^ n .rounds = mul-le-mul-left (4 * f / 4) p in
     record { vertices = ltb-false 1024 v (if-false 4 _ (a .1)); faces = omega arith }
@@ -33,7 +34,7 @@ pub served : (v f k r : ℕ) → countsVerdict (countsAre v f k) ≡ limitsOf r 
 served v f k r e z = passed-served (countsAre v f k) (e ∙ rw (eq-eqb r 0 z))
 
 -- the answers of `refusal`, where r is that of the limits
-module _ (v f k r : ℕ) (e : limitsVerdict k (lengths (3 * v) (4 * f) v programRoom) ≡ limitsOf r) where
+module _ (v f k r : ℕ) (e : limitsVerdict k [] (lengths (3 * v) (4 * f) v programRoom) ≡ limitsOf r) where
   pub beyond-limits : (r ≡ 0 → ⊥) → countsVerdict (countsAre v f k) ≡ limitsOf r
   unfolding countsVerdict
   beyond-limits n = rw (e, ne-eqb r 0 n)

@@ -51,7 +51,7 @@ programRoom = needed 256
 
 -- Paper 01: "in the program, also V above 1,024"
 unfoldable pub countsVerdict : Counts → Verdict
-countsVerdict n = orElse (limitsVerdict (n .rounds) (lengths (3 * n .vertices) (4 * n .faces) (n .vertices) programRoom)) (refusedIf 4 (ltb 1024 (n .vertices)))
+countsVerdict n = orElse (limitsVerdict (n .rounds) [] (lengths (3 * n .vertices) (4 * n .faces) (n .vertices) programRoom)) (refusedIf 4 (ltb 1024 (n .vertices)))
 
 -- ---- the whole text
 module _ (vs : List ℤ) (fs ms : List ℕ) where

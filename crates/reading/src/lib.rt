@@ -208,8 +208,10 @@ fn refusal(vertices: u32, faces: u32, rounds: u32) -> u32
     let f = faces as usize;
     let coordinates = 3 * v;
     let corners = 4 * f;
+    let none = [0u8; 0];
     let reason = limits::limits(
         rounds,
+        &none,
         Lengths {
             coordinates,
             corners,

@@ -3,30 +3,41 @@ use mathlib.Core.Path.{_≡_, refl, sym, ap, ap₂, _∙_, subst}
 use mathlib.Core.List.{List}
 use Prim.Native.Nat.{ℕ, zero, suc, _*_, _/_, _%_, _^_, _≤_}
 use native.Mathlib.Nat.{one-le-pow, mul-le-mul-left, mul-assoc, pow-suc}
+use native.Mathlib.Decide.{ℕ-discrete}
 use native.Mathlib.Omega.{arith}
 use lib.Dec.{lit≤}
 use lib.IntN.{ℤ}
 use lib.ListN.{length, take, drop}
 use Rattle.lists.proofs.Parts.{drop-later}
 use Rattle.curve.specs.Weights.{kobbelt}
-use Rattle.nets.specs.Net.{Net, frontNet}
+use Rattle.integers.specs.Within.{Within}
+use Rattle.nets.specs.Net.{Net, ControlNet}
 use Rattle.tables.specs.Tables.{filled, cleared}
 use Rattle.tables.proofs.Laws.{length-filled, take-filled, filled-over, cleared-over}
 use Rattle.nets.proofs.Laws.{same-net}
 use Rattle.topology.specs.Shape.{quads}
-use Rattle.verdict.specs.Call.{room, lengthsOf, call}
-use Rattle.verdict.proofs.Accepted.{WithinLimits, accepted-limits, accepted-net, accepted-coordinate}
+use Rattle.polygons.specs.Polygons.{Sided}
+use Rattle.verdict.specs.Call.{room, lengthsOf, Call, call, quadrilaterals}
+use Rattle.verdict.specs.Verdict.{accepted, verdict}
+use Rattle.limits.proofs.Laws.{by-fours, by-sides}
+use Rattle.verdict.proofs.Accepted.{WithinLimits, accepted-limits, accepted-coordinate}
 use Rattle.scheme.specs.Step.{steps}
 use Rattle.schemelaws.specs.Nets.{Refinable}
 use Rattle.schemelaws.proofs.Steps.{step-faces, step-count, refinable-steps}
 use Rattle.refinedfaces.proofs.Corners.{length-refined}
 use Rattle.admission.specs.Admission.{RefusedCall, AdmittedCall}
-use Rattle.admission.proofs.Laws.{joined, admitted-faces, admitted-room, admitted-cleared}
+use Rattle.admission.proofs.Laws.{admitted-faces, admitted-room, admitted-cleared}
 use Rattle.outcome.specs.Outcome.{refinedTo, refusedWith, Request, request, callOf, outcome}
-use Rattle.nets.specs.Buffers.{Buffers, buffers, Buffers, buffers}
+use Rattle.nets.specs.Buffers.{Buffers, buffers, front}
 use Rattle.refine.specs.declared.Answer.the-variants.{Refined, Refused}
 use Rattle.refine.specs.Answer.{answered}
-use Rattle.outcome.proofs.Accepted.{accepted-refinable}
+use Rattle.splitting.specs.Splitting.{startNet}
+use Rattle.splitting.specs.Drawn.{Drawn}
+use Rattle.splitting.proofs.Split.{split-corners, start-none, start-split}
+use Rattle.splitting.proofs.Growth.{start-within}
+use Rattle.splitting.proofs.Room.{start-vertices-le}
+use Rattle.outcome.proofs.Accepted.{accepted-drawn, accepted-refinable}
+use Rattle.loading.specs.Load.{Loadable, Loaded}
 use Rattle.rounds.specs.Rounds.{Prepared, After}
 use Rattle.refine.specs.Run.{Ran}
 
@@ -49,24 +60,48 @@ corners-grown m (suc k) =
     let c : length (m .faces) * 4 ^ suc k ≡ length (m .faces) * 4 ^ k * 4 = ap (λ (x : ℕ). length (m .faces) * x) (pow-suc 4 k) ∙ sym (mul-assoc (length (m .faces)) (4 ^ k) 4) in
     omega arith
 
+-- corners where refining begins: four for each quadrilateral
+start-four : (m : ControlNet) → Sided (m .sides) (length (m .faces)) → length (startNet m .faces) ≡ 4 * quadrilaterals (m .sides) (length (m .faces))
+start-four m s = go (ℕ-discrete (length (m .sides)) 0)
+  where
+    go : Dec (length (m .sides) ≡ 0) → length (startNet m .faces) ≡ 4 * quadrilaterals (m .sides) (length (m .faces))
+    go (yes z) =
+        let e = ap (λ (x : Net). length (x .faces)) (start-none m z) in
+        let q = by-fours (m .sides) (length (m .faces)) z in
+        let f = s .fours z in
+        omega arith
+    go (no z) =
+        let e = ap (λ (x : Net). length (x .faces)) (start-split m (omega arith)) in
+        let q = by-sides (m .sides) (length (m .faces)) z in
+        let f = split-corners m in
+        omega arith
+
+pub start-corners : (c : Call) → verdict c ≡ accepted → (p : ℕ) → length (startNet (c .net) .faces) * p ≡ 4 * (quadrilaterals (c .net .sides) (length (c .net .faces)) * p)
+start-corners c e p =
+    let q : ℕ = quadrilaterals (c .net .sides) (length (c .net .faces)) in
+    ap (λ (x : ℕ). x * p) (start-four (c .net) (accepted-limits c e .sided)) ∙ mul-assoc 4 q p
+
 module _ (a : Request) (last : ℕ) (ok : AdmittedCall (callOf a) last (a .buffers .work)) where
   abbrev k : ℕ
   k = a .rounds
 
   abbrev m : Net
-  m = a .net
+  m = startNet (a .net)
 
   abbrev o : Buffers
   o = a .buffers
 
-  limits : WithinLimits k (lengthsOf m (callOf a .room))
+  limits : WithinLimits k (a .net .sides) (lengthsOf (a .net) (callOf a .room))
   limits = accepted-limits (callOf a) (ok .accepts)
+
+  drawn : Drawn (a .net)
+  drawn = accepted-drawn (callOf a) (ok .accepts)
 
   refinable : Refinable m
   refinable = accepted-refinable (callOf a) (ok .accepts)
 
   size : length (m .faces) * 4 ^ k ≡ 4 * last
-  size = let e = ok .final in by-faces (length (m .faces)) (4 ^ k) (refinable .fours) ∙ ap (λ (x : ℕ). 4 * x) (sym e)
+  size = let e = ok .final in start-corners (callOf a) (ok .accepts) (4 ^ k) ∙ ap (λ (x : ℕ). 4 * x) (sym e)
 
   pub corners-steps : length (steps kobbelt k m .faces) ≡ 4 * last
   corners-steps = corners-grown m k ∙ size
@@ -75,17 +110,10 @@ module _ (a : Request) (last : ℕ) (ok : AdmittedCall (callOf a) last (a .buffe
   once = let p : 1 ≤ 4 ^ k = one-le-pow k 4 (lit≤ tt) in let g : length (m .faces) * 1 ≤ length (m .faces) * 4 ^ k = mul-le-mul-left (length (m .faces)) p in omega arith
 
   vertices-le : length (m .marks) ≤ length (m .faces)
-  vertices-le = joined (m .faces) (length (m .marks)) (accepted-net (callOf a) (ok .accepts) .no8) .few
+  vertices-le = start-vertices-le (a .net) drawn
 
-  -- room for the net itself and for the refined net
-  pub room-vertices : length (m .vertices) ≤ length (o .vertices)
-  room-vertices = let w = limits in let b = w .roomVertices in let t = refinable .threes in let s = size in let e = ok .final in let l = vertices-le in let g = once in omega arith
-
-  pub room-faces : length (m .faces) ≤ length (o .faces)
-  room-faces = let w = limits in let b = w .roomFaces in let s = size in let e = ok .final in let g = once in omega arith
-
-  pub room-marks : length (m .marks) ≤ length (o .marks)
-  room-marks = let w = limits in let b = w .roomMarks in let s = size in let e = ok .final in let l = vertices-le in let g = once in omega arith
+  within : Within 1048576 (a .net .vertices)
+  within = record { at = accepted-coordinate (callOf a) (ok .accepts) }
 
   pub room-work : 16 * last ≤ length (o .work)
   room-work = admitted-room (callOf a) last (o .work) ok
@@ -93,15 +121,26 @@ module _ (a : Request) (last : ℕ) (ok : AdmittedCall (callOf a) last (a .buffe
   pub last-le : last ≤ 262144
   last-le = admitted-faces (callOf a) last (o .work) ok
 
-  module _ (vs : List ℤ) (fs ms : List ℕ) (ev : vs ≡ filled (m .vertices) (o .vertices)) (ef : fs ≡ filled (m .faces) (o .faces)) (em : ms ≡ filled (m .marks) (o .marks)) where
-    front-is : frontNet (length (m .marks)) (length (m .faces)) vs fs ms ≡ m
-    front-is =
-        let t = refinable .threes in
-        same-net (ap (take (3 * length (m .marks))) ev ∙ take-filled (m .vertices) (o .vertices) (3 * length (m .marks)) (omega arith))
-        (ap (take (length (m .faces))) ef ∙ take-filled (m .faces) (o .faces) (length (m .faces)) refl)
-        (ap (take (length (m .marks))) em ∙ take-filled (m .marks) (o .marks) (length (m .marks)) refl)
+  -- corners for the rounds
+  pub corners-few : quadrilaterals (a .net .sides) (length (a .net .faces)) ≤ 4096
+  corners-few = limits .faces
 
-    pub prepared : Prepared k (length (m .marks)) (length (m .faces)) (buffers vs fs ms (o .work))
+  LOADABLE
+
+  module _ (t : Buffers) (r n : ℕ) (x : Loaded (a .net) o t r) (e : n ≡ quadrilaterals (a .net .sides) (length (a .net .faces))) where
+    corners-are : 4 * n ≡ length (m .faces)
+    corners-are = let f = start-four (a .net) (limits .sided) in omega arith
+
+    front-is : front r (4 * n) t ≡ m
+    front-is =
+        let t₃ = refinable .threes in
+        let c = x .count in
+        let d = corners-are in
+        same-net (ap (take (3 * r)) (x .vertices) ∙ take-filled (m .vertices) (o .vertices) (3 * r) (omega arith))
+        (ap (take (4 * n)) (x .faces) ∙ take-filled (m .faces) (o .faces) (4 * n) d)
+        (ap (take r) (x .marks) ∙ take-filled (m .marks) (o .marks) r c)
+
+    pub prepared : Prepared k r (4 * n) t
     prepared =
         let w = limits in
         let b = w .roomVertices in
@@ -109,39 +148,49 @@ module _ (a : Request) (last : ℕ) (ok : AdmittedCall (callOf a) last (a .buffe
         let d = w .roomMarks in
         let f = w .roomWork in
         let s = size in
-        let e = ok .final in
+        let g = once in
+        let z = ok .final in
         let q = last-le in
-        let lv : length vs ≡ length (o .vertices) = ap length ev ∙ length-filled _ _ room-vertices in
-        let lf : length fs ≡ length (o .faces) = ap length ef ∙ length-filled _ _ room-faces in
-        let lm : length ms ≡ length (o .marks) = ap length em ∙ length-filled _ _ room-marks in
+        let u = vertices-le in
+        let y = x .count in
+        let i = corners-are in
+        let h = refinable .threes in
+        let grown : 4 * n * 4 ^ k ≡ length (m .faces) * 4 ^ k = ap (λ (j : ℕ). j * 4 ^ k) i in
+        let lv : length (t .vertices) ≡ length (o .vertices) = ap length (x .vertices) ∙ length-filled _ _ (omega arith) in
+        let lf : length (t .faces) ≡ length (o .faces) = ap length (x .faces) ∙ length-filled _ _ (omega arith) in
+        let lm : length (t .marks) ≡ length (o .marks) = ap length (x .marks) ∙ length-filled _ _ (omega arith) in
+        let lw = x .long in
         record {
           refinable = rw front-is refinable;
-          within = rw (ap (λ (x : Net). x .vertices) front-is) (record { at = accepted-coordinate (callOf a) (ok .accepts) });
+          within = rw (ap (λ (j : Net). j .vertices) front-is) (start-within (a .net) drawn 1048576 within);
           few = w .few;
-          vertices = vertices-le;
+          vertices = omega arith;
           final = omega arith;
           roomPoints = omega arith;
           roomFaces = omega arith;
           roomMarks = omega arith;
           roomWork = omega arith;
-          mated = rw (ap (λ (x : Net). x .faces) front-is) (ok .mated);
+          mated = rw (ap (λ (j : Net). j .faces) front-is) (x .mated);
         }
 
-    module _ (r : ℕ) (t : Buffers) (w : List ℕ) (b : After k (length (m .marks)) (length (m .faces)) r (buffers vs fs ms (o .work)) t) (e : w ≡ cleared (16 * last) (t .work)) where
-      pub ran : Ran a (buffers (t .vertices) (t .faces) (t .marks) w) last r
+    module _ (v : ℕ) (u : Buffers) (w : List ℕ) (b : After k r (4 * n) v t u) (z : w ≡ cleared (16 * last) (u .work)) where
+      pub ran : Ran a (buffers (u .vertices) (u .faces) (u .marks) w) last v
       ran =
           let q = refinable .threes in
-          let u = refinable-steps kobbelt m refinable k .threes in
-          let v = more-vertices m k in
+          let j = refinable-steps kobbelt m refinable k .threes in
+          let i = more-vertices m k in
           let c = corners-steps in
           let g = once in
           let s = size in
+          let d = corners-are in
+          let grown : 4 * n * 4 ^ k ≡ length (m .faces) * 4 ^ k = ap (λ (j : ℕ). j * 4 ^ k) d in
           record {
-            count = b .count ∙ ap (λ (x : Net). length (steps kobbelt k x .marks)) front-is;
-            vertices = b .newPoints ∙ ap₂ (λ (x : Net) (d : List ℤ). filled (steps kobbelt k x .vertices) d) front-is ev ∙ filled-over _ _ (o .vertices) (omega arith);
-            faces = b .newFaces ∙ ap₂ (λ (x : Net) (d : List ℕ). filled (steps kobbelt k x .faces) d) front-is ef ∙ filled-over _ _ (o .faces) (omega arith);
-            marks = b .newMarks ∙ ap₂ (λ (x : Net) (d : List ℕ). filled (steps kobbelt k x .marks) d) front-is em ∙ filled-over _ _ (o .marks) v;
-            work = e ∙ cleared-over (16 * last) (o .work) (t .work) (drop-later (2 * (length (m .faces) * 4 ^ k)) (16 * last) (t .work) (o .work) (omega arith) (b .rest));
+            count = b .count ∙ ap (λ (y : Net). length (steps kobbelt k y .marks)) front-is;
+            vertices = b .newPoints ∙ ap₂ (λ (y : Net) (l : List ℤ). filled (steps kobbelt k y .vertices) l) front-is (x .vertices) ∙ filled-over _ _ (o .vertices) (omega arith);
+            faces = b .newFaces ∙ ap₂ (λ (y : Net) (l : List ℕ). filled (steps kobbelt k y .faces) l) front-is (x .faces) ∙ filled-over _ _ (o .faces) (omega arith);
+            marks = b .newMarks ∙ ap₂ (λ (y : Net) (l : List ℕ). filled (steps kobbelt k y .marks) l) front-is (x .marks) ∙ filled-over _ _ (o .marks) i;
+            work = z ∙ cleared-over (16 * last) (o .work) (u .work)
+                (drop-later (2 * (4 * n * 4 ^ k)) (16 * last) (u .work) (t .work) (omega arith) (b .rest) ∙ drop-later (4 * length (m .faces)) (16 * last) (t .work) (o .work) (omega arith) (x .rest));
           }
 
 -- ---- the whole call
@@ -163,6 +212,6 @@ module _ (a : Request) where
     pub refined-outcome : (r : ℕ) (o : Buffers) → drop (16 * last) u ≡ drop (16 * last) (a .buffers .work) → Ran (withWork a u) o last r → answered (Refined r last) o ≡ outcome a
     unfolding outcome
     refined-outcome r o d b =
-        let f : last ≡ length (steps kobbelt (a .rounds) (a .net) .faces) / 4 = (let c = corners-steps (withWork a u) last admitted-work in omega arith) in
+        let f : last ≡ length (steps kobbelt (a .rounds) (startNet (a .net)) .faces) / 4 = (let c = corners-steps (withWork a u) last admitted-work in omega arith) in
         let e = admitted-cleared (callOf a) last u x (a .buffers .work) (o .work) d (b .work) in
         rw (x .accepts) (λ i. record { result = refinedTo (b .count i) (f i); buffers = buffers (b .vertices i) (b .faces i) (b .marks i) (e i) })

@@ -1,7 +1,7 @@
 // The refining call.
 use admission::Admission;
 ghost use mathlib.Core.Path.{_≡_};
-ghost use Rattle.nets.specs.Net.{net};
+ghost use Rattle.nets.specs.Net.{controlNet};
 ghost use Rattle.admission.specs.Admission.{AdmittedCall};
 ghost use Rattle.outcome.specs.Outcome.{request, callOf, outcome};
 ghost use Rattle.nets.specs.Buffers.{buffers};
@@ -13,11 +13,12 @@ pub enum Answer {
     Refused(u32, usize),
 }
 
-// The net copied to the output tables, refined there, and the work table cleared.
+// The net where refining begins loaded into the output tables, refined there, and the work table cleared.
 fn run(
     rounds: u32,
     vertices: &[i32],
     faces: &[u32],
+    sides: &[u8],
     marks: &[u8],
     out_vertices: &mut [i32],
     out_faces: &mut [u32],
@@ -25,21 +26,29 @@ fn run(
     work: &mut [u32],
     last: usize,
 ) -> usize
-    requires { ⌜ AdmittedCall (callOf (request rounds (net (now vertices) (now faces) (now marks)) (buffers (now «out_vertices») (now «out_faces») (now «out_marks») (now work)))) last (now work) ⌝ }
-    ensures { λ r. ⌜ Ran (request rounds (net (now (vertices .entry)) (now (faces .entry)) (now (marks .entry)))
+    requires { ⌜ AdmittedCall (callOf (request rounds (controlNet (now vertices) (now faces) (now sides) (now marks)) (buffers (now «out_vertices») (now «out_faces») (now «out_marks») (now work)))) last (now work) ⌝ }
+    ensures { λ r. ⌜ Ran (request rounds (controlNet (now (vertices .entry)) (now (faces .entry)) (now (sides .entry)) (now (marks .entry)))
         (buffers (now («out_vertices» .entry)) (now («out_faces» .entry)) (now («out_marks» .entry)) (now (work .entry))))
         (buffers (now («out_vertices» .exit)) (now («out_faces» .exit)) (now («out_marks» .exit)) (now (work .exit))) last r ⌝ }
 {
-    tables::copy_i32(vertices, &mut *out_vertices);
-    tables::copy_u32(faces, &mut *out_faces);
-    tables::copy_u8(marks, &mut *out_marks);
+    let start = loading::load(
+        vertices,
+        faces,
+        sides,
+        marks,
+        &mut *out_vertices,
+        &mut *out_faces,
+        &mut *out_marks,
+        &mut *work,
+    );
+    let corners = 4 * limits::quadrilaterals(sides, faces.len());
     let count = rounds::rounds(
         &mut *out_vertices,
         &mut *out_faces,
         &mut *out_marks,
         &mut *work,
-        marks.len(),
-        faces.len(),
+        start,
+        corners,
         rounds,
     );
     tables::clear(&mut *work, 16 * last);
@@ -51,6 +60,7 @@ pub fn refine(
     rounds: u32,
     vertices: &[i32],
     faces: &[u32],
+    sides: &[u8],
     marks: &[u8],
     out_vertices: &mut [i32],
     out_faces: &mut [u32],
@@ -58,13 +68,14 @@ pub fn refine(
     work: &mut [u32],
 ) -> Answer
     ensures { λ r. ⌜ answered r (buffers (now («out_vertices» .exit)) (now («out_faces» .exit)) (now («out_marks» .exit)) (now (work .exit))) ≡
-        outcome (request rounds (net (now (vertices .entry)) (now (faces .entry)) (now (marks .entry)))
+        outcome (request rounds (controlNet (now (vertices .entry)) (now (faces .entry)) (now (sides .entry)) (now (marks .entry)))
         (buffers (now («out_vertices» .entry)) (now («out_faces» .entry)) (now («out_marks» .entry)) (now (work .entry)))) ⌝ }
 {
     match admission::admit(
         rounds,
         vertices,
         faces,
+        sides,
         marks,
         out_vertices.len(),
         out_faces.len(),
@@ -76,6 +87,7 @@ pub fn refine(
                 rounds,
                 vertices,
                 faces,
+                sides,
                 marks,
                 &mut *out_vertices,
                 &mut *out_faces,

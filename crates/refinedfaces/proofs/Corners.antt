@@ -4,7 +4,8 @@ use mathlib.Core.Path.{_≡_, sym, ap, ap₂, _∙_, subst}
 use mathlib.Core.Bool.{cond}
 use mathlib.Core.Logic.{⊎-elim}
 use mathlib.Core.List.{List}
-use Prim.Native.Nat.{ℕ, _+_, _*_, _/_, _%_, _<_}
+use Prim.Native.Nat.{ℕ, _+_, _-_, _*_, _/_, _%_, _<_}
+use native.Mathlib.Decide.{decLt}
 use native.Mathlib.Omega.{arith}
 use lib.ListN.{length}
 use lib.Dec.{ltb}
@@ -15,7 +16,7 @@ use Rattle.topology.specs.Shape.{Shape, quads}
 use Rattle.topology.specs.HalfEdge.{from, to, mate, edgeCount, edge}
 use Rattle.topology.specs.Manifold.{Oriented}
 use Rattle.topology.proofs.Shape.{quads-lawful, four-sides, face-prev, prev-inj, next-not}
-use Rattle.topology.proofs.Mates.{to-prev, mate-is, mate-face, ends-differ, edge-lt, edge-same}
+use Rattle.topology.proofs.Mates.{to-prev, mate-is, mate-face, ends-differ, edge-lt, edge-same, edge-onto}
 use Rattle.refinedfaces.specs.Refined.{refinedVertices, corner, refined}
 
 pub length-refined : (S : Shape) (v : ℕ) (l : List ℕ) → length (refined S v l) ≡ 4 * length l
@@ -155,3 +156,18 @@ module _ (S : Shape) (v : ℕ) (l : List ℕ) (ok : Oriented S v l) where
         apart = λ h g a b. refined-apart h g (omega arith) (omega arith);
         once = λ h g a b. refined-once h g (omega arith) (omega arith);
       }
+
+-- ---- every vertex of a refined net is an old one, the point of an edge or the point of a face
+pub refined-cases : (S : Shape) (v : ℕ) (l : List ℕ) → Oriented S v l → (P : ℕ → Type 0) → ((i : ℕ) → i < v → P i) → ((h : ℕ) → h < length l → P (v + edge S l h))
+    → ((f : ℕ) → f < S .faces (length l) → P (v + edgeCount S l + f)) → (i : ℕ) → i < refinedVertices S v l → P i
+refined-cases S v l ok P old side face i b = go (decLt i v) (decLt i (v + edgeCount S l))
+  where
+    go : Dec (i < v) → Dec (i < v + edgeCount S l) → P i
+    go (yes c) d = old i c
+    go (no c) (yes d) =
+        let r = edge-onto S v l ok (i - v) (omega arith) in
+        let e : v + edge S l (r .0) ≡ i = omega arith in
+        subst P e (side (r .0) (r .1))
+    go (no c) (no d) =
+        let e : v + edgeCount S l + (i - (v + edgeCount S l)) ≡ i = omega arith in
+        subst P e (face (i - (v + edgeCount S l)) (omega arith))

@@ -2,28 +2,23 @@
 use mathlib.Core.Bool.{cond}
 use mathlib.Core.List.{List}
 use Prim.Native.Nat.{ℕ, zero, suc, _+_, _-_, _*_, _/_, _%_}
-use lib.Dec.{eqb, ltb}
+use lib.Dec.{ltb}
 use lib.IntN.{ℤ}
 use lib.ListN.{length}
 use Rattle.lists.specs.Tabulate.{tabulate}
-use Rattle.search.specs.Search.{first}
 use Rattle.nets.specs.Net.{Net, axis}
 use Rattle.curve.specs.Weights.{Weights}
 use Rattle.fractions.specs.Fraction.{toWhole}
 use Rattle.topology.specs.Shape.{quads}
-use Rattle.topology.specs.HalfEdge.{edgeCount, edge}
+use Rattle.topology.specs.HalfEdge.{edgeCount, edgeAt}
 use Rattle.refinedfaces.specs.Refined.{refinedVertices, refined, refinedMarks}
 use Rattle.scheme.specs.Points.{edgePoint, facePoint}
-
--- the half-edge at which edge e is first met
-unfoldable pub edgeAt : List ℕ → ℕ → ℕ
-edgeAt l e = first (λ (h : ℕ). eqb (edge quads l h) e) (length l)
 
 -- "Refined vertices are the old ones, then one per edge, then one per face." "Every new coordinate is worked out exactly as a fraction and rounded once."
 unfoldable pub refinedCoordinate : Weights → ℕ → List ℕ → List ℕ → (ℕ → ℤ) → ℕ → ℤ
 refinedCoordinate w v l marks p i =
     cond (ltb i v) (p i)
-    (cond (ltb i (v + edgeCount quads l)) (toWhole (edgePoint w l marks p (edgeAt l (i - v))))
+    (cond (ltb i (v + edgeCount quads l)) (toWhole (edgePoint w l marks p (edgeAt quads l (i - v))))
     (toWhole (facePoint w l marks p (i - (v + edgeCount quads l)))))
 
 unfoldable pub step : Weights → Net → Net

@@ -1,31 +1,25 @@
 -- The coordinates that a round gives: old points stay, and each new one is a numerator rounded once. The point of an inner edge is the same from both its
 -- half-edges, so it does not matter at which of them it is worked out.
-use mathlib.Core.Path.{_≡_, refl, sym, ap, _∙_, subst}
-use mathlib.Core.Bool.{false}
+use mathlib.Core.Path.{_≡_, refl, ap, _∙_}
 use mathlib.Core.List.{List, [], _∷_}
 use Prim.Native.Nat.{ℕ, _+_, _-_, _<_, min}
 use native.Mathlib.Decide.{decLt}
 use native.Mathlib.Omega.{arith}
-use lib.Dec.{eqb}
 use lib.IntN.{ℤ, pos}
 use lib.ListN.{length}
-use borrow.Author.Tests.{lt-ltb, le-ltb, eq-eqb, ne-eqb}
-use mathlib.Core.Logic.{⊎-elim}
+use borrow.Author.Tests.{lt-ltb, le-ltb}
 use Rattle.integers.proofs.Polynomial.{var, lit, _⊞_, _⊟_, _⊠_, same}
 use Rattle.rounding.specs.Rounding.{round}
-use Rattle.search.specs.Search.{first}
-use Rattle.search.proofs.First.{first-is}
 use Rattle.curve.specs.Weights.{Weights, kobbelt}
 use Rattle.fractions.specs.Fraction.{toWhole}
 use Rattle.fractions.proofs.Laws.{toWhole-equals}
 use Rattle.rules.specs.Numerators.{innerEdgeZ}
 use Rattle.topology.specs.Shape.{quads}
-use Rattle.topology.specs.HalfEdge.{from, to, mate, edgeCount, edge}
+use Rattle.topology.specs.HalfEdge.{from, to, mate, edgeCount, edge, edgeAt}
 use Rattle.topology.specs.Manifold.{Oriented, Manifold}
-use Rattle.topology.proofs.Mates.{mate-is, mate-back, mate-not, edge-lt, edge-mate, edge-same, edge-onto}
-use Rattle.refinedfaces.specs.Refined.{refinedVertices}
+use Rattle.topology.proofs.Mates.{mate-is, mate-back, edge-lt, edgeAt-edge}
 use Rattle.scheme.specs.Points.{edgePoint, facePoint}
-use Rattle.scheme.specs.Step.{edgeAt, refinedCoordinate}
+use Rattle.scheme.specs.Step.{refinedCoordinate}
 use Rattle.schemelaws.specs.Numerators.{virtualAtZ, edgeValueZ, edgeZ, faceZ}
 use Rattle.schemelaws.proofs.Ties.{inner-rule, equals-edge, equals-face}
 
@@ -47,29 +41,13 @@ module _ (v : ℕ) (l marks : List ℕ) (ok : Oriented quads v l) (p : ℕ → �
       rw (c, inner-rule l marks h m, b, r .start, r .end)
       (same (lit (pos 4082400) ⊠ (var 1 ⊞ var 0) ⊟ (var 3 ⊞ var 2)) (lit (pos 4082400) ⊠ (var 0 ⊞ var 1) ⊟ (var 2 ⊞ var 3)) (p (from l h) ∷ p (to quads l h) ∷ x ∷ y ∷ []) refl)
 
--- ---- the half-edge at which an edge is first met
-module _ (v : ℕ) (l : List ℕ) (ok : Oriented quads v l) where
-  pub edgeAt-edge : (h : ℕ) → h < length l → edgeAt l (edge quads l h) ≡ min h (mate quads l h)
-  unfolding edgeAt
-  edgeAt-edge h k = go (decLt h (mate quads l h))
-    where
-      other : (j : ℕ) → j < min h (mate quads l h) → eqb (edge quads l j) (edge quads l h) ≡ false
-      other j b = ne-eqb (edge quads l j) (edge quads l h) (λ e. ⊎-elim (λ x. omega arith) (λ x. omega (arith, x .0)) (edge-same quads v l ok h j k (omega arith) (sym e)))
-
-      go : Dec (h < mate quads l h) → first (λ (g : ℕ). eqb (edge quads l g) (edge quads l h)) (length l) ≡ min h (mate quads l h)
-      go (yes b) = let e : min h (mate quads l h) ≡ h = omega arith in first-is (λ (g : ℕ). eqb (edge quads l g) (edge quads l h)) (length l) (min h (mate quads l h)) (omega arith) (rw e (eq-eqb (edge quads l h) (edge quads l h) refl)) other
-      go (no b) =
-          let n = mate-not quads v l ok h k in
-          let e : min h (mate quads l h) ≡ mate quads l h = omega arith in
-          first-is (λ (g : ℕ). eqb (edge quads l g) (edge quads l h)) (length l) (min h (mate quads l h)) (omega arith) (rw e (eq-eqb (edge quads l (mate quads l h)) (edge quads l h) (edge-mate quads v l ok h k (omega arith)))) other
-
 -- ---- what a round gives
 module _ (w : Weights) (v : ℕ) (l marks : List ℕ) (p : ℕ → ℤ) where
   pub refined-old : (i : ℕ) → i < v → refinedCoordinate w v l marks p i ≡ p i
   unfolding refinedCoordinate
   refined-old i b = let t = lt-ltb i v b in rw t
 
-  pub refined-edge-at : (e : ℕ) → e < edgeCount quads l → refinedCoordinate w v l marks p (v + e) ≡ toWhole (edgePoint w l marks p (edgeAt l e))
+  pub refined-edge-at : (e : ℕ) → e < edgeCount quads l → refinedCoordinate w v l marks p (v + e) ≡ toWhole (edgePoint w l marks p (edgeAt quads l e))
   unfolding refinedCoordinate
   refined-edge-at e b =
       let s = le-ltb (v + e) v (omega arith) in
@@ -88,7 +66,7 @@ module _ (w : Weights) (v : ℕ) (l marks : List ℕ) (p : ℕ → ℤ) where
 module _ (v : ℕ) (l marks : List ℕ) (ok : Manifold quads v l) (p : ℕ → ℤ) where
   pub refined-edge : (h : ℕ) → h < length l → refinedCoordinate kobbelt v l marks p (v + edge quads l h) ≡ round (edgeZ l marks p h) 7257600
   refined-edge h k =
-      let e = edgeAt-edge v l (ok .oriented) h k in
+      let e = edgeAt-edge quads v l (ok .oriented) h k in
       refined-edge-at kobbelt v l marks p (edge quads l h) (edge-lt quads v l (ok .oriented) h k)
       ∙ ap (λ (g : ℕ). toWhole (edgePoint kobbelt l marks p g)) e
       ∙ toWhole-equals (omega arith) (equals-edge v l marks ok p (min h (mate quads l h)) (omega arith))
@@ -100,18 +78,3 @@ module _ (v : ℕ) (l marks : List ℕ) (ok : Manifold quads v l) (p : ℕ → �
 
   pub refined-face : (f : ℕ) → f < quads .faces (length l) → refinedCoordinate kobbelt v l marks p (v + edgeCount quads l + f) ≡ round (faceZ l (edgeZ l marks p) f) 232243200
   refined-face f k = refined-face-at kobbelt v l marks p f ∙ toWhole-equals (omega arith) (equals-face v l marks ok p f k)
-
--- ---- every vertex of a refined net is an old one, the point of an edge or the point of a face
-pub refined-cases : (v : ℕ) (l : List ℕ) → Manifold quads v l → (P : ℕ → Type 0) → ((i : ℕ) → i < v → P i) → ((h : ℕ) → h < length l → P (v + edge quads l h))
-    → ((f : ℕ) → f < quads .faces (length l) → P (v + edgeCount quads l + f)) → (i : ℕ) → i < refinedVertices quads v l → P i
-refined-cases v l ok P old side face i b = go (decLt i v) (decLt i (v + edgeCount quads l))
-  where
-    go : Dec (i < v) → Dec (i < v + edgeCount quads l) → P i
-    go (yes c) d = old i c
-    go (no c) (yes d) =
-        let r = edge-onto quads v l (ok .oriented) (i - v) (omega arith) in
-        let e : v + edge quads l (r .0) ≡ i = omega arith in
-        subst P e (side (r .0) (r .1))
-    go (no c) (no d) =
-        let e : v + edgeCount quads l + (i - (v + edgeCount quads l)) ≡ i = omega arith in
-        subst P e (face (i - (v + edgeCount quads l)) (omega arith))

@@ -10,19 +10,20 @@ use Rattle.nets.specs.Net.{Net, axis}
 use Rattle.topology.specs.Shape.{quads}
 use Rattle.topology.specs.Manifold.{Manifold}
 use Rattle.refinedfaces.specs.Refined.{refinedVertices}
+use Rattle.refinedfaces.proofs.Corners.{refined-cases}
 use Rattle.scheme.specs.Step.{refinedCoordinate, step, steps}
 use Rattle.schemelaws.specs.Numerators.{edgeZ, faceZ}
 use Rattle.schemelaws.specs.Nets.{Refinable}
 use Rattle.integers.proofs.Within.{within-le}
 use Rattle.integers.specs.Within.{Within}
-use Rattle.schemelaws.proofs.Coordinates.{refined-cases, refined-old, refined-edge, refined-face}
+use Rattle.schemelaws.proofs.Coordinates.{refined-old, refined-edge, refined-face}
 use Rattle.schemelaws.proofs.Sizes.{edge-size, face-size}
 use Rattle.schemelaws.proofs.Steps.{refinable-manifold, refinable-steps, step-length, step-coordinate}
 
 -- ---- sizes
 module _ (v : ℕ) (l marks : List ℕ) (ok : Manifold quads v l) (p : ℕ → ℤ) (B : ℕ) (small : (x : ℕ) → x < v → natAbs (p x) ≤ B) where
   pub refined-size : (i : ℕ) → i < refinedVertices quads v l → natAbs (refinedCoordinate kobbelt v l marks p i) ≤ grown B
-  refined-size = refined-cases v l ok (λ i. natAbs (refinedCoordinate kobbelt v l marks p i) ≤ grown B)
+  refined-size = refined-cases quads v l (ok .oriented) (λ i. natAbs (refinedCoordinate kobbelt v l marks p i) ≤ grown B)
       (λ i b. let s = small i b in let g = grown-kept B in rw (refined-old kobbelt v l marks p i b) (omega arith))
       (λ h b. let s = edge-size v l ok p B small marks h b in rw (refined-edge v l marks ok p h b) (rounded-grown (edgeZ l marks p h) 7257600 B (omega arith) (omega arith)))
       (λ f b. rw (refined-face v l marks ok p f b) (rounded-grown (faceZ l (edgeZ l marks p) f) 232243200 B (omega arith) (face-size v l marks ok p B small f b)))

@@ -3,6 +3,8 @@ pub mod Vertices
 pub mod Readings
 pub mod Ways
 pub mod Refined
+pub mod Coordinates
 pub mod Step
 pub mod Seam
+pub mod Split
 pub mod Examples

@@ -1,5 +1,5 @@
 -- The seam: after k rounds a reading is the curve after k steps.
-use mathlib.Core.Path.{_≡_, sym, subst}
+use mathlib.Core.Path.{_≡_}
 use mathlib.Core.Logic.{_↔_}
 use mathlib.Core.List.{List}
 use Prim.Native.Nat.{ℕ, zero, suc, _<_}
@@ -9,11 +9,12 @@ use Rattle.curve.specs.Weights.{Weights, kobbelt, scale}
 use Rattle.curve.specs.Curve.{Kind, rounded, Point, each, step as curveStep, steps as curveSteps, curve}
 use Rattle.curve.proofs.Symmetry.{rounded-symmetric, each-symmetric}
 use Rattle.curve.proofs.Kobbelt.{distance}
+use Rattle.topology.specs.Shape.{quads}
 use Rattle.topology.specs.Boundary.{Way}
 use Rattle.scheme.specs.Step.{step, steps}
 use Rattle.seam.specs.Reading.{Reads}
 use Rattle.seam.specs.Seam.{Admissible, Seam}
-use Rattle.seam.proofs.Readings.{reads-one}
+use Rattle.seam.proofs.Readings.{reads-only}
 use Rattle.seam.proofs.Refined.{reading-after}
 use Rattle.seam.proofs.Step.{step-boundary, admissible-step}
 
@@ -26,7 +27,7 @@ module _ (w : Weights) where
   module _ (some : 0 < scale w) (m : Net) (ok : Admissible m) (way : Way) (c : Kind) (u : ℕ) (L : List Point) where
     -- one round
     pub reads-step : Reads m way c u L → Reads (step w m) way c u (curveStep (each (rounded w)) c L)
-    reads-step r = reading-after (each (rounded w)) (each-symmetric (rounded-symmetric w)) m (step w m) ok (step-boundary w some m ok) way c u L r
+    reads-step r = reading-after (each (rounded w)) (each-symmetric (rounded-symmetric w)) quads m (step w m) ok (step-boundary w some m ok) way c u L r
 
   module _ (some : 0 < scale w) (m : Net) (ok : Admissible m) (way : Way) (c : Kind) (u : ℕ) (L : List Point) (r : Reads m way c u L) where
     -- k rounds
@@ -36,9 +37,7 @@ module _ (w : Weights) where
     reads-steps (suc k) = reads-step some (steps w k m) (admissible-steps m ok k) way c u (curve w c k L) (reads-steps k)
 
     pub reads-exactly : (k : ℕ) (P : List Point) → Reads (steps w k m) way c u P ↔ (P ≡ curve w c k L)
-    reads-exactly k P =
-        let s = reads-steps k in
-        ((λ t. reads-one (steps w k m) way c u P (curve w c k L) t s), (λ e. subst (λ (l : List Point). Reads (steps w k m) way c u l) (sym e) s))
+    reads-exactly k = reads-only quads (steps w k m) way c u (curve w c k L) (reads-steps k)
 
 -- demand 3, of the nets themselves
 pub seam : (a b : Net) → Admissible a → Admissible b → (v w : Way) (c : Kind) (s t : ℕ) (L : List Point) → Reads a v c s L → Reads b w c t L

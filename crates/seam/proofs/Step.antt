@@ -1,14 +1,13 @@
 -- One round of the scheme, at the boundary: old points stay, and the boundary rules put the new ones. Inner edges and faces do not come into it.
-use mathlib.Core.Path.{_≡_, refl, sym, ap, _∙_}
+use mathlib.Core.Path.{_≡_, refl, ap, _∙_}
 use mathlib.Core.Bool.{Bool, true, false}
-use mathlib.Core.List.{List}
 use Prim.Native.Nat.{ℕ, _+_, _<_}
 use native.Mathlib.Omega.{arith}
 use lib.IntN.{ℤ}
 use lib.ListN.{length}
-use Rattle.nets.specs.Net.{Net, marked, axis, pointOf}
+use Rattle.nets.specs.Net.{Net, marked, axis}
 use Rattle.curve.specs.Weights.{Weights, scale}
-use Rattle.curve.specs.Curve.{Rules, rounded, Point, each}
+use Rattle.curve.specs.Curve.{rounded, each}
 use Rattle.fractions.specs.Fraction.{toWhole}
 use Rattle.topology.specs.Shape.{quads}
 use Rattle.topology.specs.HalfEdge.{from, to, edge}
@@ -16,32 +15,13 @@ use Rattle.topology.specs.Boundary.{OnBoundary, along, back}
 use Rattle.topology.proofs.Mates.{edge-lt}
 use Rattle.refinedfaces.proofs.Manifold.{manifold-refined}
 use Rattle.scheme.specs.Points.{edgePoint}
-use Rattle.scheme.specs.Step.{edgeAt, step}
+use Rattle.scheme.specs.Step.{step}
 use Rattle.scheme.proofs.BoundaryEdges.{inside-rounded, start-rounded, finish-rounded, whole-rounded}
-use Rattle.schemelaws.proofs.Coordinates.{edgeAt-edge, refined-old, refined-edge-at}
+use Rattle.schemelaws.proofs.Coordinates.{refined-old, refined-edge-at}
 use Rattle.schemelaws.proofs.Steps.{step-faces, step-marks, step-count, step-axis}
 use Rattle.seam.specs.BoundaryStep.{boundaryRule, boundaryPoint, BoundaryStep}
 use Rattle.seam.specs.Seam.{Admissible}
-
--- the rule at each coordinate by itself
-each-rule : (ℛ : Rules ℤ) (a b : Bool) (p q r s : Point) → boundaryRule (each ℛ) a b p q r s
-    ≡ record {
-      x = boundaryRule ℛ a b (p .x) (q .x) (r .x) (s .x);
-      y = boundaryRule ℛ a b (p .y) (q .y) (r .y) (s .y);
-      z = boundaryRule ℛ a b (p .z) (q .z) (r .z) (s .z);
-    }
-unfolding boundaryRule
-each-rule ℛ false false p q r s = refl
-each-rule ℛ true false p q r s = refl
-each-rule ℛ false true p q r s = refl
-each-rule ℛ true true p q r s = refl
-
-each-point : (ℛ : Rules ℤ) (m : Net) (h : ℕ) → boundaryPoint (each ℛ) m (pointOf m) h
-    ≡ record { x = boundaryPoint ℛ m (axis (m .vertices) 0) h; y = boundaryPoint ℛ m (axis (m .vertices) 1) h; z = boundaryPoint ℛ m (axis (m .vertices) 2) h }
-unfolding boundaryPoint pointOf
-each-point ℛ m h =
-    let l : List ℕ = m .faces in
-    each-rule ℛ (marked (m .marks) (from l h)) (marked (m .marks) (to quads l h)) (pointOf m (from l (back quads l h))) (pointOf m (from l h)) (pointOf m (to quads l h)) (pointOf m (to quads l (along quads l h)))
+use Rattle.seam.proofs.Coordinates.{boundary-step, boundary-first}
 
 module _ (w : Weights) (some : 0 < scale w) (m : Net) (ok : Admissible m) (h : ℕ) (o : OnBoundary quads (m .faces) h) where
   kept : (a : ℕ) → a < 3 → axis (step w m .vertices) a (from (m .faces) h) ≡ axis (m .vertices) a (from (m .faces) h)
@@ -50,7 +30,7 @@ module _ (w : Weights) (some : 0 < scale w) (m : Net) (ok : Admissible m) (h : �
       let c = ok .oriented .below h (o .lt) in
       step-axis w m a i b (omega arith) ∙ refined-old w (length (m .marks)) (m .faces) (m .marks) (axis (m .vertices) a) i c
 
-  by-marks : (p : ℕ → ℤ) → toWhole (edgePoint w (m .faces) (m .marks) p h) ≡ boundaryPoint (rounded w) m p h
+  by-marks : (p : ℕ → ℤ) → toWhole (edgePoint w (m .faces) (m .marks) p h) ≡ boundaryPoint (rounded w) quads m p h
   unfolding boundaryPoint boundaryRule
   by-marks p = go (marked (m .marks) (from (m .faces) h)) (marked (m .marks) (to quads (m .faces) h)) refl refl
     where
@@ -61,11 +41,7 @@ module _ (w : Weights) (some : 0 < scale w) (m : Net) (ok : Admissible m) (h : �
       go false true s t = finish-rounded w some (m .faces) (m .marks) p h o s t
       go true true s t = whole-rounded w some (m .faces) (m .marks) p h o s t
 
-  -- a boundary edge is first met at its only half-edge
-  first-at : edgeAt (m .faces) (edge quads (m .faces) h) ≡ h
-  first-at = let e = edgeAt-edge (length (m .marks)) (m .faces) (ok .oriented) h (o .lt) in let k = o .lt in let n = o .none in omega arith
-
-  put : (a : ℕ) → a < 3 → axis (step w m .vertices) a (length (m .marks) + edge quads (m .faces) h) ≡ boundaryPoint (rounded w) m (axis (m .vertices) a) h
+  put : (a : ℕ) → a < 3 → axis (step w m .vertices) a (length (m .marks) + edge quads (m .faces) h) ≡ boundaryPoint (rounded w) quads m (axis (m .vertices) a) h
   put a b =
       let v : ℕ = length (m .marks) in
       let e : ℕ = edge quads (m .faces) h in
@@ -73,17 +49,16 @@ module _ (w : Weights) (some : 0 < scale w) (m : Net) (ok : Admissible m) (h : �
       let k = edge-lt quads v (m .faces) (ok .oriented) h (o .lt) in
       step-axis w m a (v + e) b (omega arith)
       ∙ refined-edge-at w v (m .faces) (m .marks) p e k
-      ∙ ap (λ (g : ℕ). toWhole (edgePoint w (m .faces) (m .marks) p g)) first-at
+      ∙ ap (λ (g : ℕ). toWhole (edgePoint w (m .faces) (m .marks) p g)) (boundary-first quads v (m .faces) (ok .oriented) h o)
       ∙ by-marks p
 
-pub step-boundary : (w : Weights) → 0 < scale w → (m : Net) → Admissible m → BoundaryStep (each (rounded w)) m (step w m)
-unfolding pointOf
-step-boundary w some m ok = record {
+pub step-boundary : (w : Weights) → 0 < scale w → (m : Net) → Admissible m → BoundaryStep (each (rounded w)) quads m (step w m)
+step-boundary w some m ok = boundary-step (rounded w) quads m (step w m) (record {
   faces = step-faces w m;
   marks = step-marks w m;
-  old = λ h o. λ t. record { x = kept w some m ok h o 0 (omega arith) t; y = kept w some m ok h o 1 (omega arith) t; z = kept w some m ok h o 2 (omega arith) t };
-  new = λ h o. (λ t. record { x = put w some m ok h o 0 (omega arith) t; y = put w some m ok h o 1 (omega arith) t; z = put w some m ok h o 2 (omega arith) t }) ∙ sym (each-point (rounded w) m h);
-}
+  old = λ a h b o. kept w some m ok h o a b;
+  new = λ a h b o. put w some m ok h o a b;
+})
 
 -- what the seam asks of a net passes from round to round
 pub admissible-step : (w : Weights) (m : Net) → Admissible m → Admissible (step w m)

@@ -11,12 +11,12 @@ use Rattle.search.proofs.Iterate.{iterate-add}
 use Rattle.nets.specs.Net.{Net, marked, pointOf}
 use Rattle.curve.specs.Curve.{Point}
 use Rattle.curve.proofs.Rotation.{rotate, flip}
-use Rattle.topology.specs.Shape.{quads}
+use Rattle.topology.specs.Shape.{Shape}
 use Rattle.topology.specs.HalfEdge.{from}
 use Rattle.topology.specs.Boundary.{boundaryFrom, Way, other, step}
 use Rattle.topology.proofs.Loops.{steps-undone}
 use Rattle.seam.specs.Reading.{nextVertex, vertexAt, points, OpenReading, ClosedReading}
-use Rattle.seam.specs.Seam.{Admissible}
+use Rattle.seam.specs.Seam.{AdmissibleIn}
 use Rattle.seam.proofs.Vertices.{vertex-from, halfEdge-on, vertex-at, boundary-at}
 
 -- ---- a table read backwards
@@ -36,63 +36,63 @@ module _ {A : Type 0} where
       ∙ ap₂ (λ (x : A) (l : List A). x ∷ l) (ap g e)
       (reverse-tabulate n g ∙ tabulate-cong n (λ (i : ℕ). g (n - suc i)) (λ (i : ℕ). g (suc n - suc (suc i))) (λ i k. let d : n - suc i ≡ suc n - suc (suc i) = omega arith in ap g d))
 
-module _ (m : Net) (ok : Admissible m) (way : Way) (u : ℕ) (b : boundaryFrom quads (m .faces) u < length (m .faces)) where
+module _ (S : Shape) (m : Net) (ok : AdmissibleIn S m) (way : Way) (u : ℕ) (b : boundaryFrom S (m .faces) u < length (m .faces)) where
   -- n vertices on, and i of them back
-  undone : (n i : ℕ) → i ≤ n → vertexAt (m .faces) (other way) (vertexAt (m .faces) way u n) i ≡ vertexAt (m .faces) way u (n - i)
+  undone : (n i : ℕ) → i ≤ n → vertexAt S (m .faces) (other way) (vertexAt S (m .faces) way u n) i ≡ vertexAt S (m .faces) way u (n - i)
   undone n i c =
       let v : ℕ = length (m .marks) in
       let l : List ℕ = m .faces in
-      let h : ℕ → ℕ = λ j. iterate (step quads l way) j (boundaryFrom quads l u) in
+      let h : ℕ → ℕ = λ j. iterate (step S l way) j (boundaryFrom S l u) in
       let e : n ≡ i + (n - i) = omega arith in
-      ap (λ (x : ℕ). vertexAt l (other way) x i) (vertex-at v l ok way u b n)
-      ∙ vertex-from v l ok (other way) (h n) i (halfEdge-on v l ok way u b n)
-      ∙ ap (λ (g : ℕ). from l (iterate (step quads l (other way)) i g)) (ap h e ∙ iterate-add (step quads l way) i (n - i) (boundaryFrom quads l u))
-      ∙ ap (from l) (steps-undone quads v l ok way i (h (n - i)) (halfEdge-on v l ok way u b (n - i)))
-      ∙ sym (vertex-at v l ok way u b (n - i))
+      ap (λ (x : ℕ). vertexAt S l (other way) x i) (vertex-at S v l ok way u b n)
+      ∙ vertex-from S v l ok (other way) (h n) i (halfEdge-on S v l ok way u b n)
+      ∙ ap (λ (g : ℕ). from l (iterate (step S l (other way)) i g)) (ap h e ∙ iterate-add (step S l way) i (n - i) (boundaryFrom S l u))
+      ∙ ap (from l) (steps-undone S v l ok way i (h (n - i)) (halfEdge-on S v l ok way u b (n - i)))
+      ∙ sym (vertex-at S v l ok way u b (n - i))
 
-  pub open-reversed : (L : List Point) (r : OpenReading m way u L) → OpenReading m (other way) (vertexAt (m .faces) way u (r .edges)) (reverse L)
+  pub open-reversed : (L : List Point) (r : OpenReading S m way u L) → OpenReading S m (other way) (vertexAt S (m .faces) way u (r .edges)) (reverse L)
   unfolding points vertexAt iterate
   open-reversed L r =
       let n : ℕ = r .edges in
       let z : n - n ≡ 0 = omega arith in
       record {
-        boundary = boundary-at (length (m .marks)) (m .faces) ok way u b n;
+        boundary = boundary-at S (length (m .marks)) (m .faces) ok way u b n;
         starts = r .ends;
         edges = n;
         some = r .some;
         between = λ i c d. ap (marked (m .marks)) (undone n i (omega arith)) ∙ r .between (n - i) (omega arith) (omega arith);
-        ends = ap (marked (m .marks)) (undone n n (omega arith) ∙ ap (vertexAt (m .faces) way u) z) ∙ r .starts;
-        list = ap reverse (r .list) ∙ reverse-tabulate (suc n) (λ (i : ℕ). pointOf m (vertexAt (m .faces) way u i))
-            ∙ tabulate-cong (suc n) (λ (i : ℕ). pointOf m (vertexAt (m .faces) way u (suc n - suc i))) (λ (i : ℕ). pointOf m (vertexAt (m .faces) (other way) (vertexAt (m .faces) way u n) i))
-            (λ i c. let e : suc n - suc i ≡ n - i = omega arith in ap (pointOf m) (ap (vertexAt (m .faces) way u) e ∙ sym (undone n i (omega arith))));
+        ends = ap (marked (m .marks)) (undone n n (omega arith) ∙ ap (vertexAt S (m .faces) way u) z) ∙ r .starts;
+        list = ap reverse (r .list) ∙ reverse-tabulate (suc n) (λ (i : ℕ). pointOf m (vertexAt S (m .faces) way u i))
+            ∙ tabulate-cong (suc n) (λ (i : ℕ). pointOf m (vertexAt S (m .faces) way u (suc n - suc i))) (λ (i : ℕ). pointOf m (vertexAt S (m .faces) (other way) (vertexAt S (m .faces) way u n) i))
+            (λ i c. let e : suc n - suc i ≡ n - i = omega arith in ap (pointOf m) (ap (vertexAt S (m .faces) way u) e ∙ sym (undone n i (omega arith))));
       }
 
   -- ---- closed
-  module _ (n : ℕ) (z : 0 < n) (e : vertexAt (m .faces) way u n ≡ u) where
-    other-near : (i : ℕ) → i ≤ n → vertexAt (m .faces) (other way) u i ≡ vertexAt (m .faces) way u (n - i)
-    other-near i c = ap (λ (x : ℕ). vertexAt (m .faces) (other way) x i) (sym e) ∙ undone n i c
+  module _ (n : ℕ) (z : 0 < n) (e : vertexAt S (m .faces) way u n ≡ u) where
+    other-near : (i : ℕ) → i ≤ n → vertexAt S (m .faces) (other way) u i ≡ vertexAt S (m .faces) way u (n - i)
+    other-near i c = ap (λ (x : ℕ). vertexAt S (m .faces) (other way) x i) (sym e) ∙ undone n i c
 
     -- what is met the other way is met this way
-    met : (i : ℕ) → (j : ℕ) × (vertexAt (m .faces) (other way) u i ≡ vertexAt (m .faces) way u j)
+    met : (i : ℕ) → (j : ℕ) × (vertexAt S (m .faces) (other way) u i ≡ vertexAt S (m .faces) way u j)
     unfolding vertexAt iterate
     met zero = (0, refl)
     met (suc i) = before (met i .0) (met i .1)
       where
-        before : (j : ℕ) → vertexAt (m .faces) (other way) u i ≡ vertexAt (m .faces) way u j → (k : ℕ) × (vertexAt (m .faces) (other way) u (suc i) ≡ vertexAt (m .faces) way u k)
-        before zero p = (n - 1, ap (nextVertex (m .faces) (other way)) p ∙ other-near 1 (omega arith))
-        before (suc j) p = let d : suc j - 1 ≡ j = omega arith in (j, ap (nextVertex (m .faces) (other way)) p ∙ undone (suc j) 1 (omega arith) ∙ ap (vertexAt (m .faces) way u) d)
+        before : (j : ℕ) → vertexAt S (m .faces) (other way) u i ≡ vertexAt S (m .faces) way u j → (k : ℕ) × (vertexAt S (m .faces) (other way) u (suc i) ≡ vertexAt S (m .faces) way u k)
+        before zero p = (n - 1, ap (nextVertex S (m .faces) (other way)) p ∙ other-near 1 (omega arith))
+        before (suc j) p = let d : suc j - 1 ≡ j = omega arith in (j, ap (nextVertex S (m .faces) (other way)) p ∙ undone (suc j) 1 (omega arith) ∙ ap (vertexAt S (m .faces) way u) d)
 
-  flip-points : (n : ℕ) → 0 < n → vertexAt (m .faces) way u n ≡ u → flip (points m way u n) ≡ points m (other way) u n
+  flip-points : (n : ℕ) → 0 < n → vertexAt S (m .faces) way u n ≡ u → flip (points S m way u n) ≡ points S m (other way) u n
   unfolding points vertexAt iterate tabulate
   flip-points zero z e = absurd (omega arith)
   flip-points (suc n) z e =
-      let g : ℕ → Point = λ i. pointOf m (vertexAt (m .faces) way u (suc i)) in
-      let f : ℕ → Point = λ i. pointOf m (vertexAt (m .faces) (other way) u (suc i)) in
+      let g : ℕ → Point = λ i. pointOf m (vertexAt S (m .faces) way u (suc i)) in
+      let f : ℕ → Point = λ i. pointOf m (vertexAt S (m .faces) (other way) u (suc i)) in
       ap (λ (l : List Point). pointOf m u ∷ l)
       (reverse-tabulate n g
-      ∙ tabulate-cong n (λ (i : ℕ). g (n - suc i)) f (λ i k. let d : suc (n - suc i) ≡ suc n - suc i = omega arith in ap (pointOf m) (ap (vertexAt (m .faces) way u) d ∙ sym (other-near (suc n) z e (suc i) (omega arith)))))
+      ∙ tabulate-cong n (λ (i : ℕ). g (n - suc i)) f (λ i k. let d : suc (n - suc i) ≡ suc n - suc i = omega arith in ap (pointOf m) (ap (vertexAt S (m .faces) way u) d ∙ sym (other-near (suc n) z e (suc i) (omega arith)))))
 
-  pub closed-flipped : (L : List Point) → ClosedReading m way u L → ClosedReading m (other way) u (flip L)
+  pub closed-flipped : (L : List Point) → ClosedReading S m way u L → ClosedReading S m (other way) u (flip L)
   unfolding vertexAt iterate
   closed-flipped L r =
       let n : ℕ = r .edges in
@@ -104,38 +104,38 @@ module _ (m : Net) (ok : Admissible m) (way : Way) (u : ℕ) (b : boundaryFrom q
         edges = n;
         some = r .some;
         once = λ i x y q. r .once (n - i) (omega arith) (omega arith) (sym (near i (omega arith)) ∙ q);
-        returns = near n (omega arith) ∙ ap (vertexAt (m .faces) way u) d;
+        returns = near n (omega arith) ∙ ap (vertexAt S (m .faces) way u) d;
         list = ap flip (r .list) ∙ flip-points n (r .some) (r .returns);
       }
 
   -- ---- from the next vertex
-  from-next : (i : ℕ) → vertexAt (m .faces) way (nextVertex (m .faces) way u) i ≡ vertexAt (m .faces) way u (suc i)
+  from-next : (i : ℕ) → vertexAt S (m .faces) way (nextVertex S (m .faces) way u) i ≡ vertexAt S (m .faces) way u (suc i)
   unfolding vertexAt iterate
   from-next zero = refl
-  from-next (suc i) = ap (nextVertex (m .faces) way) (from-next i)
+  from-next (suc i) = ap (nextVertex S (m .faces) way) (from-next i)
 
-  rotate-points : (n : ℕ) → 0 < n → vertexAt (m .faces) way u n ≡ u → rotate (points m way u n) ≡ points m way (nextVertex (m .faces) way u) n
+  rotate-points : (n : ℕ) → 0 < n → vertexAt S (m .faces) way u n ≡ u → rotate (points S m way u n) ≡ points S m way (nextVertex S (m .faces) way u) n
   unfolding points vertexAt iterate tabulate
   rotate-points zero z e = absurd (omega arith)
   rotate-points (suc n) z e =
-      let g : ℕ → Point = λ i. pointOf m (vertexAt (m .faces) way u (suc i)) in
+      let g : ℕ → Point = λ i. pointOf m (vertexAt S (m .faces) way u (suc i)) in
       ap (λ (x : ℕ). tabulate n g ++ (pointOf m x ∷ [])) (sym e)
       ∙ sym (tabulate-snoc n g)
-      ∙ tabulate-cong (suc n) g (λ (i : ℕ). pointOf m (vertexAt (m .faces) way (nextVertex (m .faces) way u) i)) (λ i k. ap (pointOf m) (sym (from-next i)))
+      ∙ tabulate-cong (suc n) g (λ (i : ℕ). pointOf m (vertexAt S (m .faces) way (nextVertex S (m .faces) way u) i)) (λ i k. ap (pointOf m) (sym (from-next i)))
 
-  pub closed-rotated : (L : List Point) → ClosedReading m way u L → ClosedReading m way (nextVertex (m .faces) way u) (rotate L)
+  pub closed-rotated : (L : List Point) → ClosedReading S m way u L → ClosedReading S m way (nextVertex S (m .faces) way u) (rotate L)
   unfolding vertexAt iterate
   closed-rotated L r =
       let n : ℕ = r .edges in
-      let f : ℕ → ℕ = nextVertex (m .faces) way in
+      let f : ℕ → ℕ = nextVertex S (m .faces) way in
       record {
-        boundary = boundary-at (length (m .marks)) (m .faces) ok way u b 1;
+        boundary = boundary-at S (length (m .marks)) (m .faces) ok way u b 1;
         unmarked = λ i. ap (marked (m .marks)) (from-next i) ∙ r .unmarked (suc i);
         edges = n;
         some = r .some;
         once = λ i x y q.
             let d : suc i - 1 ≡ i = omega arith in
-            r .once i x y (ap (vertexAt (m .faces) way u) (sym d) ∙ sym (undone (suc i) 1 (omega arith)) ∙ ap (nextVertex (m .faces) (other way)) (sym (from-next i) ∙ q) ∙ undone 1 1 (omega arith));
+            r .once i x y (ap (vertexAt S (m .faces) way u) (sym d) ∙ sym (undone (suc i) 1 (omega arith)) ∙ ap (nextVertex S (m .faces) (other way)) (sym (from-next i) ∙ q) ∙ undone 1 1 (omega arith));
         returns = from-next n ∙ ap f (r .returns);
         list = ap rotate (r .list) ∙ rotate-points n (r .some) (r .returns);
       }

@@ -1,3 +1,4 @@
 pub mod Reading
 pub mod BoundaryStep
 pub mod Seam
+pub mod Split

@@ -8,15 +8,19 @@ use Rattle.nets.specs.Net.{Net}
 use Rattle.curve.specs.Weights.{kobbelt}
 use Rattle.curve.specs.Curve.{Kind, Point, curve}
 use Rattle.curve.specs.Near.{CloseToExact}
-use Rattle.topology.specs.Shape.{quads}
+use Rattle.topology.specs.Shape.{Shape, quads}
 use Rattle.topology.specs.Boundary.{Way}
 use Rattle.topology.specs.Manifold.{Manifold}
 use Rattle.scheme.specs.Step.{steps}
 use Rattle.seam.specs.Reading.{Reads}
 
--- what the seam asks of a net: refusals 7 to 11 do not hold. Of coordinates and of the values of marks it asks nothing.
+-- what the seam asks of a net of shape S: refusals 7 to 11 do not hold. Of coordinates and of the values of marks it asks nothing.
+abbrev pub AdmissibleIn : Shape → Net → Type 0
+AdmissibleIn S m = Manifold S (length (m .marks)) (m .faces)
+
+-- so of a net of four-sided faces
 abbrev pub Admissible : Net → Type 0
-Admissible m = Manifold quads (length (m .marks)) (m .faces)
+Admissible = AdmissibleIn quads
 
 -- Of two nets a and b that share the list L, read from s and from t: after k rounds "the stretch is read there from the same vertex and the same way", and
 -- both readings are "the curve after k rounds", which "is fed that list as it was before the first round, and whether it is open or round"; and that curve

@@ -1,13 +1,13 @@
--- Laws of cleared and filled tables, and of the loops that make them. Assumes nothing.
-use mathlib.Core.Path.{_≡_, sym, ap, _∙_}
+-- Laws of cleared and filled tables, and of the loops that make them; of tables written over in part. Assumes nothing.
+use mathlib.Core.Path.{_≡_, refl, sym, ap, _∙_, subst}
 use mathlib.Core.List.{List, _++_}
 use Prim.Native.Nat.{ℕ, _+_, _-_, _≤_, _<_}
 use native.Mathlib.Omega.{arith}
 use borrow.Author.Fill.{fill-more}
 use lib.ListN.{length, getD, take, drop, set, replicate, length-append, length-drop, length-replicate, List·getD-append}
-use lib.Seq.{take-at, drop-at, drop-append-add, drop-drop}
+use lib.Seq.{getD-drop, take-at, drop-at, drop-append-add, drop-drop, take-take, take-set-le, drop-set-lt}
 use Rattle.lists.proofs.Prefix.{copy-one}
-use Rattle.tables.specs.Tables.{filled, cleared}
+use Rattle.tables.specs.Tables.{filled, cleared, SameOutside}
 
 -- a turn of each loop
 pub copy-turn : {A : Type 0} (s d₀ : List A) {d : List A} (i : ℕ) (z : A) → d ≡ take i s ++ drop i d₀ → i < length s → i < length d₀
@@ -50,3 +50,28 @@ drop-filled s d n h =
 pub filled-over : {A : Type 0} (s t d : List A) → length s ≤ length t → filled t (filled s d) ≡ filled t d
 unfolding filled
 filled-over {A} s t d h = ap (λ (x : List A). t ++ x) (drop-filled s d (length t) h)
+
+-- ---- stores from a up to e
+
+pub same-outside : (a e : ℕ) (w : List ℕ) → SameOutside a e w w
+same-outside a e w = record { front = refl; rest = refl }
+
+pub outside-set : (a e : ℕ) (w w′ : List ℕ) (i x : ℕ) → a ≤ i → i < e → SameOutside a e w w′ → SameOutside a e w (set w′ i x)
+outside-set a e w w′ i x h k s = record {
+  front = take-set-le a w′ i x h ∙ s .front;
+  rest = drop-set-lt e w′ i x k ∙ s .rest;
+}
+
+pub outside-then : (a e a′ e′ : ℕ) (w w₁ w₂ : List ℕ) → a ≤ a′ → e′ ≤ e → SameOutside a e w₁ w₂ → SameOutside a′ e′ w w₁ → SameOutside a e w w₂
+outside-then a e a′ e′ w w₁ w₂ h k s t =
+    let d : e′ + (e - e′) ≡ e = omega arith in
+    record {
+      front = s .front ∙ sym (take-take a a′ w₁ h) ∙ ap (take a) (t .front) ∙ take-take a a′ w h;
+      rest = s .rest ∙ subst (λ (m : ℕ). drop m w₁ ≡ drop m w) d (sym (drop-drop (e - e′) e′ w₁) ∙ ap (drop (e - e′)) (t .rest) ∙ drop-drop (e - e′) e′ w);
+    }
+
+-- equal past m: equal at each place there
+pub same-rest : (m : ℕ) (w w′ : List ℕ) → drop m w′ ≡ drop m w → (i : ℕ) → m ≤ i → getD w′ i 0 ≡ getD w i 0
+same-rest m w w′ e i h =
+    let d : m + (i - m) ≡ i = omega arith in
+    subst (λ (k : ℕ). getD w′ k 0 ≡ getD w k 0) d (sym (getD-drop m w′ (i - m) 0) ∙ ap (λ (t : List ℕ). getD t (i - m) 0) e ∙ getD-drop m w (i - m) 0)

@@ -2,7 +2,7 @@
 use mathlib.Core.Path.{_≡_}
 use Prim.Native.Nat.{ℕ, _+_, _≤_, _<_}
 use mathlib.Core.List.{List, _++_}
-use lib.ListN.{length, getD, set, drop, replicate}
+use lib.ListN.{length, getD, set, take, drop, replicate}
 
 -- "fills .. from the front", "the rest of every output as found"
 unfoldable pub filled : {A : Type 0} → List A → List A → List A
@@ -21,3 +21,8 @@ pub record Written (a e : ℕ) (f : ℕ → ℕ) (w w′ : List ℕ) : Type 0 wh
   pub before : (k : ℕ) → k < a → getD w′ k 0 ≡ getD w k 0
   pub inside : (k : ℕ) → a ≤ k → k < e → getD w′ k 0 ≡ f k
   pub behind : (k : ℕ) → e ≤ k → getD w′ k 0 ≡ getD w k 0
+
+-- w′ is w but for the numbers from a up to e
+pub record SameOutside (a e : ℕ) (w w′ : List ℕ) : Type 0 where
+  pub front : take a w′ ≡ take a w
+  pub rest : drop e w′ ≡ drop e w

@@ -1,6 +1,6 @@
 -- Mates and edge numbers of an oriented net.
-use mathlib.Core.Path.{_≡_, sym, ap, _∙_}
-use mathlib.Core.Bool.{true}
+use mathlib.Core.Path.{_≡_, refl, sym, ap, _∙_}
+use mathlib.Core.Bool.{true, false}
 use mathlib.Core.Logic.{_⊎_, inl, inr, ⊎-elim}
 use mathlib.Core.List.{List}
 use Prim.Native.Nat.{ℕ, suc, _+_, _≤_, _<_, min}
@@ -8,13 +8,13 @@ use native.Mathlib.Decide.{decLt}
 use native.Mathlib.Omega.{arith}
 use lib.ListN.{length}
 use lib.Dec.{eqb}
-use borrow.Author.Tests.{eq-eqb, eqb-true, lt-ltb, le-ltb, ltb-true}
-use Rattle.search.specs.Search.{count}
+use borrow.Author.Tests.{eq-eqb, eqb-true, ne-eqb, lt-ltb, le-ltb, ltb-true}
+use Rattle.search.specs.Search.{first, count}
 use Rattle.search.proofs.Tests.{and-on, and-left, and-right}
-use Rattle.search.proofs.First.{first-le, first-holds, first-only, first-none}
+use Rattle.search.proofs.First.{first-le, first-holds, first-only, first-none, first-is}
 use Rattle.search.proofs.Count.{count-le, count-more, count-same, count-under, count-inj, count-onto}
 use Rattle.topology.specs.Shape.{Shape, Lawful}
-use Rattle.topology.specs.HalfEdge.{from, to, opposed, mate, firstMet, edgeCount, edge}
+use Rattle.topology.specs.HalfEdge.{from, to, opposed, mate, firstMet, edgeCount, edge, edgeAt}
 use Rattle.topology.specs.Manifold.{Oriented}
 use Rattle.topology.proofs.Shape.{next-not, next-next-not}
 
@@ -171,3 +171,19 @@ count-old S l h b = count-same (firstMet S l) h (le-ltb h (mate S l h) b)
 pub edges-le : (S : Shape) (l : List ℕ) → edgeCount S l ≤ length l
 unfolding edgeCount
 edges-le S l = count-le (firstMet S l) (length l)
+
+-- ---- the half-edge at which an edge is first met
+module _ (S : Shape) (v : ℕ) (l : List ℕ) (ok : Oriented S v l) where
+  pub edgeAt-edge : (h : ℕ) → h < length l → edgeAt S l (edge S l h) ≡ min h (mate S l h)
+  unfolding edgeAt
+  edgeAt-edge h k = go (decLt h (mate S l h))
+    where
+      other : (j : ℕ) → j < min h (mate S l h) → eqb (edge S l j) (edge S l h) ≡ false
+      other j b = ne-eqb (edge S l j) (edge S l h) (λ e. ⊎-elim (λ x. omega arith) (λ x. omega (arith, x .0)) (edge-same S v l ok h j k (omega arith) (sym e)))
+
+      go : Dec (h < mate S l h) → first (λ (g : ℕ). eqb (edge S l g) (edge S l h)) (length l) ≡ min h (mate S l h)
+      go (yes b) = let e : min h (mate S l h) ≡ h = omega arith in first-is (λ (g : ℕ). eqb (edge S l g) (edge S l h)) (length l) (min h (mate S l h)) (omega arith) (rw e (eq-eqb (edge S l h) (edge S l h) refl)) other
+      go (no b) =
+          let n = mate-not S v l ok h k in
+          let e : min h (mate S l h) ≡ mate S l h = omega arith in
+          first-is (λ (g : ℕ). eqb (edge S l g) (edge S l h)) (length l) (min h (mate S l h)) (omega arith) (rw e (eq-eqb (edge S l (mate S l h)) (edge S l h) (edge-mate S v l ok h k (omega arith)))) other

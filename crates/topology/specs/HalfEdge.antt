@@ -33,3 +33,7 @@ edgeCount S l = count (firstMet S l) (length l)
 -- the number of the edge of h: how many edges are first met before it
 unfoldable pub edge : Shape → List ℕ → ℕ → ℕ
 edge S l h = count (firstMet S l) (min h (mate S l h))
+
+-- the half-edge at which edge e is first met
+unfoldable pub edgeAt : Shape → List ℕ → ℕ → ℕ
+edgeAt S l e = first (λ (h : ℕ). eqb (edge S l h) e) (length l)

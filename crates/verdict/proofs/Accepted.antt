@@ -1,6 +1,7 @@
 -- What an accepted call has, and that a call for fewer rounds is accepted too. Assumes nothing.
 use mathlib.Core.Path.{_≡_, refl}
 use mathlib.Core.Bool.{Bool, true, false, cond}
+use mathlib.Core.List.{List, [], _∷_}
 use Prim.Native.Nat.{ℕ, _*_, _/_, _%_, _^_, _≤_, _<_}
 use native.Mathlib.Nat.{pow-le-pow-right, mul-le-mul-left}
 use native.Mathlib.Omega.{arith}
@@ -10,14 +11,15 @@ use lib.ListN.{length, getD}
 use borrow.Author.Tests.{ltb-false, eqb-true, not-false, lt-ltb, le-ltb, eq-eqb}
 use Rattle.search.specs.Search.{first}
 use Rattle.search.proofs.First.{first-le, first-before}
-use Rattle.topology.specs.Shape.{quads}
+use Rattle.topology.specs.Shape.{Lawful}
 use Rattle.topology.specs.Manifold.{Manifold}
-use Rattle.topology.proofs.Shape.{quads-lawful}
+use Rattle.polygons.specs.Polygons.{shapeOf, badSides, Sided}
+use Rattle.polygons.proofs.Counts.{shape-lawful}
 use Rattle.refusals.proofs.Manifold.{manifold-if}
 use Rattle.refusals.specs.Refusals.{badMark, badCorner, isolated, repeatedSide, nonManifold, badValence, markedRing}
-use Rattle.nets.specs.Net.{Net}
-use Rattle.verdict.specs.Call.{Lengths, lengthsOf, Call}
-use Rattle.verdict.specs.Verdict.{Verdict, accepted, refused, orElse, refusedIf, refusedAt, tablesVerdict, sizeVerdict, roomVerdict, limitsVerdict, callVerdict, badCoordinate, coordinatesVerdict, vertexVerdict, adjacencyVerdict, facesVerdict, shapeVerdict, netVerdict, verdict}
+use Rattle.nets.specs.Net.{ControlNet}
+use Rattle.verdict.specs.Call.{Lengths, lengthsOf, Call, quadrilaterals}
+use Rattle.verdict.specs.Verdict.{Verdict, accepted, refused, orElse, refusedIf, refusedAt, cornersVerdict, tablesVerdict, sizeVerdict, roomVerdict, limitsVerdict, callVerdict, badCoordinate, coordinatesVerdict, vertexVerdict, adjacencyVerdict, facesVerdict, shapeVerdict, netVerdict, verdict}
 use Rattle.verdict.proofs.Examples
 
 -- ---- the chain
@@ -49,19 +51,28 @@ at-none r t n place e = go (ltb (first t n) n) refl e
     go true f e = never r (place (first t n)) e
     go false f e = let a = ltb-false (first t n) n f in let b = first-le t n in omega arith
 
--- ---- 1 to 4 do not hold
-pub record WithinLimits (rounds : ℕ) (n : Lengths) : Type 0 where
+-- ---- 1 to 4 and 14 do not hold
+pub record WithinLimits (rounds : ℕ) (sides : List ℕ) (n : Lengths) : Type 0 where
   pub few : rounds ≤ 6
   pub points : n .coordinates % 3 ≡ 0
-  pub quadrilaterals : n .corners % 4 ≡ 0
+  pub sided : Sided sides (n .corners)
   pub marked : n .marks ≡ n .coordinates / 3
   pub vertices : n .coordinates / 3 ≤ 8192
-  pub faces : n .corners / 4 ≤ 4096
-  pub final : n .corners / 4 * 4 ^ rounds ≤ 262144
-  pub roomVertices : 12 * (n .corners / 4 * 4 ^ rounds) ≤ n .room .vertices
-  pub roomFaces : 4 * (n .corners / 4 * 4 ^ rounds) ≤ n .room .faces
-  pub roomMarks : 4 * (n .corners / 4 * 4 ^ rounds) ≤ n .room .marks
-  pub roomWork : 16 * (n .corners / 4 * 4 ^ rounds) ≤ n .room .work
+  pub faces : quadrilaterals sides (n .corners) ≤ 4096
+  pub final : quadrilaterals sides (n .corners) * 4 ^ rounds ≤ 262144
+  pub roomVertices : 12 * (quadrilaterals sides (n .corners) * 4 ^ rounds) ≤ n .room .vertices
+  pub roomFaces : 4 * (quadrilaterals sides (n .corners) * 4 ^ rounds) ≤ n .room .faces
+  pub roomMarks : 4 * (quadrilaterals sides (n .corners) * 4 ^ rounds) ≤ n .room .marks
+  pub roomWork : 16 * (quadrilaterals sides (n .corners) * 4 ^ rounds) ≤ n .room .work
+
+-- corners by fours, or side counts that pass 14
+pub corners-if : (s : List ℕ) (n : ℕ) → cornersVerdict s n ≡ accepted → Sided s n
+corners-if [] n e = record { fours = λ z. eqb-true (n % 4) 0 (not-false _ (if-false 2 _ e)); counts = λ p. let z : ⊥ = omega arith in absurd z }
+corners-if (c ∷ s) n e = record { fours = λ z. let y : ⊥ = omega arith in absurd y; counts = λ p. if-false 14 _ e }
+
+if-corners : (s : List ℕ) (n : ℕ) → Sided s n → cornersVerdict s n ≡ accepted
+if-corners [] n k = let e = eq-eqb (n % 4) 0 (k .fours refl) in rw e
+if-corners (c ∷ s) n k = let e : badSides (c ∷ s) n ≡ false = k .counts (omega arith) in rw e
 
 pub sized-faces : (v f g : ℕ) → sizeVerdict v f g ≡ accepted → f ≤ 4096
 unfolding sizeVerdict
@@ -70,11 +81,11 @@ sized-faces v f g e =
     let b = or-both (refusedIf 3 (ltb 4096 f)) (refusedIf 3 (ltb 262144 g)) (a .1) in
     ltb-false 4096 f (if-false 3 _ (b .0))
 
-module _ (k : ℕ) (n : Lengths) where
-  pub within-if : limitsVerdict k n ≡ accepted → WithinLimits k n
+module _ (k : ℕ) (s : List ℕ) (n : Lengths) where
+  pub within-if : limitsVerdict k s n ≡ accepted → WithinLimits k s n
   unfolding limitsVerdict tablesVerdict sizeVerdict roomVerdict
   within-if e₀ =
-      let g = n .corners / 4 * 4 ^ k in
+      let g = quadrilaterals s (n .corners) * 4 ^ k in
       let a₁ = or-both _ _ e₀ in
       let a₂ = or-both _ _ (a₁ .1) in
       let a₃ = or-both _ _ (a₂ .1) in
@@ -88,10 +99,10 @@ module _ (k : ℕ) (n : Lengths) where
       record {
         few = ltb-false 6 k (if-false 1 _ (a₁ .0));
         points = eqb-true (n .coordinates % 3) 0 (not-false _ (if-false 2 _ (b₁ .0)));
-        quadrilaterals = eqb-true (n .corners % 4) 0 (not-false _ (if-false 2 _ (b₂ .0)));
+        sided = corners-if s (n .corners) (b₂ .0);
         marked = eqb-true (n .marks) (n .coordinates / 3) (not-false _ (if-false 2 _ (b₂ .1)));
         vertices = ltb-false 8192 (n .coordinates / 3) (if-false 3 _ (c₁ .0));
-        faces = ltb-false 4096 (n .corners / 4) (if-false 3 _ (c₂ .0));
+        faces = ltb-false 4096 (quadrilaterals s (n .corners)) (if-false 3 _ (c₂ .0));
         final = ltb-false 262144 g (if-false 3 _ (c₂ .1));
         roomVertices = ltb-false (n .room .vertices) (12 * g) (if-false 4 _ (d₁ .0));
         roomFaces = ltb-false (n .room .faces) (4 * g) (if-false 4 _ (d₂ .0));
@@ -99,17 +110,17 @@ module _ (k : ℕ) (n : Lengths) where
         roomWork = ltb-false (n .room .work) (16 * g) (if-false 4 _ (d₃ .1));
       }
 
-  pub if-within : WithinLimits k n → limitsVerdict k n ≡ accepted
+  pub if-within : WithinLimits k s n → limitsVerdict k s n ≡ accepted
   unfolding limitsVerdict tablesVerdict sizeVerdict roomVerdict
   if-within w =
-      let g = n .corners / 4 * 4 ^ k in
+      let g = quadrilaterals s (n .corners) * 4 ^ k in
       simp (
         le-ltb 6 k (w .few),
         eq-eqb (n .coordinates % 3) 0 (w .points),
-        eq-eqb (n .corners % 4) 0 (w .quadrilaterals),
+        if-corners s (n .corners) (w .sided),
         eq-eqb (n .marks) (n .coordinates / 3) (w .marked),
         le-ltb 8192 (n .coordinates / 3) (w .vertices),
-        le-ltb 4096 (n .corners / 4) (w .faces),
+        le-ltb 4096 (quadrilaterals s (n .corners)) (w .faces),
         le-ltb 262144 g (w .final),
         le-ltb (n .room .vertices) (12 * g) (w .roomVertices),
         le-ltb (n .room .faces) (4 * g) (w .roomFaces),
@@ -118,10 +129,10 @@ module _ (k : ℕ) (n : Lengths) where
       )
 
   -- fewer rounds need less room
-  pub within-fewer : (j : ℕ) → j ≤ k → WithinLimits k n → WithinLimits j n
+  pub within-fewer : (j : ℕ) → j ≤ k → WithinLimits k s n → WithinLimits j s n
   within-fewer j h w =
       let p : 4 ^ j ≤ 4 ^ k = pow-le-pow-right {n = 4} (omega arith) h in
-      let g : n .corners / 4 * 4 ^ j ≤ n .corners / 4 * 4 ^ k = mul-le-mul-left (n .corners / 4) p in
+      let g : quadrilaterals s (n .corners) * 4 ^ j ≤ quadrilaterals s (n .corners) * 4 ^ k = mul-le-mul-left (quadrilaterals s (n .corners)) p in
       let a = w .few in
       let b = w .final in
       let c = w .roomVertices in
@@ -131,7 +142,7 @@ module _ (k : ℕ) (n : Lengths) where
       record {
         few = omega arith;
         points = w .points;
-        quadrilaterals = w .quadrilaterals;
+        sided = w .sided;
         marked = w .marked;
         vertices = w .vertices;
         faces = w .faces;
@@ -143,17 +154,17 @@ module _ (k : ℕ) (n : Lengths) where
       }
 
 -- ---- 5 to 12 do not hold
-pub record NoRefusal (m : Net) : Type 0 where
+pub record NoRefusal (m : ControlNet) : Type 0 where
   pub no5 : first (badCoordinate (m .vertices)) (length (m .vertices)) ≡ length (m .vertices)
   pub no6 : first (badMark (m .marks)) (length (m .marks)) ≡ length (m .marks)
-  pub no7 : first (badCorner quads (length (m .marks)) (m .faces)) (length (m .faces)) ≡ length (m .faces)
+  pub no7 : first (badCorner (shapeOf (m .sides)) (length (m .marks)) (m .faces)) (length (m .faces)) ≡ length (m .faces)
   pub no8 : first (isolated (m .faces)) (length (m .marks)) ≡ length (m .marks)
-  pub no9 : first (repeatedSide quads (m .faces)) (length (m .faces)) ≡ length (m .faces)
-  pub no10 : first (nonManifold quads (m .faces)) (length (m .marks)) ≡ length (m .marks)
-  pub no11 : first (badValence quads (m .faces)) (length (m .marks)) ≡ length (m .marks)
-  pub no12 : first (markedRing quads (m .faces) (m .marks)) (length (m .marks)) ≡ length (m .marks)
+  pub no9 : first (repeatedSide (shapeOf (m .sides)) (m .faces)) (length (m .faces)) ≡ length (m .faces)
+  pub no10 : first (nonManifold (shapeOf (m .sides)) (m .faces)) (length (m .marks)) ≡ length (m .marks)
+  pub no11 : first (badValence (shapeOf (m .sides)) (m .faces)) (length (m .marks)) ≡ length (m .marks)
+  pub no12 : first (markedRing (shapeOf (m .sides)) (m .faces) (m .marks)) (length (m .marks)) ≡ length (m .marks)
 
-pub none-if : (m : Net) → netVerdict m ≡ accepted → NoRefusal m
+pub none-if : (m : ControlNet) → netVerdict m ≡ accepted → NoRefusal m
 unfolding netVerdict coordinatesVerdict shapeVerdict facesVerdict adjacencyVerdict vertexVerdict
 none-if m e₀ =
     let a₅ = or-both _ _ e₀ in
@@ -166,28 +177,30 @@ none-if m e₀ =
     record {
       no5 = at-none 5 _ _ (λ i. i / 3) (a₅ .0);
       no6 = at-none 6 _ _ (λ p. p) (a₆ .0);
-      no7 = at-none 7 _ _ (quads .face) (a₇ .0);
+      no7 = at-none 7 _ _ (shapeOf (m .sides) .face) (a₇ .0);
       no8 = at-none 8 _ _ (λ p. p) (a₈ .0);
-      no9 = at-none 9 _ _ (quads .face) (a₉ .0);
+      no9 = at-none 9 _ _ (shapeOf (m .sides) .face) (a₉ .0);
       no10 = at-none 10 _ _ (λ p. p) (b₀ .0);
       no11 = at-none 11 _ _ (λ p. p) (b₁ .0);
       no12 = at-none 12 _ _ (λ p. p) (b₁ .1);
     }
 
 -- ---- an accepted call
-pub accepted-limits : (c : Call) → verdict c ≡ accepted → WithinLimits (c .rounds) (lengthsOf (c .net) (c .room))
+pub accepted-limits : (c : Call) → verdict c ≡ accepted → WithinLimits (c .rounds) (c .net .sides) (lengthsOf (c .net) (c .room))
 unfolding verdict
-accepted-limits c e = within-if _ _ (or-both _ _ e .0)
+accepted-limits c e = within-if _ _ _ (or-both _ _ e .0)
 
 pub accepted-net : (c : Call) → verdict c ≡ accepted → NoRefusal (c .net)
 unfolding verdict
 accepted-net c e = none-if (c .net) (or-both (callVerdict c) (netVerdict (c .net)) e .1)
 
-pub accepted-manifold : (c : Call) → verdict c ≡ accepted → Manifold quads (length (c .net .marks)) (c .net .faces)
+pub accepted-lawful : (c : Call) → verdict c ≡ accepted → Lawful (shapeOf (c .net .sides)) (length (c .net .faces))
+accepted-lawful c e = shape-lawful (c .net .sides) (length (c .net .faces)) (accepted-limits c e .sided)
+
+pub accepted-manifold : (c : Call) → verdict c ≡ accepted → Manifold (shapeOf (c .net .sides)) (length (c .net .marks)) (c .net .faces)
 accepted-manifold c e =
-    let w = accepted-limits c e in
     let n = accepted-net c e in
-    manifold-if quads (length (c .net .marks)) (c .net .faces) (quads-lawful (length (c .net .faces)) (w .quadrilaterals))
+    manifold-if (shapeOf (c .net .sides)) (length (c .net .marks)) (c .net .faces) (accepted-lawful c e)
     (record { no7 = n .no7; no8 = n .no8; no9 = n .no9; no10 = n .no10; no11 = n .no11 })
 
 -- "Checked are adjacency and limits": a call for fewer rounds with the same tables is accepted too
@@ -195,7 +208,7 @@ pub accepted-fewer : (c : Call) (j : ℕ) → j ≤ c .rounds → verdict c ≡ 
 unfolding verdict
 accepted-fewer c j h e =
     let n = lengthsOf (c .net) (c .room) in
-    or-accepted (if-within j n (within-fewer (c .rounds) n j h (accepted-limits c e))) (or-both (callVerdict c) (netVerdict (c .net)) e .1)
+    or-accepted (if-within j (c .net .sides) n (within-fewer (c .rounds) (c .net .sides) n j h (accepted-limits c e))) (or-both (callVerdict c) (netVerdict (c .net)) e .1)
 
 -- what 5 and 6 rule out is not there
 pub accepted-coordinate : (c : Call) → verdict c ≡ accepted → (i : ℕ) → i < length (c .net .vertices) → natAbs (getD (c .net .vertices) i (pos 0)) ≤ 1048576

@@ -9,7 +9,8 @@ use Rattle.topology.specs.HalfEdge.{from, to, opposed, mate}
 use Rattle.topology.specs.Boundary.{isBoundaryFrom, boundaryFrom}
 use Rattle.topology.specs.Vertex.{leaves, valence, turn, start, stops, facesMet}
 use Rattle.refusals.specs.Refusals.{badMark, badCorner, isolated, repeatedSide, nonManifold, badValence, markedRing}
-use Rattle.nets.specs.Net.{Net}
+use Rattle.nets.specs.Net.{ControlNet, controlNet}
+use Rattle.polygons.specs.Polygons.{sideAfter, sideBefore, faceThen, noFace, polygons, shapeOf, total, badCount, badSides}
 use Rattle.verdict.specs.Call.{Room, room, lengths}
 use Rattle.verdict.specs.Verdict.{Verdict, accepted, refused, tablesVerdict, sizeVerdict, roomVerdict, limitsVerdict, badCoordinate, coordinatesVerdict, vertexVerdict, adjacencyVerdict, facesVerdict, shapeVerdict, netVerdict}
 
@@ -17,21 +18,40 @@ abbrev ample : Room
 ample = room 4000000 4000000 4000000 5000000
 
 -- 64 faces at 6 rounds pass 3, 65 do not
-sixty-four : limitsVerdict 6 (lengths 300 256 100 ample) ≡ accepted
+sixty-four : limitsVerdict 6 [] (lengths 300 256 100 ample) ≡ accepted
 unfolding limitsVerdict tablesVerdict sizeVerdict roomVerdict
 sixty-four = refl
 
-sixty-five : limitsVerdict 6 (lengths 300 260 100 ample) ≡ refused 3 0
+sixty-five : limitsVerdict 6 [] (lengths 300 260 100 ample) ≡ refused 3 0
 unfolding limitsVerdict tablesVerdict sizeVerdict roomVerdict
 sixty-five = refl
 
--- the lowest number is given
-rounds-first : limitsVerdict 7 (lengths 301 257 5 (room 0 0 0 0)) ≡ refused 1 0
+-- the first that holds is given
+rounds-first : limitsVerdict 7 [] (lengths 301 257 5 (room 0 0 0 0)) ≡ refused 1 0
 unfolding limitsVerdict tablesVerdict sizeVerdict roomVerdict
 rounds-first = refl
 
+-- 14: before the marks, after rounds and the vertex table; "The limits on F and G count the quadrilaterals after the split"
+abbrev sided : List Verdict
+sided =
+    limitsVerdict 0 (9 ∷ []) (lengths 27 9 9 ample)
+    ∷ limitsVerdict 0 (2 ∷ 3 ∷ []) (lengths 15 5 5 ample)
+    ∷ limitsVerdict 0 (3 ∷ 5 ∷ []) (lengths 15 9 5 ample)
+    ∷ limitsVerdict 0 (3 ∷ 5 ∷ []) (lengths 15 7 4 ample)
+    ∷ limitsVerdict 7 (9 ∷ []) (lengths 27 9 9 ample)
+    ∷ limitsVerdict 0 (9 ∷ []) (lengths 28 9 9 ample)
+    ∷ limitsVerdict 0 (3 ∷ 5 ∷ []) (lengths 15 8 4 ample)
+    ∷ limitsVerdict 6 (8 ∷ 8 ∷ 8 ∷ 8 ∷ 8 ∷ 8 ∷ 8 ∷ 8 ∷ []) (lengths 300 64 100 ample)
+    ∷ limitsVerdict 6 (8 ∷ 8 ∷ 8 ∷ 8 ∷ 8 ∷ 8 ∷ 8 ∷ 5 ∷ 4 ∷ []) (lengths 300 65 100 ample)
+    ∷ limitsVerdict 0 (3 ∷ []) (lengths 9 3 3 (room 36 12 12 47))
+    ∷ []
+
+sides : sided ≡ refused 14 0 ∷ refused 14 0 ∷ refused 14 0 ∷ refused 14 0 ∷ refused 1 0 ∷ refused 2 0 ∷ refused 2 0 ∷ accepted ∷ refused 3 0 ∷ refused 4 0 ∷ []
+unfolding limitsVerdict tablesVerdict sizeVerdict roomVerdict badSides badCount total firstFrom first any
+sides = refl
+
 -- an empty net needs no room
-empty : limitsVerdict 6 (lengths 0 0 0 (room 0 0 0 0)) ≡ accepted
+empty : limitsVerdict 6 [] (lengths 0 0 0 (room 0 0 0 0)) ≡ accepted
 unfolding limitsVerdict tablesVerdict sizeVerdict roomVerdict
 empty = refl
 
@@ -44,8 +64,8 @@ abbrev unmarked : ℕ → List ℕ
 unmarked zero = []
 unmarked (suc v) = 0 ∷ unmarked v
 
-abbrev netOf : ℤ → ℕ → List ℕ → Net
-netOf x v faces = record { vertices = x ∷ pos 0 ∷ pos 0 ∷ flat v; faces = faces; marks = 0 ∷ unmarked v }
+abbrev netOf : ℤ → ℕ → List ℕ → ControlNet
+netOf x v faces = controlNet (x ∷ pos 0 ∷ pos 0 ∷ flat v) faces [] (0 ∷ unmarked v)
 
 abbrev square : List ℕ
 square = 0 ∷ 1 ∷ 2 ∷ 3 ∷ []
@@ -76,12 +96,17 @@ computed =
     -- a ring of two is a ring, of too few faces
     ∷ netVerdict (netOf (pos 0) 4 (0 ∷ 1 ∷ 2 ∷ 3 ∷ 0 ∷ 3 ∷ 4 ∷ 1 ∷ []))
     -- mark 1 on a vertex with a full ring: the centre of two by two squares
-    ∷ netVerdict (record { vertices = flat 9; faces = 0 ∷ 1 ∷ 4 ∷ 3 ∷ 1 ∷ 2 ∷ 5 ∷ 4 ∷ 3 ∷ 4 ∷ 7 ∷ 6 ∷ 4 ∷ 5 ∷ 8 ∷ 7 ∷ []; marks = 0 ∷ 0 ∷ 0 ∷ 0 ∷ 1 ∷ 0 ∷ 0 ∷ 0 ∷ 0 ∷ [] })
+    ∷ netVerdict (controlNet (flat 9) (0 ∷ 1 ∷ 4 ∷ 3 ∷ 1 ∷ 2 ∷ 5 ∷ 4 ∷ 3 ∷ 4 ∷ 7 ∷ 6 ∷ 4 ∷ 5 ∷ 8 ∷ 7 ∷ []) [] (0 ∷ 0 ∷ 0 ∷ 0 ∷ 1 ∷ 0 ∷ 0 ∷ 0 ∷ 0 ∷ []))
+    -- faces of other numbers of sides: a tetrahedron; equal corners three apart in an octagon; a side of the first triangle again in the second; a ring of two
+    ∷ netVerdict (controlNet (flat 4) (0 ∷ 1 ∷ 2 ∷ 0 ∷ 2 ∷ 3 ∷ 0 ∷ 3 ∷ 1 ∷ 1 ∷ 3 ∷ 2 ∷ []) (3 ∷ 3 ∷ 3 ∷ 3 ∷ []) (unmarked 4))
+    ∷ netVerdict (controlNet (flat 7) (0 ∷ 1 ∷ 2 ∷ 3 ∷ 1 ∷ 4 ∷ 5 ∷ 6 ∷ []) (8 ∷ []) (unmarked 7))
+    ∷ netVerdict (controlNet (flat 4) (0 ∷ 1 ∷ 2 ∷ 0 ∷ 1 ∷ 3 ∷ []) (3 ∷ 3 ∷ []) (unmarked 4))
+    ∷ netVerdict (controlNet (flat 3) (0 ∷ 1 ∷ 2 ∷ 0 ∷ 2 ∷ 1 ∷ []) (3 ∷ 3 ∷ []) (unmarked 3))
     ∷ []
 
 abbrev stated : List Verdict
-stated = accepted ∷ accepted ∷ refused 5 0 ∷ refused 8 4 ∷ refused 8 4 ∷ refused 8 0 ∷ refused 9 1 ∷ refused 5 0 ∷ refused 10 2 ∷ refused 10 16 ∷ refused 11 0 ∷ refused 12 4 ∷ []
+stated = accepted ∷ accepted ∷ refused 5 0 ∷ refused 8 4 ∷ refused 8 4 ∷ refused 8 0 ∷ refused 9 1 ∷ refused 5 0 ∷ refused 10 2 ∷ refused 10 16 ∷ refused 11 0 ∷ refused 12 4 ∷ accepted ∷ refused 7 0 ∷ refused 9 1 ∷ refused 11 0 ∷ []
 
 nets : computed ≡ stated
-unfolding netVerdict coordinatesVerdict shapeVerdict facesVerdict adjacencyVerdict vertexVerdict badCoordinate badMark badCorner isolated repeatedSide nonManifold badValence markedRing firstFrom first any count iterate quads from to opposed mate isBoundaryFrom boundaryFrom leaves valence turn start stops facesMet
+unfolding netVerdict coordinatesVerdict shapeVerdict facesVerdict adjacencyVerdict vertexVerdict badCoordinate badMark badCorner isolated repeatedSide nonManifold badValence markedRing sideAfter sideBefore faceThen noFace polygons shapeOf firstFrom first any count iterate quads from to opposed mate isBoundaryFrom boundaryFrom leaves valence turn start stops facesMet
 nets = refl

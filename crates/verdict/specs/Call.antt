@@ -1,7 +1,8 @@
 -- A call as the caller makes it.
+use mathlib.Core.List.{List, [], _∷_}
 use Prim.Native.Nat.{ℕ, _*_, _/_, _^_}
 use lib.ListN.{length}
-use Rattle.nets.specs.Net.{Net}
+use Rattle.nets.specs.Net.{Net, ControlNet}
 
 -- how many numbers the output tables and the work table hold
 pub record Room : Type 0 where
@@ -17,7 +18,7 @@ room vertices faces marks work = record { vertices = vertices; faces = faces; ma
 abbrev pub needed : (g : ℕ) → Room
 needed g = room (12 * g) (4 * g) (4 * g) (16 * g)
 
--- the lengths of all tables of a call
+-- the lengths of all tables of a call but that of the side counts, which is given whole where it matters
 pub record Lengths : Type 0 where
   pub coordinates : ℕ
   pub corners : ℕ
@@ -27,15 +28,15 @@ pub record Lengths : Type 0 where
 abbrev pub lengths : (coordinates corners marks : ℕ) → Room → Lengths
 lengths coordinates corners marks room = record { coordinates = coordinates; corners = corners; marks = marks; room = room }
 
-abbrev pub lengthsOf : Net → Room → Lengths
+abbrev pub lengthsOf : ControlNet → Room → Lengths
 lengthsOf m room = lengths (length (m .vertices)) (length (m .faces)) (length (m .marks)) room
 
 pub record Call : Type 0 where
   pub rounds : ℕ
-  pub net : Net
+  pub net : ControlNet
   pub room : Room
 
-abbrev pub call : ℕ → Net → Room → Call
+abbrev pub call : ℕ → ControlNet → Room → Call
 call rounds net room = record { rounds = rounds; net = net; room = room }
 
 -- "V and F are their counts."
@@ -45,6 +46,11 @@ vertexCount m = length (m .marks)
 abbrev pub faceCount : Net → ℕ
 faceCount m = length (m .faces) / 4
 
+-- F of a drawn net, from its side counts and the number of its corners: "The limits on F and G count the quadrilaterals after the split", one for each corner
+abbrev pub quadrilaterals : (sides : List ℕ) (corners : ℕ) → ℕ
+quadrilaterals [] corners = corners / 4
+quadrilaterals (c ∷ s) corners = corners
+
 -- "After k rounds there are F × 4^k faces, called G."
 abbrev pub finalFaces : Call → ℕ
-finalFaces c = faceCount (c .net) * 4 ^ c .rounds
+finalFaces c = quadrilaterals (c .net .sides) (length (c .net .faces)) * 4 ^ c .rounds

@@ -1,16 +1,18 @@
--- The verdict on a call: refused with a number and a place, or accepted. "The lowest number that holds is given. Places are the lowest number concerned."
+-- The verdict on a call: refused with a number and a place, or accepted. The first refusal that holds is given, in this order: 1; 2 for the vertex table; 14
+-- with side counts, without them 2 for the face table; 2 for the marks; 3; 4; 5 to 12. "Places are the lowest number concerned."
 use mathlib.Core.Bool.{Bool, cond, not}
-use mathlib.Core.List.{List}
+use mathlib.Core.List.{List, [], _∷_}
 use Prim.Native.Nat.{ℕ, _*_, _/_, _%_, _^_}
 use lib.Dec.{eqb, ltb}
 use lib.IntN.{ℤ, pos, natAbs}
 use lib.ListN.{length, getD}
 use Rattle.tables.specs.Tables.{cleared}
 use Rattle.search.specs.Search.{first}
-use Rattle.topology.specs.Shape.{quads}
+use Rattle.topology.specs.Shape.{Shape}
+use Rattle.polygons.specs.Polygons.{shapeOf, badSides}
 use Rattle.refusals.specs.Refusals.{badMark, badCorner, isolated, repeatedSide, nonManifold, badValence, markedRing}
-use Rattle.nets.specs.Net.{Net}
-use Rattle.verdict.specs.Call.{Room, needed, Lengths, lengthsOf, Call, finalFaces}
+use Rattle.nets.specs.Net.{ControlNet}
+use Rattle.verdict.specs.Call.{Room, needed, Lengths, lengthsOf, Call, quadrilaterals, finalFaces}
 
 pub data Verdict : Type 0 where
   accepted : Verdict
@@ -35,11 +37,17 @@ afterCall accepted untouched done = done
 afterCall (refused r p) untouched done = untouched
 
 -- ---- "The calling program (place 0, all memory untouched)"
--- 2: "vertex table not a multiple of 3, face table not of 4, or marks not V."
-unfoldable pub tablesVerdict : (coordinates corners marks : ℕ) → Verdict
-tablesVerdict coordinates corners marks =
+-- 2: "face table not [a multiple] of 4", without side counts; with them 14: "a side count outside 3 to 8 or counts that do not add up to the corner table,
+-- tested in place of the face part of 2 and before its marks part"
+abbrev pub cornersVerdict : (sides : List ℕ) (corners : ℕ) → Verdict
+cornersVerdict [] corners = refusedIf 2 (not (eqb (corners % 4) 0))
+cornersVerdict (c ∷ s) corners = refusedIf 14 (badSides (c ∷ s) corners)
+
+-- 2 and 14: "vertex table not a multiple of 3, face table not of 4, or marks not V."
+unfoldable pub tablesVerdict : (coordinates corners : ℕ) (sides : List ℕ) (marks : ℕ) → Verdict
+tablesVerdict coordinates corners sides marks =
     orElse (refusedIf 2 (not (eqb (coordinates % 3) 0)))
-    (orElse (refusedIf 2 (not (eqb (corners % 4) 0)))
+    (orElse (cornersVerdict sides corners)
     (refusedIf 2 (not (eqb marks (coordinates / 3)))))
 
 -- 3: "V above 8,192, F above 4,096, or G above 262,144."
@@ -57,16 +65,16 @@ shorter room stated =
 unfoldable pub roomVerdict : (g : ℕ) → Room → Verdict
 roomVerdict g room = shorter room (needed g)
 
--- 1: "rounds above 6."; then 2, 3 and 4
-unfoldable pub limitsVerdict : (rounds : ℕ) → Lengths → Verdict
-limitsVerdict rounds n =
+-- 1: "rounds above 6."; then 2 and 14, 3 and 4
+unfoldable pub limitsVerdict : (rounds : ℕ) (sides : List ℕ) → Lengths → Verdict
+limitsVerdict rounds sides n =
     orElse (refusedIf 1 (ltb 6 rounds))
-    (orElse (tablesVerdict (n .coordinates) (n .corners) (n .marks))
-    (orElse (sizeVerdict (n .coordinates / 3) (n .corners / 4) (n .corners / 4 * 4 ^ rounds))
-    (roomVerdict (n .corners / 4 * 4 ^ rounds) (n .room))))
+    (orElse (tablesVerdict (n .coordinates) (n .corners) sides (n .marks))
+    (orElse (sizeVerdict (n .coordinates / 3) (quadrilaterals sides (n .corners)) (quadrilaterals sides (n .corners) * 4 ^ rounds))
+    (roomVerdict (quadrilaterals sides (n .corners) * 4 ^ rounds) (n .room))))
 
 abbrev pub callVerdict : Call → Verdict
-callVerdict c = limitsVerdict (c .rounds) (lengthsOf (c .net) (c .room))
+callVerdict c = limitsVerdict (c .rounds) (c .net .sides) (lengthsOf (c .net) (c .room))
 
 -- ---- "Whoever drew the net"
 -- 5: "a coordinate outside -1,048,576 to 1,048,576; vertex."
@@ -76,33 +84,33 @@ badCoordinate vs i = ltb 1048576 (natAbs (getD vs i (pos 0)))
 unfoldable pub coordinatesVerdict : List ℤ → Verdict
 coordinatesVerdict vs = refusedAt 5 (badCoordinate vs) (length vs) (λ i. i / 3)
 
--- 10 to 12, then 9 to 12, then 8 to 12, of v vertices
-unfoldable pub vertexVerdict : ℕ → List ℕ → List ℕ → Verdict
-vertexVerdict v l marks =
-    orElse (refusedAt 10 (nonManifold quads l) v (λ p. p))
-    (orElse (refusedAt 11 (badValence quads l) v (λ p. p))
-    (refusedAt 12 (markedRing quads l marks) v (λ p. p)))
+-- "Refusals 5 to 12 are tested on the drawn net", whose faces have the shape S: 10 to 12, then 9 to 12, then 8 to 12, of v vertices
+unfoldable pub vertexVerdict : Shape → ℕ → List ℕ → List ℕ → Verdict
+vertexVerdict S v l marks =
+    orElse (refusedAt 10 (nonManifold S l) v (λ p. p))
+    (orElse (refusedAt 11 (badValence S l) v (λ p. p))
+    (refusedAt 12 (markedRing S l marks) v (λ p. p)))
 
-unfoldable pub adjacencyVerdict : ℕ → List ℕ → List ℕ → Verdict
-adjacencyVerdict v l marks = orElse (refusedAt 9 (repeatedSide quads l) (length l) (quads .face)) (vertexVerdict v l marks)
+unfoldable pub adjacencyVerdict : Shape → ℕ → List ℕ → List ℕ → Verdict
+adjacencyVerdict S v l marks = orElse (refusedAt 9 (repeatedSide S l) (length l) (S .face)) (vertexVerdict S v l marks)
 
-unfoldable pub facesVerdict : ℕ → List ℕ → List ℕ → Verdict
-facesVerdict v l marks = orElse (refusedAt 8 (isolated l) v (λ p. p)) (adjacencyVerdict v l marks)
+unfoldable pub facesVerdict : Shape → ℕ → List ℕ → List ℕ → Verdict
+facesVerdict S v l marks = orElse (refusedAt 8 (isolated l) v (λ p. p)) (adjacencyVerdict S v l marks)
 
 -- 6 to 12
-unfoldable pub shapeVerdict : (faces marks : List ℕ) → Verdict
-shapeVerdict l marks =
+unfoldable pub shapeVerdict : Shape → (faces marks : List ℕ) → Verdict
+shapeVerdict S l marks =
     orElse (refusedAt 6 (badMark marks) (length marks) (λ p. p))
-    (orElse (refusedAt 7 (badCorner quads (length marks) l) (length l) (quads .face))
-    (facesVerdict (length marks) l marks))
+    (orElse (refusedAt 7 (badCorner S (length marks) l) (length l) (S .face))
+    (facesVerdict S (length marks) l marks))
 
-unfoldable pub netVerdict : Net → Verdict
-netVerdict m = orElse (coordinatesVerdict (m .vertices)) (shapeVerdict (m .faces) (m .marks))
+unfoldable pub netVerdict : ControlNet → Verdict
+netVerdict m = orElse (coordinatesVerdict (m .vertices)) (shapeVerdict (shapeOf (m .sides)) (m .faces) (m .marks))
 
 unfoldable pub verdict : Call → Verdict
 verdict c = orElse (callVerdict c) (netVerdict (c .net))
 
 -- ---- the work table
--- "(place 0, all memory untouched)" on 1 to 4; "first 16G work numbers zero" on 5 to 12 and on acceptance; "Work numbers beyond 16G are never touched."
+-- "(place 0, all memory untouched)" on 1 to 4 and 14; "first 16G work numbers zero" on 5 to 12 and on acceptance; "Work numbers beyond 16G are never touched."
 abbrev pub workAfter : Call → List ℕ → List ℕ
 workAfter c w = afterCall (callVerdict c) w (cleared (16 * finalFaces c) w)

@@ -1,11 +1,11 @@
 //! The functions of the archive over slices.
 
 use crate::foreign::{
-    gedrovit_check, gedrovit_refine, gedrovit_sizes_for, gedrovit_version, gedrovit_version_0_1_1,
+    gedrovit_check, gedrovit_refine, gedrovit_sizes_for, gedrovit_version, gedrovit_version_0_2_0,
 };
 use crate::{NetView, Refusal, Tables};
 
-/// The version of the archive: 0.1.1 is 1001.
+/// The version of the archive: 0.2.0 is 2000.
 #[must_use]
 pub fn version() -> u32 {
     // SAFETY: the function takes nothing.
@@ -16,7 +16,7 @@ pub fn version() -> u32 {
 /// another version does not link.
 fn same_version() {
     // SAFETY: the function takes nothing.
-    unsafe { gedrovit_version_0_1_1() };
+    unsafe { gedrovit_version_0_2_0() };
 }
 
 /// How many vertices and faces a refined net has.
@@ -41,16 +41,25 @@ pub struct Lengths {
     pub work: usize,
 }
 
-/// The least lengths of the tables that serve a net, by the lengths of its own tables alone.
+/// The least lengths of the tables that serve a net, by the lengths of its own tables and its side
+/// counts alone.
 ///
 /// # Errors
 ///
-/// Reasons 1 to 3: no call with these lengths is accepted.
+/// Reasons 1, 2, 3 and 14: no call with these lengths and side counts is accepted.
 pub fn lengths(rounds: u32, net: NetView<'_>) -> Result<Lengths, Refusal> {
     same_version();
-    // SAFETY: the function takes numbers only.
-    let sizes =
-        unsafe { gedrovit_sizes_for(rounds, net.vertices.len(), net.faces.len(), net.marks.len()) };
+    // SAFETY: as in `refine`.
+    let sizes = unsafe {
+        gedrovit_sizes_for(
+            rounds,
+            net.vertices.len(),
+            net.faces.len(),
+            net.sides.as_ptr(),
+            net.sides.len(),
+            net.marks.len(),
+        )
+    };
     Refusal::accept(sizes.reason, 0)?;
     Ok(Lengths {
         vertices: sizes.out_vertices as usize,
@@ -66,8 +75,8 @@ pub fn lengths(rounds: u32, net: NetView<'_>) -> Result<Lengths, Refusal> {
 ///
 /// # Errors
 ///
-/// Every reason. The vertices, faces and marks stay as they are, and on reasons 1 to 4 the work
-/// numbers too.
+/// Every reason. The vertices, faces and marks stay as they are, and on reasons 1 to 4 and 14 the
+/// work numbers too.
 pub fn refine(rounds: u32, net: NetView<'_>, tables: Tables<'_>) -> Result<Counts, Refusal> {
     same_version();
     // SAFETY: slices are non-null, aligned and of at most isize::MAX bytes; mutable ones overlap no
@@ -79,6 +88,8 @@ pub fn refine(rounds: u32, net: NetView<'_>, tables: Tables<'_>) -> Result<Count
             net.vertices.len(),
             net.faces.as_ptr(),
             net.faces.len(),
+            net.sides.as_ptr(),
+            net.sides.len(),
             net.marks.as_ptr(),
             net.marks.len(),
             tables.vertices.as_mut_ptr(),
@@ -119,6 +130,8 @@ pub fn check(
             net.vertices.len(),
             net.faces.as_ptr(),
             net.faces.len(),
+            net.sides.as_ptr(),
+            net.sides.len(),
             net.marks.as_ptr(),
             net.marks.len(),
             lengths.vertices,

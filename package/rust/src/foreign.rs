@@ -29,7 +29,7 @@ pub struct Sizes {
 unsafe extern "C" {
     pub fn gedrovit_version() -> u32;
 
-    pub fn gedrovit_version_0_1_1() -> u32;
+    pub fn gedrovit_version_0_2_0() -> u32;
 
     pub fn gedrovit_refine(
         rounds: u32,
@@ -37,6 +37,8 @@ unsafe extern "C" {
         vertices_length: usize,
         faces: *const u32,
         faces_length: usize,
+        sides: *const u8,
+        sides_length: usize,
         marks: *const u8,
         marks_length: usize,
         out_vertices: *mut i32,
@@ -55,6 +57,8 @@ unsafe extern "C" {
         vertices_length: usize,
         faces: *const u32,
         faces_length: usize,
+        sides: *const u8,
+        sides_length: usize,
         marks: *const u8,
         marks_length: usize,
         out_vertices_length: usize,
@@ -68,6 +72,8 @@ unsafe extern "C" {
         rounds: u32,
         vertices_length: usize,
         faces_length: usize,
+        sides: *const u8,
+        sides_length: usize,
         marks_length: usize,
     ) -> Sizes;
 }

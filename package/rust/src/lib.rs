@@ -1,6 +1,7 @@
 //! Refines nets of quadrilateral faces by Kobbelt's interpolatory subdivision at weight 1, with exact
-//! arithmetic and one rounding for each new coordinate. Two nets that share a boundary segment
-//! before refining share it afterwards, point for point.
+//! arithmetic and one rounding for each new coordinate. Nets with faces of 3 to 8 sides are first
+//! split into quadrilaterals. Two nets that share a boundary segment before refining share it
+//! afterwards, point for point.
 //!
 //! The work is done by proved code in the archive `libgedrovit.a`. The header `gedrovit.h` has the
 //! whole contract; what it says of tables, numbering and limits holds here too.
@@ -14,6 +15,17 @@
 //! let refined = square.refined(1)?;
 //! assert_eq!(refined.faces.len() / 4, 4);
 //! assert_eq!(refined.vertices[24..], [8, 8, 0]);
+//! # Ok::<(), gedrovit::Refusal>(())
+//! ```
+//!
+//! Other faces than quadrilaterals come with side counts; zero rounds give the split net:
+//!
+//! ```
+//! let triangle = gedrovit::Net::new(vec![0, 0, 0, 6, 0, 0, 0, 6, 0], vec![0, 1, 2], vec![0; 3])
+//!     .with_sides(vec![3]);
+//! let split = triangle.refined(0)?;
+//! assert_eq!(split.vertices[9..], [3, 0, 0, 3, 3, 0, 0, 3, 0, 2, 2, 0]);
+//! assert_eq!(split.faces, [0, 3, 6, 5, 1, 4, 6, 3, 2, 5, 6, 4]);
 //! # Ok::<(), gedrovit::Refusal>(())
 //! ```
 //!

@@ -8,10 +8,12 @@ use crate::{lengths, refine, Refusal};
 pub struct Net {
     /// Three coordinates for each vertex.
     pub vertices: Vec<i32>,
-    /// Four vertex numbers for each face.
+    /// The vertex numbers of each face.
     pub faces: Vec<u32>,
     /// For each vertex 1 if the boundary has a corner there, 0 if not.
     pub marks: Vec<u8>,
+    /// For each face how many sides it has; empty if all have four.
+    pub sides: Vec<u8>,
 }
 
 /// A net in borrowed tables, made by [`NetView::new`]; later versions add fields. Tables of arrays, as `[[i32; 3]]`, give theirs by `as_flattened`.
@@ -20,10 +22,12 @@ pub struct Net {
 pub struct NetView<'a> {
     /// Three coordinates for each vertex.
     pub vertices: &'a [i32],
-    /// Four vertex numbers for each face.
+    /// The vertex numbers of each face.
     pub faces: &'a [u32],
     /// For each vertex 1 if the boundary has a corner there, 0 if not.
     pub marks: &'a [u8],
+    /// For each face how many sides it has; empty if all have four.
+    pub sides: &'a [u8],
 }
 
 /// The tables that [`refine`] fills, with its workspace, made by [`Tables::new`]; later versions add
@@ -42,23 +46,32 @@ pub struct Tables<'a> {
 }
 
 impl Net {
-    /// A net of these tables.
+    /// A net of these tables, every face with four sides.
     #[must_use]
     pub fn new(vertices: Vec<i32>, faces: Vec<u32>, marks: Vec<u8>) -> Self {
         Self {
             vertices,
             faces,
             marks,
+            sides: Vec::new(),
         }
+    }
+
+    /// The net with these side counts, from 3 to 8 for each face; its faces are then split before
+    /// refining.
+    #[must_use]
+    pub fn with_sides(self, sides: Vec<u8>) -> Self {
+        Self { sides, ..self }
     }
 
     /// The net as borrowed tables.
     #[must_use]
     pub fn view(&self) -> NetView<'_> {
-        NetView::new(&self.vertices, &self.faces, &self.marks)
+        NetView::new(&self.vertices, &self.faces, &self.marks).with_sides(&self.sides)
     }
 
-    /// The net after this many refinement steps, in tables allocated for it.
+    /// The net after this many refinement steps, all faces with four sides, in tables allocated for
+    /// it.
     ///
     /// # Errors
     ///
@@ -69,14 +82,21 @@ impl Net {
 }
 
 impl<'a> NetView<'a> {
-    /// A net of these tables.
+    /// A net of these tables, every face with four sides.
     #[must_use]
     pub fn new(vertices: &'a [i32], faces: &'a [u32], marks: &'a [u8]) -> Self {
         Self {
             vertices,
             faces,
             marks,
+            sides: &[],
         }
+    }
+
+    /// As [`Net::with_sides`].
+    #[must_use]
+    pub fn with_sides(self, sides: &'a [u8]) -> Self {
+        Self { sides, ..self }
     }
 
     /// As [`Net::refined`].

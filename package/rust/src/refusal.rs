@@ -9,10 +9,10 @@ use std::fmt;
 pub enum Reason {
     /// Rounds above 6.
     TooManyRounds,
-    /// The vertex table is no multiple of 3 long, the face table none of 4, or the marks are not one
-    /// for each vertex.
+    /// The vertex table is no multiple of 3 long, without side counts the face table none of 4, or
+    /// the marks are not one for each vertex.
     InvalidLengths,
-    /// More than 8,192 vertices, 4,096 faces or 262,144 refined faces.
+    /// More than 8,192 vertices, 4,096 faces (with side counts, corners) or 262,144 refined faces.
     NetTooLarge,
     /// An output or the work table is shorter than [`lengths`](crate::lengths) says.
     TableTooShort,
@@ -34,26 +34,29 @@ pub enum Reason {
     ValenceOutOfRange,
     /// Mark 1 on a vertex with a full ring. The place is the vertex.
     MarkedInteriorVertex,
+    /// A side count outside 3 to 8, or counts that do not add up to the length of the face table.
+    InvalidSideCounts,
     /// A number that this version does not know.
     Unknown(u32),
 }
 
 use Reason::*;
 
-/// The known reasons; their numbers count from 1.
-const ALL: [Reason; 12] = [
-    TooManyRounds,
-    InvalidLengths,
-    NetTooLarge,
-    TableTooShort,
-    CoordinateOutOfRange,
-    InvalidMark,
-    InvalidCorner,
-    IsolatedVertex,
-    RepeatedHalfEdge,
-    NonManifoldVertex,
-    ValenceOutOfRange,
-    MarkedInteriorVertex,
+/// The known reasons with their numbers.
+const ALL: [(u32, Reason); 13] = [
+    (1, TooManyRounds),
+    (2, InvalidLengths),
+    (3, NetTooLarge),
+    (4, TableTooShort),
+    (5, CoordinateOutOfRange),
+    (6, InvalidMark),
+    (7, InvalidCorner),
+    (8, IsolatedVertex),
+    (9, RepeatedHalfEdge),
+    (10, NonManifoldVertex),
+    (11, ValenceOutOfRange),
+    (12, MarkedInteriorVertex),
+    (14, InvalidSideCounts),
 ];
 
 impl Reason {
@@ -62,8 +65,8 @@ impl Reason {
     pub fn number(self) -> u32 {
         match self {
             Unknown(number) => number,
-            _ => (1..)
-                .zip(ALL)
+            _ => ALL
+                .into_iter()
                 .find_map(|(number, reason)| (reason == self).then_some(number))
                 .unwrap_or(0),
         }
@@ -71,8 +74,9 @@ impl Reason {
 
     /// The reason of a number that is not 0.
     fn of(number: u32) -> Reason {
-        let index = (number as usize).wrapping_sub(1);
-        ALL.get(index).copied().unwrap_or(Unknown(number))
+        ALL.into_iter()
+            .find_map(|(known, reason)| (known == number).then_some(reason))
+            .unwrap_or(Unknown(number))
     }
 
     /// What the reason says, as `gedrovit_reason_text` does.
@@ -93,6 +97,9 @@ impl Reason {
             }
             ValenceOutOfRange => "the ring is not of 3 to 8 faces, or the fan is of more than 6",
             MarkedInteriorVertex => "the vertex is marked and not on the boundary",
+            InvalidSideCounts => {
+                "a side count is not from 3 to 8, or the counts do not add up to the corners"
+            }
             Unknown(_) => "a reason that this version does not know",
         }
     }
@@ -100,19 +107,20 @@ impl Reason {
     /// What the place of a refusal is the number of, if it is one.
     fn subject(self) -> Option<&'static str> {
         match self {
-            TooManyRounds | InvalidLengths | NetTooLarge | TableTooShort | Unknown(_) => None,
+            TooManyRounds | InvalidLengths | NetTooLarge | TableTooShort | InvalidSideCounts
+            | Unknown(_) => None,
             InvalidCorner | RepeatedHalfEdge => Some("face"),
             _ => Some("vertex"),
         }
     }
 }
 
-/// A call that was refused: the lowest reason that holds, and where.
+/// A call that was refused: the first reason that holds, in the order of `gedrovit.h`, and where.
 #[derive(Clone, Copy, Debug, PartialEq, Eq, Hash)]
 pub struct Refusal {
     /// Why.
     pub reason: Reason,
-    /// The lowest vertex or face number concerned, from 0; 0 for reasons 1 to 4.
+    /// The lowest vertex or face number concerned, from 0; 0 for reasons 1 to 4 and 14.
     pub place: usize,
 }
 
@@ -154,7 +162,7 @@ mod tests {
 
     #[test]
     fn an_unknown_number_is_an_error() {
-        for number in [13, u32::MAX] {
+        for number in [13, 15, u32::MAX] {
             let refusal = Refusal::accept(number, 5).unwrap_err();
             assert_eq!(refusal.reason, Unknown(number));
             assert!(refusal
@@ -172,5 +180,7 @@ mod tests {
         );
         let refusal = Refusal::accept(1, 0).unwrap_err();
         assert_eq!(refusal.to_string(), "refusal 1: more than 6 rounds");
+        let refusal = Refusal::accept(14, 0).unwrap_err();
+        assert!(refusal.to_string().starts_with("refusal 14: a side count"));
     }
 }

@@ -238,6 +238,140 @@ fn vertices_are_checked() {
     );
 }
 
+/// A net of one face with these heights above corners on a parabola, without marks.
+fn lone(heights: &[i32]) -> Net {
+    let count = heights.len() as u32;
+    let vertices = heights
+        .iter()
+        .enumerate()
+        .flat_map(|(i, &z)| [i as i32, (i * i) as i32, z]);
+    Net::new(
+        vertices.collect(),
+        (0..count).collect(),
+        vec![0; heights.len()],
+    )
+    .with_sides(vec![count as u8])
+}
+
+/// Every third number from this one on.
+fn axis(vertices: &[i32], first: usize) -> Vec<i32> {
+    vertices.iter().skip(first).step_by(3).copied().collect()
+}
+
+#[test]
+fn zero_rounds_split_a_net_with_side_counts() {
+    let triangle = Net::new(
+        vec![0, 0, 0, 6, 0, 0, 0, 6, 0],
+        vec![0, 1, 2],
+        vec![1, 0, 1],
+    )
+    .with_sides(vec![3]);
+    let split = Net::new(
+        [
+            [0, 0, 0],
+            [6, 0, 0],
+            [0, 6, 0],
+            [3, 0, 0],
+            [3, 3, 0],
+            [0, 3, 0],
+            [2, 2, 0],
+        ]
+        .concat(),
+        [[0, 3, 6, 5], [1, 4, 6, 3], [2, 5, 6, 4]].concat(),
+        vec![1, 0, 1, 0, 0, 0, 0],
+    );
+    assert_eq!(triangle.refined(0), Ok(split.clone()));
+    assert_eq!(triangle.refined(2), split.refined(2));
+}
+
+#[test]
+fn midpoints_and_means_are_rounded_once() {
+    let split = lone(&[0, 0, -1, 0, -2]).refined(0).unwrap();
+    assert_eq!(axis(&split.vertices, 2)[5..], [0, -1, -1, -1, -1, -1]);
+}
+
+#[test]
+fn faces_of_four_sides_are_split_too() {
+    let mut counted = square().with_sides(vec![4]);
+    counted.marks.fill(0);
+    let split = counted.refined(0).unwrap();
+    assert_eq!(split.faces.len() / 4, 4);
+    assert_eq!(split.vertices[12..15], [8, 0, 0]);
+    counted.sides.clear();
+    let refined = counted.refined(1).unwrap();
+    assert_eq!(refined.vertices[12..15], [8, -2, 0]);
+}
+
+#[test]
+fn faces_have_three_to_eight_sides() {
+    for count in 0..=20 {
+        let net = lone(&vec![0; count]);
+        let range = usize::from(gedrovit::MIN_SIDES)..=usize::from(gedrovit::MAX_SIDES);
+        let refined = net.refined(1).map(|refined| refined.faces.len());
+        if range.contains(&count) {
+            assert_eq!(refined, Ok(16 * count));
+        } else {
+            assert_eq!(refined, Err(refusal(Reason::InvalidSideCounts, 0)));
+        }
+    }
+}
+
+#[test]
+fn side_counts_are_tested_after_the_vertices_and_before_the_marks() {
+    let short = Net::new(vec![0; 12], vec![0, 1, 2, 3, 4], vec![0; 3]);
+    let refused = [
+        (7, 12, 3, Reason::TooManyRounds),
+        (1, 11, 3, Reason::InvalidLengths),
+        (1, 12, 3, Reason::InvalidSideCounts),
+        (1, 12, 5, Reason::InvalidLengths),
+    ];
+    for (rounds, vertices, count, reason) in refused {
+        let view = NetView::new(&short.vertices[..vertices], &short.faces, &short.marks);
+        let view = view.with_sides(std::slice::from_ref(&count));
+        let mut tables = Owned::new(Lengths {
+            vertices: 1,
+            faces: 1,
+            marks: 1,
+            work: 1,
+        });
+        let before = tables.clone();
+        assert_eq!(refine(rounds, view, tables.lend()), Err(refusal(reason, 0)));
+        assert_eq!(tables, before);
+        assert_eq!(lengths(rounds, view), Err(refusal(reason, 0)));
+    }
+}
+
+#[test]
+fn limits_count_the_corners_where_there_are_side_counts() {
+    let triangles = |count: u32| {
+        Net::new(
+            vec![0; 9 * count as usize],
+            (0..3 * count).collect(),
+            vec![0; 3 * count as usize],
+        )
+        .with_sides(vec![3; count as usize])
+    };
+    assert_eq!(
+        lengths(0, triangles(1365).view()).map(|n| n.work),
+        Ok(16 * 4095)
+    );
+    let too_large = Err(refusal(Reason::NetTooLarge, 0));
+    assert_eq!(lengths(0, triangles(1366).view()), too_large);
+    assert_eq!(
+        lengths(6, triangles(21).view()).map(|n| n.faces),
+        Ok(4 * 63 * 4096)
+    );
+    assert_eq!(lengths(6, triangles(22).view()), too_large);
+}
+
+#[test]
+fn places_are_those_of_drawn_faces() {
+    let twice = NetView::new(&[0; 9], &[0, 1, 2, 2, 1, 2], &[0; 3]).with_sides(&[3, 3]);
+    assert_eq!(twice.refined(0), Err(refusal(Reason::InvalidCorner, 1)));
+    let turned = NetView::new(&[0; 12], &[0, 1, 2, 0, 1, 3], &[0; 4]).with_sides(&[3, 3]);
+    assert_eq!(turned.refined(0), Err(refusal(Reason::RepeatedHalfEdge, 1)));
+}
+
 #[test]
 fn lengths_follow_the_refined_faces() {
     let expected = Lengths {

@@ -4,7 +4,7 @@ use gedrovit::Reason::{self, *};
 
 const HEADER: &str = include_str!("../../include/gedrovit.h");
 
-const REASONS: [Reason; 12] = [
+const REASONS: [Reason; 13] = [
     TooManyRounds,
     InvalidLengths,
     NetTooLarge,
@@ -17,6 +17,7 @@ const REASONS: [Reason; 12] = [
     NonManifoldVertex,
     ValenceOutOfRange,
     MarkedInteriorVertex,
+    InvalidSideCounts,
 ];
 
 /// What stands between two texts, wherever they stand in one line of the header.
@@ -63,6 +64,8 @@ fn constants_are_the_headers() {
         ("MAX_COORDINATE", gedrovit::MAX_COORDINATE as u64),
         ("MAX_RING", gedrovit::MAX_RING as u64),
         ("MAX_FAN", gedrovit::MAX_FAN as u64),
+        ("MIN_SIDES", gedrovit::MIN_SIDES.into()),
+        ("MAX_SIDES", gedrovit::MAX_SIDES.into()),
         (
             "MAX_REFINED_COORDINATE",
             gedrovit::MAX_REFINED_COORDINATE as u64,
@@ -72,8 +75,12 @@ fn constants_are_the_headers() {
     for (name, value) in constants {
         assert_eq!(constant(name), value, "{name}");
     }
-    let all = between("#define GEDROVIT_MAX_", " ").count();
-    assert_eq!(all + 1, constants.len(), "the header has other limits");
+    let all = ["MAX", "MIN"].map(|word| between(&format!("#define GEDROVIT_{word}_"), " ").count());
+    assert_eq!(
+        all[0] + all[1] + 1,
+        constants.len(),
+        "the header has other limits"
+    );
 }
 
 #[test]

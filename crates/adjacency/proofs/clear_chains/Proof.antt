@@ -3,16 +3,17 @@ use Prim.Native.Nat.{_-_, _*_, _≤_}
 use mathlib.Core.Path.{_≡_, refl}
 use native.Mathlib.Omega.{arith}
 use lib.ListN.{length, length-set}
-use Rattle.adjacency.specs.Chains.{SameOutside}
-use Rattle.adjacency.proofs.Chains.{Cleared, cleared-start, cleared-next, cleared-all, same-outside, outside-set}
+use Rattle.tables.specs.Tables.{SameOutside}
+use Rattle.tables.proofs.Laws.{same-outside, outside-set}
+use Rattle.adjacency.proofs.Chains.{Cleared, cleared-start, cleared-next, cleared-all}
 use Rattle.adjacency.proofs.clear_chains.Statement.{statement}
 use Rattle.adjacency.proofs.clear_chains.Tie as tie
 
 abbrev Inv-loop : tie.InvT-loop
-Inv-loop faces work₀ n v₀ work v = (v ≤ length faces) × (length work ≡ length work₀) × Cleared faces work v × SameOutside (length faces) (2 * length faces) work₀ work
+Inv-loop faces sides work₀ n v₀ work v = (v ≤ length faces) × (length work ≡ length work₀) × Cleared faces work v × SameOutside (length faces) (2 * length faces) work₀ work
 
 abbrev μ-loop : tie.MeasureT-loop
-μ-loop faces work₀ n v₀ work v = length faces - v
+μ-loop faces sides work₀ n v₀ work v = length faces - v
 
 loop-holds : tie.Need-loop-holds Inv-loop μ-loop
 loop-holds c = (omega arith, refl, cleared-start _ _, same-outside _ _ _)

@@ -8,10 +8,10 @@ use Rattle.adjacency.proofs.valence_at.Statement.{statement}
 use Rattle.adjacency.proofs.valence_at.Tie as tie
 
 abbrev Inv-loop : tie.InvT-loop
-Inv-loop faces work p n g₀ m₀ g m = Tally faces p g m
+Inv-loop faces sides work p n g₀ m₀ g m = Tally faces p g m
 
 abbrev μ-loop : tie.MeasureT-loop
-μ-loop faces work p n g₀ m₀ g m = length faces - g
+μ-loop faces sides work p n g₀ m₀ g m = length faces - g
 
 add-g : tie.Need-add-g Inv-loop μ-loop
 add-g c = omega arith

@@ -5,6 +5,9 @@ use borrow.Author.Needs.{needs}
 use Rattle.capi.proofs.gedrovit_sizes_for.Statement.{statement}
 use Rattle.capi.proofs.gedrovit_sizes_for.Tie as tie
 
+quadrilaterals-requires : tie.Need-quadrilaterals-requires
+quadrilaterals-requires c κs = search needs
+
 final-faces-requires : tie.Need-final-faces-requires
 final-faces-requires c κs = search needs
 
@@ -17,13 +20,13 @@ limits-requires c κs = search needs
 returns : tie.Need-returns
 returns c =
     let y = c .before .before in
-    refused-sizes _ _ _ _ _ (y .before .final-faces .ensures) (roomIn (y .needed .result)) (y .needed .ensures) _ (c .before .limits .ensures) (c .if1 .taken)
+    refused-sizes _ _ _ (START .args .sides .now) _ _ (y .before .before .quadrilaterals .ensures) _ (y .before .final-faces .ensures) (roomIn (y .needed .result)) (y .needed .ensures) _ (c .before .limits .ensures) (c .if1 .taken)
 
 returns-2 : tie.Need-returns-2
 returns-2 c =
     let y = c .before .before in
-    given-sizes _ _ _ _ _ (y .before .final-faces .ensures) (roomIn (y .needed .result)) (y .needed .ensures) _ (c .before .limits .ensures) (c .if1 .left)
+    given-sizes _ _ _ (START .args .sides .now) _ _ (y .before .before .quadrilaterals .ensures) _ (y .before .final-faces .ensures) (roomIn (y .needed .result)) (y .needed .ensures) _ (c .before .limits .ensures) (c .if1 .left)
 
 pub gedrovit-sizes-for-spec : {M : Type 1} → statement M
 gedrovit-sizes-for-spec =
-    tie.close (tie.spec final-faces-requires needed-requires limits-requires returns returns-2)
+    tie.close (tie.spec quadrilaterals-requires final-faces-requires needed-requires limits-requires returns returns-2)

@@ -1,15 +1,15 @@
 -- `limits::final_faces` meets its contract. Assumes nothing.
 use mathlib.Core.Path.{ap}
-use Prim.Native.Nat.{ℕ, _*_, _/_, _≤_}
+use Prim.Native.Nat.{ℕ, _*_, _≤_}
 use native.Mathlib.Nat.{mul-le-mul-left}
 use native.Mathlib.Omega.{arith}
 use borrow.Author.Needs.{needs}
 use Rattle.limits.proofs.final_faces.Statement.{statement}
 use Rattle.limits.proofs.final_faces.Tie as tie
 
-below : (c : tie.After-pow4) → c .before .before .before .args .corners / 4 * c .pow4 .result ≤ 16777216
+below : (c : tie.After-pow4) → c .before .before .before .args .faces * c .pow4 .result ≤ 16777216
 below c =
-    let f = c .before .before .before .args .corners / 4 in
+    let f = c .before .before .before .args .faces in
     let g : f * c .pow4 .result ≤ f * 4096 = mul-le-mul-left f (c .pow4 .ensures .1) in
     let h = c .before .if2 .left in
     omega arith
@@ -27,7 +27,7 @@ mul-result : tie.Need-mul-result
 mul-result c = let h = below c in record { fits = omega arith }
 
 returns-3 : tie.Need-returns-3
-returns-3 c = record { few = below c; final = λ h d. ap (λ (p : ℕ). c .before .before .before .args .corners / 4 * p) (c .pow4 .ensures .0) }
+returns-3 c = record { few = below c; final = λ h d. ap (λ (p : ℕ). c .before .before .before .args .faces * p) (c .pow4 .ensures .0) }
 
 pub final-faces-spec : {M : Type 1} → statement M
 final-faces-spec = tie.close (tie.spec returns returns-2 pow4-requires mul-result returns-3)

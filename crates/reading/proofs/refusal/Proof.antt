@@ -10,6 +10,9 @@ mul-coordinates c = search needs
 mul-corners : tie.Need-mul-corners
 mul-corners c = search needs
 
+slice-aggregate-limits : tie.Need-slice-aggregate-limits
+slice-aggregate-limits c = search needs
+
 limits-requires : tie.Need-limits-requires
 limits-requires c κs = search needs
 
@@ -24,4 +27,4 @@ returns-3 c = within-tables _ _ _ _ (c .before .before .limits .ensures) (c .bef
 
 pub refusal-spec : {M : Type 1} → statement M
 refusal-spec =
-    tie.close (tie.spec mul-coordinates mul-corners limits-requires returns returns-2 returns-3)
+    tie.close (tie.spec mul-coordinates mul-corners slice-aggregate-limits limits-requires returns returns-2 returns-3)

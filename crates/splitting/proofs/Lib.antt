@@ -1,0 +1,5 @@
+pub mod Examples
+pub mod Coordinates
+pub mod Split
+pub mod Growth
+pub mod Room
