@@ -386,8 +386,14 @@ pub const POLYGON_REASONS: [u32; 13] = [1, 2, 3, 4, 5, 6, 7, 8, 9, 10, 11, 12, 1
 /// Makes the side counts wrong, or the corners for them.
 pub fn break_sides(case: &mut Case, rng: &mut Rng) {
     let at = rng.below(case.sides.len());
-    match rng.below(10) {
+    match rng.below(12) {
         0 => case.sides[at] = rng.pick(&[0, 1, 2, 9, 10, 255]),
+        // The sum is right.
+        10 | 11 => {
+            case.sides[at] = rng.pick(&[1, 2, 2, 9, 9, 10]);
+            let sum = case.sides.iter().map(|&count| usize::from(count)).sum();
+            case.faces.resize(sum, 0);
+        }
         1 => case.sides[at] += 1,
         2 => case.sides[at] -= 1,
         3 => case.sides.push(rng.pick(&[0, 3, 8, 255])),
