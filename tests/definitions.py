@@ -469,10 +469,10 @@ MUTATIONS = {
             ("    (refusedAt 12 (markedRing S l marks) v (λ p. p)))", "    (refusedAt 11 (badValence S l) v (λ p. p)))"),
         ],
     ),
-    "a face of nine sides accepted": ("Verdict", "polygons-refused-14", "polygons/specs/Polygons.antt", [("|| ltb 8 c", "|| ltb 9 c")]),
+    "a face of nine sides accepted": ("Verdict", "polygons-stored-count-9", "polygons/specs/Polygons.antt", [("|| ltb 8 c", "|| ltb 9 c")]),
     "marks tested before side counts": (
         "Verdict",
-        "polygons-refused-02-14",
+        "polygons-stored-bad-count-and-a-mark-more",
         "verdict/specs/Verdict.antt",
         [
             ("    (orElse (cornersVerdict sides corners)", "    (orElse (refusedIf 2 (not (eqb marks (coordinates / 3))))"),
@@ -574,7 +574,7 @@ def print_coverage(cases, options):
     splits = [case for case in cases if "split" in case]
     told = sum(len(case["net"][1]) <= ROUND_CORNERS for case in splits)
     print(f"{len(splits)} accepted nets with side counts with their split, {told} of them with the round after it")
-    calls = collections.Counter(re.sub(r"-(?!refused|damaged|random|limits).*", "", case["kind"]) for case in cases if "steps" not in case and "split" not in case)
+    calls = collections.Counter(re.sub(r"-(?!refused|damaged|random|limits|stored).*", "", case["kind"]) for case in cases if "steps" not in case and "split" not in case)
     print("calls for their verdict alone: " + ", ".join(f"{kind} {count}" for kind, count in calls.items()))
     print(f"{len(readings)} readings with their curves after 1 and 2 steps: " + ", ".join(f"{way} {count}" for way, count in sorted(ways.items())))
     kinds = collections.Counter(case["kind"] for case in nets + splits)

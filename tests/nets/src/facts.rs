@@ -5,6 +5,7 @@
 
 use std::collections::BTreeSet;
 use std::fmt::Display;
+use std::fs;
 
 use reference::call::{Outcome, Tables, start_net};
 use reference::curve::{Form, exact_curve, rounded_curve};
@@ -19,10 +20,12 @@ use crate::build::to_u32;
 use crate::case::{Case, Expected};
 use crate::change::{Placing, boundary_loops, mark, place, renumber};
 use crate::damaged::{damaged_polygons, damaged_tables, random_polygons, random_tables};
+use crate::kind::CallKind;
 use crate::polygons::{PolygonShape, accepted_polygons};
 use crate::refused::{POLYGON_REASONS, refused_call, refused_polygons};
 use crate::rng::Rng;
 use crate::shapes;
+use crate::stored::{from_text, stored_calls};
 
 /// Faces of the nets that are preferred, since the definitions are slow.
 const FEW_FACES: usize = 6;
@@ -70,7 +73,7 @@ pub fn lines(seed: u64, count: usize) -> Vec<String> {
 
 /// The facts of calls with side counts: a quarter of `count` accepted nets;
 /// every refusal alone and in pairs with 14; calls that are damaged, random or
-/// near the limits, a sixteenth of `count` each.
+/// near the limits, a sixteenth of `count` each; the stored calls.
 fn polygon_lines(count: usize, rng: &mut Rng) -> Vec<String> {
     let shapes = PolygonShape::ALL.into_iter().cycle().take(count / 4);
     let mut lines: Vec<String> = shapes
@@ -91,6 +94,22 @@ fn polygon_lines(count: usize, rng: &mut Rng) -> Vec<String> {
         lines.push(call_line("polygons-damaged", &damaged, &[]));
         lines.push(call_line("polygons-random", &random_polygons(rng), &[]));
         lines.push(call_line("polygons-limits", &near_polygon_limits(rng), &[]));
+    }
+    lines.extend(stored_lines());
+    lines
+}
+
+/// The stored calls that are of no seeded kind.
+fn stored_lines() -> Vec<String> {
+    let mut lines = Vec::new();
+    for path in stored_calls() {
+        let name = path.file_stem().unwrap_or_default().to_string_lossy();
+        if CallKind::named(&name).is_none() {
+            let text = fs::read_to_string(&path).expect("a stored call");
+            let case = from_text(&text).expect("the form of stored calls");
+            let kind = format!("polygons-stored-{name}");
+            lines.push(call_line(&kind, &case, &[]));
+        }
     }
     lines
 }
