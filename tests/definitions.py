@@ -5,7 +5,7 @@ Nets and calls come from the seeded generator (`nets facts`). What the reference
 scratch repository outside this one; the definitions stand there without their proofs. The kit checks it, a chunk of nets at a time. The exit status is 1 if
 a definition gives something else than the reference, 2 if the kit could not tell.
 
-    tests/definitions.py                    all kinds: 200 accepted nets, every refusal alone and in pairs
+    tests/definitions.py                    all kinds: 200 accepted nets, 50 with side counts, every refusal alone and in pairs
     tests/definitions.py --mutate           wrong definitions in the scratch copy must be found out
 """
 import argparse

@@ -1,12 +1,14 @@
 //! The calls with side counts to compare, by kind.
 
-use nets::accepted::Size;
+use nets::accepted::{Size, dressed};
 use nets::build::to_u32;
 use nets::case::{Case, Expected};
+use nets::change::PLACINGS;
 use nets::damaged::{damaged_polygons, random_polygons};
-use nets::polygons::{PolygonShape, accepted_polygons};
+use nets::polygons::{PolygonShape, accepted_polygons, some_size};
 use nets::refused::{POLYGON_REASONS, refused_polygons};
 use nets::rng::Rng;
+use nets::shapes::union;
 use nets::solids;
 use reference::refusal::{Capacity, MAX_ROUNDS};
 
@@ -28,8 +30,7 @@ const LARGE: [PolygonShape; 4] = {
 /// A kind of call with side counts.
 #[derive(Clone, Copy, Debug)]
 pub enum PolygonKind {
-    /// Accepted, with 262,144 refined faces after this many rounds, or a few
-    /// less.
+    /// Accepted, with 262,144 refined faces after this many rounds.
     Largest(u32),
     /// Accepted, up to 3 rounds.
     Accepted(PolygonShape, Size),
@@ -149,13 +150,16 @@ fn largest(rounds: u32, rng: &mut Rng) -> Case {
     let prism = solids::prism(8);
     let mut left = corners - to_u32(prism.corners().count());
     let mut sizes = Vec::new();
-    while left >= 3 {
-        let size = rng.between(3, 8).unsigned_abs().min(left);
+    while left > 0 {
+        let size = match left {
+            3..=8 => left,
+            _ => some_size(rng).min(left - 3),
+        };
         sizes.push(size);
         left -= size;
     }
-    let net = nets::shapes::union(prism, &solids::separate(&sizes));
-    let net = nets::accepted::dressed(net, rng.pick(&nets::change::PLACINGS), rng);
+    let net = union(prism, &solids::separate(&sizes));
+    let net = dressed(net, rng.pick(&PLACINGS), rng);
     Case::with_sides(&net, rounds, Expected::Accepted)
 }
 
