@@ -5,7 +5,7 @@ Nets and calls come from the seeded generator (`nets facts`). What the reference
 scratch repository outside this one; the definitions stand there without their proofs. The kit checks it, a chunk of nets at a time. The exit status is 1 if
 a definition gives something else than the reference, 2 if the kit could not tell.
 
-    tests/definitions.py                    all kinds: 200 accepted nets, every refusal alone and in pairs
+    tests/definitions.py                    all kinds: 200 accepted nets, 50 with side counts, every refusal alone and in pairs
     tests/definitions.py --mutate           wrong definitions in the scratch copy must be found out
 """
 import argparse
@@ -24,6 +24,8 @@ import time
 HERE = pathlib.Path(__file__).resolve().parent
 # Up to so many faces a round is stated as one equality of nets, all axes; above, as faces, marks and one axis.
 WHOLE_FACES = 5
+# Up to so many corners of a net with side counts the round after its split is stated.
+ROUND_CORNERS = 16
 # Up to so many corners of a net the lists of the crate `seam` are stated; they are slow.
 SEAM_CORNERS = 24
 # The estimated seconds of processor time, and the nets, of a chunk.
@@ -35,12 +37,13 @@ SHOWN = 4
 # ---- the definitions that facts unfold: the modules of each group, and what else it names of them
 TOPOLOGY = {"search.Search": "", "topology.Shape": "", "topology.HalfEdge": "", "topology.Boundary": ""}
 NAMED = {"nets.Net": "Net", "curve.Weights": "kobbelt"}
+DRAWN = {"nets.Net": "Net, ControlNet, plain", "polygons.Polygons": ""}
 GROUPS = {
     "Verdict": {
         **TOPOLOGY,
+        **DRAWN,
         "topology.Vertex": "",
         "refusals.Refusals": "",
-        "nets.Net": "Net",
         "verdict.Call": "Call, Room, lengths",
         "verdict.Verdict": "Verdict, accepted, refused",
     },
@@ -59,6 +62,16 @@ GROUPS = {
         "scheme.Points": "",
         "scheme.Step": "",
     },
+    "Split": {
+        **TOPOLOGY,
+        **DRAWN,
+        "lists.Tabulate": "",
+        "rounding.Rounding": "",
+        "fractions.Fraction": "",
+        "rules.Rules": "",
+        "refinedfaces.Refined": "",
+        "splitting.Splitting": "",
+    },
     "Curve": {"rounding.Rounding": "", "curve.Weights": "kobbelt", "curve.Curve": "Kind, Open, Closed, Point"},
     "Reading": {**TOPOLOGY, "topology.Boundary": "withSides, againstSides", "lists.Tabulate": ""},
     "Seam": {
@@ -70,7 +83,7 @@ GROUPS = {
         "seam.Reading": "",
     },
 }
-GROUPS["Outcome"] = {**GROUPS["Verdict"], **GROUPS["Round"], "tables.Tables": "", "outcome.Outcome": "refinedTo, refusedWith, request"}
+GROUPS["Outcome"] = {**GROUPS["Round"], **GROUPS["Verdict"], **GROUPS["Split"], "tables.Tables": "", "outcome.Outcome": "refinedTo, refusedWith, request"}
 # Names that two modules of a group have; the group does not need the first module's.
 LEFT_OUT = {("Round", "topology.Boundary", "step"), ("Outcome", "topology.Boundary", "step"), ("Seam", "topology.Boundary", "step"), ("Seam", "curve.Curve", "step"), ("Seam", "curve.Curve", "steps")}
 LIBRARY = """use mathlib.Core.Path.{_≡_, refl, ap, _∙_}
@@ -109,10 +122,13 @@ def points(values):
     return sequence("at " + " ".join(f"({integer(c)})" for c in row) for row in rows)
 
 
-def net_text(name, net):
+def net_text(name, net, sides=()):
+    """The text of a net, or with side counts of a net as it is drawn, after the name of its type."""
     vertices, faces, marks = net
-    fields = f"vertices = {integers(vertices)}; faces = {naturals(faces)}; marks = {naturals(marks)}"
-    return f"abbrev {name} : Net\n{name} = record {{ {fields} }}\n"
+    fields = f"vertices = {integers(vertices)}; faces = {naturals(faces)}; "
+    kind = "ControlNet" if sides else "Net"
+    fields += f"sides = {naturals(sides)}; " if sides else ""
+    return kind, f"abbrev {name} : {kind}\n{name} = record {{ {fields}marks = {naturals(marks)} }}\n"
 
 
 def lent_text(tables):
@@ -126,6 +142,11 @@ def verdict_text(verdict):
 
 
 # ---- facts of one case
+def drawn(label, case):
+    """The net of a call as it is drawn."""
+    return label if "sides" in case else f"(plain {label})"
+
+
 def verdict_facts(label, case):
     call = case["call"]
     fields = ("vertices", "faces", "marks", "work")
@@ -133,12 +154,13 @@ def verdict_facts(label, case):
     stated = verdict_text(call["verdict"])
     if "net" not in case:
         lengths = " ".join(map(str, call["lengths"]))
-        yield "Verdict", "limits", f"limitsVerdict {call['rounds']} (lengths {lengths} ({room}))", stated, 0.05
+        sides = case.get("sides", [])
+        yield "Verdict", "limits", f"limitsVerdict {call['rounds']} ({naturals(sides)}) (lengths {lengths} ({room}))", stated, 0.05 + 0.001 * len(sides)
         return
     cost = 0.3 + 0.0004 * len(case["net"][1]) ** 2
-    yield "Verdict", "call", f"verdict (record {{ rounds = {call['rounds']}; net = {label}; room = {room} }})", stated, cost
+    yield "Verdict", "call", f"verdict (record {{ rounds = {call['rounds']}; net = {drawn(label, case)}; room = {room} }})", stated, cost
     if call.get("net_verdict", call["verdict"]) != call["verdict"]:
-        yield "Verdict", "net", f"netVerdict {label}", verdict_text(call["net_verdict"]), cost
+        yield "Verdict", "net", f"netVerdict {drawn(label, case)}", verdict_text(call["net_verdict"]), cost
 
 
 def outcome_facts(label, case):
@@ -148,24 +170,32 @@ def outcome_facts(label, case):
         return
     (counts, verdict), rounds = (call["counts"], call["verdict"]), call["rounds"]
     result = f"refinedTo {counts[0]} {counts[1]}" if counts else f"refusedWith {verdict[0]} {verdict[1]}"
-    size = len(case["net"][1]) // 4
+    size = len(case["net"][1]) // (1 if "sides" in case else 4)
     cost = 0.3 + (0.1 * size**2 if rounds else 0)
-    asked = f"request {rounds} {label} (record {{ {lent_text(call['lent'])} }})"
+    asked = f"request {rounds} {drawn(label, case)} (record {{ {lent_text(call['lent'])} }})"
     yield "Outcome", "outcome", f"outcome ({asked})", f"record {{ result = {result}; buffers = record {{ {lent_text(call['left'])} }} }}", cost
 
 
-def round_facts(label, case, seed, whole_faces):
-    """The first round: as one equality of nets, or as faces, marks and one axis."""
-    (_, faces, marks), (vertices_1, faces_1, marks_1) = case["net"], case["steps"][0]
+def round_facts(label, name, nets, seed, whole_faces):
+    """A round of the net of this name: as one equality of nets, or as faces, marks and one axis."""
+    (_, faces, marks), (vertices_1, faces_1, marks_1) = nets
     size, count = len(faces) // 4, len(marks)
     if size <= whole_faces:
-        yield "Round", "round", f"step kobbelt {label}", f"{label}-after1", 0.2 + 0.1 * size**2
+        yield "Round", "round", f"step kobbelt {name}", f"{label}-after1", 0.2 + 0.1 * size**2
         return
     axis = (seed + int(label[1:])) % 3
-    coordinate = f"refinedCoordinate kobbelt {count} ({label} .faces) ({label} .marks) (axis ({label} .vertices) {axis}) i"
-    yield "Round", "faces", f"refined quads {count} ({label} .faces)", naturals(faces_1), 0.1
-    yield "Round", "marks", f"refinedMarks quads {count} ({label} .faces) ({label} .marks)", naturals(marks_1), 0.1
+    coordinate = f"refinedCoordinate kobbelt {count} ({name} .faces) ({name} .marks) (axis ({name} .vertices) {axis}) i"
+    yield "Round", "faces", f"refined quads {count} ({name} .faces)", naturals(faces_1), 0.1
+    yield "Round", "marks", f"refinedMarks quads {count} ({name} .faces) ({name} .marks)", naturals(marks_1), 0.1
     yield "Round", f"axis{axis}", f"tabulate {len(marks_1)} (λ (i : ℕ). {coordinate})", integers(vertices_1[axis::3]), 0.2 + 0.045 * size**2
+
+
+def split_facts(label, case, seed, whole_faces):
+    """The net where refining begins, which zero rounds give, and the round after it."""
+    corners = len(case["net"][1])
+    yield "Split", "split", f"startNet {label}", f"{label}-after0", 0.2 + 0.005 * corners**2
+    if corners <= ROUND_CORNERS:
+        yield from round_facts(label, f"{label}-after0", case["split"], seed, whole_faces)
 
 
 def second_round_facts(label, case):
@@ -214,9 +244,11 @@ def all_facts(label, number, case, options):
     yield from verdict_facts(label, case)
     if options.outcome:
         yield from outcome_facts(label, case)
+    if "split" in case:
+        yield from split_facts(label, case, options.seed, options.whole)
     if "steps" not in case:
         return
-    yield from round_facts(label, case, options.seed, options.whole)
+    yield from round_facts(label, label, [case["net"], case["steps"][0]], options.seed, options.whole)
     if len(case["steps"]) > 1:
         yield from second_round_facts(label, case)
     for place, reading in enumerate(chosen_readings(case["readings"], number)):
@@ -236,8 +268,9 @@ def written_case(number, case, unfolding, options):
         facts.append(Fact(group, name, text, stated, cost))
     nets = []
     if "net" in case:
-        nets = [net_text(label, case["net"])]
+        nets = [net_text(label, case["net"], case.get("sides", ()))]
         nets += [net_text(f"{label}-after{k}", net) for k, net in enumerate(case.get("steps", []), 1)]
+        nets += [net_text(f"{label}-after{k}", net) for k, net in enumerate(case.get("split", []))]
     return Case(label, case, nets, facts)
 
 
@@ -312,7 +345,8 @@ def write_chunk(folder, name, cases, uses, crates):
         for case in cases:
             facts = [fact.text for fact in case.facts if fact.group == group]
             if facts:
-                parts += (case.nets if "nets.Net" in GROUPS[group] else []) + facts
+                named = GROUPS[group].get("nets.Net", "").split(", ")
+                parts += [text for kind, text in case.nets if kind in named] + facts
         (target / "proofs" / f"{group}.antt").write_text("\n".join(parts), encoding="utf-8")
     (target / "proofs" / "Lib.antt").write_text("".join(f"pub mod {group}\n" for group in groups), encoding="utf-8")
     with open(folder / "crates.txt", "a", encoding="utf-8") as file:
@@ -377,8 +411,11 @@ def print_detail(folder, case, fact, uses, crates):
     if fact.group != "Round":
         return
     number = 1 if fact.name.endswith("second") else 0
-    net, after = [case.told["net"], *case.told["steps"]][number:number + 2]
-    label = f"{case.label}-after1" if number else case.label
+    if "split" in case.told:
+        (net, after), label = case.told["split"], f"{case.label}-after0"
+    else:
+        net, after = [case.told["net"], *case.told["steps"]][number:number + 2]
+        label = f"{case.label}-after1" if number else case.label
     unfolding = re.search(r"^unfolding .*$", fact.text, re.M).group()
     facts = {}
     for vertex in range(len(net[2]), len(after[2])):
@@ -428,10 +465,25 @@ MUTATIONS = {
         "refused-11",
         "verdict/specs/Verdict.antt",
         [
-            ("    (orElse (refusedAt 11 (badValence quads l) v", "    (orElse (refusedAt 12 (markedRing quads l marks) v"),
-            ("    (refusedAt 12 (markedRing quads l marks) v (λ p. p)))", "    (refusedAt 11 (badValence quads l) v (λ p. p)))"),
+            ("    (orElse (refusedAt 11 (badValence S l) v", "    (orElse (refusedAt 12 (markedRing S l marks) v"),
+            ("    (refusedAt 12 (markedRing S l marks) v (λ p. p)))", "    (refusedAt 11 (badValence S l) v (λ p. p)))"),
         ],
     ),
+    "a face of nine sides accepted": ("Verdict", "polygons-stored-count-9", "polygons/specs/Polygons.antt", [("|| ltb 8 c", "|| ltb 9 c")]),
+    "marks tested before side counts": (
+        "Verdict",
+        "polygons-stored-bad-count-and-a-mark-more",
+        "verdict/specs/Verdict.antt",
+        [
+            ("    (orElse (cornersVerdict sides corners)", "    (orElse (refusedIf 2 (not (eqb marks (coordinates / 3))))"),
+            ("    (refusedIf 2 (not (eqb marks (coordinates / 3)))))", "    (cornersVerdict sides corners))"),
+        ],
+    ),
+    "drawn faces counted": ("Verdict", "polygons-refused-04", "verdict/specs/Call.antt", [("quadrilaterals (c ∷ s) corners = corners", "quadrilaterals (c ∷ s) corners = length (c ∷ s)")]),
+    "the last side followed by the next face": ("Verdict", "polygons-lone", "polygons/specs/Polygons.antt", [("cond (ltb (j + 1) c) (j + 1) 0", "j + 1")]),
+    "corners summed over four": ("Split", "polygons-lone", "splitting/specs/Splitting.antt", [("/ᶠ S .sides h", "/ᶠ 4")]),
+    "a side's first end twice": ("Split", "polygons-lone", "splitting/specs/Splitting.antt", [("(whole (p (to S l h)))", "(whole (p (from l h)))")]),
+    "quadrilaterals left whole": ("Split", "polygons-quads", "splitting/specs/Splitting.antt", [("startBy (c ∷ s) m = split m", "startBy (c ∷ s) m = drawnTables m")]),
     "another end weight of the curve": ("Curve", "single", "curve/specs/Weights.antt", [("pos (w .near + w .far) *ℤ q", "pos (w .near) *ℤ q")]),
     "a loop followed backwards": ("Reading", "single", "topology/specs/Boundary.antt", [("step S l withSides h = along S l h", "step S l withSides h = back S l h")]),
 }
@@ -519,10 +571,13 @@ def print_coverage(cases, options):
     readings = [reading for number, case in enumerate(cases, options.first) if "steps" in case for reading in chosen_readings(case["readings"], number)]
     ways = collections.Counter(f"{'open' if r['open'] else 'closed'} {'with' if r['with'] else 'against'} the sides" for r in readings)
     print(f"{len(nets)} accepted nets with 1 round: {whole} with all coordinates, {len(nets) - whole} with one axis of every point; {two} of them with 2 rounds")
-    calls = collections.Counter(case["kind"].split("-")[0] for case in cases if "steps" not in case)
+    splits = [case for case in cases if "split" in case]
+    told = sum(len(case["net"][1]) <= ROUND_CORNERS for case in splits)
+    print(f"{len(splits)} accepted nets with side counts with their split, {told} of them with the round after it")
+    calls = collections.Counter(re.sub(r"-(?!refused|damaged|random|limits|stored).*", "", case["kind"]) for case in cases if "steps" not in case and "split" not in case)
     print("calls for their verdict alone: " + ", ".join(f"{kind} {count}" for kind, count in calls.items()))
     print(f"{len(readings)} readings with their curves after 1 and 2 steps: " + ", ".join(f"{way} {count}" for way, count in sorted(ways.items())))
-    kinds = collections.Counter(case["kind"] for case in nets)
+    kinds = collections.Counter(case["kind"] for case in nets + splits)
     print("kinds: " + ", ".join(f"{kind} {count}" for kind, count in kinds.items()))
     traits = collections.Counter(trait for case in cases for trait in case["traits"])
     by_number = sorted(traits, key=lambda trait: re.sub(r"\d+", lambda digits: digits.group().zfill(2), trait))

@@ -9,9 +9,9 @@
 
 #include "../../package/include/gedrovit.h"
 
-enum { VERTICES, FACES, MARKS, OUT_VERTICES, OUT_FACES, OUT_MARKS, WORK, TABLES };
-static const char *const names[] = {"vertices", "faces", "marks", "out vertices", "out faces", "out marks", "work"};
-static const size_t entry[] = {4, 4, 1, 4, 4, 1, 4};
+enum { VERTICES, FACES, SIDES, MARKS, OUT_VERTICES, OUT_FACES, OUT_MARKS, WORK, TABLES };
+static const char *const names[] = {"vertices", "faces", "sides", "marks", "out vertices", "out faces", "out marks", "work"};
+static const size_t entry[] = {4, 4, 1, 1, 4, 4, 1, 4};
 
 typedef enum { AS_DUMPED, UNINITIALISED, SHORT_WORK } manner;
 typedef enum { CHECK, REFINE } function;
@@ -61,15 +61,22 @@ static void free_all(void **tables)
         free(tables[t]);
 }
 
+/* faces after the rounds; with side counts one for each corner before them */
+static uint64_t refined_faces(const head *h)
+{
+    uint64_t corners = h->length[FACES];
+    return (h->length[SIDES] ? corners : corners / 4) << 2 * h->rounds;
+}
+
 /* bytes at the front of a table that are known after the call if nothing is known of it before */
 static size_t known(const head *h, int table)
 {
     if (table < OUT_VERTICES)
         return bytes_of(h, table);
-    if (h->reason >= 1 && h->reason <= 4)
+    if ((h->reason >= 1 && h->reason <= 4) || h->reason == 14)
         return 0;
     if (table == WORK)
-        return 64 * (h->length[FACES] / 4 << 2 * h->rounds);
+        return 64 * refined_faces(h);
     return table == OUT_VERTICES ? 12 * h->vertices : table == OUT_FACES ? 16 * h->faces : h->vertices;
 }
 
@@ -103,11 +110,25 @@ static gedrovit_report answer(const head *h, function which, void **lent)
     const uint64_t *n = h->length;
     uint32_t rounds = (uint32_t)h->rounds;
     if (which == REFINE)
-        return gedrovit_refine(rounds, lent[VERTICES], n[VERTICES], lent[FACES], n[FACES], lent[MARKS], n[MARKS], lent[OUT_VERTICES],
-                               n[OUT_VERTICES], lent[OUT_FACES], n[OUT_FACES], lent[OUT_MARKS], n[OUT_MARKS], lent[WORK], n[WORK]);
-    gedrovit_finding f = gedrovit_check(rounds, lent[VERTICES], n[VERTICES], lent[FACES], n[FACES], lent[MARKS], n[MARKS], n[OUT_VERTICES],
-                               n[OUT_FACES], n[OUT_MARKS], lent[WORK], n[WORK]);
+        return gedrovit_refine(rounds, lent[VERTICES], n[VERTICES], lent[FACES], n[FACES], lent[SIDES], n[SIDES], lent[MARKS], n[MARKS],
+                               lent[OUT_VERTICES], n[OUT_VERTICES], lent[OUT_FACES], n[OUT_FACES], lent[OUT_MARKS], n[OUT_MARKS], lent[WORK], n[WORK]);
+    gedrovit_finding f = gedrovit_check(rounds, lent[VERTICES], n[VERTICES], lent[FACES], n[FACES], lent[SIDES], n[SIDES], lent[MARKS], n[MARKS],
+                               n[OUT_VERTICES], n[OUT_FACES], n[OUT_MARKS], lent[WORK], n[WORK]);
     return (gedrovit_report){f.reason, f.place, h->vertices, h->faces};
+}
+
+/* the sizes tell 1, 2, 3 and 14 as the call does, and else the least lengths */
+static int sizes_agree(const call *c)
+{
+    const head *h = &c->head;
+    const uint64_t *n = h->length;
+    void *lent[TABLES];
+    lend(c, AS_DUMPED, lent);
+    gedrovit_sizes s = gedrovit_sizes_for((uint32_t)h->rounds, n[VERTICES], n[FACES], lent[SIDES], n[SIDES], n[MARKS]);
+    free_all(lent);
+    if ((h->reason >= 1 && h->reason <= 3) || h->reason == 14)
+        return s.reason == h->reason && s.work == 0;
+    return s.reason == 0 && s.work == 16 * refined_faces(h);
 }
 
 static int agrees(const call *c, manner how, function which)
@@ -124,7 +145,7 @@ static int agrees(const call *c, manner how, function which)
 
 static int all_agree(const call *c)
 {
-    return agrees(c, AS_DUMPED, CHECK) && agrees(c, UNINITIALISED, CHECK) && agrees(c, AS_DUMPED, REFINE) && agrees(c, UNINITIALISED, REFINE);
+    return sizes_agree(c) && agrees(c, AS_DUMPED, CHECK) && agrees(c, UNINITIALISED, CHECK) && agrees(c, AS_DUMPED, REFINE) && agrees(c, UNINITIALISED, REFINE);
 }
 
 int main(int count, char **arguments)

@@ -20,9 +20,9 @@ mod foreign;
 
 /// For each table of a call the zone that it touches, one bit each.
 #[derive(Clone, Copy, Debug)]
-pub struct Sides(pub u64);
+pub struct Zones(pub u64);
 
-impl Sides {
+impl Zones {
     pub fn opposite(self) -> Self {
         Self(!self.0)
     }
@@ -41,17 +41,28 @@ pub struct Inputs {
     pub rounds: u32,
     pub vertices: Lent<i32>,
     pub faces: Lent<u32>,
+    pub sides: Lent<u8>,
     pub marks: Lent<u8>,
 }
 
 impl Inputs {
-    pub fn new(case: &Case, sides: Sides) -> Self {
+    pub fn new(case: &Case, zones: Zones) -> Self {
         Self {
             rounds: case.rounds,
-            vertices: Lent::read_only(&case.vertices, sides.of(0)),
-            faces: Lent::read_only(&case.faces, sides.of(1)),
-            marks: Lent::read_only(&case.marks, sides.of(2)),
+            vertices: Lent::read_only(&case.vertices, zones.of(0)),
+            faces: Lent::read_only(&case.faces, zones.of(1)),
+            sides: Lent::read_only(&case.sides, zones.of(7)),
+            marks: Lent::read_only(&case.marks, zones.of(2)),
         }
+    }
+
+    /// The lengths of the vertices, faces and marks.
+    pub fn lengths(&self) -> [usize; 3] {
+        [
+            self.vertices.length(),
+            self.faces.length(),
+            self.marks.length(),
+        ]
     }
 
     /// What is not as the case has it.
@@ -59,6 +70,7 @@ impl Inputs {
         [
             self.vertices.difference("vertices", &case.vertices),
             self.faces.difference("faces", &case.faces),
+            self.sides.difference("sides", &case.sides),
             self.marks.difference("marks", &case.marks),
         ]
         .into_iter()
@@ -76,18 +88,18 @@ pub struct Outputs {
 }
 
 impl Outputs {
-    pub fn new(found: &Tables, sides: Sides) -> Self {
+    pub fn new(found: &Tables, zones: Zones) -> Self {
         Self {
-            vertices: Lent::new(&found.vertices, sides.of(3)),
-            faces: Lent::new(&found.faces, sides.of(4)),
-            marks: Lent::new(&found.marks, sides.of(5)),
-            work: Self::work(found, sides),
+            vertices: Lent::new(&found.vertices, zones.of(3)),
+            faces: Lent::new(&found.faces, zones.of(4)),
+            marks: Lent::new(&found.marks, zones.of(5)),
+            work: Self::work(found, zones),
         }
     }
 
     /// The work table alone, for the check.
-    pub fn work(found: &Tables, sides: Sides) -> Lent<u32> {
-        Lent::new(&found.workspace, sides.of(6))
+    pub fn work(found: &Tables, zones: Zones) -> Lent<u32> {
+        Lent::new(&found.workspace, zones.of(6))
     }
 
     /// What is not as expected.
@@ -125,6 +137,8 @@ pub fn check(inputs: &Inputs, room: &Capacity, work: &mut Lent<u32>) -> Finding 
             inputs.vertices.length(),
             inputs.faces.pointer(),
             inputs.faces.length(),
+            inputs.sides.pointer(),
+            inputs.sides.length(),
             inputs.marks.pointer(),
             inputs.marks.length(),
             room.vertices,
@@ -146,6 +160,8 @@ pub fn refine(inputs: &Inputs, outputs: &mut Outputs) -> Report {
             inputs.vertices.length(),
             inputs.faces.pointer(),
             inputs.faces.length(),
+            inputs.sides.pointer(),
+            inputs.sides.length(),
             inputs.marks.pointer(),
             inputs.marks.length(),
             outputs.vertices.pointer(),
@@ -160,8 +176,19 @@ pub fn refine(inputs: &Inputs, outputs: &mut Outputs) -> Report {
     }
 }
 
-/// The lengths to provide for a net with tables of these lengths.
-pub fn sizes_for(rounds: u32, vertices: usize, faces: usize, marks: usize) -> Sizes {
-    // SAFETY: the function takes numbers only.
-    unsafe { gedrovit_sizes_for(rounds, vertices, faces, marks) }
+/// The lengths to provide for a net with these side counts and with vertex,
+/// face and mark tables of these lengths.
+pub fn sizes_for(rounds: u32, lengths: [usize; 3], sides: &Lent<u8>) -> Sizes {
+    let [vertices, faces, marks] = lengths;
+    // SAFETY: the pointer is lent with its length and lives through the call.
+    unsafe {
+        gedrovit_sizes_for(
+            rounds,
+            vertices,
+            faces,
+            sides.pointer(),
+            sides.length(),
+            marks,
+        )
+    }
 }

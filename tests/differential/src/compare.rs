@@ -2,11 +2,11 @@
 
 use nets::case::Case;
 use nets::rng::Rng;
-use reference::call::{Outcome, Tables, refine_into};
+use reference::call::{Outcome, Tables};
 use reference::net::Net;
-use reference::refusal::{Capacity, check_call, refined_faces};
+use reference::refusal::{Capacity, check_call};
 
-use crate::capi::{Finding, Inputs, Outputs, Report, Sides, Sizes, check, refine, sizes_for};
+use crate::capi::{Finding, Inputs, Outputs, Report, Sizes, Zones, check, refine, sizes_for};
 
 /// A call with what the reference says of it.
 pub struct Known {
@@ -23,13 +23,7 @@ impl Known {
     pub fn new(case: Case, rng: &mut Rng) -> Result<Self, String> {
         let found = case.tables(rng);
         let mut left = found.clone();
-        let outcome = refine_into(
-            case.rounds,
-            &case.vertices,
-            &case.faces,
-            &case.marks,
-            &mut left,
-        );
+        let outcome = case.outcome_in(&mut left);
         if !case.expected.agrees_with(&outcome) {
             return Err("the reference's answer is not the one drawn".to_owned());
         }
@@ -45,23 +39,27 @@ impl Known {
     /// wherever the tables lie: each touches either zone in turn. The result
     /// is the net that the refining call gave, if any.
     pub fn compare(&self, rng: &mut Rng) -> Result<Option<Net>, String> {
-        let case = &self.case;
-        let lengths = (case.vertices.len(), case.faces.len(), case.marks.len());
-        let given = sizes_for(case.rounds, lengths.0, lengths.1, lengths.2);
-        agree("sizes", &given, &sizes_due(case))?;
-        let drawn = Sides(rng.next_u64());
+        let drawn = Zones(rng.next_u64());
         self.compare_at(drawn)?;
         self.compare_at(drawn.opposite())
     }
 
-    fn compare_at(&self, sides: Sides) -> Result<Option<Net>, String> {
-        let inputs = Inputs::new(&self.case, sides);
-        self.compare_check(&inputs, sides)?;
-        self.compare_refine(&inputs, sides)
+    fn compare_at(&self, zones: Zones) -> Result<Option<Net>, String> {
+        let inputs = Inputs::new(&self.case, zones);
+        self.compare_sizes(&inputs)?;
+        self.compare_check(&inputs, zones)?;
+        self.compare_refine(&inputs, zones)
     }
 
-    fn compare_check(&self, inputs: &Inputs, sides: Sides) -> Result<(), String> {
-        let mut work = Outputs::work(&self.found, sides);
+    fn compare_sizes(&self, inputs: &Inputs) -> Result<(), String> {
+        let given = sizes_for(inputs.rounds, inputs.lengths(), &inputs.sides);
+        agree("sizes", &given, &sizes_due(&self.case))?;
+        let sides = inputs.sides.difference("sides", &self.case.sides);
+        as_expected("sizes", sides)
+    }
+
+    fn compare_check(&self, inputs: &Inputs, zones: Zones) -> Result<(), String> {
+        let mut work = Outputs::work(&self.found, zones);
         let finding = check(inputs, &self.case.capacity, &mut work);
         let Report { reason, place, .. } = self.report;
         agree("check", &finding, &Finding { reason, place })?;
@@ -69,8 +67,8 @@ impl Known {
         as_expected("check", work.difference("work", &self.left.workspace))
     }
 
-    fn compare_refine(&self, inputs: &Inputs, sides: Sides) -> Result<Option<Net>, String> {
-        let mut outputs = Outputs::new(&self.found, sides);
+    fn compare_refine(&self, inputs: &Inputs, zones: Zones) -> Result<Option<Net>, String> {
+        let mut outputs = Outputs::new(&self.found, zones);
         agree("refine", &refine(inputs, &mut outputs), &self.report)?;
         as_expected("refine", inputs.differences(&self.case))?;
         as_expected("refine", outputs.differences(&self.left))?;
@@ -98,11 +96,16 @@ fn report(outcome: &Outcome) -> Report {
 /// What any tables for the results cannot avert, or the least that serve.
 fn sizes_due(case: &Case) -> Sizes {
     let any = Capacity::for_refined_faces(usize::MAX / 16);
-    match check_call(case.rounds, &case.vertices, &case.faces, &case.marks, &any) {
-        Ok(()) => {
-            let faces = refined_faces(case.faces.len() / 4, case.rounds);
-            sizes(usize::try_from(faces).expect("within the limits"))
-        }
+    let checked = check_call(
+        case.rounds,
+        &case.vertices,
+        &case.faces,
+        &case.sides,
+        &case.marks,
+        &any,
+    );
+    match checked {
+        Ok(()) => sizes(case.served_faces()),
         Err(refusal) => no_sizes(refusal.reason),
     }
 }

@@ -86,7 +86,7 @@ impl Kind {
             Kind::Accepted(shape, size) => refined(&accepted(shape, size, rng), 1_024, rng),
             Kind::Large => refined(&accepted(rng.pick(&LARGE), Size::Large, rng), 4_096, rng),
             Kind::Deep => deep(rng),
-            Kind::Short(table) => return short(table, rng),
+            Kind::Short(table) => return short(sound_call(rng), table, rng),
             Kind::Refused(reason) => refused_call(&[reason], rng),
             Kind::RefusedTwice => {
                 let reasons: Vec<u32> = (0..rng.between(2, 3))
@@ -97,31 +97,39 @@ impl Kind {
             Kind::Damaged => damaged_tables(Size::Medium, rng),
             Kind::DamagedLarge => damaged_large(rng),
             Kind::Lengths => return other_lengths(sound_call(rng), rng),
-            Kind::Random => random(rng),
+            Kind::Random => random(random_tables(rng), rng),
             Kind::Noise => return noise(rng),
             Kind::Brink => return brink(rng),
         };
-        match case.expected {
-            Expected::Refused(Refusal { reason: 4, .. }) => {}
-            // given before the tables for the results are measured
-            Expected::Refused(Refusal { reason: 1..=3, .. }) => {
-                case.capacity = Capacity::for_refined_faces(rng.below(64));
-            }
-            _ => lengthen(&mut case, rng),
-        }
+        fit_room(&mut case, rng);
         case
+    }
+}
+
+/// Other lengths for the results that leave the answer as it is.
+pub fn fit_room(case: &mut Case, rng: &mut Rng) {
+    match case.expected {
+        Expected::Refused(Refusal { reason: 4, .. }) => {}
+        // given before the tables for the results are measured
+        Expected::Refused(Refusal {
+            reason: 1..=3 | 14, ..
+        }) => {
+            case.capacity = Capacity::for_refined_faces(rng.below(64));
+        }
+        _ => lengthen(case, rng),
     }
 }
 
 /// An accepted call, up to 3 rounds and this many refined faces.
 fn refined(net: &Net, faces: usize, rng: &mut Rng) -> Case {
-    let rounds = rng.below(most_rounds(net, 3, faces) as usize + 1);
+    let rounds = rng.below(most_rounds(net.faces.len(), 3, faces) as usize + 1);
     Case::new(net, to_u32(rounds), Expected::Accepted)
 }
 
-/// The most rounds, up to `most`, after which there are at most `faces` faces.
-pub fn most_rounds(net: &Net, most: u32, faces: usize) -> u32 {
-    let fits = |rounds: &u32| net.faces.len() << (2 * rounds) <= faces;
+/// The most rounds, up to `most`, after which so many quadrilaterals have
+/// become at most `faces`.
+pub fn most_rounds(quadrilaterals: usize, most: u32, faces: usize) -> u32 {
+    let fits = |rounds: &u32| quadrilaterals << (2 * rounds) <= faces;
     (0..=most).rev().find(fits).unwrap_or(0)
 }
 
@@ -147,7 +155,7 @@ fn deep(rng: &mut Rng) -> Case {
     let rounds = rng.pick(&[4, 4, 4, 5, 5, 6]);
     loop {
         let net = sound_net(rng);
-        if most_rounds(&net, MAX_ROUNDS, 4_096) >= rounds {
+        if most_rounds(net.faces.len(), MAX_ROUNDS, 4_096) >= rounds {
             return Case::new(&net, rounds, Expected::Accepted);
         }
     }
@@ -169,9 +177,8 @@ fn sound_call(rng: &mut Rng) -> Case {
     Case::new(&net, rng.between(0, 2).unsigned_abs(), Expected::Accepted)
 }
 
-/// An accepted net and one table too short for it.
-fn short(table: Table, rng: &mut Rng) -> Case {
-    let mut case = sound_call(rng);
+/// The same with one table too short for it.
+pub fn short(mut case: Case, table: Table, rng: &mut Rng) -> Case {
     let least = table.length(&case);
     lengthen(&mut case, rng);
     table.resize(&mut case, least - 1);
@@ -188,13 +195,12 @@ fn damaged_large(rng: &mut Rng) -> Case {
     case
 }
 
-/// Random tables; those for the results serve the rounds half of the time.
-fn random(rng: &mut Rng) -> Case {
-    let mut case = random_tables(rng);
+/// Random tables with up to 9 rounds; those for the results serve them half of
+/// the time.
+pub fn random(mut case: Case, rng: &mut Rng) -> Case {
     case.rounds = rng.between(0, 9).unsigned_abs();
     if case.rounds <= MAX_ROUNDS && rng.one_in(2) {
-        let refined = (case.faces.len() / 4) << (2 * case.rounds);
-        case.capacity = Capacity::for_refined_faces(refined);
+        case.capacity = Capacity::for_refined_faces(case.served_faces());
     }
     case
 }

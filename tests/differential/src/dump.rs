@@ -1,6 +1,6 @@
 //! Calls and what the reference says of them, written for a harness in C.
 //!
-//! A call is 12 numbers of 64 bits (rounds, the lengths of its seven tables,
+//! A call is 13 numbers of 64 bits (rounds, the lengths of its eight tables,
 //! reason, place, both counts), the tables of the net, those for the results
 //! as found, and those for the results as left; all in the machine's order.
 
@@ -28,6 +28,7 @@ impl Dump {
         let lengths = [
             case.vertices.len(),
             case.faces.len(),
+            case.sides.len(),
             case.marks.len(),
             case.capacity.vertices,
             case.capacity.faces,
@@ -44,6 +45,7 @@ impl Dump {
         ])?;
         self.bytes(case.vertices.iter().map(|entry| entry.to_ne_bytes()))?;
         self.bytes(case.faces.iter().map(|entry| entry.to_ne_bytes()))?;
+        self.file.write_all(&case.sides)?;
         self.file.write_all(&case.marks)?;
         self.tables(&known.found)?;
         self.tables(&known.left)

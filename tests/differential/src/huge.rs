@@ -4,33 +4,49 @@
 use nets::case::{Case, Expected};
 use nets::rng::Rng;
 use nets::shapes;
+use reference::net::PolygonNet;
 use reference::refusal::Capacity;
 
-use crate::capi::{Finding, Inputs, Outputs, Report, Sides, Sizes, check, refine, sizes_for};
+use crate::capi::{Finding, Inputs, Outputs, Report, Zones, check, refine, sizes_for};
 use crate::compare::{Known, agree, as_expected, no_sizes, sizes};
 
 const BEYOND: usize = 1 << 32;
 
 type Claim = fn(&mut Inputs, &mut Outputs);
 
-/// The tables of a square told too long, and the reason given then.
-const CLAIMS: [(&str, u32, Claim); 9] = [
-    ("vertices", 2, |inputs, _| {
+/// The tables of a square told too long, and the reasons given then, without
+/// side counts and with them. After the one count that there is come bytes that
+/// make the sum too large, so nothing beyond is looked at.
+const CLAIMS: [(&str, [Option<u32>; 2], Claim); 10] = [
+    ("vertices", [Some(2); 2], |inputs, _| {
         inputs.vertices.claim(3 * (BEYOND + 4));
     }),
-    ("marks", 2, |inputs, _| inputs.marks.claim(BEYOND + 4)),
-    ("vertices and marks", 3, |inputs, _| {
+    ("marks", [Some(2); 2], |inputs, _| {
+        inputs.marks.claim(BEYOND + 4);
+    }),
+    ("vertices and marks", [Some(3); 2], |inputs, _| {
         inputs.vertices.claim(3 * (BEYOND + 4));
         inputs.marks.claim(BEYOND + 4);
     }),
-    ("faces", 3, |inputs, _| inputs.faces.claim(4 * (BEYOND + 1))),
-    ("out vertices", 0, |_, outputs| {
+    ("faces", [Some(3), Some(14)], |inputs, _| {
+        inputs.faces.claim(4 * (BEYOND + 1));
+    }),
+    ("sides", [None, Some(14)], |inputs, _| {
+        inputs.sides.claim(BEYOND + 1);
+    }),
+    ("out vertices", [Some(0); 2], |_, outputs| {
         outputs.vertices.claim(BEYOND);
     }),
-    ("out faces", 0, |_, outputs| outputs.faces.claim(BEYOND)),
-    ("out marks", 0, |_, outputs| outputs.marks.claim(BEYOND)),
-    ("work", 0, |_, outputs| outputs.work.claim(BEYOND)),
-    ("all results", 0, |_, outputs| {
+    ("out faces", [Some(0); 2], |_, outputs| {
+        outputs.faces.claim(BEYOND);
+    }),
+    ("out marks", [Some(0); 2], |_, outputs| {
+        outputs.marks.claim(BEYOND);
+    }),
+    ("work", [Some(0); 2], |_, outputs| {
+        outputs.work.claim(BEYOND)
+    }),
+    ("all results", [Some(0); 2], |_, outputs| {
         outputs.vertices.claim(BEYOND + 1);
         outputs.faces.claim(BEYOND + 1);
         outputs.marks.claim(BEYOND + 1);
@@ -41,32 +57,39 @@ const CLAIMS: [(&str, u32, Claim); 9] = [
 const MOST: usize = usize::MAX;
 
 /// Rounds, lengths of the vertices, faces and marks up to the largest number,
-/// and the reason given.
-const LONGEST: [(u32, [usize; 3], u32); 6] = [
-    (6, [MOST, MOST, MOST], 2),
-    (6, [MOST, MOST - 3, MOST / 3], 3),
-    (0, [MOST, 4, MOST / 3], 3),
-    (6, [12, MOST - 3, 4], 3),
-    (6, [12, 1 << 52, 4], 3),
-    (MOST as u32, [12, MOST - 3, 4], 1),
+/// and the reasons given without side counts and with one count of 4.
+const LONGEST: [(u32, [usize; 3], [u32; 2]); 7] = [
+    (6, [MOST, MOST, MOST], [2, 14]),
+    (6, [MOST, MOST - 3, MOST / 3], [3, 14]),
+    (0, [MOST, 4, MOST / 3], [3, 3]),
+    (6, [12, MOST - 3, 4], [3, 14]),
+    (6, [12, 1 << 52, 4], [3, 14]),
+    (6, [MOST - 1, MOST - 3, 4], [2, 2]),
+    (MOST as u32, [12, MOST - 3, 4], [1, 1]),
 ];
 
 /// Every table touches the zone before it.
-const BEFORE: Sides = Sides(0);
+const BEFORE: Zones = Zones(0);
 
-pub const COUNT: u64 = CLAIMS.len() as u64;
+pub const COUNT: u64 = 2 * CLAIMS.len() as u64;
 
 /// Compares one of them, counted round.
 pub fn compare(number: u64, rng: &mut Rng) -> Result<(), String> {
     let at = usize::try_from(number % COUNT).expect("below a length");
-    let (name, reason, claim) = CLAIMS[at];
-    let square = Case::new(&shapes::grid(1, 1), 1, Expected::Accepted);
-    let known = Known::new(square, rng)?;
-    compare_claim(&known, reason, claim).map_err(|fault| format!("{name}: {fault}"))
-}
-
-fn sizes_of(rounds: u32, [vertices, faces, marks]: [usize; 3]) -> Sizes {
-    sizes_for(rounds, vertices, faces, marks)
+    let (name, reasons, claim) = CLAIMS[at / 2];
+    let square = shapes::grid(1, 1);
+    let case = if at.is_multiple_of(2) {
+        Case::new(&square, 1, Expected::Accepted)
+    } else {
+        Case::with_sides(&PolygonNet::from(&square), 1, Expected::Accepted)
+    };
+    let known = Known::new(case, rng)?;
+    match reasons[at % 2] {
+        Some(reason) => {
+            compare_claim(&known, reason, claim).map_err(|fault| format!("{name}: {fault}"))
+        }
+        None => Ok(()),
+    }
 }
 
 fn compare_claim(known: &Known, reason: u32, claim: Claim) -> Result<(), String> {
@@ -93,19 +116,18 @@ fn compare_claim(known: &Known, reason: u32, claim: Claim) -> Result<(), String>
         marks: usize::MAX - 2,
         workspace: checked.work.length(),
     };
-    let lengths = [
-        inputs.vertices.length(),
-        inputs.faces.length(),
-        inputs.marks.length(),
-    ];
     let due = if reason == 0 {
-        sizes(4)
+        sizes(known.case.served_faces())
     } else {
         no_sizes(reason)
     };
-    agree("sizes", &sizes_of(inputs.rounds, lengths), &due)?;
-    for (rounds, lengths, reason) in LONGEST {
-        agree("sizes", &sizes_of(rounds, lengths), &no_sizes(reason))?;
+    let given = sizes_for(inputs.rounds, inputs.lengths(), &inputs.sides);
+    agree("sizes", &given, &due)?;
+    if inputs.sides.length() == known.case.sides.len() {
+        for (rounds, lengths, reasons) in LONGEST {
+            let given = sizes_for(rounds, lengths, &inputs.sides);
+            agree("sizes", &given, &no_sizes(reasons[inputs.sides.length()]))?;
+        }
     }
     let finding = check(&inputs, &room, &mut checked.work);
     agree("check", &finding, &Finding { reason, place: 0 })?;

@@ -10,6 +10,7 @@ mod huge;
 mod lengths;
 mod lent;
 mod options;
+mod polygons;
 mod run;
 mod seams;
 mod tally;
@@ -18,10 +19,9 @@ use std::path::Path;
 use std::process::ExitCode;
 
 use compare::Known;
-use draw::Kind;
 use dump::Dump;
-use options::{Mode, Options, USAGE};
-use run::{Run, rng};
+use options::{Mode, Options, USAGE, What};
+use run::{Run, drawn, rng};
 
 /// Calls with longer work tables are not dumped.
 const DUMPED_WORK: usize = 20_000;
@@ -63,13 +63,15 @@ fn answer(options: &Options, arguments: &[String]) -> Result<String, String> {
 fn dump(options: &Options, path: &Path) -> Result<String, String> {
     let mut dump = Dump::new(path).map_err(|error| error.to_string())?;
     let mut dumped = 0;
-    for number in 0..options.nets {
-        let rng = &mut rng(options.seed, number);
-        let case = Kind::of(number).draw(rng);
-        if case.capacity.workspace <= DUMPED_WORK {
-            let known = Known::new(case, rng)?;
-            dump.add(&known).map_err(|error| error.to_string())?;
-            dumped += 1;
+    for (what, count) in [What::Net, What::Polygons].map(|what| (what, what.count(options.nets))) {
+        for number in 0..count {
+            let rng = &mut rng(options.seed, number);
+            let case = drawn(what, number, rng).1;
+            if case.capacity.workspace <= DUMPED_WORK {
+                let known = Known::new(case, rng)?;
+                dump.add(&known).map_err(|error| error.to_string())?;
+                dumped += 1;
+            }
         }
     }
     dump.finish().map_err(|error| error.to_string())?;

@@ -2,13 +2,21 @@
 
 use std::path::PathBuf;
 
+use nets::stored::stored_calls;
+
+use crate::huge;
+
 pub const USAGE: &str = "usage: differential [--nets N] [--seed S] [--here] [MODE]
 
-Compares N seeded nets (20000), a pair with seams for every 20 of them, and
-calls with huge lengths. A second process does it, so that the call is known
-if that dies; with --here this one. MODE is one of
+Compares N seeded nets (20000), one with side counts for every 3 of them,
+pairs with seams, the stored calls, and calls with huge lengths. A second
+process does it, so that the call is known if that dies; with --here this one.
+MODE is one of
   --net I          compares only net I of the series
+  --polygons I     compares only net I with side counts
   --pair I         compares only pair I
+  --polygon-pair I compares only pair I with side counts in one net or both
+  --stored I       compares only stored call I
   --huge I         compares only call I with a huge length
   --prove-guards   only shows that stray accesses are seen
   --dump FILE      compares nothing, but writes the calls into FILE";
@@ -33,16 +41,49 @@ pub enum Mode {
 #[derive(Clone, Copy, Debug)]
 pub enum What {
     Net,
+    Polygons,
     Pair,
+    PolygonPair,
+    Stored,
     Huge,
 }
 
 impl What {
+    pub const ALL: [Self; 6] = [
+        Self::Net,
+        Self::Polygons,
+        Self::Pair,
+        Self::PolygonPair,
+        Self::Stored,
+        Self::Huge,
+    ];
+
     pub fn name(self) -> &'static str {
         match self {
             What::Net => "net",
+            What::Polygons => "polygons",
             What::Pair => "pair",
+            What::PolygonPair => "polygon-pair",
+            What::Stored => "stored",
             What::Huge => "huge",
+        }
+    }
+
+    /// The sort of comparison that an option names.
+    fn of(option: &str) -> Option<Self> {
+        let name = option.strip_prefix("--")?;
+        Self::ALL.into_iter().find(|what| what.name() == name)
+    }
+
+    /// How many there are for so many nets.
+    pub fn count(self, nets: u64) -> u64 {
+        match self {
+            What::Net => nets,
+            What::Polygons => nets.div_ceil(3),
+            What::Pair => nets.div_ceil(20),
+            What::PolygonPair => nets.div_ceil(60),
+            What::Stored => stored_calls().len() as u64,
+            What::Huge => huge::COUNT,
         }
     }
 }
@@ -63,13 +104,10 @@ impl Options {
                 "--nets" => options.nets = number()?,
                 "--seed" => options.seed = number()?,
                 "--here" => options.here = true,
-                "--net" => options.mode = Mode::One(What::Net, number()?),
-                "--pair" => options.mode = Mode::One(What::Pair, number()?),
-                "--huge" => options.mode = Mode::One(What::Huge, number()?),
                 "--prove-guards" => options.mode = Mode::ProveGuards,
                 "--stray" => options.mode = Mode::Stray(number()?),
                 "--dump" => options.mode = Mode::Dump(arguments.next()?.into()),
-                _ => return None,
+                _ => options.mode = Mode::One(What::of(name)?, number()?),
             }
         }
         Some(options)

@@ -1,18 +1,19 @@
 //! A series of comparisons.
 
+use std::fs;
+
 use nets::case::Case;
 use nets::rng::Rng;
+use nets::stored::{from_text, stored_calls};
 
 use crate::compare::Known;
 use crate::draw::Kind;
 use crate::guards::announce;
 use crate::huge;
 use crate::options::What;
+use crate::polygons::PolygonKind;
 use crate::seams::Seams;
 use crate::tally::Calls;
-
-/// One pair of nets with seams for so many nets.
-const NETS_PER_PAIR: u64 = 20;
 
 /// Calls with at most so many vertex coordinates are printed whole.
 const PRINTED: usize = 120;
@@ -23,34 +24,64 @@ pub fn rng(seed: u64, number: u64) -> Rng {
     Rng::new(first.wrapping_add(number))
 }
 
+/// A call of a series of nets, and its kind.
+pub fn drawn(what: What, number: u64, rng: &mut Rng) -> (String, Case) {
+    if let What::Polygons = what {
+        let kind = PolygonKind::of(number);
+        (format!("{kind:?}"), kind.draw(rng))
+    } else {
+        let kind = Kind::of(number);
+        (format!("{kind:?}"), kind.draw(rng))
+    }
+}
+
+/// A stored call, counted round, and its name.
+fn stored(number: u64) -> (String, Case) {
+    let calls = stored_calls();
+    let at = number % calls.len() as u64;
+    let path = &calls[usize::try_from(at).expect("below a length")];
+    let text = fs::read_to_string(path).expect("a stored call");
+    let case = from_text(&text).expect("the form of stored calls");
+    (path.display().to_string(), case)
+}
+
 pub struct Run {
     seed: u64,
     calls: Calls,
+    polygons: Calls,
     seams: Seams,
+    polygon_seams: Seams,
 }
 
 impl Run {
     pub fn new(seed: u64) -> Self {
         Self {
             seed,
-            calls: Calls::default(),
-            seams: Seams::default(),
+            calls: Calls::without_sides(),
+            polygons: Calls::with_sides(),
+            seams: Seams::without_sides(),
+            polygon_seams: Seams::with_sides(),
         }
     }
 
     /// Compares everything; the result counts it.
     pub fn all(&mut self, nets: u64) -> Result<String, String> {
-        let series = [
-            (What::Net, nets),
-            (What::Pair, nets.div_ceil(NETS_PER_PAIR)),
-            (What::Huge, huge::COUNT),
-        ];
-        for (what, count) in series {
+        for what in What::ALL {
+            let count = what.count(nets);
             (0..count).try_for_each(|number| self.one(what, number).map(drop))?;
         }
-        let (calls, seams, huge) = (&self.calls, &self.seams, huge::COUNT);
-        let counts = format!("{calls}\n{seams}\n{huge} calls with lengths beyond 32 bits agree");
-        if calls.is_complete() && seams.is_complete() {
+        let (calls, polygons) = (&self.calls, &self.polygons);
+        let (seams, polygon_seams) = (&self.seams, &self.polygon_seams);
+        let [stored, huge] = [What::Stored, What::Huge].map(|what| what.count(nets));
+        let counts = format!(
+            "{calls}\nwith side counts: {polygons}\n{seams}\nwith side counts: {polygon_seams}\n\
+             {stored} stored calls agree\n{huge} calls with lengths beyond 32 bits agree"
+        );
+        let is_complete = calls.is_complete()
+            && polygons.is_complete()
+            && seams.is_complete()
+            && polygon_seams.is_complete();
+        if is_complete {
             Ok(counts)
         } else {
             Err(format!("{counts}\na sort that must occur is missing"))
@@ -62,8 +93,13 @@ impl Run {
         announce(self.seed, what, number);
         let rng = &mut rng(self.seed, number);
         let compared = match what {
-            What::Net => self.net(number, rng),
+            What::Net | What::Polygons => {
+                let drawn = drawn(what, number, rng);
+                self.net(what, drawn, rng)
+            }
+            What::Stored => self.net(what, stored(number), rng),
             What::Pair => self.seams.compare_pair(rng),
+            What::PolygonPair => self.polygon_seams.compare_pair(rng),
             What::Huge => huge::compare(number, rng),
         };
         let name = format!("{} {number} of seed {}", what.name(), self.seed);
@@ -73,17 +109,24 @@ impl Run {
         }
     }
 
-    fn net(&mut self, number: u64, rng: &mut Rng) -> Result<(), String> {
-        let kind = Kind::of(number);
-        let case = kind.draw(rng);
+    fn net(
+        &mut self,
+        what: What,
+        (kind, case): (String, Case),
+        rng: &mut Rng,
+    ) -> Result<(), String> {
         let shown = shown(&case);
         let compared = Known::new(case, rng).and_then(|known| {
-            self.calls.add(&known);
+            match what {
+                What::Net => self.calls.add(&known),
+                What::Polygons => self.polygons.add(&known),
+                _ => {}
+            }
             known.compare(rng)
         });
         match compared {
             Ok(_) => Ok(()),
-            Err(fault) => Err(format!("{kind:?}, {fault}\n{shown}")),
+            Err(fault) => Err(format!("{kind}, {fault}\n{shown}")),
         }
     }
 }
@@ -93,7 +136,12 @@ fn shown(case: &Case) -> String {
     if case.vertices.len() <= PRINTED {
         return format!("{case:?}");
     }
-    let (vertices, faces, marks) = (case.vertices.len(), case.faces.len(), case.marks.len());
+    let lengths = [
+        case.vertices.len(),
+        case.faces.len(),
+        case.sides.len(),
+        case.marks.len(),
+    ];
     let rounds = case.rounds;
-    format!("{rounds} rounds, tables of {vertices}, {faces} and {marks} entries")
+    format!("{rounds} rounds, tables of {lengths:?} entries")
 }

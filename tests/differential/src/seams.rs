@@ -2,8 +2,7 @@
 
 use std::fmt::{self, Display, Formatter};
 
-use nets::case::{Case, Expected};
-use nets::pairs::{SharedPair, shared_pair};
+use nets::pairs::{Drawn, SharedPair, shared_pair, shared_polygon_pair};
 use nets::rng::Rng;
 use reference::curve::{Form, exact_curve, rounded_curve};
 use reference::net::Net;
@@ -14,16 +13,31 @@ use crate::compare::Known;
 use crate::draw::most_rounds;
 use crate::tally::Tally;
 
+type DrawPair = fn(&mut Rng) -> SharedPair;
+
 /// What the compared seams were.
 pub struct Seams {
+    draw: DrawPair,
+    /// Faces where refining begins that are few enough for many rounds.
+    few: [usize; 2],
     pairs: u64,
     readings: u64,
     rounds: Tally<u32>,
     sorts: Tally<&'static str>,
 }
 
-impl Default for Seams {
-    fn default() -> Self {
+impl Seams {
+    pub fn without_sides() -> Self {
+        Self::new(shared_pair, [1, 4], MAX_ROUNDS, &[])
+    }
+
+    /// Six rounds do not occur: even one triangle becomes too many faces.
+    pub fn with_sides() -> Self {
+        let counts = ["with counts in both", "with counts in one"];
+        Self::new(shared_polygon_pair, [4, 8], MAX_ROUNDS - 1, &counts)
+    }
+
+    fn new(draw: DrawPair, few: [usize; 2], most_rounds: u32, counts: &[&'static str]) -> Self {
         let ways = ["run the same way", "run opposite ways"];
         let forms = [
             "between two marks",
@@ -31,42 +45,64 @@ impl Default for Seams {
             "without marks",
         ];
         Self {
+            draw,
+            few,
             pairs: 0,
             readings: 0,
-            rounds: Tally::new(0..=MAX_ROUNDS),
-            sorts: Tally::new(ways.into_iter().chain(forms)),
+            rounds: Tally::new(0..=most_rounds),
+            sorts: Tally::new(ways.into_iter().chain(forms).chain(counts.iter().copied())),
         }
     }
-}
 
-impl Seams {
     pub fn is_complete(&self) -> bool {
         self.rounds.is_complete() && self.sorts.is_complete()
     }
 
-    /// Compares all readings of a pair of nets after each round.
+    /// Compares all readings of a pair of nets after each round. They are
+    /// those of the nets where refining begins.
     pub fn compare_pair(&mut self, rng: &mut Rng) -> Result<(), String> {
-        let (pair, faces) = drawn_pair(rng);
-        let shared = shared_readings(&pair.nets[0], &pair.nets[1]);
+        let (pair, faces) = self.drawn_pair(rng);
+        let starts = pair.nets.each_ref().map(Drawn::start);
+        let shared = shared_readings(&starts[0], &starts[1]);
         if !shared.contains(&pair.readings.into()) {
             return Err("the nets do not share what was drawn".to_owned());
         }
-        let most = (pair.nets.each_ref()).map(|net| most_rounds(net, MAX_ROUNDS, faces));
+        let most = (starts.each_ref()).map(|net| most_rounds(net.faces.len(), MAX_ROUNDS, faces));
         for rounds in 0..=most[0].min(most[1]) {
             let mut after = Vec::new();
-            for net in &pair.nets {
+            for (net, start) in pair.nets.iter().zip(&starts) {
                 let refined = refined(net, rounds, rng)?;
-                self.readings += compare_readings(net, &refined, rounds)?;
+                self.readings += compare_readings(start, &refined, rounds)?;
                 after.push(refined);
             }
             compare_shared(&after, &shared, rounds)?;
             self.rounds.add_many(rounds, shared.len() as u64);
         }
         for readings in &shared {
-            self.add_sorts(&pair.nets, readings);
+            self.add_sorts(&starts, readings);
+        }
+        match pair.nets.iter().filter(|net| net.has_sides()).count() {
+            0 => {}
+            1 => self.sorts.add("with counts in one"),
+            _ => self.sorts.add("with counts in both"),
         }
         self.pairs += 1;
         Ok(())
+    }
+
+    /// A pair of nets with the most faces after refining; some have so few
+    /// faces that many rounds are made.
+    fn drawn_pair(&self, rng: &mut Rng) -> (SharedPair, usize) {
+        if !rng.one_in(20) {
+            return ((self.draw)(rng), rng.pick(&[64, 256, 256, 256, 1_024]));
+        }
+        let few = rng.pick(&self.few);
+        loop {
+            let pair = (self.draw)(rng);
+            if pair.nets.iter().all(|net| net.start().faces.len() <= few) {
+                return (pair, 4_096);
+            }
+        }
     }
 
     fn add_sorts(&mut self, nets: &[Net; 2], (one, other): &(Reading, Reading)) {
@@ -101,24 +137,9 @@ impl Display for Seams {
     }
 }
 
-/// A pair of nets with the most faces after refining; some have so few faces
-/// that 5 or 6 rounds are made.
-fn drawn_pair(rng: &mut Rng) -> (SharedPair, usize) {
-    if !rng.one_in(20) {
-        return (shared_pair(rng), rng.pick(&[64, 256, 256, 256, 1_024]));
-    }
-    let few = rng.pick(&[1, 4]);
-    loop {
-        let pair = shared_pair(rng);
-        if pair.nets.iter().all(|net| net.faces.len() <= few) {
-            return (pair, 4_096);
-        }
-    }
-}
-
 /// The net that the call through C gives.
-fn refined(net: &Net, rounds: u32, rng: &mut Rng) -> Result<Net, String> {
-    let known = Known::new(Case::new(net, rounds, Expected::Accepted), rng)?;
+fn refined(net: &Drawn, rounds: u32, rng: &mut Rng) -> Result<Net, String> {
+    let known = Known::new(net.accepted_case(rounds), rng)?;
     let answer = known
         .compare(rng)
         .map_err(|fault| format!("{fault}; {:?}", known.case))?;

@@ -3,7 +3,8 @@
 use std::collections::BTreeMap;
 use std::fmt::{self, Display, Formatter};
 
-use reference::refusal::MAX_ROUNDS;
+use nets::refused::POLYGON_REASONS;
+use reference::refusal::{MAX_ROUNDS, SIDE_COUNTS};
 
 use crate::compare::Known;
 
@@ -47,30 +48,44 @@ impl<K: Ord + Display> Tally<K> {
 pub struct Calls {
     refusals: Tally<u32>,
     rounds: Tally<u32>,
+    /// Side counts in accepted nets.
+    sides: Tally<u8>,
     empty: u64,
 }
 
-impl Default for Calls {
-    fn default() -> Self {
+impl Calls {
+    pub fn without_sides() -> Self {
         Self {
             refusals: Tally::new(1..=12),
             rounds: Tally::new(0..=MAX_ROUNDS),
+            sides: Tally::new([]),
             empty: 0,
         }
     }
-}
 
-impl Calls {
+    /// The largest nets are few and do not all have 6 rounds.
+    pub fn with_sides() -> Self {
+        Self {
+            refusals: Tally::new(POLYGON_REASONS),
+            rounds: Tally::new(0..MAX_ROUNDS),
+            sides: Tally::new(SIDE_COUNTS),
+            empty: 0,
+        }
+    }
+
     pub fn add(&mut self, known: &Known) {
         match known.report.reason {
             0 if known.case.faces.is_empty() => self.empty += 1,
-            0 => self.rounds.add(known.case.rounds),
+            0 => {
+                self.rounds.add(known.case.rounds);
+                known.case.sides.iter().for_each(|&n| self.sides.add(n));
+            }
             reason => self.refusals.add(reason),
         }
     }
 
     pub fn is_complete(&self) -> bool {
-        self.refusals.is_complete() && self.rounds.is_complete()
+        self.refusals.is_complete() && self.rounds.is_complete() && self.sides.is_complete()
     }
 }
 
@@ -83,6 +98,9 @@ impl Display for Calls {
             "{all} nets agree: {accepted} accepted, {empty} of them empty, {refused} refused"
         )?;
         writeln!(f, "{}", self.rounds.line("accepted by rounds"))?;
+        if self.sides.total() > 0 {
+            writeln!(f, "{}", self.sides.line("accepted faces by sides"))?;
+        }
         write!(f, "{}", self.refusals.line("refused by reason"))
     }
 }

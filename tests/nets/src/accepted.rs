@@ -2,13 +2,13 @@
 
 use std::collections::BTreeSet;
 
-use reference::net::{Net, sides};
+use reference::net::{Mesh, Net, sides};
 use reference::refusal::check_net;
 use reference::step::refine_once;
 
 use crate::build::to_u32;
 use crate::change::{
-    PLACINGS, Placing, boundary_loops, erode, flip, mark, place, renumber, repair,
+    Face, PLACINGS, Placing, boundary_loops, erode, flip, mark, place, renumber, repair,
 };
 use crate::rng::Rng;
 use crate::shapes;
@@ -109,12 +109,18 @@ impl Size {
 /// A random net of this kind that a call accepts, with random numbers, face
 /// rotations, marks and points.
 pub fn accepted(shape: Shape, size: Size, rng: &mut Rng) -> Net {
-    let mut net = topology(shape, size, rng);
+    let net = topology(shape, size, rng);
     let placing = match shape {
         Shape::Extreme => Placing::Extreme,
         Shape::Halves => Placing::Halves,
         _ => rng.pick(&PLACINGS),
     };
+    dressed(net, placing, rng)
+}
+
+/// A net with points as this placing says, turned over or not, with random
+/// marks, and mostly with random numbers and face rotations.
+pub fn dressed<F: Face>(mut net: Mesh<F>, placing: Placing, rng: &mut Rng) -> Mesh<F> {
     place(&mut net, placing, rng);
     if rng.one_in(2) {
         flip(&mut net);
@@ -127,7 +133,7 @@ pub fn accepted(shape: Shape, size: Size, rng: &mut Rng) -> Net {
 }
 
 /// A net of this kind and size without marks.
-fn topology(shape: Shape, size: Size, rng: &mut Rng) -> Net {
+pub fn topology(shape: Shape, size: Size, rng: &mut Rng) -> Net {
     loop {
         let net = draw(shape, size, rng);
         if size.holds(&net) && (shape == Shape::Empty || !net.faces.is_empty()) {
@@ -172,7 +178,7 @@ fn draw(shape: Shape, size: Size, rng: &mut Rng) -> Net {
     }
 }
 
-fn draw_part(size: Size, rng: &mut Rng) -> Net {
+pub fn draw_part(size: Size, rng: &mut Rng) -> Net {
     let parts = Shape::ALL.iter().copied().filter(|shape| shape.is_part());
     let part = rng.pick(&parts.collect::<Vec<_>>());
     topology(part, size, rng)
@@ -262,8 +268,8 @@ fn soup(size: Size, rng: &mut Rng) -> Net {
     for _ in 0..size.upto(3, [40, 200, 200], rng) {
         let corners = rng.permutation(net.points.len());
         let face = [corners[0], corners[1], corners[2], corners[3]];
-        if sides(face).iter().all(|side| !taken.contains(side)) {
-            taken.extend(sides(face));
+        if sides(&face).all(|side| !taken.contains(&side)) {
+            taken.extend(sides(&face));
             net.faces.push(face);
         }
     }

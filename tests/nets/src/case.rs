@@ -1,8 +1,8 @@
 //! Calls and texts together with what is known of their answers.
 
-use reference::call::{Call, Outcome, Tables, refine};
-use reference::net::Net;
-use reference::refusal::{Capacity, MAX_ROUNDS, Refusal};
+use reference::call::{Call, Outcome, Tables, refine, refine_into};
+use reference::net::{Mesh, Net, PolygonNet};
+use reference::refusal::{Capacity, MAX_ROUNDS, Refusal, quadrilaterals};
 use reference::text::Document;
 
 use crate::rng::Rng;
@@ -32,25 +32,57 @@ pub struct Case {
     pub rounds: u32,
     pub vertices: Vec<i32>,
     pub faces: Vec<u32>,
+    /// Sides of each face; none if every face has four.
+    pub sides: Vec<u8>,
     pub marks: Vec<u8>,
     pub capacity: Capacity,
     pub expected: Expected,
 }
 
 impl Case {
-    /// A call with tables just long enough, or for one round if there are
-    /// too many rounds.
+    /// A call without side counts, with tables just long enough, or for one
+    /// round if there are too many rounds.
     pub fn new(net: &Net, rounds: u32, expected: Expected) -> Self {
-        let served = if rounds <= MAX_ROUNDS { rounds } else { 1 };
-        let refined = net.faces.len() << (2 * served);
-        Self {
+        Self::of_tables(net, vec![], rounds, expected)
+    }
+
+    /// The same with side counts.
+    pub fn with_sides(net: &PolygonNet, rounds: u32, expected: Expected) -> Self {
+        Self::of_tables(net, net.side_table(), rounds, expected)
+    }
+
+    fn of_tables<F: AsRef<[u32]>>(
+        net: &Mesh<F>,
+        sides: Vec<u8>,
+        rounds: u32,
+        expected: Expected,
+    ) -> Self {
+        let mut case = Self {
             rounds,
             vertices: net.vertex_table(),
             faces: net.face_table(),
+            sides,
             marks: net.marks.clone(),
-            capacity: Capacity::for_refined_faces(refined),
+            capacity: Capacity::for_refined_faces(0),
             expected,
-        }
+        };
+        case.capacity = Capacity::for_refined_faces(case.served_faces());
+        case
+    }
+
+    /// F: the quadrilaterals that refining begins with.
+    pub fn quadrilaterals(&self) -> usize {
+        quadrilaterals(self.faces.len(), &self.sides)
+    }
+
+    /// Faces after refining, or after one round if there are too many rounds.
+    pub fn served_faces(&self) -> usize {
+        let served = if self.rounds <= MAX_ROUNDS {
+            self.rounds
+        } else {
+            1
+        };
+        self.quadrilaterals() << (2 * served)
     }
 
     /// Tables for the results and the workspace, filled with random contents.
@@ -72,9 +104,22 @@ impl Case {
             rounds: self.rounds,
             vertices: &self.vertices,
             faces: &self.faces,
+            sides: &self.sides,
             marks: &self.marks,
             capacity: self.capacity,
         })
+    }
+
+    /// The reference's answer, and in `tables` the final state of every table.
+    pub fn outcome_in(&self, tables: &mut Tables) -> Outcome {
+        refine_into(
+            self.rounds,
+            &self.vertices,
+            &self.faces,
+            &self.sides,
+            &self.marks,
+            tables,
+        )
     }
 }
 

@@ -2,7 +2,7 @@
 
 use std::collections::BTreeMap;
 
-use reference::net::Net;
+use reference::net::Mesh;
 use reference::refusal::{Refusal, check_net};
 use reference::topology::Topology;
 
@@ -11,15 +11,21 @@ use crate::rng::Rng;
 
 const LIMIT: i32 = 1_048_576;
 
+/// The corners of a face: four of them, or a list.
+pub trait Face: Clone + AsRef<[u32]> + AsMut<[u32]> {}
+
+impl<F: Clone + AsRef<[u32]> + AsMut<[u32]>> Face for F {}
+
 /// Removes vertices without faces; the others keep their order.
-pub fn drop_unused_vertices(net: Net) -> Net {
+pub fn drop_unused_vertices<F: Face>(net: Mesh<F>) -> Mesh<F> {
     let mut is_used = vec![false; net.points.len()];
-    for &corner in net.faces.as_flattened() {
+    for corner in net.corners() {
         is_used[corner as usize] = true;
     }
-    let mut kept = Net {
+    let mut kept = Mesh {
+        points: vec![],
         faces: net.faces,
-        ..Net::default()
+        marks: vec![],
     };
     let mut numbers = vec![0; is_used.len()];
     for (vertex, _) in is_used.iter().enumerate().filter(|(_, used)| **used) {
@@ -27,7 +33,7 @@ pub fn drop_unused_vertices(net: Net) -> Net {
         kept.points.push(net.points[vertex]);
         kept.marks.push(net.marks[vertex]);
     }
-    for corner in kept.faces.as_flattened_mut() {
+    for corner in kept.corners_mut() {
         *corner = numbers[*corner as usize];
     }
     kept
@@ -42,7 +48,7 @@ pub struct Numbering {
 
 /// Gives vertices and faces random numbers and turns faces to a random first
 /// corner. Corners beyond the vertex table stay as they are.
-pub fn renumber(net: &Net, rng: &mut Rng) -> (Net, Numbering) {
+pub fn renumber<F: Face>(net: &Mesh<F>, rng: &mut Rng) -> (Mesh<F>, Numbering) {
     let numbering = Numbering {
         vertices: rng.permutation(net.points.len()),
         faces: rng.permutation(net.faces.len()),
@@ -53,25 +59,27 @@ pub fn renumber(net: &Net, rng: &mut Rng) -> (Net, Numbering) {
         renumbered.marks[new as usize] = net.marks[old];
     }
     for (old, &new) in numbering.faces.iter().enumerate() {
-        let mut face = net.faces[old].map(|v| match numbering.vertices.get(v as usize) {
-            Some(&number) => number,
-            None => v,
-        });
-        face.rotate_left(rng.below(4));
+        let mut face = net.faces[old].clone();
+        for corner in face.as_mut() {
+            let number = numbering.vertices.get(*corner as usize);
+            *corner = number.copied().unwrap_or(*corner);
+        }
+        let sides = face.as_ref().len();
+        face.as_mut().rotate_left(rng.below(sides));
         renumbered.faces[new as usize] = face;
     }
     (renumbered, numbering)
 }
 
 /// Turns all faces over, so that the boundary runs the other way.
-pub fn flip(net: &mut Net) {
+pub fn flip<F: Face>(net: &mut Mesh<F>) {
     for face in &mut net.faces {
-        face.reverse();
+        face.as_mut().reverse();
     }
 }
 
 /// Boundary loops as vertex lists, the way the sides run.
-pub fn boundary_loops(net: &Net) -> Vec<Vec<u32>> {
+pub fn boundary_loops<F: Face>(net: &Mesh<F>) -> Vec<Vec<u32>> {
     let topology = Topology::new(&net.faces).expect("an accepted net");
     let mut after = topology.boundary().after;
     let mut loops = Vec::new();
@@ -89,9 +97,9 @@ pub fn boundary_loops(net: &Net) -> Vec<Vec<u32>> {
 
 /// Marks boundary vertices of an accepted net, loop by loop, in one of several
 /// manners.
-pub fn mark(net: &mut Net, rng: &mut Rng) {
+pub fn mark<F: Face>(net: &mut Mesh<F>, rng: &mut Rng) {
     let mut faces_at: BTreeMap<u32, usize> = BTreeMap::new();
-    for &corner in net.faces.as_flattened() {
+    for corner in net.corners() {
         *faces_at.entry(corner).or_default() += 1;
     }
     for vertices in boundary_loops(net) {
@@ -141,7 +149,7 @@ pub const PLACINGS: [Placing; 7] = [
 ];
 
 /// Places all vertices anew.
-pub fn place(net: &mut Net, placing: Placing, rng: &mut Rng) {
+pub fn place<F>(net: &mut Mesh<F>, placing: Placing, rng: &mut Rng) {
     for value in net.points.as_flattened_mut() {
         *value = match placing {
             Placing::Plain => *value,
@@ -156,14 +164,14 @@ pub fn place(net: &mut Net, placing: Placing, rng: &mut Rng) {
 }
 
 /// Removes about one face in `times`, and whatever then is not acceptable.
-pub fn erode(mut net: Net, times: usize, rng: &mut Rng) -> Net {
+pub fn erode<F: Face>(mut net: Mesh<F>, times: usize, rng: &mut Rng) -> Mesh<F> {
     net.faces.retain(|_| !rng.one_in(times));
     repair(net, rng)
 }
 
 /// Makes a net with valid corners acceptable: vertices between several fans
 /// are split, and faces at too large or too small rings are removed.
-pub fn repair(net: Net, rng: &mut Rng) -> Net {
+pub fn repair<F: Face>(net: Mesh<F>, rng: &mut Rng) -> Mesh<F> {
     let mut net = drop_unused_vertices(net);
     while let Err(Refusal { reason, place }) = check_net(&net) {
         match reason {
@@ -179,20 +187,22 @@ pub fn repair(net: Net, rng: &mut Rng) -> Net {
     net
 }
 
-fn remove_face_at(net: &mut Net, vertex: u32, rng: &mut Rng) {
+fn remove_face_at<F: Face>(net: &mut Mesh<F>, vertex: u32, rng: &mut Rng) {
     let at_vertex: Vec<usize> = (0..net.faces.len())
-        .filter(|&face| net.faces[face].contains(&vertex))
+        .filter(|&face| net.faces[face].as_ref().contains(&vertex))
         .collect();
     net.faces.remove(rng.pick(&at_vertex));
 }
 
 /// Gives one of the rings or fans at a vertex its own copy of it.
-fn split_vertex(net: &mut Net, vertex: u32) {
+fn split_vertex<F: Face>(net: &mut Mesh<F>, vertex: u32) {
     // From the corner after the vertex in a face to the corner before it.
     let mut spokes = BTreeMap::new();
     for (number, face) in net.faces.iter().enumerate() {
+        let face = face.as_ref();
         if let Some(at) = face.iter().position(|&v| v == vertex) {
-            spokes.insert(face[(at + 1) % 4], (face[(at + 3) % 4], number));
+            let n = face.len();
+            spokes.insert(face[(at + 1) % n], (face[(at + n - 1) % n], number));
         }
     }
     let is_open_end = |spoke: &u32| spokes.values().all(|(last, _)| last != spoke);
@@ -203,7 +213,10 @@ fn split_vertex(net: &mut Net, vertex: u32) {
     net.points.push(net.points[vertex as usize]);
     net.marks.push(0);
     while let Some((next, number)) = spokes.remove(&at) {
-        net.faces[number] = net.faces[number].map(|v| if v == vertex { copy } else { v });
+        let corners = net.faces[number].as_mut().iter_mut();
+        corners
+            .filter(|corner| **corner == vertex)
+            .for_each(|corner| *corner = copy);
         at = next;
     }
 }

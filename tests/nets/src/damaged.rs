@@ -7,6 +7,8 @@ use reference::text::MAX_BYTES;
 use crate::accepted::{Shape, Size, accepted};
 use crate::build::to_u32;
 use crate::case::{Case, Expected, TextCase, document};
+use crate::polygons::{PolygonShape, accepted_polygons, some_sizes};
+use crate::refused::break_sides;
 use crate::rng::Rng;
 
 named_cases! {
@@ -272,7 +274,36 @@ pub fn damaged_tables(size: Size, rng: &mut Rng) -> Case {
 
 /// The same with this net.
 pub fn damaged_call(net: &Net, rng: &mut Rng) -> Case {
-    let mut case = Case::new(net, to_u32(rng.below(3)), Expected::Unknown);
+    damaged(Case::new(net, to_u32(rng.below(3)), Expected::Unknown), rng)
+}
+
+/// A call with side counts and a sound net, changed at random.
+pub fn damaged_polygons(shape: PolygonShape, size: Size, rng: &mut Rng) -> Case {
+    let net = accepted_polygons(shape, size, rng);
+    let mut case = Case::with_sides(&net, to_u32(rng.below(3)), Expected::Unknown);
+    if rng.one_in(2) {
+        move_sides(&mut case, rng);
+    }
+    if rng.one_in(8) {
+        break_sides(&mut case, rng);
+    }
+    damaged(case, rng)
+}
+
+/// Exchanges two counts, or moves sides from one face to another; the sum
+/// stays.
+fn move_sides(case: &mut Case, rng: &mut Rng) {
+    let [one, other] = [(); 2].map(|()| rng.below(case.sides.len()));
+    case.sides.swap(one, other);
+    let moved = rng.pick(&[0, 1, 2]);
+    if one != other && rng.one_in(2) && case.sides[one] >= moved {
+        case.sides[one] -= moved;
+        case.sides[other] += moved;
+    }
+}
+
+/// Changes some entries, sometimes lengths.
+fn damaged(mut case: Case, rng: &mut Rng) -> Case {
     for _ in 0..rng.between(1, 3) {
         damage_entry(&mut case, rng);
     }
@@ -315,6 +346,10 @@ fn damage_lengths(case: &mut Case, rng: &mut Rng) {
     case.faces.resize(length, 0);
     let length = near(case.marks.len(), rng);
     case.marks.resize(length, 0);
+    if !case.sides.is_empty() {
+        let length = near(case.sides.len(), rng);
+        case.sides.resize(length, 3);
+    }
     case.capacity = Capacity {
         vertices: near(case.capacity.vertices, rng),
         faces: near(case.capacity.faces, rng),
@@ -333,8 +368,33 @@ pub fn random_tables(rng: &mut Rng) -> Case {
         faces: (0..4 * faces)
             .map(|_| to_u32(rng.below(vertices + 1)))
             .collect(),
+        sides: vec![],
         marks: (0..vertices).map(|_| u8::from(rng.one_in(4))).collect(),
         capacity: Capacity::for_refined_faces(16 * faces),
+        expected: Expected::Unknown,
+    };
+    if rng.one_in(3) {
+        damage_lengths(&mut case, rng);
+    }
+    case
+}
+
+/// The same with random side counts, whose sum is mostly the corners.
+pub fn random_polygons(rng: &mut Rng) -> Case {
+    let vertices = rng.below(8);
+    let count = rng.between(0, 5);
+    let sizes = some_sizes(count, rng).into_iter();
+    let sides: Vec<u8> = sizes.map(|size| size.to_le_bytes()[0]).collect();
+    let corners = sides.iter().map(|&size| usize::from(size)).sum();
+    let mut case = Case {
+        rounds: to_u32(rng.below(3)),
+        vertices: (0..3 * vertices).map(|_| rng.between(-99, 99)).collect(),
+        faces: (0..corners)
+            .map(|_| to_u32(rng.below(vertices + 1)))
+            .collect(),
+        sides,
+        marks: (0..vertices).map(|_| u8::from(rng.one_in(4))).collect(),
+        capacity: Capacity::for_refined_faces(16 * corners),
         expected: Expected::Unknown,
     };
     if rng.one_in(3) {

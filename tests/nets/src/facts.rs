@@ -5,32 +5,41 @@
 
 use std::collections::BTreeSet;
 use std::fmt::Display;
+use std::fs;
 
-use reference::call::{Outcome, Tables, refine_into};
+use reference::call::{Outcome, Tables, start_net};
 use reference::curve::{Form, exact_curve, rounded_curve};
-use reference::net::Net;
-use reference::refusal::{Capacity, Refusal, check_call, check_net};
+use reference::net::{Net, PolygonNet};
+use reference::refusal::{Capacity, Refusal, check_call};
 use reference::seam::{Boundary, Reading, Way};
-use reference::step::{Directions, Rule, Step, trace};
+use reference::step::{Directions, Rule, Step, refine_once, split, trace};
 use reference::topology::Topology;
 
 use crate::accepted::{Shape, Size, accepted};
 use crate::build::to_u32;
 use crate::case::{Case, Expected};
 use crate::change::{Placing, boundary_loops, mark, place, renumber};
-use crate::damaged::{damaged_tables, random_tables};
-use crate::refused::refused_call;
+use crate::damaged::{damaged_polygons, damaged_tables, random_polygons, random_tables};
+use crate::kind::CallKind;
+use crate::polygons::{PolygonShape, accepted_polygons};
+use crate::refused::{POLYGON_REASONS, refused_call, refused_polygons};
 use crate::rng::Rng;
 use crate::shapes;
+use crate::stored::{from_text, stored_calls};
 
 /// Faces of the nets that are preferred, since the definitions are slow.
 const FEW_FACES: usize = 6;
 /// Most faces of a net whose second round is told.
 const TWO_ROUNDS: usize = 2;
-/// Most corners of a net whose tables are told; of others only the lengths.
+/// Most corners and vertices of a net whose tables are told; of others only the
+/// lengths and the side counts.
 const MOST_CORNERS: usize = 200;
 /// Most work numbers of a call whose lent tables are told.
 const MOST_WORK: usize = 81;
+/// The same with side counts: a triangle and one round, or 12 corners.
+const MOST_POLYGON_WORK: usize = 193;
+/// Corners of the nets with side counts that are preferred.
+const FEW_CORNERS: usize = 14;
 /// Most rounds for which the definitions can work out the number of faces.
 const MOST_ROUNDS: u32 = 100;
 /// Calls for each refusal alone.
@@ -58,7 +67,113 @@ pub fn lines(seed: u64, count: usize) -> Vec<String> {
         lines.push(call_line("random", &random_tables(rng), &[]));
         lines.push(call_line("limits", &near_limits(rng), &[]));
     }
+    lines.extend(polygon_lines(count, rng));
     lines
+}
+
+/// The facts of calls with side counts: a quarter of `count` accepted nets;
+/// every refusal alone and in pairs with 14; calls that are damaged, random or
+/// near the limits, a sixteenth of `count` each; the stored calls.
+fn polygon_lines(count: usize, rng: &mut Rng) -> Vec<String> {
+    let shapes = PolygonShape::ALL.into_iter().cycle().take(count / 4);
+    let mut lines: Vec<String> = shapes
+        .enumerate()
+        .map(|(at, shape)| {
+            let tries = if at % 8 == 7 { 2 } else { 40 };
+            let net = drawn_polygons(shape, tries, rng);
+            accepted_polygon_line(shape, &net, rng)
+        })
+        .collect();
+    for reason in POLYGON_REASONS {
+        lines.extend((0..ALONE).map(|_| refused_polygon_line(&[reason], rng)));
+        lines.push(refused_polygon_line(&[reason, 14], rng));
+    }
+    for _ in 0..count / 16 {
+        let shape = rng.pick(&PolygonShape::ALL);
+        let damaged = served(|rng| damaged_polygons(shape, Size::Small, rng), rng);
+        lines.push(call_line("polygons-damaged", &damaged, &[]));
+        lines.push(call_line("polygons-random", &random_polygons(rng), &[]));
+        lines.push(call_line("polygons-limits", &near_polygon_limits(rng), &[]));
+    }
+    lines.extend(stored_lines());
+    lines
+}
+
+/// The stored calls that are of no seeded kind.
+fn stored_lines() -> Vec<String> {
+    let mut lines = Vec::new();
+    for path in stored_calls() {
+        let name = path.file_stem().unwrap_or_default().to_string_lossy();
+        if CallKind::named(&name).is_none() {
+            let text = fs::read_to_string(&path).expect("a stored call");
+            let case = from_text(&text).expect("the form of stored calls");
+            let kind = format!("polygons-stored-{name}");
+            lines.push(call_line(&kind, &case, &[]));
+        }
+    }
+    lines
+}
+
+/// The first of several nets with few corners, or the last.
+fn drawn_polygons(shape: PolygonShape, tries: usize, rng: &mut Rng) -> PolygonNet {
+    let mut net = accepted_polygons(shape, Size::Small, rng);
+    for _ in 1..tries {
+        if net.corners().count() <= FEW_CORNERS {
+            break;
+        }
+        net = accepted_polygons(shape, Size::Small, rng);
+    }
+    net
+}
+
+/// An accepted net with side counts: its split, and the net after one round.
+fn accepted_polygon_line(shape: PolygonShape, net: &PolygonNet, rng: &mut Rng) -> String {
+    let case = Case::with_sides(net, to_u32(rng.below(2)), Expected::Accepted);
+    let start = split(net);
+    let refined = refine_once(&start).net;
+    let sizes: BTreeSet<usize> = net.faces.iter().map(Vec::len).collect();
+    let traits = sizes.iter().map(|n| format!("face of {n} sides"));
+    object(&[
+        ("kind", quoted(format!("polygons-{}", shape.name()))),
+        ("call", call_text(&case, true)),
+        ("net", tables_of(&case)),
+        ("sides", numbers(&case.sides)),
+        ("split", list([&start, &refined].map(net_text))),
+        ("traits", list(traits.map(quoted))),
+    ])
+}
+
+/// A call with side counts and these reasons against it.
+fn refused_polygon_line(reasons: &[u32], rng: &mut Rng) -> String {
+    let case = served(|rng| refused_polygons(reasons, rng), rng);
+    let names: Vec<String> = reasons.iter().map(|r| format!("{r:02}")).collect();
+    let kind = format!("polygons-refused-{}", names.join("-"));
+    call_line(&kind, &case, reasons)
+}
+
+/// A call with side counts of which only these and the lengths matter.
+fn near_polygon_limits(rng: &mut Rng) -> Case {
+    let vertices = rng.pick(&[0, 4, 8_192, 8_193]);
+    let (count, times) = rng.pick(&[(8, 8), (5, 13), (4, 16), (3, 22), (8, 32), (3, 342)]);
+    let rounds = rng.pick(&[0, 4, 5, 6, 7]);
+    let mut case = Case {
+        rounds,
+        vertices: vec![0; 3 * vertices],
+        faces: vec![0; count * times],
+        sides: vec![u8::try_from(count).expect("small"); times],
+        marks: vec![0; vertices],
+        capacity: Capacity::for_refined_faces(0),
+        expected: Expected::Unknown,
+    };
+    if rng.one_in(4) {
+        let at = rng.below(times);
+        case.sides[at] = rng.pick(&[2, 3, 8, 9]);
+    }
+    case.capacity = Capacity::for_refined_faces(case.served_faces());
+    if rng.one_in(3) {
+        case.capacity.workspace -= 1;
+    }
+    case
 }
 
 /// Different accepted nets with their names: every ring and every fan, then
@@ -161,6 +276,7 @@ fn near_limits(rng: &mut Rng) -> Case {
         rounds,
         vertices: vec![0; 3 * vertices],
         faces: vec![0; 4 * faces],
+        sides: vec![],
         marks: vec![0; vertices],
         capacity: room,
         expected: Expected::Unknown,
@@ -169,19 +285,41 @@ fn near_limits(rng: &mut Rng) -> Case {
 
 /// A call with its tables, or with their lengths alone if they are long.
 fn call_line(kind: &str, case: &Case, reasons: &[u32]) -> String {
-    let is_short = kind != "limits" && case.faces.len() <= MOST_CORNERS;
+    let most = case.faces.len().max(case.marks.len());
+    let is_short = !kind.ends_with("limits") && most <= MOST_CORNERS;
     let mut fields = vec![("kind", quoted(kind)), ("call", call_text(case, is_short))];
     if is_short {
-        let tables = [
-            numbers(&case.vertices),
-            numbers(&case.faces),
-            numbers(&case.marks),
-        ];
-        fields.push(("net", list(tables)));
+        fields.push(("net", tables_of(case)));
+    }
+    if !case.sides.is_empty() {
+        fields.push(("sides", numbers(&case.sides)));
     }
     let traits = reasons.iter().map(|reason| format!("reason {reason}"));
     fields.push(("traits", list(traits.map(quoted))));
     object(&fields)
+}
+
+/// The vertex, face and mark table of a call.
+fn tables_of(case: &Case) -> String {
+    list([
+        numbers(&case.vertices),
+        numbers(&case.faces),
+        numbers(&case.marks),
+    ])
+}
+
+/// Whether the lengths of the tables and the side counts fit.
+fn is_whole(case: &Case) -> bool {
+    let enough = Capacity::for_refined_faces(case.quadrilaterals());
+    let checked = check_call(
+        0,
+        &case.vertices,
+        &case.faces,
+        &case.sides,
+        &case.marks,
+        &enough,
+    );
+    !checked.is_err_and(|refusal| matches!(refusal.reason, 2 | 14))
 }
 
 /// Rounds, lengths of the three tables, room, and the reference's verdicts on
@@ -190,8 +328,6 @@ fn call_line(kind: &str, case: &Case, reasons: &[u32]) -> String {
 fn call_text(case: &Case, with_net: bool) -> String {
     let lengths = [case.vertices.len(), case.faces.len(), case.marks.len()];
     let room = case.capacity;
-    let net = Net::from_tables(&case.vertices, &case.faces, &case.marks);
-    let is_whole = lengths == [3 * net.points.len(), 4 * net.faces.len(), net.points.len()];
     let verdict = match with_net.then(|| case.outcome()) {
         Some(Outcome::Refined { .. }) => vec![],
         Some(Outcome::Refused { reason, place }) => vec![reason, place],
@@ -199,6 +335,7 @@ fn call_text(case: &Case, with_net: bool) -> String {
             case.rounds,
             &case.vertices,
             &case.faces,
+            &case.sides,
             &case.marks,
             &room,
         )),
@@ -212,10 +349,16 @@ fn call_text(case: &Case, with_net: bool) -> String {
         ),
         ("verdict", numbers(&verdict)),
     ];
-    if with_net && is_whole {
-        fields.push(("net_verdict", numbers(&told(check_net(&net)))));
+    if with_net && is_whole(case) {
+        let start = start_net(&case.vertices, &case.faces, &case.sides, &case.marks);
+        fields.push(("net_verdict", numbers(&told(start.map(drop)))));
     }
-    if with_net && room.workspace <= MOST_WORK {
+    let most_work = if case.sides.is_empty() {
+        MOST_WORK
+    } else {
+        MOST_POLYGON_WORK
+    };
+    if with_net && room.workspace <= most_work {
         fields.extend(lent_fields(case));
     }
     object(&fields)
@@ -226,13 +369,7 @@ fn call_text(case: &Case, with_net: bool) -> String {
 fn lent_fields(case: &Case) -> [(&'static str, String); 3] {
     let before = case.tables(&mut Rng::new(0));
     let mut after = before.clone();
-    let outcome = refine_into(
-        case.rounds,
-        &case.vertices,
-        &case.faces,
-        &case.marks,
-        &mut after,
-    );
+    let outcome = case.outcome_in(&mut after);
     let counts = match outcome {
         Outcome::Refined { faces, marks, .. } => vec![marks.len(), faces.len() / 4],
         Outcome::Refused { .. } => vec![],

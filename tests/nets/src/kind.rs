@@ -1,4 +1,5 @@
-//! The kinds of texts by name, and mixed series of nets and calls.
+//! The kinds of texts and of calls with side counts by name, and mixed series
+//! of nets and calls.
 
 use reference::net::Net;
 use reference::refusal::Capacity;
@@ -7,8 +8,12 @@ use reference::text::PROGRAM_REFINED_FACES;
 use crate::accepted::{Shape, Size, accepted};
 use crate::build::to_u32;
 use crate::case::{Case, Expected, TextCase, document};
-use crate::damaged::{Damage, damage_text, damaged_tables, damaged_text, random_tables};
-use crate::refused::{TEXT_REASONS, refused_call, refused_text};
+use crate::damaged::{
+    Damage, damage_text, damaged_polygons, damaged_tables, damaged_text, random_polygons,
+    random_tables,
+};
+use crate::polygons::{PolygonShape, accepted_polygons};
+use crate::refused::{POLYGON_REASONS, TEXT_REASONS, refused_call, refused_polygons, refused_text};
 use crate::rng::Rng;
 
 /// A kind of text.
@@ -49,10 +54,7 @@ impl Kind {
         match self {
             Kind::Accepted(shape) => shape.name().to_owned(),
             Kind::Small(shape) => format!("small-{}", shape.name()),
-            Kind::Refused(reasons) => {
-                let numbers: Vec<String> = reasons.iter().map(|r| format!("{r:02}")).collect();
-                format!("refused-{}", numbers.join("-"))
-            }
+            Kind::Refused(reasons) => refused_name(reasons),
             Kind::Damaged(damage) => format!("damaged-{}", damage.name()),
             Kind::DamagedAnd(reason) => format!("damaged-and-{reason:02}"),
         }
@@ -63,7 +65,7 @@ impl Kind {
         match self {
             Kind::Accepted(shape) => {
                 let net = accepted(*shape, Size::Medium, rng);
-                let most = most_rounds(&net, PROGRAM_REFINED_FACES).min(4);
+                let most = most_rounds(net.faces.len(), PROGRAM_REFINED_FACES).min(4);
                 let rounds = to_u32(rng.below(most as usize + 1));
                 accepted_text(&net, rounds, rng)
             }
@@ -83,6 +85,66 @@ impl Kind {
     }
 }
 
+/// A kind of call with side counts.
+#[derive(Clone, Debug, PartialEq, Eq)]
+pub enum CallKind {
+    /// Accepted, at most 60 corners, up to two rounds.
+    Accepted(PolygonShape),
+    /// With these reasons for a refusal.
+    Refused(Vec<u32>),
+    /// A sound net changed at random.
+    Damaged,
+    /// Small random tables.
+    Random,
+}
+
+impl CallKind {
+    pub fn all() -> Vec<CallKind> {
+        let mut kinds: Vec<CallKind> = PolygonShape::ALL.map(CallKind::Accepted).to_vec();
+        for (at, &first) in POLYGON_REASONS.iter().enumerate() {
+            kinds.push(CallKind::Refused(vec![first]));
+            for &second in &POLYGON_REASONS[at + 1..] {
+                kinds.push(CallKind::Refused(vec![first, second]));
+            }
+        }
+        kinds.extend([CallKind::Damaged, CallKind::Random]);
+        kinds
+    }
+
+    pub fn named(name: &str) -> Option<CallKind> {
+        let mut kinds = CallKind::all().into_iter();
+        kinds.find(|kind| kind.name() == name)
+    }
+
+    pub fn name(&self) -> String {
+        match self {
+            CallKind::Accepted(shape) => shape.name().to_owned(),
+            CallKind::Refused(reasons) => refused_name(reasons),
+            CallKind::Damaged => "damaged".to_owned(),
+            CallKind::Random => "random".to_owned(),
+        }
+    }
+
+    pub fn make(&self, seed: u64) -> Case {
+        let rng = &mut Rng::new(seed);
+        match self {
+            CallKind::Accepted(shape) => {
+                let net = accepted_polygons(*shape, Size::Small, rng);
+                let rounds = to_u32(rng.below(3));
+                Case::with_sides(&net, rounds, Expected::Accepted)
+            }
+            CallKind::Refused(reasons) => refused_polygons(reasons, rng),
+            CallKind::Damaged => damaged_polygons(rng.pick(&PolygonShape::ALL), Size::Small, rng),
+            CallKind::Random => random_polygons(rng),
+        }
+    }
+}
+
+fn refused_name(reasons: &[u32]) -> String {
+    let numbers: Vec<String> = reasons.iter().map(|r| format!("{r:02}")).collect();
+    format!("refused-{}", numbers.join("-"))
+}
+
 /// The text of an accepted net; the mark column may be missing if all marks
 /// are 0.
 fn accepted_text(net: &Net, rounds: u32, rng: &mut Rng) -> TextCase {
@@ -99,11 +161,12 @@ fn accepted_text(net: &Net, rounds: u32, rng: &mut Rng) -> TextCase {
     }
 }
 
-/// The most rounds, up to 6, after which the net has at most `faces` faces.
-fn most_rounds(net: &Net, faces: usize) -> u32 {
+/// The most rounds, up to 6, after which so many quadrilaterals have become at
+/// most `faces`.
+fn most_rounds(quadrilaterals: usize, faces: usize) -> u32 {
     (0..=6)
         .rev()
-        .find(|&rounds| net.faces.len() << (2 * rounds) <= faces)
+        .find(|&rounds| quadrilaterals << (2 * rounds) <= faces)
         .unwrap_or(0)
 }
 
@@ -140,6 +203,30 @@ pub fn call(seed: u64) -> Case {
         6 => damaged_tables(Size::Medium, rng),
         _ => random_tables(rng),
     };
+    lengthen(&mut case, rng);
+    case
+}
+
+/// The same with side counts.
+pub fn polygon_call(seed: u64) -> Case {
+    let rng = &mut Rng::new(seed);
+    let mut case = match seed % 8 {
+        0..=3 => accepted_polygon_call(rng),
+        4 | 5 => {
+            let reasons: Vec<u32> = (0..rng.between(1, 3))
+                .map(|_| rng.pick(&POLYGON_REASONS))
+                .collect();
+            refused_polygons(&reasons, rng)
+        }
+        6 => damaged_polygons(rng.pick(&PolygonShape::ALL), Size::Small, rng),
+        _ => random_polygons(rng),
+    };
+    lengthen(&mut case, rng);
+    case
+}
+
+/// Makes some of the tables of an accepted call longer.
+fn lengthen(case: &mut Case, rng: &mut Rng) {
     if case.expected == Expected::Accepted {
         let surplus = |rng: &mut Rng| rng.pick(&[0, 0, 1, 7]);
         case.capacity = Capacity {
@@ -149,7 +236,6 @@ pub fn call(seed: u64) -> Case {
             workspace: case.capacity.workspace + surplus(rng),
         };
     }
-    case
 }
 
 /// An accepted call, rarely with many faces.
@@ -161,6 +247,17 @@ fn accepted_call(rng: &mut Rng) -> Case {
         _ => (Size::Small, 256),
     };
     let net = accepted(rng.pick(&Shape::ALL), size, rng);
-    let most = most_rounds(&net, faces) as usize;
+    let most = most_rounds(net.faces.len(), faces) as usize;
     Case::new(&net, to_u32(rng.below(most + 1)), Expected::Accepted)
+}
+
+/// An accepted call with side counts.
+fn accepted_polygon_call(rng: &mut Rng) -> Case {
+    let (size, faces) = match rng.below(100) {
+        0..=9 => (Size::Medium, 1_024),
+        _ => (Size::Small, 256),
+    };
+    let net = accepted_polygons(rng.pick(&PolygonShape::ALL), size, rng);
+    let most = most_rounds(net.corners().count(), faces) as usize;
+    Case::with_sides(&net, to_u32(rng.below(most + 1)), Expected::Accepted)
 }

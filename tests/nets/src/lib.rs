@@ -1,10 +1,12 @@
 //! Seeded nets and texts for testing the refiner.
 //!
 //! - [`accepted`]: nets that a call accepts, of every kind and size.
+//! - [`polygons`]: the same with side counts, so with faces of 3 to 8 sides.
 //! - [`refused`]: calls and texts with one or more reasons for a refusal.
 //! - [`damaged`]: texts that lost their form, and damaged tables.
 //! - [`pairs`]: pairs of nets that share a boundary segment.
 //! - [`facts`]: small calls with all that the reference says of them.
+//! - [`stored`]: the stored form of calls.
 //! - [`kind`]: all kinds by name, small nets, and a mixed series of calls.
 
 #![forbid(unsafe_code)]
@@ -37,6 +39,10 @@ pub mod damaged;
 pub mod facts;
 pub mod kind;
 pub mod pairs;
+pub mod polygons;
 pub mod refused;
+pub mod remodel;
 pub mod rng;
 pub mod shapes;
+pub mod solids;
+pub mod stored;

@@ -6,6 +6,10 @@
 //!   rotation into the folder D, and a file `list` with their paths.
 //! - `nets facts --seed S --count N` prints N accepted nets and all refusals
 //!   with what the reference says of them, a line of JSON each.
+//! - `nets calls list` names the kinds of calls with side counts.
+//! - `nets calls make KIND SEED` prints one of them.
+//! - `nets calls answer FILE ..` answers stored calls, each into the same path
+//!   with the extension `out`.
 
 #![forbid(unsafe_code)]
 
@@ -16,10 +20,13 @@ use std::path::Path;
 use std::process::ExitCode;
 
 use nets::facts;
-use nets::kind::Kind;
+use nets::kind::{CallKind, Kind};
+use nets::stored;
+use reference::text::print;
 
 const USAGE: &str = "usage: nets list | nets make KIND SEED | \
-    nets batch --seed S --count N --dir D | nets facts --seed S --count N";
+    nets batch --seed S --count N --dir D | nets facts --seed S --count N | \
+    nets calls list | nets calls make KIND SEED | nets calls answer FILE ..";
 
 fn main() -> ExitCode {
     let arguments: Vec<String> = std::env::args().skip(1).collect();
@@ -55,8 +62,35 @@ fn run(arguments: &[&str]) -> Result<(), Box<dyn Error>> {
             println!();
             Ok(())
         }
+        ["calls", ref others @ ..] => calls(others),
         _ => Err(USAGE.into()),
     }
+}
+
+fn calls(arguments: &[&str]) -> Result<(), Box<dyn Error>> {
+    match *arguments {
+        ["list"] => {
+            for kind in CallKind::all() {
+                println!("{}", kind.name());
+            }
+        }
+        ["make", kind, seed] => {
+            let kind = CallKind::named(kind).ok_or("no such kind; see nets calls list")?;
+            print!("{}", stored::to_text(&kind.make(seed.parse()?)));
+        }
+        ["answer", ref files @ ..] if !files.is_empty() => {
+            for file in files {
+                let case = stored::from_text(&fs::read_to_string(file)?);
+                let case = case.ok_or_else(|| format!("{file} is no call"))?;
+                fs::write(
+                    Path::new(file).with_extension("out"),
+                    print(&case.outcome()),
+                )?;
+            }
+        }
+        _ => return Err(USAGE.into()),
+    }
+    Ok(())
 }
 
 fn batch(seed: u64, count: u64, folder: &Path) -> Result<(), Box<dyn Error>> {

@@ -1,30 +1,84 @@
 //! Pairs of nets that share a boundary segment.
 
 use reference::curve::Form;
-use reference::net::Net;
+use reference::net::{Mesh, Net, PolygonNet};
 use reference::point::Point;
-use reference::seam::{Reading, Way};
+use reference::seam::{Boundary, Reading, Way};
+use reference::step::split;
 
 use crate::accepted::{Shape, Size, accepted};
 use crate::build::to_u32;
-use crate::change::{Placing, boundary_loops, flip, mark, place, renumber};
+use crate::case::{Case, Expected};
+use crate::change::{Face, Placing, boundary_loops, flip, mark, place, renumber};
+use crate::polygons::{PolygonShape, accepted_polygons, some_size};
+use crate::remodel::Remodel;
 use crate::rng::Rng;
-use crate::shapes;
+use crate::{shapes, solids};
 
-/// Two nets, and a reading in each; both readings give the same points.
+/// A net as a caller draws it.
+#[derive(Clone, Debug)]
+pub enum Drawn {
+    Plain(Net),
+    WithSides(PolygonNet),
+}
+
+impl Drawn {
+    /// The net where refining begins.
+    pub fn start(&self) -> Net {
+        match self {
+            Drawn::Plain(net) => net.clone(),
+            Drawn::WithSides(net) => split(net),
+        }
+    }
+
+    pub fn has_sides(&self) -> bool {
+        matches!(self, Drawn::WithSides(_))
+    }
+
+    pub fn accepted_case(&self, rounds: u32) -> Case {
+        match self {
+            Drawn::Plain(net) => Case::new(net, rounds, Expected::Accepted),
+            Drawn::WithSides(net) => Case::with_sides(net, rounds, Expected::Accepted),
+        }
+    }
+}
+
+/// Two nets, and a reading in each where refining begins; both readings give
+/// the same points.
 #[derive(Clone, Debug)]
 pub struct SharedPair {
-    pub nets: [Net; 2],
+    pub nets: [Drawn; 2],
     pub readings: [Reading; 2],
 }
 
-/// Two random nets that share a random segment.
+/// Two random nets without side counts that share a random segment.
 pub fn shared_pair(rng: &mut Rng) -> SharedPair {
     let form = rng.pick(&[Form::Open, Form::Open, Form::Round]);
     let points = segment(form, rng);
     let [first, second] = [(); 2].map(|()| carrier(form, &points, rng));
     SharedPair {
-        nets: [first.0, second.0],
+        nets: [first.0, second.0].map(Drawn::Plain),
+        readings: [first.1, second.1],
+    }
+}
+
+/// Two random nets with side counts that share a drawn segment, or one of each
+/// sort that share it after the split.
+pub fn shared_polygon_pair(rng: &mut Rng) -> SharedPair {
+    let form = rng.pick(&[Form::Open, Form::Open, Form::Round]);
+    let points = segment(form, rng);
+    let first = polygon_carrier(form, &points, rng);
+    let second = if rng.one_in(2) {
+        let (net, reading) = polygon_carrier(form, &points, rng);
+        (Drawn::WithSides(net), reading)
+    } else {
+        let start = split(&first.0);
+        let points = Boundary::new(&start).read(first.1).expect("a reading");
+        let (net, reading) = carrier(form, &points, rng);
+        (Drawn::Plain(net), reading)
+    };
+    SharedPair {
+        nets: [Drawn::WithSides(first.0), second.0],
         readings: [first.1, second.1],
     }
 }
@@ -59,12 +113,54 @@ fn repeat(points: &mut [Point], rng: &mut Rng) {
     }
 }
 
+/// The edges of a segment, and whether it ends where it begins.
+fn extent(form: Form, points: &[Point]) -> (i32, bool) {
+    let edges = i32::try_from(points.len()).expect("small") - i32::from(form == Form::Open);
+    (edges, points[0] == points[points.len() - 1])
+}
+
 /// A random net with the segment on its boundary, and the reading there.
 fn carrier(form: Form, points: &[Point], rng: &mut Rng) -> (Net, Reading) {
-    let edges = i32::try_from(points.len()).expect("small") - i32::from(form == Form::Open);
-    let is_closed = points[0] == points[points.len() - 1];
-    let (mut net, rim) =
-        drawn(form, edges, is_closed, rng).unwrap_or_else(|| plain(form, edges, is_closed, rng));
+    let (edges, is_closed) = extent(form, points);
+    let drawn = accepted(rng.pick(&Shape::ALL), Size::Small, rng);
+    let (net, rim) = with_room(drawn, form, edges, is_closed, rng)
+        .unwrap_or_else(|| plain(form, edges, is_closed, rng));
+    carry(net, &rim, form, points, rng)
+}
+
+/// The same with side counts.
+fn polygon_carrier(form: Form, points: &[Point], rng: &mut Rng) -> (PolygonNet, Reading) {
+    let (edges, is_closed) = extent(form, points);
+    let drawn = match rng.below(3) {
+        0 => solids::separate(&[some_size(rng)]),
+        _ => accepted_polygons(rng.pick(&PolygonShape::ALL), Size::Small, rng),
+    };
+    let (net, rim) = with_room(drawn, form, edges, is_closed, rng).unwrap_or_else(|| {
+        let (net, rim) = plain(form, edges, is_closed, rng);
+        (remodelled(&net, rng), rim)
+    });
+    carry(net, &rim, form, points, rng)
+}
+
+/// A net with faces cut and merged; its boundary stays.
+fn remodelled(net: &Net, rng: &mut Rng) -> PolygonNet {
+    let mut model = Remodel::new(PolygonNet::from(net));
+    for _ in 0..rng.below(2 * net.faces.len() + 1) {
+        model.cut(rng);
+        model.merge(rng);
+    }
+    model.finish()
+}
+
+/// Puts the segment on a boundary loop of the net, with random marks, points
+/// and numbers elsewhere.
+fn carry<F: Face>(
+    mut net: Mesh<F>,
+    rim: &[u32],
+    form: Form,
+    points: &[Point],
+    rng: &mut Rng,
+) -> (Mesh<F>, Reading) {
     place(&mut net, Placing::Scattered, rng);
     mark(&mut net, rng);
     for (&vertex, &point) in rim.iter().zip(points) {
@@ -87,10 +183,15 @@ fn carrier(form: Form, points: &[Point], rng: &mut Rng) -> (Net, Reading) {
     (net, Reading { start, way, form })
 }
 
-/// A small net of any kind with room for the segment on one of its loops, and
-/// the loop from where the segment begins.
-fn drawn(form: Form, edges: i32, is_closed: bool, rng: &mut Rng) -> Option<(Net, Vec<u32>)> {
-    let net = accepted(rng.pick(&Shape::ALL), Size::Small, rng);
+/// The net, if it has room for the segment on one of its loops, and the loop
+/// from where the segment begins.
+fn with_room<F: Face>(
+    net: Mesh<F>,
+    form: Form,
+    edges: i32,
+    is_closed: bool,
+    rng: &mut Rng,
+) -> Option<(Mesh<F>, Vec<u32>)> {
     let edges = usize::try_from(edges).expect("positive");
     let has_room = |rim: &Vec<u32>| match form {
         Form::Open => rim.len() > edges || rim.len() == edges && is_closed,

@@ -1,6 +1,6 @@
 //! Random calls and texts with one or more reasons for a refusal.
 
-use reference::net::Net;
+use reference::net::{Net, PolygonNet};
 use reference::refusal::{Capacity, MAX_COORDINATE, Refusal};
 use reference::text::PROGRAM_REFINED_FACES;
 use reference::topology::Topology;
@@ -9,8 +9,10 @@ use crate::accepted::{Shape, Size, accepted};
 use crate::build::to_u32;
 use crate::case::{Case, Expected, TextCase, document};
 use crate::change::{Numbering, renumber};
+use crate::polygons::{PolygonShape, accepted_polygons, some_size, some_sizes};
 use crate::rng::Rng;
 use crate::shapes;
+use crate::solids;
 
 /// Stands for a corner beyond the vertex table until the table is complete.
 const BEYOND: u32 = u32::MAX;
@@ -48,7 +50,9 @@ impl Flaws {
 
 /// A net in the making with reasons 5 to 12 put in.
 struct Draft {
-    net: Net,
+    net: PolygonNet,
+    /// Whether every face has four sides.
+    is_plain: bool,
     flaws: Flaws,
     /// Vertices and faces of the sound net that the draft began with.
     sound: (usize, usize),
@@ -57,14 +61,33 @@ struct Draft {
 }
 
 impl Draft {
-    fn new(net: Net) -> Self {
+    fn new(net: PolygonNet, is_plain: bool) -> Self {
         let topology = Topology::new(&net.faces).expect("a sound net");
         let is_inner = |&vertex: &u32| topology.star(vertex).is_some_and(|star| star.is_ring());
         Self {
             flaws: Flaws::default(),
             sound: (net.points.len(), net.faces.len()),
             inner: (0..to_u32(net.points.len())).filter(is_inner).collect(),
+            is_plain,
             net,
+        }
+    }
+
+    /// The number of sides of a further face.
+    fn size(&self, rng: &mut Rng) -> usize {
+        if self.is_plain {
+            4
+        } else {
+            some_size(rng) as usize
+        }
+    }
+
+    /// Faces round one vertex, which is the first.
+    fn star(&self, faces: i32, is_ring: bool, rng: &mut Rng) -> PolygonNet {
+        if self.is_plain {
+            PolygonNet::from(&shapes::sectors(faces, 1, is_ring))
+        } else {
+            solids::star(&some_sizes(faces, rng), is_ring)
         }
     }
 
@@ -78,13 +101,17 @@ impl Draft {
         to_u32(self.net.points.len() - 1)
     }
 
-    fn new_face(&mut self, corners: [u32; 4]) -> u32 {
+    fn new_vertices(&mut self, count: usize) -> Vec<u32> {
+        (0..count).map(|_| self.new_vertex()).collect()
+    }
+
+    fn new_face(&mut self, corners: Vec<u32>) -> u32 {
         self.net.faces.push(corners);
         to_u32(self.net.faces.len() - 1)
     }
 
     /// Adds a separate net and returns its first vertex.
-    fn add(&mut self, other: &Net) -> u32 {
+    fn add(&mut self, other: &PolygonNet) -> u32 {
         let first = to_u32(self.net.points.len());
         self.net = shapes::union(std::mem::take(&mut self.net), other);
         first
@@ -120,10 +147,13 @@ impl Draft {
         self.flaws.vertex(5, vertex);
     }
 
+    /// A face with a corner beyond the vertices, or with two equal corners.
     fn put_bad_face(&mut self, rng: &mut Rng) {
-        let [a, b, c] = [(); 3].map(|()| self.new_vertex());
-        let last = rng.pick(&[BEYOND, a, b, c]);
-        let face = self.new_face([a, b, c, last]);
+        let size = self.size(rng);
+        let mut corners = self.new_vertices(size - 1);
+        let last = rng.pick(&[&[BEYOND], &corners[..]].concat());
+        corners.push(last);
+        let face = self.new_face(corners);
         self.flaws.bad_faces.push(face);
     }
 
@@ -136,28 +166,32 @@ impl Draft {
             return;
         }
         let earlier = rng.pick(&free);
-        let mut corners = self.net.faces[earlier];
-        corners.rotate_left(rng.below(4));
+        let mut corners = self.net.faces[earlier].clone();
+        let turned = rng.below(corners.len());
+        corners.rotate_left(turned);
         if rng.one_in(2) {
-            corners[2] = self.new_vertex();
-            corners[3] = self.new_vertex();
+            let size = self.size(rng);
+            corners.truncate(2);
+            corners.extend(self.new_vertices(size - 2));
         }
         let later = self.new_face(corners);
         self.flaws.repeats.push([to_u32(earlier), later]);
     }
 
-    /// A square or a closed surface that touches the net at one vertex.
+    /// A face or a closed surface that touches the net at one vertex.
     fn put_pinch(&mut self, rng: &mut Rng) {
         let vertex = self.sound_vertex(rng);
         let faces = self.net.faces.len();
-        let other = if rng.one_in(2) {
-            shapes::grid(1, 1)
-        } else {
-            shapes::trapezohedron(3)
+        let is_face = rng.one_in(2);
+        let other = match (self.is_plain, is_face) {
+            (true, true) => PolygonNet::from(&shapes::grid(1, 1)),
+            (true, false) => PolygonNet::from(&shapes::trapezohedron(3)),
+            (false, true) => solids::separate(&[some_size(rng)]),
+            (false, false) => solids::pyramid(some_size(rng)),
         };
         self.add(&other);
         let last = to_u32(self.net.points.len() - 1);
-        for corner in self.net.faces[faces..].as_flattened_mut() {
+        for corner in self.net.faces[faces..].iter_mut().flatten() {
             if *corner == last {
                 *corner = vertex;
             }
@@ -174,7 +208,8 @@ impl Draft {
         let vertex = if !free.is_empty() && rng.one_in(2) {
             rng.pick(&free)
         } else {
-            self.add(&shapes::sectors(4, 1, true))
+            let ring = self.star(4, true, rng);
+            self.add(&ring)
         };
         self.net.marks[vertex as usize] = 1;
         self.flaws.vertex(12, vertex);
@@ -185,24 +220,32 @@ impl Draft {
     fn put_bad_valence(&mut self, rng: &mut Rng) {
         match rng.below(4) {
             0 => {
-                let first = self.add(&shapes::sectors(rng.between(9, 12), 1, true));
+                let ring = self.star(rng.between(9, 12), true, rng);
+                let first = self.add(&ring);
                 self.flaws.vertex(11, first);
             }
             1 => {
-                let first = self.add(&shapes::sectors(rng.between(7, 9), 1, false));
+                let fan = self.star(rng.between(7, 9), false, rng);
+                let first = self.add(&fan);
                 self.flaws.vertex(11, first);
             }
             2 => {
-                let [a, b, c, d, e] = [(); 5].map(|()| self.new_vertex());
-                self.new_face([a, b, c, d]);
-                self.new_face([a, d, e, b]);
+                let [size, other] = [self.size(rng), self.size(rng).max(4)];
+                let first = self.new_vertices(size);
+                let (a, b, last) = (first[0], first[1], first[size - 1]);
+                let mut second = vec![a, last];
+                second.extend(self.new_vertices(other - 3));
+                second.push(b);
+                self.new_face(first);
+                self.new_face(second);
                 self.flaws.vertex(11, a);
             }
             _ => {
-                let [a, b, c, d] = [(); 4].map(|()| self.new_vertex());
-                self.new_face([a, b, c, d]);
-                self.new_face([d, c, b, a]);
-                for vertex in [a, b, c, d] {
+                let size = self.size(rng);
+                let corners = self.new_vertices(size);
+                self.new_face(corners.clone());
+                self.new_face(corners.iter().rev().copied().collect());
+                for vertex in corners {
                     self.flaws.vertex(11, vertex);
                 }
             }
@@ -210,10 +253,10 @@ impl Draft {
     }
 
     /// The net under a random numbering, and the places of its reasons.
-    fn finish(self, rng: &mut Rng) -> (Net, Flaws, Numbering) {
+    fn finish(self, rng: &mut Rng) -> (PolygonNet, Flaws, Numbering) {
         let (mut net, numbering) = renumber(&self.net, rng);
         let vertices = to_u32(net.points.len());
-        for corner in net.faces.as_flattened_mut() {
+        for corner in net.corners_mut() {
             if *corner == BEYOND {
                 *corner = rng.pick(&[vertices, vertices + 1, i32::MAX as u32]);
             }
@@ -232,10 +275,26 @@ fn base(rng: &mut Rng) -> Net {
     }
 }
 
-/// A net with those of the reasons that lie in the net, and what is then
-/// expected of a call with nothing else against it.
-fn flawed(net: Net, reasons: &[u32], rng: &mut Rng) -> (Net, Expected) {
-    let mut draft = Draft::new(net);
+/// A small sound net with side counts.
+fn polygon_base(rng: &mut Rng) -> PolygonNet {
+    accepted_polygons(rng.pick(&PolygonShape::ALL), Size::Small, rng)
+}
+
+/// A net of quadrilaterals with those of the reasons that lie in the net, and
+/// what is then expected of a call with nothing else against it.
+fn flawed(net: &Net, reasons: &[u32], rng: &mut Rng) -> (Net, Expected) {
+    let draft = Draft::new(PolygonNet::from(net), true);
+    let (net, expected) = with_flaws(draft, reasons, rng);
+    let four = |face: Vec<u32>| face.try_into().expect("four corners");
+    let net = Net {
+        points: net.points,
+        faces: net.faces.into_iter().map(four).collect(),
+        marks: net.marks,
+    };
+    (net, expected)
+}
+
+fn with_flaws(mut draft: Draft, reasons: &[u32], rng: &mut Rng) -> (PolygonNet, Expected) {
     let in_net: Vec<u32> = reasons
         .iter()
         .copied()
@@ -269,7 +328,7 @@ pub fn refused_call(reasons: &[u32], rng: &mut Rng) -> Case {
     if has(1) {
         rounds = rng.pick(&[7, 8, 100, u32::MAX]);
     }
-    let (net, expected) = flawed(start, reasons, rng);
+    let (net, expected) = flawed(&start, reasons, rng);
     let mut case = Case::new(&net, rounds, expected);
     if has(2) {
         break_tables(&mut case, rng);
@@ -281,6 +340,73 @@ pub fn refused_call(reasons: &[u32], rng: &mut Rng) -> Case {
     case
 }
 
+/// A call with side counts and these of the reasons 1 to 12 and 14 against it.
+pub fn refused_polygons(reasons: &[u32], rng: &mut Rng) -> Case {
+    let has = |reason| reasons.contains(&reason);
+    let (start, mut rounds) = if has(3) {
+        oversized_polygons(rng)
+    } else {
+        (polygon_base(rng), to_u32(rng.below(3)))
+    };
+    if has(1) {
+        rounds = rng.pick(&[7, 8, 100, u32::MAX]);
+    }
+    let (net, expected) = with_flaws(Draft::new(start, false), reasons, rng);
+    let mut case = Case::with_sides(&net, rounds, expected);
+    let breaks_vertices = has(2) && rng.one_in(2);
+    if breaks_vertices {
+        let surplus = rng.pick(&[1, 2]);
+        case.vertices.resize(case.vertices.len() + surplus, 0);
+    } else if has(2) {
+        let marks = case.marks.len();
+        let other = rng.pick(&[0, marks - 1, marks + 1]);
+        case.marks.resize(other, 0);
+    }
+    if has(4) {
+        shorten(&mut case.capacity, rng);
+    }
+    if has(14) {
+        break_sides(&mut case, rng);
+    }
+    // The vertex part of 2 goes before 14, its marks part after it.
+    let order: &[u32] = if breaks_vertices {
+        &[1, 2, 14, 3, 4]
+    } else {
+        &[1, 14, 2, 3, 4]
+    };
+    if let Some(&reason) = order.iter().find(|&&reason| has(reason)) {
+        case.expected = Expected::Refused(Refusal::new(reason, 0));
+    }
+    case
+}
+
+/// Reasons that a call with side counts can have.
+pub const POLYGON_REASONS: [u32; 13] = [1, 2, 3, 4, 5, 6, 7, 8, 9, 10, 11, 12, 14];
+
+/// Makes the side counts wrong, or the corners for them.
+pub fn break_sides(case: &mut Case, rng: &mut Rng) {
+    let at = rng.below(case.sides.len());
+    match rng.below(12) {
+        0 => case.sides[at] = rng.pick(&[0, 1, 2, 9, 10, 255]),
+        // The sum is right.
+        10 | 11 => {
+            case.sides[at] = rng.pick(&[1, 2, 2, 9, 9, 10]);
+            let sum = case.sides.iter().map(|&count| usize::from(count)).sum();
+            case.faces.resize(sum, 0);
+        }
+        1 => case.sides[at] += 1,
+        2 => case.sides[at] -= 1,
+        3 => case.sides.push(rng.pick(&[0, 3, 8, 255])),
+        4 => case.faces.push(0),
+        5 => case.faces.truncate(case.faces.len() - 1),
+        6 => case.faces.clear(),
+        7 => case.sides = vec![3; 4 * case.faces.len()],
+        8 => case.sides = vec![255; rng.pick(&[1, 300])],
+        // The sum stays right.
+        _ => case.sides.insert(at, 0),
+    }
+}
+
 /// The lowest of the reasons 1 to 4, if any.
 fn callers_refusal(reasons: &[u32]) -> Option<Expected> {
     let lowest = reasons
@@ -289,6 +415,30 @@ fn callers_refusal(reasons: &[u32]) -> Option<Expected> {
         .filter(|&reason| reason <= 4)
         .min()?;
     Some(Expected::Refused(Refusal::new(lowest, 0)))
+}
+
+/// Separate faces with so many corners, or some more.
+fn separate_faces(corners: u32, rng: &mut Rng) -> PolygonNet {
+    let mut sizes = Vec::new();
+    while sizes.iter().sum::<u32>() < corners {
+        sizes.push(some_size(rng));
+    }
+    solids::separate(&sizes)
+}
+
+/// A net with side counts and rounds, with too many refined faces, corners or
+/// vertices.
+fn oversized_polygons(rng: &mut Rng) -> (PolygonNet, u32) {
+    match rng.below(3) {
+        0 => (separate_faces(65, rng), 6),
+        1 => (separate_faces(4_097, rng), 0),
+        _ => {
+            let mut net = polygon_base(rng);
+            net.points.resize(8_193, [0; 3]);
+            net.marks.resize(8_193, 0);
+            (net, 0)
+        }
+    }
 }
 
 /// A net and rounds with too many refined faces, faces or vertices.
@@ -344,7 +494,7 @@ pub fn refused_text(reasons: &[u32], rng: &mut Rng) -> TextCase {
     } else {
         base(rng)
     };
-    let (net, expected) = flawed(start, reasons, rng);
+    let (net, expected) = flawed(&start, reasons, rng);
     let largest = (0..=6)
         .rev()
         .find(|&rounds| net.faces.len() << (2 * rounds) <= PROGRAM_REFINED_FACES);

@@ -2,14 +2,14 @@
 
 use std::collections::BTreeSet;
 
-use reference::net::Net;
+use reference::net::{Mesh, Net};
 use reference::point::Point;
 
 use crate::build::{Builder, to_u32};
-use crate::change::{boundary_loops, drop_unused_vertices};
+use crate::change::{Face, boundary_loops, drop_unused_vertices};
 
 /// Side length of the squares that the plain nets are made of.
-const UNIT: i32 = 64;
+pub const UNIT: i32 = 64;
 
 fn lattice([x, y]: [i32; 2]) -> Point {
     [x * UNIT, y * UNIT, 0]
@@ -25,7 +25,7 @@ pub fn grid(columns: i32, rows: i32) -> Net {
 }
 
 /// Step `i` of `n` round a diamond of the given radius.
-fn diamond(i: i32, n: i32, radius: i32) -> [i32; 2] {
+pub fn diamond(i: i32, n: i32, radius: i32) -> [i32; 2] {
     let (quarter, on) = (4 * i / n, radius * (4 * i % n) / n);
     match quarter {
         0 => [radius - on, on],
@@ -224,13 +224,14 @@ fn add_layer(net: &mut Net, wanted: &[usize]) {
 }
 
 /// Two nets side by side.
-pub fn union(mut first: Net, second: &Net) -> Net {
+pub fn union<F: Face>(mut first: Mesh<F>, second: &Mesh<F>) -> Mesh<F> {
     let shift = to_u32(first.points.len());
     first.points.extend(&second.points);
     first.marks.extend(&second.marks);
-    first
-        .faces
-        .extend(second.faces.iter().map(|face| face.map(|v| v + shift)));
+    for mut face in second.faces.iter().cloned() {
+        face.as_mut().iter_mut().for_each(|corner| *corner += shift);
+        first.faces.push(face);
+    }
     first
 }
 

@@ -16,7 +16,7 @@ const SCALE: i32 = 60;
 fn has_side(net: &Net, from: u32, to: u32) -> bool {
     net.faces
         .iter()
-        .any(|&face| sides(face).contains(&(from, to)))
+        .any(|face| sides(face).any(|side| side == (from, to)))
 }
 
 /// The extrapolated point of a boundary vertex, found by looking through all

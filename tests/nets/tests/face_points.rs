@@ -15,7 +15,7 @@ type Edge = (u32, u32);
 /// The faces with this edge as a side, in either direction.
 fn faces_with(net: &Net, (a, b): Edge) -> Vec<[u32; 4]> {
     let has_edge = |face: &&[u32; 4]| {
-        let mut all_sides = sides(**face).into_iter();
+        let mut all_sides = sides(*face);
         all_sides.any(|side| side == (a, b) || side == (b, a))
     };
     net.faces.iter().filter(has_edge).copied().collect()

@@ -14,7 +14,8 @@ fn every_ring_fan_loop_rule_and_refusal_is_met() {
     let rings = (3..=8).map(|n| format!("\"ring {n}\""));
     let fans = (1..=6).map(|n| format!("\"fan {n}\""));
     let neighbours = (0..=2).map(|n| format!("\"direction with {n} neighbours\""));
-    let refusals = (1..=12).map(|n| format!("\"verdict\":[{n},"));
+    let refusals = (1..=12).chain([14]).map(|n| format!("\"verdict\":[{n},"));
+    let faces = (3..=8).map(|n| format!("\"face of {n} sides\""));
     let named = [
         "loop without marks",
         "loop with one mark",
@@ -29,7 +30,7 @@ fn every_ring_fan_loop_rule_and_refusal_is_met() {
     ];
     let named = named.map(|name| format!("\"{name}\"")).into_iter();
     let wanted = rings.chain(fans).chain(neighbours).chain(refusals);
-    for text in wanted.chain(named) {
+    for text in wanted.chain(named).chain(faces) {
         assert!(lines.iter().any(|line| line.contains(&text)), "no {text}");
     }
 }

@@ -3,11 +3,11 @@
 use std::collections::BTreeSet;
 
 use nets::case::{Case, Expected, TextCase};
-use nets::kind::{Kind, call, small_nets};
-use nets::pairs::shared_pair;
-use nets::refused::refused_call;
+use nets::kind::{Kind, call, polygon_call, small_nets};
+use nets::pairs::{Drawn, SharedPair, shared_pair, shared_polygon_pair};
+use nets::refused::{POLYGON_REASONS, refused_call, refused_polygons};
 use nets::rng::Rng;
-use reference::call::{Outcome, Tables, refine_into, refine_times};
+use reference::call::{Outcome, Tables, refine_times};
 use reference::curve::Form;
 use reference::refusal::check_net;
 use reference::seam::{Boundary, Way, shared_readings};
@@ -61,19 +61,54 @@ fn calls_with_one_or_two_reasons_get_the_lowest() {
     }
 }
 
+/// Place of a reason in the order of the refusals of a call with side counts,
+/// where the vertex part of 2 goes before 14 and its marks part after it.
+fn rank(reason: u32) -> u32 {
+    match reason {
+        1 => 0,
+        14 => 1,
+        _ => reason,
+    }
+}
+
 #[test]
-fn mixed_calls_get_their_answer() {
-    let mut met = BTreeSet::new();
-    for seed in 0..1200 {
+fn calls_with_side_counts_get_the_first_in_the_order() {
+    for &first in &POLYGON_REASONS {
+        for &second in &POLYGON_REASONS {
+            for seed in 0..6 {
+                let case = refused_polygons(&[first, second], &mut Rng::new(seed));
+                let Expected::Refused(refusal) = case.expected else {
+                    panic!("no refusal expected for {first} and {second}");
+                };
+                let lowest = rank(first).min(rank(second));
+                let is_first = rank(refusal.reason) == lowest;
+                assert!(is_first || (refusal.reason == 2 && lowest == rank(14)));
+                let outcome = case.outcome();
+                assert!(case.expected.agrees_with(&outcome), "{case:?} {outcome:?}");
+            }
+        }
+    }
+}
+
+/// The reasons of these calls, 0 for those accepted.
+fn reasons_met(call: impl Fn(u64) -> Case) -> BTreeSet<u32> {
+    let answered = |seed| {
         let case = call(seed);
         let outcome = case.outcome();
         assert!(case.expected.agrees_with(&outcome), "{seed}: {outcome:?}");
-        met.insert(match outcome {
+        match outcome {
             Outcome::Refined { .. } => 0,
             Outcome::Refused { reason, .. } => reason,
-        });
-    }
-    assert_eq!(met, (0..=12).collect());
+        }
+    };
+    (0..1200).map(answered).collect()
+}
+
+#[test]
+fn mixed_calls_get_their_answer() {
+    assert_eq!(reasons_met(call), (0..=12).collect());
+    let with_sides = (0..=14).filter(|&reason| reason != 13);
+    assert_eq!(reasons_met(polygon_call), with_sides.collect());
 }
 
 /// What the paper says of the tables after a call, apart from the contents of
@@ -90,33 +125,23 @@ fn assert_frame(case: &Case, before: &Tables, after: &Tables, outcome: &Outcome)
             assert_eq!(after.marks[..marks.len()], *marks);
             ([vertices.len(), faces.len(), marks.len()], true)
         }
-        Outcome::Refused { reason, .. } => ([0; 3], *reason > 4),
+        Outcome::Refused { reason, .. } => ([0; 3], (5..=12).contains(reason)),
     };
     assert_eq!(after.vertices[filled[0]..], before.vertices[filled[0]..]);
     assert_eq!(after.faces[filled[1]..], before.faces[filled[1]..]);
     assert_eq!(after.marks[filled[2]..], before.marks[filled[2]..]);
-    let used = if cleared {
-        (4 * case.faces.len()) << (2 * case.rounds)
-    } else {
-        0
-    };
+    let used = if cleared { 16 * case.served_faces() } else { 0 };
     assert!(after.workspace[..used].iter().all(|&word| word == 0));
     assert_eq!(after.workspace[used..], before.workspace[used..]);
 }
 
 #[test]
 fn calls_leave_every_table_as_the_paper_says() {
-    for seed in 0..200 {
-        let case = call(seed);
+    let plain = (0..200).map(call);
+    for (seed, case) in (0..).zip(plain.chain((0..200).map(polygon_call))) {
         let before = case.tables(&mut Rng::new(seed));
         let mut after = before.clone();
-        let outcome = refine_into(
-            case.rounds,
-            &case.vertices,
-            &case.faces,
-            &case.marks,
-            &mut after,
-        );
+        let outcome = case.outcome_in(&mut after);
         assert_eq!(outcome, case.outcome());
         assert_frame(&case, &before, &after, &outcome);
     }
@@ -134,17 +159,29 @@ fn small_nets_are_small_distinct_and_accepted() {
     }
 }
 
-#[test]
-fn pairs_share_their_segment_after_every_round() {
+/// What occurs among the pairs that these seeds draw: a form and a way, and
+/// whether the net has side counts.
+fn shared_after_every_round(
+    draw: impl Fn(&mut Rng) -> SharedPair,
+    seeds: std::ops::Range<u64>,
+) -> BTreeSet<(Form, Way, bool)> {
     let mut met = BTreeSet::new();
-    for seed in 0..150 {
-        let pair = shared_pair(&mut Rng::new(seed));
-        let [first, second] = &pair.nets;
-        assert_eq!((check_net(first), check_net(second)), (Ok(()), Ok(())));
-        let shared = shared_readings(first, second);
-        assert!(shared.contains(&pair.readings.into()));
+    for seed in seeds {
+        let pair = draw(&mut Rng::new(seed));
+        let answers = pair
+            .nets
+            .each_ref()
+            .map(|net| net.accepted_case(0).outcome());
+        assert!(
+            answers
+                .iter()
+                .all(|answer| matches!(answer, Outcome::Refined { .. }))
+        );
+        let [first, second] = pair.nets.each_ref().map(Drawn::start);
+        let shared = shared_readings(&first, &second);
+        assert!(shared.contains(&pair.readings.into()), "{seed}");
         for rounds in 1..=2 {
-            let nets = [first, second].map(|net| refine_times(net.clone(), rounds));
+            let nets = [&first, &second].map(|net| refine_times(net.clone(), rounds));
             let [one, other] = nets.each_ref().map(Boundary::new);
             for &(a, b) in &shared {
                 let points = one.read(a);
@@ -152,10 +189,24 @@ fn pairs_share_their_segment_after_every_round() {
                 assert_eq!(points, other.read(b));
             }
         }
-        for reading in pair.readings {
-            met.insert((reading.form, reading.way));
+        for (reading, net) in pair.readings.iter().zip(&pair.nets) {
+            met.insert((reading.form, reading.way, net.has_sides()));
         }
     }
-    let all = [Form::Open, Form::Round].map(|f| [Way::With, Way::Against].map(|w| (f, w)));
-    assert_eq!(met, all.into_iter().flatten().collect());
+    met
+}
+
+#[test]
+fn pairs_share_their_segment_after_every_round() {
+    let ways = [Way::With, Way::Against];
+    let both = [Form::Open, Form::Round].map(|form| ways.map(|way| (form, way)));
+    let all: Vec<(Form, Way)> = both.into_iter().flatten().collect();
+    let of = |sides: bool| all.iter().map(move |&(form, way)| (form, way, sides));
+    assert!(
+        shared_after_every_round(shared_pair, 0..150)
+            .into_iter()
+            .eq(of(false))
+    );
+    let met = shared_after_every_round(shared_polygon_pair, 0..150);
+    assert_eq!(met, of(false).chain(of(true)).collect());
 }

@@ -1,8 +1,8 @@
 //! The call that refines a net, with the tables it is given.
 
-use crate::net::Net;
-use crate::refusal::{Capacity, Refusal, check_call, check_net, refined_faces};
-use crate::step::refine_once;
+use crate::net::{Net, PolygonNet};
+use crate::refusal::{Capacity, Refusal, check_call, check_net, quadrilaterals, refined_faces};
+use crate::step::{refine_once, split};
 
 /// What a caller passes: the net, the rounds and the lengths of the tables
 /// for the results and as workspace.
@@ -11,6 +11,8 @@ pub struct Call<'a> {
     pub rounds: u32,
     pub vertices: &'a [i32],
     pub faces: &'a [u32],
+    /// Sides of each face; none if every face has four.
+    pub sides: &'a [u8],
     pub marks: &'a [u8],
     pub capacity: Capacity,
 }
@@ -64,6 +66,7 @@ pub fn refine(call: &Call) -> Outcome {
         call.rounds,
         call.vertices,
         call.faces,
+        call.sides,
         call.marks,
         &call.capacity,
     ) {
@@ -72,11 +75,10 @@ pub fn refine(call: &Call) -> Outcome {
     }
 }
 
-/// The result of a call that refusals 1 to 4 do not stop.
+/// The result of a call that refusals 1 to 4 and 14 do not stop.
 fn refine_net(call: &Call) -> Outcome {
-    let net = Net::from_tables(call.vertices, call.faces, call.marks);
-    match check_net(&net) {
-        Ok(()) => {
+    match start_net(call.vertices, call.faces, call.sides, call.marks) {
+        Ok(net) => {
             let refined = refine_times(net, call.rounds);
             Outcome::Refined {
                 vertices: refined.vertex_table(),
@@ -85,6 +87,23 @@ fn refine_net(call: &Call) -> Outcome {
             }
         }
         Err(refusal) => refusal.into(),
+    }
+}
+
+/// The net where refining begins, or why the drawn net is refused: the net
+/// itself, or with side counts its split.
+pub fn start_net(
+    vertices: &[i32],
+    faces: &[u32],
+    sides: &[u8],
+    marks: &[u8],
+) -> Result<Net, Refusal> {
+    if sides.is_empty() {
+        let net = Net::from_tables(vertices, faces, marks);
+        check_net(&net).map(|()| net)
+    } else {
+        let net = PolygonNet::from_tables(vertices, faces, sides, marks);
+        check_net(&net).map(|()| split(&net))
     }
 }
 
@@ -98,6 +117,7 @@ pub fn refine_into(
     rounds: u32,
     vertices: &[i32],
     faces: &[u32],
+    sides: &[u8],
     marks: &[u8],
     tables: &mut Tables,
 ) -> Outcome {
@@ -105,6 +125,7 @@ pub fn refine_into(
         rounds,
         vertices,
         faces,
+        sides,
         marks,
         capacity: tables.capacity(),
     });
@@ -118,10 +139,12 @@ pub fn refine_into(
             tables.faces[..faces.len()].copy_from_slice(faces);
             tables.marks[..marks.len()].copy_from_slice(marks);
         }
-        Outcome::Refused { reason: 1..=4, .. } => return outcome,
+        Outcome::Refused {
+            reason: 1..=4 | 14, ..
+        } => return outcome,
         Outcome::Refused { .. } => {}
     }
-    let used = 16 * refined_faces(faces.len() / 4, rounds);
+    let used = 16 * refined_faces(quadrilaterals(faces.len(), sides), rounds);
     let used = usize::try_from(used).expect("the workspace was long enough");
     tables.workspace[..used].fill(0);
     outcome

@@ -1,8 +1,8 @@
 //! Second implementation of the surface refiner, for comparison.
 //!
-//! Written from the scope paper and Kobbelt's paper only. Topology is kept in
-//! maps from vertex pairs; points are exact fractions until they are rounded
-//! once. Clarity goes before speed.
+//! Written from the scope paper, paper 02 and Kobbelt's paper only. Topology is
+//! kept in maps from vertex pairs; points are exact fractions until they are
+//! rounded once. Clarity goes before speed.
 
 #![forbid(unsafe_code)]
 

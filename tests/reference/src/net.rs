@@ -1,14 +1,21 @@
-//! Quadrilateral nets.
+//! Nets of quadrilaterals, and of other polygons.
 
 use crate::point::Point;
 
-/// A net: a point and a corner mark per vertex, four vertex numbers per face.
+/// A net: a point and a corner mark per vertex, the vertex numbers of each
+/// face.
 #[derive(Clone, Debug, Default, PartialEq, Eq)]
-pub struct Net {
+pub struct Mesh<F> {
     pub points: Vec<Point>,
-    pub faces: Vec<[u32; 4]>,
+    pub faces: Vec<F>,
     pub marks: Vec<u8>,
 }
+
+/// A net of quadrilaterals, which rounds refine.
+pub type Net = Mesh<[u32; 4]>;
+
+/// A net drawn with side counts: each face is the list of its corners.
+pub type PolygonNet = Mesh<Vec<u32>>;
 
 impl Net {
     /// A net from flat tables; incomplete rows at the ends are left out.
@@ -19,17 +26,70 @@ impl Net {
             marks: marks.to_vec(),
         }
     }
+}
 
+impl PolygonNet {
+    /// A net from flat tables, with the number of sides of each face. The
+    /// counts must add up to the corners.
+    pub fn from_tables(vertices: &[i32], faces: &[u32], sides: &[u8], marks: &[u8]) -> Self {
+        let mut rest = faces;
+        let mut next_face = |&count: &u8| {
+            let (face, others) = rest.split_at(usize::from(count));
+            rest = others;
+            face.to_vec()
+        };
+        let faces = sides.iter().map(&mut next_face).collect();
+        assert!(rest.is_empty(), "the counts add up to the corners");
+        Self {
+            points: vertices.as_chunks().0.to_vec(),
+            faces,
+            marks: marks.to_vec(),
+        }
+    }
+
+    /// The side counts: the number of sides of each face.
+    pub fn side_table(&self) -> Vec<u8> {
+        let count = |face: &Vec<u32>| u8::try_from(face.len()).expect("faces have few sides");
+        self.faces.iter().map(count).collect()
+    }
+}
+
+/// The same net with lists of corners.
+impl From<&Net> for PolygonNet {
+    fn from(net: &Net) -> Self {
+        Self {
+            points: net.points.clone(),
+            faces: net.faces.iter().map(|face| face.to_vec()).collect(),
+            marks: net.marks.clone(),
+        }
+    }
+}
+
+impl<F: AsRef<[u32]>> Mesh<F> {
     /// The vertex table: three coordinates per vertex.
     pub fn vertex_table(&self) -> Vec<i32> {
         self.points.as_flattened().to_vec()
     }
 
-    /// The face table: four vertex numbers per face.
+    /// The face table: the vertex numbers of one face after the other.
     pub fn face_table(&self) -> Vec<u32> {
-        self.faces.as_flattened().to_vec()
+        self.corners().collect()
     }
 
+    /// The corners of all faces, face by face.
+    pub fn corners(&self) -> impl Iterator<Item = u32> {
+        self.faces.iter().flat_map(|face| face.as_ref()).copied()
+    }
+}
+
+impl<F: AsMut<[u32]>> Mesh<F> {
+    /// The corners of all faces, to be changed.
+    pub fn corners_mut(&mut self) -> impl Iterator<Item = &mut u32> {
+        self.faces.iter_mut().flat_map(|face| face.as_mut())
+    }
+}
+
+impl<F> Mesh<F> {
     pub fn is_marked(&self, vertex: u32) -> bool {
         self.marks[vertex as usize] == 1
     }
@@ -39,11 +99,11 @@ impl Net {
     }
 }
 
-/// The four sides of a face as ordered vertex pairs; side s runs from corner s
-/// to corner s+1, counted modulo 4.
-pub fn sides(face: [u32; 4]) -> [(u32, u32); 4] {
-    let [a, b, c, d] = face;
-    [(a, b), (b, c), (c, d), (d, a)]
+/// The sides of a face as ordered vertex pairs; side s runs from corner s to
+/// corner s+1, counted modulo the number of corners.
+pub fn sides(face: &[u32]) -> impl Iterator<Item = (u32, u32)> {
+    let ends = face.iter().cycle().skip(1);
+    face.iter().copied().zip(ends.copied())
 }
 
 /// A vertex pair without direction, as the name of an edge.

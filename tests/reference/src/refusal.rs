@@ -1,6 +1,6 @@
 //! Reasons for refusing a call, their order and their places.
 
-use crate::net::Net;
+use crate::net::Mesh;
 use crate::topology::{Star, Topology};
 
 pub const MAX_ROUNDS: u32 = 6;
@@ -10,6 +10,7 @@ pub const MAX_REFINED_FACES: u128 = 262_144;
 pub const MAX_COORDINATE: u32 = 1_048_576;
 pub const RING_SIZES: std::ops::RangeInclusive<usize> = 3..=8;
 pub const MAX_FAN: usize = 6;
+pub const SIDE_COUNTS: std::ops::RangeInclusive<u8> = 3..=8;
 
 /// A refusal: its number in the scope paper and its place.
 #[derive(Clone, Copy, Debug, PartialEq, Eq)]
@@ -60,24 +61,53 @@ pub fn refined_faces(faces: usize, rounds: u32) -> u128 {
     faces as u128 * 4_u128.pow(rounds)
 }
 
-/// Refusals 1 to 4, which look at lengths and rounds only.
+/// F: the quadrilaterals that refining begins with. Without side counts they
+/// are the drawn faces, with them each drawn face gives one for each corner.
+pub fn quadrilaterals(corners: usize, sides: &[u8]) -> usize {
+    if sides.is_empty() {
+        corners / 4
+    } else {
+        corners
+    }
+}
+
+/// Refusals 1 to 4 and 14, which look at lengths, rounds and side counts only:
+/// first 1, then 2 for the vertex table, 14 or 2 for the face table, 2 for the
+/// marks, 3 and 4.
 pub fn check_call(
     rounds: u32,
     vertices: &[i32],
     faces: &[u32],
+    sides: &[u8],
     marks: &[u8],
     capacity: &Capacity,
 ) -> Result<(), Refusal> {
     check_rounds(rounds)?;
     let vertex_count = vertices.len() / 3;
-    let face_count = faces.len() / 4;
-    let whole_rows = vertices.len().is_multiple_of(3) && faces.len().is_multiple_of(4);
-    if !whole_rows || marks.len() != vertex_count {
+    if !vertices.len().is_multiple_of(3) {
         return Err(Refusal::new(2, 0));
     }
+    check_faces(faces.len(), sides)?;
+    if marks.len() != vertex_count {
+        return Err(Refusal::new(2, 0));
+    }
+    let face_count = quadrilaterals(faces.len(), sides);
     check_limits(rounds, vertex_count, face_count)?;
     if !capacity.serves(refined_faces(face_count, rounds)) {
         return Err(Refusal::new(4, 0));
+    }
+    Ok(())
+}
+
+/// With side counts refusal 14, without them the face part of 2.
+fn check_faces(corners: usize, sides: &[u8]) -> Result<(), Refusal> {
+    if sides.is_empty() && !corners.is_multiple_of(4) {
+        return Err(Refusal::new(2, 0));
+    }
+    let in_range = sides.iter().all(|count| SIDE_COUNTS.contains(count));
+    let sum: u128 = sides.iter().map(|&count| u128::from(count)).sum();
+    if !sides.is_empty() && (!in_range || sum != corners as u128) {
+        return Err(Refusal::new(14, 0));
     }
     Ok(())
 }
@@ -99,14 +129,15 @@ pub fn check_limits(rounds: u32, vertices: usize, faces: usize) -> Result<(), Re
     Ok(())
 }
 
-/// Refusals 5 to 12: each reason is looked for in the whole net before the next.
-pub fn check_net(net: &Net) -> Result<(), Refusal> {
+/// Refusals 5 to 12 of a net as it is drawn: each reason is looked for in the
+/// whole net before the next.
+pub fn check_net<F: AsRef<[u32]>>(net: &Mesh<F>) -> Result<(), Refusal> {
     let vertices = net.points.len();
     refuse(5, &net.points, |point| {
         point.iter().any(|c| c.unsigned_abs() > MAX_COORDINATE)
     })?;
     refuse(6, &net.marks, |&mark| mark > 1)?;
-    refuse(7, &net.faces, |face| is_bad_face(face, vertices))?;
+    refuse(7, &net.faces, |face| is_bad_face(face.as_ref(), vertices))?;
     refuse(8, &used(net), |&used| !used)?;
     let topology = Topology::new(&net.faces).map_err(|face| Refusal::new(9, face))?;
     let stars: Vec<Option<Star>> = (0..)
@@ -130,16 +161,15 @@ fn refuse<T>(reason: u32, entries: &[T], is_bad: impl Fn(&T) -> bool) -> Result<
     }
 }
 
-fn is_bad_face(face: &[u32; 4], vertices: usize) -> bool {
-    let [a, b, c, d] = *face;
-    let equal_corners = a == b || a == c || a == d || b == c || b == d || c == d;
+fn is_bad_face(face: &[u32], vertices: usize) -> bool {
+    let equal_corners = (1..face.len()).any(|i| face[..i].contains(&face[i]));
     equal_corners || face.iter().any(|&corner| corner as usize >= vertices)
 }
 
 /// For each vertex whether a face has it as a corner.
-fn used(net: &Net) -> Vec<bool> {
+fn used<F: AsRef<[u32]>>(net: &Mesh<F>) -> Vec<bool> {
     let mut used = vec![false; net.points.len()];
-    for &corner in net.faces.as_flattened() {
+    for corner in net.corners() {
         used[corner as usize] = true;
     }
     used

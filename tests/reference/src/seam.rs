@@ -1,7 +1,8 @@
 //! Readings of boundary segments, and the seam between nets that share one.
 //!
 //! The scope paper calls a boundary segment between marks, or a boundary loop
-//! without marks, a stretch.
+//! without marks, a stretch. Readings are those of the net where refining
+//! begins: with side counts, of the split net.
 
 use crate::call::refine_times;
 use crate::curve::{Form, distance_bound, exact_curve, rounded_curve};

@@ -1,8 +1,9 @@
-//! One refinement step of an accepted net.
+//! One refinement step of an accepted net, and the split of other faces that
+//! goes before the first.
 
 use std::collections::BTreeMap;
 
-use crate::net::{Net, edge, sides};
+use crate::net::{Mesh, Net, PolygonNet, edge, sides};
 use crate::point::ExactPoint;
 use crate::rules::{end_edge, four_point, mean, midpoint, reflect, virtual_point};
 use crate::topology::{BoundaryLoops, Star, Topology};
@@ -66,32 +67,74 @@ pub fn refine_once(net: &Net) -> Step {
     let surface = Surface::new(net);
     let edges = Topology::edges_in_order(&net.faces);
     let mut made: Vec<NewPoint> = Vec::with_capacity(edges.len() + net.faces.len());
-    let mut numbers = BTreeMap::new();
     let mut edge_points = BTreeMap::new();
-    for (number, &(from, to)) in (net.points.len()..).zip(&edges) {
+    for &(from, to) in &edges {
         let point = surface.edge_point(from, to);
-        numbers.insert(edge(from, to), number);
         edge_points.insert(edge(from, to), point.exact);
         made.push(point);
     }
     for &face in &net.faces {
         made.push(surface.face_point(face, &edge_points));
     }
+    let points: Vec<ExactPoint> = made.iter().map(|new| new.exact).collect();
+    let net = subdivide(net, &edges, &points);
+    Step { net, made }
+}
 
-    let first_face_point = net.points.len() + edges.len();
-    let mut refined = Net {
-        points: net.points.clone(),
-        faces: Vec::with_capacity(4 * net.faces.len()),
-        marks: net.marks.clone(),
-    };
-    refined
-        .points
-        .extend(made.iter().map(|new| new.exact.round()));
-    refined.marks.resize(refined.points.len(), 0);
-    for (centre, &face) in (first_face_point..).zip(&net.faces) {
-        refined.faces.extend(split(face, centre, &numbers));
+/// Splits every face of an accepted net with side counts into as many
+/// quadrilaterals as it has sides. An edge gets its midpoint, a face the mean
+/// of its corners.
+pub fn split(net: &PolygonNet) -> Net {
+    let exact = |&vertex: &u32| ExactPoint::from(net.point(vertex));
+    let edges = Topology::edges_in_order(&net.faces);
+    let mut points: Vec<ExactPoint> = edges
+        .iter()
+        .map(|(from, to)| midpoint(exact(from), exact(to)))
+        .collect();
+    for face in &net.faces {
+        let corners: Vec<ExactPoint> = face.iter().map(exact).collect();
+        points.push(mean(&corners));
     }
-    Step { net: refined, made }
+    subdivide(net, &edges, &points)
+}
+
+/// The net after a step with these new points, one per edge, then one per
+/// face. They are rounded here; old points and marks stay.
+fn subdivide<F: AsRef<[u32]>>(net: &Mesh<F>, edges: &[(u32, u32)], new: &[ExactPoint]) -> Net {
+    let old = net.points.len();
+    let mut points = net.points.clone();
+    points.extend(new.iter().map(|point| point.round()));
+    let mut marks = net.marks.clone();
+    marks.resize(points.len(), 0);
+    let numbers: BTreeMap<(u32, u32), u32> = edges
+        .iter()
+        .zip(old..)
+        .map(|(&(from, to), number)| (edge(from, to), vertex_number(number)))
+        .collect();
+    let centres = (old + edges.len()..).map(vertex_number);
+    let faces = net.faces.iter().zip(centres);
+    let faces = faces.flat_map(|(face, centre)| parts(face.as_ref(), centre, &numbers));
+    Net {
+        faces: faces.collect(),
+        points,
+        marks,
+    }
+}
+
+fn vertex_number(number: usize) -> u32 {
+    u32::try_from(number).expect("vertex number fits")
+}
+
+/// The faces that a face becomes, one for each corner: corner i, point of side
+/// i, face point, point of side i-1.
+fn parts(face: &[u32], centre: u32, numbers: &BTreeMap<(u32, u32), u32>) -> Vec<[u32; 4]> {
+    let middles: Vec<u32> = sides(face)
+        .map(|(from, to)| numbers[&edge(from, to)])
+        .collect();
+    let n = face.len();
+    (0..n)
+        .map(|i| [face[i], middles[i], centre, middles[(i + n - 1) % n]])
+        .collect()
 }
 
 /// The first `rounds` steps of an accepted net, each with the origin of its
@@ -103,14 +146,6 @@ pub fn trace(net: &Net, rounds: u32) -> Vec<Step> {
         steps.push(refine_once(last));
     }
     steps
-}
-
-/// The four faces of a split face: corner i, point of side i, face point,
-/// point of side i-1.
-fn split(face: [u32; 4], centre: usize, numbers: &BTreeMap<(u32, u32), usize>) -> [[u32; 4]; 4] {
-    let vertex = |number: usize| u32::try_from(number).expect("vertex number fits");
-    let middles = sides(face).map(|(from, to)| vertex(numbers[&edge(from, to)]));
-    std::array::from_fn(|i| [face[i], middles[i], vertex(centre), middles[(i + 3) % 4]])
 }
 
 /// A net with its adjacency, as the rules see it.
@@ -214,8 +249,9 @@ impl<'a> Surface<'a> {
         face: [u32; 4],
         edge_points: &BTreeMap<(u32, u32), ExactPoint>,
     ) -> [Direction; 2] {
-        let [side0, side1, side2, side3] = sides(face);
-        [(side0, side2), (side1, side3)].map(|(near, far)| self.direction(near, far, edge_points))
+        let [a, b, c, d] = face;
+        let opposite_sides = [((a, b), (c, d)), ((b, c), (d, a))];
+        opposite_sides.map(|(near, far)| self.direction(near, far, edge_points))
     }
 
     fn direction(

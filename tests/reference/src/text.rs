@@ -1,4 +1,4 @@
-//! The text form of nets and answers.
+//! The text form of nets and answers. It has no side counts.
 
 use crate::call::{Call, Outcome, refine};
 use crate::refusal::{Capacity, Refusal, check_limits, check_rounds, refined_faces};
@@ -59,6 +59,7 @@ pub fn refine_document(document: &Document) -> Outcome {
         rounds: document.rounds,
         vertices: &document.vertices,
         faces: &document.faces,
+        sides: &[],
         marks: &document.marks,
         capacity: Capacity::for_refined_faces(PROGRAM_REFINED_FACES),
     })

@@ -4,8 +4,9 @@ use std::collections::{BTreeMap, BTreeSet};
 
 use crate::net::{edge, sides};
 
-/// A face seen from one of its sides: from `(p, a)` the corners are
-/// `p`, `a`, `opposite`, `next`.
+/// A face seen from one of its sides: from `(p, a)` the corners are `p`, `a`,
+/// `opposite`, .., `next`. In a quadrilateral these are all, and `opposite`
+/// lies opposite to `p`; in a triangle `opposite` and `next` are one.
 #[derive(Clone, Copy, Debug, PartialEq, Eq)]
 pub struct Wedge {
     pub face: u32,
@@ -15,9 +16,10 @@ pub struct Wedge {
 
 /// The faces round one vertex, in order.
 ///
-/// `opposites[i]` is the corner opposite to the vertex in the face between
-/// `neighbours[i]` and `neighbours[i + 1]`. A ring has as many neighbours as
-/// faces and closes from the last to the first; a fan has one neighbour more.
+/// `opposites[i]` is the corner after `neighbours[i]` in the face between it
+/// and `neighbours[i + 1]`, in a quadrilateral the one opposite to the vertex.
+/// A ring has as many neighbours as faces and closes from the last to the
+/// first; a fan has one neighbour more.
 #[derive(Clone, Debug, PartialEq, Eq)]
 pub struct Star {
     pub neighbours: Vec<u32>,
@@ -51,16 +53,16 @@ pub struct Topology {
 impl Topology {
     /// The topology of these faces, or the first face with a side that runs
     /// from one vertex to another as a side of an earlier face does.
-    pub fn new(faces: &[[u32; 4]]) -> Result<Self, u32> {
+    pub fn new<F: AsRef<[u32]>>(faces: &[F]) -> Result<Self, u32> {
         let mut wedges = BTreeMap::new();
-        for (number, &corners) in (0..).zip(faces) {
-            let [a, b, c, d] = corners;
-            let ends = [(c, d), (d, a), (a, b), (b, c)];
-            for (side, (opposite, next)) in sides(corners).into_iter().zip(ends) {
+        for (number, face) in (0..).zip(faces) {
+            let corners = face.as_ref();
+            let n = corners.len();
+            for (s, side) in sides(corners).enumerate() {
                 let wedge = Wedge {
                     face: number,
-                    opposite,
-                    next,
+                    opposite: corners[(s + 2) % n],
+                    next: corners[(s + n - 1) % n],
                 };
                 if wedges.insert(side, wedge).is_some() {
                     return Err(number);
@@ -118,10 +120,11 @@ impl Topology {
         BoundaryLoops { after, before }
     }
 
-    /// Edges in the order in which they are first met, face by face, side 0 to 3.
-    pub fn edges_in_order(faces: &[[u32; 4]]) -> Vec<(u32, u32)> {
+    /// Edges in the order in which they are first met, face by face, from side
+    /// 0 on.
+    pub fn edges_in_order<F: AsRef<[u32]>>(faces: &[F]) -> Vec<(u32, u32)> {
         let mut met = BTreeSet::new();
-        let all_sides = faces.iter().copied().flat_map(sides);
+        let all_sides = faces.iter().flat_map(|face| sides(face.as_ref()));
         all_sides
             .filter(|&(from, to)| met.insert(edge(from, to)))
             .collect()

@@ -28,6 +28,7 @@ impl Sizes {
             rounds: self.rounds,
             vertices: &vec![0; self.vertices],
             faces: &vec![0; self.faces],
+            sides: &[],
             marks: &vec![0; self.marks],
             capacity: self.capacity,
         })
@@ -48,6 +49,7 @@ fn an_empty_net_is_accepted_for_all_rounds() {
             rounds,
             vertices: &[],
             faces: &[],
+            sides: &[],
             marks: &[],
             capacity: NOTHING,
         });
@@ -105,6 +107,7 @@ fn each_table_must_be_long_enough() {
             rounds: 2,
             vertices: &net.vertex_table(),
             faces: &net.face_table(),
+            sides: &[],
             marks: &net.marks,
             capacity,
         })
@@ -231,6 +234,7 @@ fn run(net: &Net, rounds: u32, mut tables: Tables) -> (Outcome, Tables) {
         rounds,
         &net.vertex_table(),
         &net.face_table(),
+        &[],
         &net.marks,
         &mut tables,
     );

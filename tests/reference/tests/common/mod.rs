@@ -102,6 +102,7 @@ pub fn refine_net(net: &Net, rounds: u32) -> Outcome {
         rounds,
         vertices: &net.vertex_table(),
         faces: &net.face_table(),
+        sides: &[],
         marks: &net.marks,
         capacity: Capacity::for_refined_faces(refined),
     })

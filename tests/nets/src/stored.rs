@@ -1,0 +1,77 @@
+//! The stored form of a call: its rounds, the tables of its net and the
+//! lengths of the tables for its results, a line each.
+
+use std::fmt::Display;
+use std::fs;
+use std::path::{Path, PathBuf};
+use std::str::FromStr;
+
+use reference::refusal::Capacity;
+
+use crate::case::{Case, Expected};
+
+const NAMES: [&str; 6] = ["rounds", "vertices", "faces", "sides", "marks", "room"];
+
+/// The text of a call.
+pub fn to_text(case: &Case) -> String {
+    let room = case.capacity;
+    let room = [room.vertices, room.faces, room.marks, room.workspace];
+    [
+        line(NAMES[0], &[case.rounds]),
+        line(NAMES[1], &case.vertices),
+        line(NAMES[2], &case.faces),
+        line(NAMES[3], &case.sides),
+        line(NAMES[4], &case.marks),
+        line(NAMES[5], &room),
+    ]
+    .concat()
+}
+
+fn line<T: Display>(name: &str, values: &[T]) -> String {
+    let values = values.iter().map(|value| format!(" {value}"));
+    format!("{name}{}\n", values.collect::<String>())
+}
+
+/// The call of a text, if it has this form.
+pub fn from_text(text: &str) -> Option<Case> {
+    let mut lines = text.lines().zip(NAMES);
+    let [rounds] = numbers(lines.next()?)?.try_into().ok()?;
+    let case = Case {
+        rounds,
+        vertices: numbers(lines.next()?)?,
+        faces: numbers(lines.next()?)?,
+        sides: numbers(lines.next()?)?,
+        marks: numbers(lines.next()?)?,
+        capacity: capacity(&numbers(lines.next()?)?)?,
+        expected: Expected::Unknown,
+    };
+    (to_text(&case) == text).then_some(case)
+}
+
+fn numbers<T: FromStr>((line, name): (&str, &str)) -> Option<Vec<T>> {
+    let values = line.strip_prefix(name)?.split_whitespace();
+    values.map(|value| value.parse().ok()).collect()
+}
+
+fn capacity(room: &[usize]) -> Option<Capacity> {
+    let &[vertices, faces, marks, workspace] = room else {
+        return None;
+    };
+    Some(Capacity {
+        vertices,
+        faces,
+        marks,
+        workspace,
+    })
+}
+
+/// The files of all stored calls, in the order of their names.
+pub fn stored_calls() -> Vec<PathBuf> {
+    let folder = Path::new(env!("CARGO_MANIFEST_DIR")).join("calls");
+    let entries = fs::read_dir(folder).expect("the folder of calls");
+    let paths = entries.map(|entry| entry.expect("a readable entry").path());
+    let is_call = |path: &PathBuf| path.extension().is_some_and(|e| e == "txt");
+    let mut calls: Vec<PathBuf> = paths.filter(is_call).collect();
+    calls.sort();
+    calls
+}
