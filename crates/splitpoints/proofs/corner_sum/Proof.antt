@@ -45,7 +45,7 @@ coordinate-wide-requires c κs =
     let q = c .before .before in
     let s = q .before .before in
     let e = c .start-of .ensures in
-    (s .pre .1, rw e (s .pre .0 .each (q .loop .k) (c .before .loop-test .taken) .room))
+    (s .pre .1, rw e (s .pre .0 .each (q .loop .k) (omega arith) .room))
 
 -- the sum goes on
 more : (c : tie.After-coordinate-wide Inv-loop μ-loop) → (let q = c .before .before .before in let z = toZ w64 (q .loop .total) +ℤ c .coordinate-wide .result in
