@@ -7,13 +7,12 @@ use lib.IntN.{ℤ}
 use lib.ListN.{length, getD, take, drop}
 use Rattle.lists.specs.Tabulate.{tabulate}
 use Rattle.lists.proofs.Parts.{drop-later}
-use Rattle.topology.specs.Shape.{Shape, quads}
+use Rattle.topology.specs.Shape.{Shape}
 use Rattle.topology.specs.HalfEdge.{from, edgeCount}
 use Rattle.topology.specs.Manifold.{Oriented}
-use Rattle.topology.proofs.Mates.{edges-le}
-use Rattle.polygons.specs.Polygons.{shapeOf, Sided}
+use Rattle.polygons.specs.Polygons.{shapeOf}
 use Rattle.polygons.proofs.Counts.{shape-none, shape-some, faces-polygons}
-use Rattle.refinedfaces.specs.Refined.{refinedVertices, refined, refinedMarks}
+use Rattle.refinedfaces.specs.Refined.{refinedVertices, refined}
 use Rattle.tables.specs.Tables.{filled, SameOutside}
 use Rattle.tables.proofs.Laws.{length-filled, take-filled, filled-at, filled-over}
 use Rattle.nets.specs.Net.{Net, ControlNet, drawnTables, axis}
@@ -26,7 +25,7 @@ use Rattle.halfedges.specs.Tables.{MateTableOf, MateTable}
 use Rattle.sidetable.specs.Table.{Shaped, Linked}
 use Rattle.sidetable.proofs.Table.{shaped-kept}
 use Rattle.adjacency.specs.Chains.{Tables}
-use Rattle.edgenumbers.specs.Edges.{edgeCountBy, withEdges, PairedIn, Numbered}
+use Rattle.edgenumbers.specs.Edges.{edgeCountBy, withEdges, PairedIn}
 use Rattle.edgenumbers.proofs.Net.{mates-paired, edges-counted, edges-mates, edges-numbered, edges-rest, edges-kept}
 use Rattle.roundfaces.specs.Faces.{extended}
 use Rattle.roundfaces.proofs.Round.{marks-refined, marks-cong}

@@ -4,28 +4,27 @@ use mathlib.Core.List.{List, _++_}
 use Prim.Native.Nat.{ℕ, _+_, _*_, _/_, _%_, _≤_, _<_}
 use native.Mathlib.Numerals.{add-one}
 use native.Mathlib.Omega.{arith}
-use lib.IntN.{ℤ, pos, natAbs, _+ℤ_}
-use lib.ListN.{length, getD, take, drop, List·getD-append, length-take, take-append-drop}
+use lib.IntN.{ℤ, pos, _+ℤ_}
+use lib.ListN.{length, getD, take, drop, List·getD-append, take-append-drop}
 use lib.Seq.{length-take-le, getD-take, drop-at, ext-getD}
 use Rattle.lists.specs.Tabulate.{tabulate}
 use Rattle.lists.proofs.Tabulate.{length-tabulate, getD-tabulate}
 use Rattle.lists.proofs.Parts.{drop-later}
-use Rattle.integers.specs.Sum.{sum}
 use Rattle.integers.proofs.Sum.{sum-cong}
 use Rattle.rounding.specs.Rounding.{round}
 use Rattle.search.specs.Search.{count}
-use Rattle.topology.specs.Shape.{Shape, Lawful}
+use Rattle.topology.specs.Shape.{Shape}
 use Rattle.topology.specs.HalfEdge.{from, to, mate, firstMet, edgeCount, edge}
 use Rattle.topology.proofs.Mates.{edge-lt, edge-new, count-new, count-old}
-use Rattle.polygons.specs.Polygons.{shapeOf, polygons, total}
-use Rattle.polygons.proofs.Counts.{FaceFits, face-fits, shape-some, faces-polygons, total-next}
+use Rattle.polygons.specs.Polygons.{shapeOf, total}
+use Rattle.polygons.proofs.Counts.{face-fits, shape-some, faces-polygons}
 use Rattle.refinedfaces.specs.Refined.{refinedVertices}
 use Rattle.tables.specs.Tables.{filled}
 use Rattle.nets.specs.Net.{axis}
 use Rattle.splitting.specs.Splitting.{splitCoordinate}
 use Rattle.splitting.proofs.Coordinates.{split-old, split-edge, split-face-counts}
 use Rattle.sidetable.specs.Table.{Linked}
-use Rattle.facetable.specs.FaceTable.{putPoint, Written}
+use Rattle.facetable.specs.FaceTable.{putPoint}
 use Rattle.facetable.proofs.FaceTable.{written-next}
 use Rattle.edgetable.proofs.EdgeTable.{put-point-is}
 use Rattle.splitpoints.specs.Points.{DrawnVertex, Corners, midpointOn, cornerOn, meanOn}

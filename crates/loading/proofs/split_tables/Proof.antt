@@ -1,6 +1,5 @@
 -- `split_tables` meets its contract: copies, edge numbers, points, faces, marks. Assumes nothing.
 use native.Mathlib.Omega.{arith}
-use lib.ListN.{length}
 use borrow.Author.Needs.{needs}
 use Rattle.nets.specs.Net.{ControlNet, controlNet}
 use Rattle.nets.specs.Buffers.{Buffers, buffers}

@@ -1,10 +1,9 @@
 -- `corner_sum` meets its contract: after k turns the coordinates of the first k corners are added. Assumes nothing.
-use mathlib.Core.Path.{_≡_, sym, ap, ap₂, _∙_}
-use Prim.Native.Nat.{ℕ, _+_, _-_, _≤_, _<_}
+use mathlib.Core.Path.{_≡_, ap, ap₂, _∙_}
+use Prim.Native.Nat.{ℕ, _+_, _-_, _≤_}
 use native.Mathlib.Omega.{arith}
 use borrow.Author.Needs.{needs}
 use lib.IntN.{ℤ, _+ℤ_}
-use lib.ListN.{length}
 use mir.Syntax.{w64}
 use mir.Val.{SFits, toZ, ofZ}
 use mir.Facts.{toZ-ofZ}
@@ -45,7 +44,7 @@ coordinate-wide-requires c κs =
     let q = c .before .before in
     let s = q .before .before in
     let e = c .start-of .ensures in
-    (s .pre .1, rw e (s .pre .0 .each (q .loop .k) (c .before .loop-test .taken) .room))
+    (s .pre .1, rw e (s .pre .0 .each (q .loop .k) (omega arith) .room))
 
 -- the sum goes on
 more : (c : tie.After-coordinate-wide Inv-loop μ-loop) → (let q = c .before .before .before in let z = toZ w64 (q .loop .total) +ℤ c .coordinate-wide .result in

@@ -10,7 +10,6 @@ use mir.Facts.{toZ-ofZ}
 use Rattle.integers.proofs.AbsoluteValue.{abs-add}
 use Rattle.integers.proofs.Range.{fits-abs}
 use Rattle.rounding.specs.Rounding.{round}
-use Rattle.nets.specs.Net.{axis}
 use Rattle.splitpoints.specs.Points.{midpointOn}
 use Rattle.splitpoints.proofs.midpoint.Statement.{statement}
 use Rattle.splitpoints.proofs.midpoint.Tie as tie

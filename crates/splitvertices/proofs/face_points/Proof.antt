@@ -1,6 +1,6 @@
 -- `face_points` meets its contract: the means of the faces below f are made, and face f begins at a. Assumes nothing.
 use mathlib.Core.Path.{_≡_, refl, sym, ap, _∙_, subst}
-use Prim.Native.Nat.{ℕ, _+_, _-_, _≤_}
+use Prim.Native.Nat.{ℕ, _+_, _-_, _≤_, _<_}
 use native.Mathlib.Omega.{arith}
 use lib.ListN.{length, getD, take}
 use Rattle.topology.specs.HalfEdge.{edgeCount}
@@ -43,7 +43,7 @@ put-mean-requires c κs =
     let q = x .before in
     let s = q .before .before .before in
     let i = q .loop .inv in
-    let b = x .loop-test .taken in
+    let b : q .loop .f < length (s .args .sides .now) = omega arith in
     let e : s .args .v + s .args .edges + q .loop .f ≡ s .args .v + edgeCount (shapeOf (s .args .sides .now)) (s .args .faces .now) + q .loop .f = (let e = s .pre .1 .0 in omega arith) in (
       face-room (s .args .sides .now) (s .args .faces .now) (s .args .v) (s .args .points .now) (s .pre .0) (q .loop .points) (s .args .v + s .args .edges + q .loop .f) (omega arith) (i .2) (q .loop .f) b e,
       face-corners (s .args .sides .now) (s .args .faces .now) (s .args .v) (s .args .points .now) (s .pre .0) (q .loop .points) (s .args .v + s .args .edges + q .loop .f) (omega arith) (i .2) (q .loop .f) _ _ b (i .1) refl,
@@ -55,7 +55,7 @@ add-a c =
     let q = x .before in
     let s = q .before .before .before in
     let i = q .loop .inv in
-    let k = face-corners (s .args .sides .now) (s .args .faces .now) (s .args .v) (s .args .points .now) (s .pre .0) (q .loop .points) (s .args .v + s .args .edges + q .loop .f) (omega arith) (i .2) (q .loop .f) _ _ (x .loop-test .taken) (i .1) refl .ends in
+    let k = face-corners (s .args .sides .now) (s .args .faces .now) (s .args .v) (s .args .points .now) (s .pre .0) (q .loop .points) (s .args .v + s .args .edges + q .loop .f) (omega arith) (i .2) (q .loop .f) _ _ (omega arith) (i .1) refl .ends in
     omega arith
 
 add-f : tie.Need-add-f Inv-loop μ-loop
@@ -71,7 +71,7 @@ loop-again c =
     let q = x .before in
     let s = q .before .before .before in
     let i = q .loop .inv in
-    let b = x .loop-test .taken in
+    let b : q .loop .f < length (s .args .sides .now) = omega arith in
     let f = q .loop .f in
     let e : s .args .v + s .args .edges + f ≡ s .args .v + edgeCount (shapeOf (s .args .sides .now)) (s .args .faces .now) + f = (let e = s .pre .1 .0 in omega arith) in
     let z : s .args .v + s .args .edges + f + 1 ≡ s .args .v + s .args .edges + (f + 1) = omega arith in (
