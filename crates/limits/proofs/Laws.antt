@@ -40,15 +40,6 @@ pub counts-pass : (s : List ℕ) (n : ℕ) → (length s ≡ 0 → ⊥) → badS
 counts-pass [] n z h = absurd (z refl)
 counts-pass (c ∷ s) n z h = rw h
 
--- F
-pub by-fours : (s : List ℕ) (n : ℕ) → length s ≡ 0 → n / 4 ≡ quadrilaterals s n
-by-fours [] n z = refl
-by-fours (c ∷ s) n z = let y : ⊥ = omega arith in absurd y
-
-pub by-sides : (s : List ℕ) (n : ℕ) → (length s ≡ 0 → ⊥) → n ≡ quadrilaterals s n
-by-sides [] n z = absurd (z refl)
-by-sides (c ∷ s) n z = refl
-
 -- ---- the tables
 module _ (v n : ℕ) (s : List ℕ) (m : ℕ) where
   pub coordinates-hit : (v % 3 ≡ 0 → ⊥) → tablesVerdict v n s m ≡ limitsOf 2

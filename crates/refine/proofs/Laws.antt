@@ -19,8 +19,7 @@ use Rattle.topology.specs.Shape.{quads}
 use Rattle.polygons.specs.Polygons.{Sided}
 use Rattle.verdict.specs.Call.{room, lengthsOf, Call, call, quadrilaterals}
 use Rattle.verdict.specs.Verdict.{accepted, verdict}
-use Rattle.limits.proofs.Laws.{by-fours, by-sides}
-use Rattle.verdict.proofs.Accepted.{WithinLimits, accepted-limits, accepted-coordinate}
+use Rattle.verdict.proofs.Accepted.{by-fours, by-sides, WithinLimits, accepted-limits, accepted-coordinate}
 use Rattle.scheme.specs.Step.{steps}
 use Rattle.schemelaws.specs.Nets.{Refinable}
 use Rattle.schemelaws.proofs.Steps.{step-faces, step-count, refinable-steps}

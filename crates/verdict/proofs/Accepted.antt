@@ -51,6 +51,15 @@ at-none r t n place e = go (ltb (first t n) n) refl e
     go true f e = never r (place (first t n)) e
     go false f e = let a = ltb-false (first t n) n f in let b = first-le t n in omega arith
 
+-- ---- F: by fours without side counts, one for each corner with them
+pub by-fours : (s : List ℕ) (n : ℕ) → length s ≡ 0 → n / 4 ≡ quadrilaterals s n
+by-fours [] n z = refl
+by-fours (c ∷ s) n z = let y : ⊥ = omega arith in absurd y
+
+pub by-sides : (s : List ℕ) (n : ℕ) → (length s ≡ 0 → ⊥) → n ≡ quadrilaterals s n
+by-sides [] n z = absurd (z refl)
+by-sides (c ∷ s) n z = refl
+
 -- ---- 1 to 4 and 14 do not hold
 pub record WithinLimits (rounds : ℕ) (sides : List ℕ) (n : Lengths) : Type 0 where
   pub few : rounds ≤ 6

@@ -20,12 +20,12 @@ limits-requires c κs = search needs
 returns : tie.Need-returns
 returns c =
     let y = c .before .before in
-    refused-sizes _ _ _ (START .args .sides .now) _ _ (y .before .before .quadrilaterals .ensures) _ (y .before .final-faces .ensures) (roomIn (y .needed .result)) (y .needed .ensures) _ (c .before .limits .ensures) (c .if1 .taken)
+    refused-sizes _ _ _ (y .before .before .before .before .args .sides .now) _ _ (y .before .before .quadrilaterals .ensures) _ (y .before .final-faces .ensures) (roomIn (y .needed .result)) (y .needed .ensures) _ (c .before .limits .ensures) (c .if1 .taken)
 
 returns-2 : tie.Need-returns-2
 returns-2 c =
     let y = c .before .before in
-    given-sizes _ _ _ (START .args .sides .now) _ _ (y .before .before .quadrilaterals .ensures) _ (y .before .final-faces .ensures) (roomIn (y .needed .result)) (y .needed .ensures) _ (c .before .limits .ensures) (c .if1 .left)
+    given-sizes _ _ _ (y .before .before .before .before .args .sides .now) _ _ (y .before .before .quadrilaterals .ensures) _ (y .before .final-faces .ensures) (roomIn (y .needed .result)) (y .needed .ensures) _ (c .before .limits .ensures) (c .if1 .left)
 
 pub gedrovit-sizes-for-spec : {M : Type 1} → statement M
 gedrovit-sizes-for-spec =

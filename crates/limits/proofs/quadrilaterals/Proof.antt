@@ -1,5 +1,5 @@
 -- `limits::quadrilaterals` meets its contract. Assumes nothing.
-use Rattle.limits.proofs.Laws.{by-fours, by-sides}
+use Rattle.verdict.proofs.Accepted.{by-fours, by-sides}
 use Rattle.limits.proofs.quadrilaterals.Statement.{statement}
 use Rattle.limits.proofs.quadrilaterals.Tie as tie
 

@@ -32,7 +32,7 @@ long-work = length-replicate {A = ℕ} 4096 0
 
 -- its tables after the call
 abbrev after : tie.After-refine → Buffers
-after x = let o = x .refine .last .1 .1 .1 .1 in buffers (o .0) (o .1 .0) (o .1 .1 .0) (o .1 .1 .1 .0)
+after x = let o = x .refine .last .1 .1 .1 .1 .1 in buffers (o .0) (o .1 .0) (o .1 .1 .0) (o .1 .1 .1 .0)
 
 abbrev net : tie.Start → Net
 net s = record { vertices = s .args .vertices .now; faces = s .args .faces .now; marks = s .args .marks .now }
@@ -48,6 +48,9 @@ slice-aggregate-refine-3 c = search needs
 
 slice-aggregate-refine-4 : tie.Need-slice-aggregate-refine-4
 slice-aggregate-refine-4 c = search needs
+
+slice-aggregate-refine-5 : tie.Need-slice-aggregate-refine-5
+slice-aggregate-refine-5 c = search needs
 
 refine-requires : tie.Need-refine-requires
 refine-requires c κs = search needs
@@ -66,13 +69,13 @@ slice-aggregate-write-net-3 c = search needs
 
 write-net-requires : tie.Need-write-net-requires
 write-net-requires c κs =
-    let s = c .before .before .before .before .before .before .before .before .before .before .before .before .before .before .before .before .before .before .before in
+    let s = c .before .before .before .before .before .before .before .before .before .before .before .before .before .before .before .before .before .before .before .before in
     let x = c .before .before .before .before .before .before .before .before .before .before .before in
     let e = sym (ap (λ (a : Answer). answered a (after x)) (c .before .before .before .before .before .v .given .1)) ∙ x .refine .ensures in
     let t = served (s .args .rounds) (net s) zeros long-vertices long-corners long-marks long-work (s .pre .0) (after x) _ _ e in
     let a = t .0 in
     let b = t .1 in
-    let k = x .refine .kept .1 .1 .1 .1 in
+    let k = x .refine .kept .1 .1 .1 .1 .1 in
     let lv = k .0 ∙ long-vertices in
     let lf = k .1 .0 ∙ long-corners in
     let lm = k .1 .1 .0 ∙ long-marks in
@@ -91,7 +94,7 @@ same-length c = search needs
 
 returns : tie.Need-returns
 returns c =
-    let s = c .before .before .before .before .before .before .before .before .before .before .before .before .before .before .before .before .before .before .before .before .before .before in
+    let s = c .before .before .before .before .before .before .before .before .before .before .before .before .before .before .before .before .before .before .before .before .before .before .before in
     let x = c .before .before .before .before .before .before .before .before .before .before .before .before .before .before in
     let e = sym (ap (λ (a : Answer). answered a (after x)) (c .before .before .before .before .before .before .before .before .v .given .1)) ∙ x .refine .ensures in
     let y = c .before .before .write-net .ensures in
@@ -103,7 +106,7 @@ same-length-2 c = search needs
 
 returns-2 : tie.Need-returns-2
 returns-2 c =
-    let s = c .before .before .before .before .before .before .before .before .before .before .before .before .before .before .before .before .before .before .before in
+    let s = c .before .before .before .before .before .before .before .before .before .before .before .before .before .before .before .before .before .before .before .before in
     let x = c .before .before .before .before .before .before .before .before .before .before .before in
     let e = sym (ap (λ (a : Answer). answered a (after x)) (c .before .before .before .before .before .reason .given .1)) ∙ x .refine .ensures in
     let y = c .before .before .write-refusal .ensures in
@@ -117,6 +120,7 @@ refine-net-spec =
     slice-aggregate-refine-2
     slice-aggregate-refine-3
     slice-aggregate-refine-4
+    slice-aggregate-refine-5
     refine-requires
     enum-known-v
     slice-aggregate-write-net

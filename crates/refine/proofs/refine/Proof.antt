@@ -2,7 +2,7 @@
 use mathlib.Core.Path.{_≡_, subst}
 use mathlib.Core.List.{List}
 use Prim.Native.Nat.{ℕ}
-use Rattle.nets.specs.Net.{net}
+use Rattle.nets.specs.Net.{controlNet}
 use Rattle.admission.specs.declared.Admission.{Admission}
 use Rattle.admission.specs.Admission.{Admits}
 use Rattle.outcome.specs.Outcome.{Request, request, callOf}
@@ -14,22 +14,22 @@ use Rattle.refine.proofs.refine.Tie as tie
 
 abbrev asked : tie.Start → Request
 asked s =
-    request (s .args .rounds) (net (s .args .vertices .now) (s .args .faces .now) (s .args .marks .now))
+    request (s .args .rounds) (controlNet (s .args .vertices .now) (s .args .faces .now) (s .args .sides .now) (s .args .marks .now))
     (buffers (s .args .out-vertices .now) (s .args .out-faces .now) (s .args .out-marks .now) (s .args .work .now))
 
 -- after the admission: what is left of the work table
 abbrev start : tie.After-admit → tie.Start
-start x = x .before .before .before .before .before .before .before
+start x = x .before .before .before .before .before .before .before .before
 
 abbrev left : tie.After-admit → List ℕ
-left x = x .admit .last .1 .1 .1 .1 .1 .1 .1 .0
+left x = x .admit .last .1 .1 .1 .1 .1 .1 .1 .1 .0
 
 admits : (x : tie.After-admit) (a : Admission) → x .admit .result ≡ a → Admits (callOf (asked (start x))) (start x .args .work .now) a (left x)
 admits x a e = subst (λ (b : Admission). Admits (callOf (asked (start x))) (start x .args .work .now) b (left x)) e (x .admit .ensures)
 
 -- after the rounds: the caller's tables
 abbrev after : tie.After-run → Buffers
-after y = let o = y .run .last .1 .1 .1 .1 in buffers (o .0) (o .1 .0) (o .1 .1 .0) (o .1 .1 .1 .0)
+after y = let o = y .run .last .1 .1 .1 .1 .1 in buffers (o .0) (o .1 .0) (o .1 .1 .0) (o .1 .1 .1 .0)
 
 admit-requires : tie.Need-admit-requires
 admit-requires c κs = search needs
@@ -40,7 +40,7 @@ enum-known-last c = search needs
 run-requires : tie.Need-run-requires
 run-requires c κs =
     let x = c .before .before .before .before .before .before .before .before .before in
-    admitted-work (asked (start x)) _ (left x) (admits x _ (c .before .before .before .before .before .last .given .1) .0) (x .admit .kept .1 .1 .1 .1 .1 .1 .1 .0)
+    admitted-work (asked (start x)) _ (left x) (admits x _ (c .before .before .before .before .before .last .given .1) .0) (x .admit .kept .1 .1 .1 .1 .1 .1 .1 .1 .0)
 
 enum-known-number : tie.Need-enum-known-number
 enum-known-number c = search needs
@@ -62,7 +62,7 @@ returns c =
     let y = c .before .before .before .before .before .before .before in
     let x = y .before .before .before .before .before .before .before .before .before .before in
     let a = admits x _ (y .before .before .before .before .before .before .last .given .1) in
-    refined-outcome (asked (start x)) _ (left x) (a .0) (x .admit .kept .1 .1 .1 .1 .1 .1 .1 .0) (y .run .result) (after y) (a .1) (y .run .ensures)
+    refined-outcome (asked (start x)) _ (left x) (a .0) (x .admit .kept .1 .1 .1 .1 .1 .1 .1 .1 .0) (y .run .result) (after y) (a .1) (y .run .ensures)
 
 same-length-5 : tie.Need-same-length-5
 same-length-5 c = search needs
