@@ -16,10 +16,10 @@ PAGE = ROOT / "docs" / "GUARANTEES.md"
 CITED = """
 lists/Tabulate nets/Net nets/Buffers tables/Tables search/Search
 topology/Shape topology/HalfEdge topology/Boundary topology/Vertex topology/Quads topology/Manifold
-refusals/Refusals verdict/Call verdict/Verdict
+polygons/Polygons refusals/Refusals verdict/Call verdict/Verdict
 rounding/Rounding curve/Weights curve/Curve curve/Near fractions/Fraction rings/Ring rules/Rules
-refinedfaces/Refined scheme/Rings scheme/Points scheme/Step outcome/Outcome
-seam/Reading outcome/SharedSegment integers/Within outcome/Coordinates schemelaws/Nets schemelaws/Agreement
+refinedfaces/Refined scheme/Rings scheme/Points scheme/Step splitting/Splitting outcome/Outcome outcome/AsBefore
+seam/Reading outcome/SharedSegment seam/Split outcome/SplitSegment integers/Within outcome/Coordinates schemelaws/Nets splitting/Drawn schemelaws/Agreement
 admission/Answer admission/Admission refine/Answer capi/Export capi/Version cases/Cases
 decimal/Decimal text/Bytes text/Form text/Text text/Written reading/Loaded printing/Tables printing/Lines
 program/Answer program/RoundTrip
