@@ -38,7 +38,7 @@ use Rattle.splitting.proofs.Room.{start-vertices-le}
 use Rattle.outcome.proofs.Accepted.{accepted-drawn, accepted-refinable}
 use Rattle.loading.specs.Loading.{Loadable, Loaded}
 use Rattle.rounds.specs.Rounds.{Prepared, After}
-use Rattle.refine.specs.Run.{Ran}
+use Rattle.refine.specs.Run.{Ran, Finished, Finishing}
 
 -- corners are four to a face
 pub by-faces : (n p : ℕ) → n % 4 ≡ 0 → n * p ≡ 4 * (n / 4 * p)
@@ -153,20 +153,27 @@ module _ (a : Request) (last : ℕ) (ok : AdmittedCall (callOf a) last (a .buffe
         shaped = ok .shaped;
       }
 
-  module _ (t : Buffers) (r n : ℕ) (x : Loaded (a .net) o t r) (long : length (t .work) ≡ length (o .work)) (e : n ≡ quadrilaterals (a .net .sides) (length (a .net .faces))) where
-    corners-are : 4 * n ≡ length (m .faces)
-    corners-are = let f = start-four (a .net) (limits .sided) in omega arith
+  -- corners where refining begins, without side counts and with them
+  pub corners-plain : length (a .net .sides) ≡ 0 → length (a .net .faces) ≡ length (m .faces)
+  corners-plain z = sym (ap (λ (y : Net). length (y .faces)) (start-none (a .net) z))
 
-    front-is : front r (4 * n) t ≡ m
+  pub corners-split : (length (a .net .sides) ≡ 0 → ⊥) → 4 * length (a .net .faces) ≡ length (m .faces)
+  corners-split z = sym (ap (λ (y : Net). length (y .faces)) (start-split (a .net) (omega arith)) ∙ split-corners (a .net))
+
+  pub corners-limit : length (a .net .faces) ≤ 16384
+  corners-limit = loadable .few
+
+  module _ (t : Buffers) (r n : ℕ) (x : Loaded (a .net) o t r) (long : length (t .work) ≡ length (o .work)) (corners-are : n ≡ length (m .faces)) where
+    front-is : front r n t ≡ m
     front-is =
         let t₃ = refinable .threes in
         let c = x .count in
         let d = corners-are in
         same-net (ap (take (3 * r)) (x .vertices) ∙ take-filled (m .vertices) (o .vertices) (3 * r) (omega arith))
-        (ap (take (4 * n)) (x .faces) ∙ take-filled (m .faces) (o .faces) (4 * n) d)
+        (ap (take n) (x .faces) ∙ take-filled (m .faces) (o .faces) n d)
         (ap (take r) (x .marks) ∙ take-filled (m .marks) (o .marks) r c)
 
-    pub prepared : Prepared k r (4 * n) t
+    prepared : Prepared k r n t
     prepared =
         let w = limits in
         let b = w .roomVertices in
@@ -181,7 +188,7 @@ module _ (a : Request) (last : ℕ) (ok : AdmittedCall (callOf a) last (a .buffe
         let y = x .count in
         let i = corners-are in
         let h = refinable .threes in
-        let grown : 4 * n * 4 ^ k ≡ length (m .faces) * 4 ^ k = ap (λ (j : ℕ). j * 4 ^ k) i in
+        let grown : n * 4 ^ k ≡ length (m .faces) * 4 ^ k = ap (λ (j : ℕ). j * 4 ^ k) i in
         let lv : length (t .vertices) ≡ length (o .vertices) = ap length (x .vertices) ∙ length-filled _ _ (omega arith) in
         let lf : length (t .faces) ≡ length (o .faces) = ap length (x .faces) ∙ length-filled _ _ (omega arith) in
         let lm : length (t .marks) ≡ length (o .marks) = ap length (x .marks) ∙ length-filled _ _ (omega arith) in
@@ -198,9 +205,14 @@ module _ (a : Request) (last : ℕ) (ok : AdmittedCall (callOf a) last (a .buffe
           mated = rw (ap (λ (j : Net). j .faces) front-is) (x .mated);
         }
 
-    module _ (v : ℕ) (u : Buffers) (w : List ℕ) (b : After k r (4 * n) v t u) (z : w ≡ cleared (16 * last) (u .work)) where
-      pub ran : Ran a (buffers (u .vertices) (u .faces) (u .marks) w) last v
+    pub finishing : Finishing k r n last t
+    finishing = record { prepared = prepared; few = last-le; room = (let a = room-work in omega arith) }
+
+    module _ (v : ℕ) (u : Buffers) (x₂ : Finished k r n last v t u) where
+      pub ran : Ran a u last v
       ran =
+          let b = x₂ .after in
+          let z = x₂ .work in
           let q = refinable .threes in
           let j = refinable-steps kobbelt m refinable k .threes in
           let i = more-vertices m k in
@@ -208,14 +220,14 @@ module _ (a : Request) (last : ℕ) (ok : AdmittedCall (callOf a) last (a .buffe
           let g = once in
           let s = size in
           let d = corners-are in
-          let grown : 4 * n * 4 ^ k ≡ length (m .faces) * 4 ^ k = ap (λ (j : ℕ). j * 4 ^ k) d in
+          let grown : n * 4 ^ k ≡ length (m .faces) * 4 ^ k = ap (λ (j : ℕ). j * 4 ^ k) d in
           record {
             count = b .count ∙ ap (λ (y : Net). length (steps kobbelt k y .marks)) front-is;
             vertices = b .newPoints ∙ ap₂ (λ (y : Net) (l : List ℤ). filled (steps kobbelt k y .vertices) l) front-is (x .vertices) ∙ filled-over _ _ (o .vertices) (omega arith);
             faces = b .newFaces ∙ ap₂ (λ (y : Net) (l : List ℕ). filled (steps kobbelt k y .faces) l) front-is (x .faces) ∙ filled-over _ _ (o .faces) (omega arith);
             marks = b .newMarks ∙ ap₂ (λ (y : Net) (l : List ℕ). filled (steps kobbelt k y .marks) l) front-is (x .marks) ∙ filled-over _ _ (o .marks) i;
-            work = z ∙ cleared-over (16 * last) (o .work) (u .work)
-                (drop-later (2 * (4 * n * 4 ^ k)) (16 * last) (u .work) (t .work) (omega arith) (b .rest) ∙ drop-later (4 * length (m .faces)) (16 * last) (t .work) (o .work) (omega arith) (x .rest));
+            work = z ∙ cleared-over (16 * last) (o .work) (x₂ .before)
+                (drop-later (2 * (n * 4 ^ k)) (16 * last) (x₂ .before) (t .work) (omega arith) (b .rest) ∙ drop-later (4 * length (m .faces)) (16 * last) (t .work) (o .work) (omega arith) (x .rest));
           }
 
 -- ---- the whole call

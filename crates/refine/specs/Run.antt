@@ -1,13 +1,15 @@
 -- The rounds of an accepted call.
 use mathlib.Core.Path.{_≡_}
-use Prim.Native.Nat.{ℕ, _*_}
+use mathlib.Core.List.{List}
+use Prim.Native.Nat.{ℕ, _*_, _≤_}
 use lib.ListN.{length}
 use Rattle.curve.specs.Weights.{kobbelt}
 use Rattle.tables.specs.Tables.{filled, cleared}
 use Rattle.scheme.specs.Step.{steps}
 use Rattle.splitting.specs.Splitting.{startNet}
 use Rattle.outcome.specs.Outcome.{Request}
-use Rattle.nets.specs.Buffers.{Buffers}
+use Rattle.nets.specs.Buffers.{Buffers, buffers}
+use Rattle.rounds.specs.Rounds.{Prepared, After}
 
 -- the tables after the rounds of the request a, and the final number of vertices; `last` is the final number of faces
 pub record Ran (a : Request) (o : Buffers) (last r : ℕ) : Type 0 where
@@ -16,3 +18,16 @@ pub record Ran (a : Request) (o : Buffers) (last r : ℕ) : Type 0 where
   pub faces : o .faces ≡ filled (steps kobbelt (a .rounds) (startNet (a .net)) .faces) (a .buffers .faces)
   pub marks : o .marks ≡ filled (steps kobbelt (a .rounds) (startNet (a .net)) .marks) (a .buffers .marks)
   pub work : o .work ≡ cleared (16 * last) (a .buffers .work)
+
+-- the tables t after k rounds on the net of v vertices and n corners at their front, with the work table cleared; r is the number of vertices
+pub record Finished (k v n last r : ℕ) (t t′ : Buffers) : Type 0 where
+  -- the work table before it is cleared
+  pub before : List ℕ
+  pub after : After k v n r t (buffers (t′ .vertices) (t′ .faces) (t′ .marks) before)
+  pub work : t′ .work ≡ cleared (16 * last) before
+
+-- what that asks: the rounds can be made, and the work table is as long as what is cleared
+pub record Finishing (k v n last : ℕ) (t : Buffers) : Type 0 where
+  pub prepared : Prepared k v n t
+  pub few : last ≤ 262144
+  pub room : 16 * last ≤ length (t .work)

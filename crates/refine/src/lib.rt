@@ -6,11 +6,40 @@ ghost use Rattle.admission.specs.Admission.{AdmittedCall};
 ghost use Rattle.outcome.specs.Outcome.{request, callOf, outcome};
 ghost use Rattle.nets.specs.Buffers.{buffers};
 ghost use Rattle.refine.specs.Answer.{answered};
-ghost use Rattle.refine.specs.Run.{Ran};
+ghost use Rattle.refine.specs.Run.{Ran, Finished, Finishing};
 
 pub enum Answer {
     Refined(usize, usize),
     Refused(u32, usize),
+}
+
+// The rounds on the net of v vertices and n corners at the front of the tables, and the work table cleared. It is called from two places, so that the compiler
+// keeps it apart from the load.
+fn finish(
+    points: &mut [i32],
+    faces: &mut [u32],
+    marks: &mut [u8],
+    work: &mut [u32],
+    v: usize,
+    n: usize,
+    rounds: u32,
+    last: usize,
+) -> usize
+    requires { ⌜ Finishing rounds v n last (buffers (now points) (now faces) (now marks) (now work)) ⌝ }
+    ensures { λ r. ⌜ Finished rounds v n last r (buffers (now (points .entry)) (now (faces .entry)) (now (marks .entry)) (now (work .entry)))
+        (buffers (now (points .exit)) (now (faces .exit)) (now (marks .exit)) (now (work .exit))) ⌝ }
+{
+    let count = rounds::rounds(
+        &mut *points,
+        &mut *faces,
+        &mut *marks,
+        &mut *work,
+        v,
+        n,
+        rounds,
+    );
+    tables::clear(&mut *work, 16 * last);
+    count
 }
 
 // The net where refining begins loaded into the output tables, refined there, and the work table cleared.
@@ -41,18 +70,28 @@ fn run(
         &mut *out_marks,
         &mut *work,
     );
-    let corners = 4 * limits::quadrilaterals(sides, faces.len());
-    let count = rounds::rounds(
+    if sides.len() == 0 {
+        return finish(
+            &mut *out_vertices,
+            &mut *out_faces,
+            &mut *out_marks,
+            &mut *work,
+            start,
+            faces.len(),
+            rounds,
+            last,
+        );
+    }
+    finish(
         &mut *out_vertices,
         &mut *out_faces,
         &mut *out_marks,
         &mut *work,
         start,
-        corners,
+        4 * faces.len(),
         rounds,
-    );
-    tables::clear(&mut *work, 16 * last);
-    count
+        last,
+    )
 }
 
 // The net after all rounds, or the first refusal that holds. The time is that of the check, and after it linear in the refined net.

@@ -1,9 +1,14 @@
--- `refine::run` meets its contract: the net where refining begins, rounds, clearing. Assumes nothing.
+-- `refine::run` meets its contract: the net where refining begins, then the rounds on its corners. Assumes nothing.
+use mathlib.Core.Path.{_≡_}
+use Prim.Native.Nat.{ℕ}
 use native.Mathlib.Omega.{arith}
+use lib.ListN.{length}
 use Rattle.nets.specs.Net.{controlNet}
+use Rattle.splitting.specs.Splitting.{startNet}
 use Rattle.outcome.specs.Outcome.{Request, request}
 use Rattle.nets.specs.Buffers.{Buffers, buffers}
-use Rattle.refine.proofs.Laws.{faces-few, loadable, room-work, last-le, prepared, ran}
+use Rattle.refine.specs.Run.{Ran, Finished, Finishing}
+use Rattle.refine.proofs.Laws.{loadable, corners-plain, corners-split, corners-limit, finishing, ran}
 use borrow.Author.Needs.{needs}
 use Rattle.refine.proofs.run.Statement.{statement}
 use Rattle.refine.proofs.run.Tie as tie
@@ -20,44 +25,23 @@ start x = x .before .before .before .before .before .before .before .before .bef
 abbrev loaded : tie.After-load → Buffers
 loaded x = let o = x .load .last .1 .1 .1 .1 in buffers (o .0) (o .1 .0) (o .1 .1 .0) (o .1 .1 .1 .0)
 
--- from the count of faces back to the load, and from the rounds to that count
-abbrev begun : tie.After-quadrilaterals → tie.After-load
-begun q = q .before .before .before .before .before .before .before .before
+-- from there the rounds can be made on as many corners as the net has, and give what the call asks for
+ready : (x : tie.After-load) (n : ℕ) → n ≡ length (startNet (asked (start x) .net) .faces) → Finishing (start x .args .rounds) (x .load .result) n (start x .args .last) (loaded x)
+ready x n e = let s = start x in finishing (asked s) (s .args .last) (s .pre) (loaded x) _ n (x .load .ensures) (x .load .kept .1 .1 .1 .1 .1 .1 .1 .0) e
 
-abbrev counted : tie.After-rounds → tie.After-quadrilaterals
-counted t = t .before .before .before .before .before
-
-abbrev left : tie.After-rounds → Buffers
-left t = let o = t .rounds .last in buffers (o .0) (o .1 .0) (o .1 .1 .0) (o .1 .1 .1 .0)
+done : (x : tie.After-load) (n : ℕ) → n ≡ length (startNet (asked (start x) .net) .faces) → (v : ℕ) (u : Buffers)
+    → Finished (start x .args .rounds) (x .load .result) n (start x .args .last) v (loaded x) u → Ran (asked (start x)) u (start x .args .last) v
+done x n e v u f = let s = start x in ran (asked s) (s .args .last) (s .pre) (loaded x) _ n (x .load .ensures) (x .load .kept .1 .1 .1 .1 .1 .1 .1 .0) e v u f
 
 load-requires : tie.Need-load-requires
 load-requires c κs = let s = c .before .before .before .before .before .before .before .before .before .before in loadable (asked s) (s .args .last) (s .pre)
 
-quadrilaterals-requires : tie.Need-quadrilaterals-requires
-quadrilaterals-requires c κs = search needs
-
-mul-corners : tie.Need-mul-corners
-mul-corners c = let s = start (begun c) in let f = faces-few (asked s) (s .args .last) (s .pre) in let e = c .quadrilaterals .ensures in omega arith
-
-rounds-requires : tie.Need-rounds-requires
-rounds-requires c κs =
-    let q = c .before .before .before .before in
-    let x = begun q in
+finish-requires : tie.Need-finish-requires
+finish-requires c κs =
+    let y = c .before .before .before .before in
+    let x = y .before .before .before .before .before .before .before .before in
     let s = start x in
-    prepared (asked s) (s .args .last) (s .pre) (loaded x) _ _ (x .load .ensures) (x .load .kept .1 .1 .1 .1 .1 .1 .1 .0) (q .quadrilaterals .ensures)
-
-mul-clear : tie.Need-mul-clear
-mul-clear c = let s = start (begun (counted (c .before .before .before .before .before .before .before .before))) in let q = last-le (asked s) (s .args .last) (s .pre) in omega arith
-
-clear-requires : tie.Need-clear-requires
-clear-requires c κs =
-    let t = c .before .before .before .before .before .before .before .before in
-    let x = begun (counted t) in
-    let s = start x in
-    let a = room-work (asked s) (s .args .last) (s .pre) in
-    let k = t .rounds .kept .1 .1 .1 .0 in
-    let j = x .load .kept .1 .1 .1 .1 .1 .1 .1 .0 in
-    omega arith
+    ready x _ (corners-plain (asked s) (s .args .last) (s .pre) (y .if1 .taken))
 
 same-length : tie.Need-same-length
 same-length c = search needs
@@ -73,25 +57,59 @@ same-length-4 c = search needs
 
 returns : tie.Need-returns
 returns c =
-    let t = c .before .before .before .before .before .before .before .before .before .before .before in
-    let q = counted t in
-    let x = begun q in
+    let z = c .before .before .before .before .before .before .before in
+    let y = z .before .before .before .before .before in
+    let x = y .before .before .before .before .before .before .before .before in
     let s = start x in
-    ran (asked s) (s .args .last) (s .pre) (loaded x) _ _ (x .load .ensures) (x .load .kept .1 .1 .1 .1 .1 .1 .1 .0) (q .quadrilaterals .ensures) _ (left t) _ (t .rounds .ensures)
-    (c .before .before .clear .ensures)
+    let o = z .finish .last in
+    done x _ (corners-plain (asked s) (s .args .last) (s .pre) (y .if1 .taken)) _ (buffers (o .0) (o .1 .0) (o .1 .1 .0) (o .1 .1 .1 .0)) (z .finish .ensures)
+
+mul-finish : tie.Need-mul-finish
+mul-finish c = let s = start (c .before .before .before .before .before .before .before .before .before .before .before .before) in let k = corners-limit (asked s) (s .args .last) (s .pre) in omega arith
+
+finish-requires-2 : tie.Need-finish-requires-2
+finish-requires-2 c κs =
+    let y = c .before .before .before .before in
+    let x = y .before .before .before .before .before .before .before .before in
+    let s = start x in
+    ready x _ (corners-split (asked s) (s .args .last) (s .pre) (y .if1 .left))
+
+same-length-5 : tie.Need-same-length-5
+same-length-5 c = search needs
+
+same-length-6 : tie.Need-same-length-6
+same-length-6 c = search needs
+
+same-length-7 : tie.Need-same-length-7
+same-length-7 c = search needs
+
+same-length-8 : tie.Need-same-length-8
+same-length-8 c = search needs
+
+returns-2 : tie.Need-returns-2
+returns-2 c =
+    let z = c .before .before .before .before .before .before .before in
+    let y = z .before .before .before .before .before in
+    let x = y .before .before .before .before .before .before .before .before in
+    let s = start x in
+    let o = z .finish2 .last in
+    done x _ (corners-split (asked s) (s .args .last) (s .pre) (y .if1 .left)) _ (buffers (o .0) (o .1 .0) (o .1 .1 .0) (o .1 .1 .1 .0)) (z .finish2 .ensures)
 
 pub run-spec : {M : Type 1} → statement M
 run-spec =
     tie.close
     (tie.spec
     load-requires
-    quadrilaterals-requires
-    mul-corners
-    rounds-requires
-    mul-clear
-    clear-requires
+    finish-requires
     same-length
     same-length-2
     same-length-3
     same-length-4
-    returns)
+    returns
+    mul-finish
+    finish-requires-2
+    same-length-5
+    same-length-6
+    same-length-7
+    same-length-8
+    returns-2)
