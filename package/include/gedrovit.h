@@ -2,8 +2,8 @@
  * Gedrovit refines nets of quadrilateral faces by Kobbelt's interpolatory subdivision at weight 1.
  * Nets with faces of 3 to 8 sides are first split into quadrilaterals. Every new coordinate is worked
  * out exactly and rounded once, to the nearest whole number, halves away from zero. Two nets that
- * share a boundary segment before refining share it afterwards, point for point, whatever the rest
- * of either net is.
+ * share a boundary segment where refining begins, after the split if there is one, share it
+ * afterwards, point for point, whatever the rest of either net is.
  *
  * C11 and C++17, x86-64 Linux (System V ABI). Link with libgedrovit.a; nothing but the C library is
  * needed beside it.

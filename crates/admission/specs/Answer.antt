@@ -6,7 +6,7 @@ use Rattle.admission.specs.declared.Answer.the-variants.{Accepted, Refus
 use Rattle.verdict.specs.Call.{Call}
 use Rattle.verdict.specs.Verdict.{Verdict, accepted, refused, verdict, workAfter}
 
--- paper 01's number and place for each answer
+-- the papers' number and place for each answer
 abbrev pub verdictOf : Answer → Verdict
 verdictOf Accepted = accepted
 verdictOf (Refused number place) = refused number place

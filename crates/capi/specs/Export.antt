@@ -1,4 +1,4 @@
--- What crosses the C boundary: paper 01's number and place of each answer.
+-- What crosses the C boundary: the papers' number and place of each answer.
 use mathlib.Core.List.{List}
 use Prim.Native.Nat.{ℕ, _*_, _^_}
 use Rattle.admission.specs.Answer.{Checked}

@@ -198,6 +198,6 @@ splitCases =
 unfoldable pub cases : List Case
 cases = curveCases ++ refusalCases ++ netCases ++ splitCases
 
--- at every row the definitions give what the paper states
+-- at every row the definitions give what is stated
 pub record AllHold (table : List Case) : Type 0 where
   pub hold : (k : ℕ) (c : Case) → k < length table → getD table k c .computed ≡ getD table k c .stated

@@ -20,7 +20,7 @@ net vertices faces marks = record { vertices = vertices; faces = faces; marks = 
 abbrev pub frontNet : ℕ → ℕ → List ℤ → List ℕ → List ℕ → Net
 frontNet v n vertices faces marks = net (take (3 * v) vertices) (take n faces) (take v marks)
 
--- a net as it is drawn: "A table of side counts comes with the corners"; without one, faces have four sides
+-- a net as it is drawn. Paper 02: "A table of side counts comes with the corners"; without one, faces have four sides
 pub record ControlNet : Type 0 where
   pub vertices : List ℤ
   pub faces : List ℕ

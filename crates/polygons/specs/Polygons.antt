@@ -1,4 +1,4 @@
--- Faces of 3 to 8 sides. "A table of side counts comes with the corners": one number per face, and the corners are listed face by face.
+-- Faces of 3 to 8 sides, by paper 02. "A table of side counts comes with the corners": one number per face, and the corners are listed face by face.
 use mathlib.Core.Path.{_≡_}
 use mathlib.Core.Bool.{Bool, false, cond, not, _||_}
 use mathlib.Core.List.{List, [], _∷_}

@@ -4,7 +4,7 @@ use Rattle.nets.specs.Buffers.{Buffers}
 use Rattle.refine.specs.declared.Answer.{Answer}
 use Rattle.refine.specs.declared.Answer.the-variants.{Refined, Refused}
 
--- the counts of vertices and faces, or paper 01's number and place
+-- the counts of vertices and faces, or the papers' number and place
 abbrev pub resultOf : Answer → Result
 resultOf (Refined vertices faces) = refinedTo vertices faces
 resultOf (Refused number place) = refusedWith number place

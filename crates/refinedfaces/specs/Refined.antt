@@ -13,7 +13,8 @@ abbrev pub refinedVertices : Shape → ℕ → List ℕ → ℕ
 refinedVertices S v l = v + edgeCount S l + S .faces (length l)
 
 -- "Face f gives faces 4f+i, i = 0 to 3: corner i, point of side i, face point, point of side i-1."
--- Side i of face f is the half-edge 4f+i: the refined face h lies at the half-edge h, and these are its corners 0 to 3.
+-- So each side gives one face: the refined face h lies at the half-edge h, and these are its corners 0 to 3. Paper 02 has other faces numbered the same way,
+-- "counted on from one drawn face to the next".
 unfoldable pub corner : Shape → ℕ → List ℕ → ℕ → ℕ → ℕ
 corner S v l h zero = from l h
 corner S v l h (suc zero) = v + edge S l h

@@ -46,7 +46,7 @@ vertexCount m = length (m .marks)
 abbrev pub faceCount : Net → ℕ
 faceCount m = length (m .faces) / 4
 
--- F of a drawn net, from its side counts and the number of its corners: "The limits on F and G count the quadrilaterals after the split", one for each corner
+-- F of a drawn net, from its side counts and the number of its corners. Paper 02: "The limits on F and G count the quadrilaterals after the split", one for each corner
 abbrev pub quadrilaterals : (sides : List ℕ) (corners : ℕ) → ℕ
 quadrilaterals [] corners = corners / 4
 quadrilaterals (c ∷ s) corners = corners

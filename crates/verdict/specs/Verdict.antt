@@ -37,7 +37,7 @@ afterCall accepted untouched done = done
 afterCall (refused r p) untouched done = untouched
 
 -- ---- "The calling program (place 0, all memory untouched)"
--- 2: "face table not [a multiple] of 4", without side counts; with them 14: "a side count outside 3 to 8 or counts that do not add up to the corner table,
+-- 2: "face table not [a multiple] of 4", without side counts; with them 14 of paper 02: "a side count outside 3 to 8 or counts that do not add up to the corner table,
 -- tested in place of the face part of 2 and before its marks part"
 abbrev pub cornersVerdict : (sides : List ℕ) (corners : ℕ) → Verdict
 cornersVerdict [] corners = refusedIf 2 (not (eqb (corners % 4) 0))
@@ -84,7 +84,7 @@ badCoordinate vs i = ltb 1048576 (natAbs (getD vs i (pos 0)))
 unfoldable pub coordinatesVerdict : List ℤ → Verdict
 coordinatesVerdict vs = refusedAt 5 (badCoordinate vs) (length vs) (λ i. i / 3)
 
--- "Refusals 5 to 12 are tested on the drawn net", whose faces have the shape S: 10 to 12, then 9 to 12, then 8 to 12, of v vertices
+-- Paper 02: "Refusals 5 to 12 are tested on the drawn net", whose faces have the shape S: 10 to 12, then 9 to 12, then 8 to 12, of v vertices
 unfoldable pub vertexVerdict : Shape → ℕ → List ℕ → List ℕ → Verdict
 vertexVerdict S v l marks =
     orElse (refusedAt 10 (nonManifold S l) v (λ p. p))

@@ -1,7 +1,7 @@
 //! Refines nets of quadrilateral faces by Kobbelt's interpolatory subdivision at weight 1, with exact
 //! arithmetic and one rounding for each new coordinate. Nets with faces of 3 to 8 sides are first
-//! split into quadrilaterals. Two nets that share a boundary segment before refining share it
-//! afterwards, point for point.
+//! split into quadrilaterals. Two nets that share a boundary segment where refining begins, after the
+//! split if there is one, share it afterwards, point for point.
 //!
 //! The work is done by proved code in the archive `libgedrovit.a`. The header `gedrovit.h` has the
 //! whole contract; what it says of tables, numbering and limits holds here too.
