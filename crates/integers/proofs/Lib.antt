@@ -1,7 +1,6 @@
 pub mod Ring
 pub mod AbsoluteValue
 pub mod Range
-pub mod Division
 pub mod Linear
 pub mod Polynomial
 pub mod Order

@@ -1,7 +1,7 @@
 -- `omega` for the integers. An integer is `up z - dn z`, two naturals that `omega` takes as unknowns. The value of a linear expression is `hi - lo` of it,
 -- two sums of naturals that compute. So an equation, an order or a bound of linear expressions over ℤ is one over ℕ:
 --     eq-by, le-by, abs-by     the statement over ℤ from the one over ℕ, which is `omega`'s
---     of-abs                   a hypothesis over ℤ as one over ℕ, for `omega`'s list
+--     of-abs, of-le            a hypothesis over ℤ as one over ℕ, for `omega`'s list
 -- Assumes nothing.
 use mathlib.Core.Path.{_≡_, refl, sym, ap, _∙_, subst}
 use mathlib.Core.Bool.{Bool, true, false, not, cond}
@@ -9,7 +9,7 @@ use mathlib.Core.List.{List, [], _∷_}
 use Prim.Native.Nat.{ℕ, zero, suc, _+_, _*_, _-_, _≤_, _<_}
 use native.Mathlib.Nat.{mul-add, mul-zero}
 use native.Mathlib.Omega.{arith}
-use lib.Dec.{T, ltb, ltb→lt, nltb→le, le→leb}
+use lib.Dec.{T, ltb, ltb→lt, nltb→le, le→leb, leb→le}
 use lib.IntN.{ℤ, pos, negsuc, negℤ, subℕ, _+ℤ_, _-ℤ_, _*ℤ_, natAbs}
 use lib.Signed.{_≤ℤ_, leZ}
 use Rattle.integers.proofs.Linear.{Linear, at, whole, _⊕_, _⊖_, _⊙_, value, nth}
@@ -132,6 +132,13 @@ unfolding up dn
 of-abs (pos n) = omega arith
 of-abs (negsuc n) = omega arith
 
+pub of-le : (x y : ℤ) → x ≤ℤ y → up x + dn y ≤ up y + dn x
+unfolding up dn
+of-le (pos a) (pos b) h = let k = leb→le a b (h .le) in omega arith
+of-le (pos a) (negsuc b) h = absurd (h .le)
+of-le (negsuc a) (pos b) h = omega arith
+of-le (negsuc a) (negsuc b) h = let k = leb→le b a (h .le) in omega arith
+
 -- ---- the same at two expressions
 pub eq-by : (e f : Linear) (ρ : List ℤ) → hi e ρ + lo f ρ ≡ hi f ρ + lo e ρ → value e ρ ≡ value f ρ
 eq-by e f ρ h = let p = diff e ρ in let q = diff f ρ in eq-core (value e ρ) (value f ρ) (omega arith)
@@ -148,14 +155,3 @@ eq-of-abs x y h =
     let d = diff (at 0 ⊖ at 1) (x ∷ y ∷ []) in
     let e = of-abs (x -ℤ y) in
     eq-by (at 0) (at 1) (x ∷ y ∷ []) (omega arith)
-
--- ---- negation turns the order round
-pub neg-below : (p q : ℕ) → negℤ (pos p) ≤ℤ pos q
-neg-below zero q = record { le = le→leb 0 q (omega arith) }
-neg-below (suc p) q = record { le = tt }
-
-pub neg-order : (p q : ℕ) → q ≤ p → negℤ (pos p) ≤ℤ negℤ (pos q)
-neg-order zero zero h = record { le = tt }
-neg-order zero (suc q) h = absurd (omega arith)
-neg-order (suc p) zero h = record { le = tt }
-neg-order (suc p) (suc q) h = record { le = le→leb q p (omega arith) }

@@ -1,2 +1,3 @@
 pub mod Net
 pub mod Buffers
+pub mod Moved

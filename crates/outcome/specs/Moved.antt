@@ -1,0 +1,27 @@
+-- A net moved by whole counts, over what calls give.
+use mathlib.Core.Path.{_≡_}
+use Prim.Native.Nat.{ℕ}
+use Rattle.curve.specs.Curve.{Point}
+use Rattle.integers.specs.Within.{Within}
+use Rattle.nets.specs.Moved.{movedVertices, moved, movedControl}
+use Rattle.outcome.specs.Outcome.{Request}
+use Rattle.outcome.specs.SharedSegment.{resultAfter, netAfter}
+
+-- the same request, its net moved by s
+abbrev pub movedBy : Point → Request → Request
+movedBy s a = record { rounds = a .rounds; net = movedControl s (a .net); buffers = a .buffers }
+
+-- what the call on the moved net gives, after k rounds
+pub record MovedAfter (s : Point) (a : Request) (k : ℕ) : Type 0 where
+  -- the same counts, or the same refusal and place
+  pub result : resultAfter (movedBy s a) k .result ≡ resultAfter a k .result
+  -- "must equal moving the refined net"; where the call is refused, there is no net in either
+  pub net : netAfter (movedBy s a) k ≡ moved s (netAfter a k)
+  -- the other tables as the call returns
+  pub faces : resultAfter (movedBy s a) k .buffers .faces ≡ resultAfter a k .buffers .faces
+  pub marks : resultAfter (movedBy s a) k .buffers .marks ≡ resultAfter a k .buffers .marks
+  pub work : resultAfter (movedBy s a) k .buffers .work ≡ resultAfter a k .buffers .work
+
+-- Paper 02: "Refining a net moved by whole counts must equal moving the refined net, wherever both are within the coordinate limit": both nets as they are drawn
+pub record MovedNets : Type 0 where
+  pub moves : (s : Point) (a : Request) → Within 1048576 (a .net .vertices) → Within 1048576 (movedVertices s (a .net .vertices)) → (k : ℕ) → MovedAfter s a k
