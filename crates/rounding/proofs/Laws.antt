@@ -1,9 +1,9 @@
 -- What the other crates know of rounding: it is near, it depends on the value of the fraction alone, it is monotone, it keeps whole numbers, and it moves
 -- with them. Assumes nothing.
 use mathlib.Core.Path.{_≡_, refl, sym, ap, ap₂, _∙_}
-use mathlib.Core.List.{List, [], _∷_}
+use mathlib.Core.List.{[], _∷_}
 use Prim.Native.Nat.{ℕ, zero, suc, _+_, _-_, _*_, _/_, _%_, _≤_, _<_}
-use native.Mathlib.Nat.{div-add-mod, mod-lt, mul-assoc, mul-comm, mul-add, mul-left-comm, mul-le-mul-left}
+use native.Mathlib.Nat.{div-add-mod, mod-lt, mul-comm, mul-add, mul-left-comm, mul-le-mul-left}
 use native.Mathlib.Decide.{decLt}
 use native.Mathlib.Omega.{arith}
 use lib.IntN.{ℤ, pos, negsuc, negℤ, natAbs, _+ℤ_, _-ℤ_, _*ℤ_}
@@ -122,7 +122,7 @@ round-value z w d e a b c h =
     let l : 0 < e * d = omega (arith, mul-comm d e) in
     sym (round-scale e z d b l) ∙ ap₂ round h (mul-comm e d) ∙ round-scale d w e a c
 
--- ---- moved by a whole number. Paper 02, P2: "Refining a net moved by whole counts must equal moving the refined net"
+-- ---- moved by a whole number. Paper 02: "Refining a net moved by whole counts must equal moving the refined net"
 pub round-shift : (z k : ℤ) (d : ℕ) → 0 < d → round (z +ℤ pos d *ℤ k) d ≡ round z d +ℤ k
 round-shift z k d h =
     let s = round-rest z d h in
