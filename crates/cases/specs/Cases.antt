@@ -32,8 +32,8 @@ abbrev pub curveCases : List Case
 curveCases =
     -- "open stretch 0, 16, 32, 80 on one axis gives 8, 22, 54"
     record { computed = step (rounded kobbelt) Open (pos 0 ∷ pos 16 ∷ pos 32 ∷ pos 80 ∷ []); stated = pos 0 ∷ pos 8 ∷ pos 16 ∷ pos 22 ∷ pos 32 ∷ pos 54 ∷ pos 80 ∷ [] }
-    -- "0, 0, 0, 8 inside a stretch gives -1; -8, 0, 0, 0 gives 1; 0, 0, 0, -7 gives 0"
-    ∷ record { computed = rounded kobbelt .inside (pos 0) (pos 0) (pos 0) (pos 8) ∷ []; stated = negsuc 0 ∷ [] }
+    -- Paper 02: "the stretch 0, 0, 0, 8 gives 0". Paper 01: "-8, 0, 0, 0 gives 1; 0, 0, 0, -7 gives 0"
+    ∷ record { computed = rounded kobbelt .inside (pos 0) (pos 0) (pos 0) (pos 8) ∷ []; stated = pos 0 ∷ [] }
     ∷ record { computed = rounded kobbelt .inside (negsuc 7) (pos 0) (pos 0) (pos 0) ∷ []; stated = pos 1 ∷ [] }
     ∷ record { computed = rounded kobbelt .inside (pos 0) (pos 0) (pos 0) (negsuc 6) ∷ []; stated = pos 0 ∷ [] }
     -- "this square without marks: edge points (8,-2), (18,8), (8,18), (-2,8)": they stand on the curve of its boundary
@@ -147,8 +147,8 @@ netCases =
       computed = refinedPoint square 4 ++ refinedPoint square 5 ++ refinedPoint square 6 ++ refinedPoint square 7 ++ refinedPoint square 8;
       stated = coordinates (at (pos 8) (negsuc 1) (pos 0) ∷ at (pos 18) (pos 8) (pos 0) ∷ at (pos 8) (pos 18) (pos 0) ∷ at (negsuc 1) (pos 8) (pos 0) ∷ at (pos 8) (pos 8) (pos 0) ∷ []);
     }
-    -- "cube with corners at ±540: edge point (0,-590,-590); the face at z = -540 gets (0,0,-738) from -737.5."
-    ∷ record { computed = refinedPoint cube 11 ++ refinedPoint cube 20; stated = coordinates (at (pos 0) (negsuc 589) (negsuc 589) ∷ at (pos 0) (pos 0) (negsuc 737) ∷ []) }
+    -- "cube with corners at ±540: edge point (0,-590,-590)", and the face point at z = -540 from -737.5. Paper 02: "So -737.5 gives -737"
+    ∷ record { computed = refinedPoint cube 11 ++ refinedPoint cube 20; stated = coordinates (at (pos 0) (negsuc 589) (negsuc 589) ∷ at (pos 0) (pos 0) (negsuc 736) ∷ []) }
     ∷ record { computed = timesZ cube 0 2 ∷ []; stated = overZ cube 0 (negsuc 1474) ∷ [] }
     -- "two by two squares of side 16, four outer corners marked, centre raised to z = 16, rest 0: inner edge points have z = 10, face points z = 6 (100/16)."
     ∷ record { computed = raisedZ 10 ∷ raisedZ 11 ∷ raisedZ 15 ∷ raisedZ 16 ∷ []; stated = pos 10 ∷ pos 10 ∷ pos 10 ∷ pos 10 ∷ [] }
@@ -190,7 +190,7 @@ splitCases =
     -- "rounded like any new point": -1/2, -1/2, -1 and -1 on the sides, -3/5 on the face
     ∷ record {
       computed = (let m = startNet pentagon in heightOf m 5 ∷ heightOf m 6 ∷ heightOf m 7 ∷ heightOf m 8 ∷ heightOf m 9 ∷ heightOf m 10 ∷ []);
-      stated = pos 0 ∷ negsuc 0 ∷ negsuc 0 ∷ negsuc 0 ∷ negsuc 0 ∷ negsuc 0 ∷ [];
+      stated = pos 0 ∷ pos 0 ∷ pos 0 ∷ negsuc 0 ∷ negsuc 0 ∷ negsuc 0 ∷ [];
     }
     ∷ []
 

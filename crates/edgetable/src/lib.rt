@@ -13,7 +13,7 @@ fn rounded(z: i64) -> i32
     requires { ⌜ natAbs z ≤ 13305600 * 67108864 ⌝ }
     ensures { λ r. ⌜ r ≡ round z 7257600 ⌝ }
 {
-    rounding::round_div(z, 7257600) as i32
+    rounding::round_div(z, 3628800) as i32
 }
 
 // Writes the rounded coordinates of vertex i.

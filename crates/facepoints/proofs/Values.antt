@@ -79,7 +79,7 @@ pub record Sizes (u v : ℤ) : Type 0 where
   pub second : SFits w64 v
   pub sum : SFits w64 (u +ℤ v)
   pub mean : SFits w32 (round (u +ℤ v) 232243200)
-  pub twice : 2 * natAbs (u +ℤ v) + 232243200 < 2 ^ 63
+  pub range : natAbs (u +ℤ v) ≤ 40 * (13305600 * 67108864)
 
 pub sizes : (u v : ℤ) → natAbs u ≤ 20 * (13305600 * 67108864) → natAbs v ≤ 20 * (13305600 * 67108864) → Sizes u v
 sizes u v h k =
@@ -90,7 +90,7 @@ sizes u v h k =
       second = fits-abs w64 v (omega arith);
       sum = fits-abs w64 (u +ℤ v) (omega arith);
       mean = fits-abs w32 (round (u +ℤ v) 232243200) (omega arith);
-      twice = omega arith;
+      range = omega arith;
     }
 
 -- ---- points

@@ -104,7 +104,7 @@ fn rounded_mean(u: i64, v: i64) -> i32
     requires { ⌜ (natAbs u ≤ 20 * (13305600 * 67108864)) × (natAbs v ≤ 20 * (13305600 * 67108864)) ⌝ }
     ensures { λ r. ⌜ r ≡ round (u +ℤ v) 232243200 ⌝ }
 {
-    rounding::round_div(u + v, 232243200) as i32
+    rounding::round_div(u + v, 116121600) as i32
 }
 
 // The mean of two directions, rounded.

@@ -13,7 +13,7 @@ fn rounded(z: i64, d: u32) -> i32
     requires { ⌜ (0 < d) × (d ≤ 8) × (natAbs z ≤ d * 1048576) ⌝ }
     ensures { λ r. ⌜ r ≡ round z d ⌝ }
 {
-    rounding::round_div(z, d) as i32
+    rounding::round_div(2 * z, d as u64) as i32
 }
 
 // Coordinate a of the midpoint of the vertices p and q.

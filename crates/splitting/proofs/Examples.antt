@@ -44,7 +44,7 @@ stated =
     (plane (pos 8) (pos 0) (plane (pos 16) (pos 8) (plane (pos 8) (pos 16) (plane (pos 0) (pos 8) (plane (pos 8) (pos 8) [])))))))))
     (0 ∷ 4 ∷ 8 ∷ 7 ∷ 1 ∷ 5 ∷ 8 ∷ 4 ∷ 2 ∷ 6 ∷ 8 ∷ 5 ∷ 3 ∷ 7 ∷ 8 ∷ 6 ∷ []) (0 ∷ 0 ∷ 0 ∷ 0 ∷ 0 ∷ 0 ∷ 0 ∷ 0 ∷ 0 ∷ [])
     ∷ net
-    (heights (pos 0 ∷ pos 0 ∷ negsuc 0 ∷ pos 0 ∷ negsuc 1 ∷ pos 0 ∷ negsuc 0 ∷ negsuc 0 ∷ negsuc 0 ∷ negsuc 0 ∷ negsuc 0 ∷ []))
+    (heights (pos 0 ∷ pos 0 ∷ negsuc 0 ∷ pos 0 ∷ negsuc 1 ∷ pos 0 ∷ pos 0 ∷ pos 0 ∷ negsuc 0 ∷ negsuc 0 ∷ negsuc 0 ∷ []))
     (0 ∷ 5 ∷ 10 ∷ 9 ∷ 1 ∷ 6 ∷ 10 ∷ 5 ∷ 2 ∷ 7 ∷ 10 ∷ 6 ∷ 3 ∷ 8 ∷ 10 ∷ 7 ∷ 4 ∷ 9 ∷ 10 ∷ 8 ∷ []) (0 ∷ 0 ∷ 0 ∷ 0 ∷ 0 ∷ 0 ∷ 0 ∷ 0 ∷ 0 ∷ 0 ∷ 0 ∷ [])
     ∷ []
 

@@ -15,7 +15,7 @@ round-div-requires c κs =
     let s = c in
     let f : SFits w64 (s .args .z) = s .fits .z in
     let h = s .pre in
-    simp toZ-ofZ (omega arith, omega arith)
+    simp toZ-ofZ (omega arith, omega arith, omega arith)
 
 cast-result : tie.Need-cast-result
 cast-result c =

@@ -18,7 +18,7 @@ add-round-div : tie.Need-add-round-div
 add-round-div c = let k = at c in let f = k .first in let g = k .second in simp toZ-ofZ (k .sum)
 
 round-div-requires : tie.Need-round-div-requires
-round-div-requires c κs = let k = at c in let f = k .first in let g = k .second in let h = k .sum in let t = k .twice in simp toZ-ofZ (omega arith, omega arith)
+round-div-requires c κs = let k = at c in let f = k .first in let g = k .second in let h = k .sum in let t = k .range in simp toZ-ofZ (omega arith, omega arith, omega arith)
 
 cast-result : tie.Need-cast-result
 cast-result c =
