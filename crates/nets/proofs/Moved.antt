@@ -1,7 +1,7 @@
 -- Laws of a moved net. Assumes nothing.
-use mathlib.Core.Path.{_≡_, ap, _∙_}
+use mathlib.Core.Path.{_≡_, sym, ap, _∙_}
 use mathlib.Core.List.{List}
-use Prim.Native.Nat.{ℕ, _+_, _*_, _%_, _<_}
+use Prim.Native.Nat.{ℕ, _+_, _*_, _/_, _%_, _<_}
 use native.Mathlib.Omega.{arith}
 use lib.IntN.{ℤ, pos, _+ℤ_}
 use lib.ListN.{length, getD}
@@ -28,9 +28,17 @@ module _ (s : Point) where
       moved-at vs (3 * v + a) h ∙ ap (λ (t : ℕ). getD vs (3 * v + a) (pos 0) +ℤ onAxis s t) e
 
   -- a table given by its numbers
-  pub moved-tabulate : (n : ℕ) (f : ℕ → ℤ) → movedVertices s (tabulate n f) ≡ tabulate n (λ (i : ℕ). f i +ℤ onAxis s (i % 3))
+  moved-tabulate : (n : ℕ) (f : ℕ → ℤ) → movedVertices s (tabulate n f) ≡ tabulate n (λ (i : ℕ). f i +ℤ onAxis s (i % 3))
   unfolding movedVertices
   moved-tabulate n f =
       ap (λ (t : ℕ). tabulate t (λ (i : ℕ). getD (tabulate n f) i (pos 0) +ℤ onAxis s (i % 3))) (length-tabulate n f)
       ∙ tabulate-cong n (λ (i : ℕ). getD (tabulate n f) i (pos 0) +ℤ onAxis s (i % 3)) (λ (i : ℕ). f i +ℤ onAxis s (i % 3))
       (λ i h. ap (λ (z : ℤ). z +ℤ onAxis s (i % 3)) (getD-tabulate n f i (pos 0) h))
+
+  -- a table that holds a coordinate f of each of n vertices, on every axis: if moving the vertices that f is made from moves it alike, the table is moved
+  pub moved-coordinates : (n : ℕ) (vs : List ℤ) (f : (ℕ → ℤ) → ℕ → ℤ)
+      → ((a i : ℕ) → a < 3 → i < n → f (axis (movedVertices s vs) a) i ≡ f (axis vs a) i +ℤ onAxis s a)
+      → tabulate (3 * n) (λ (i : ℕ). f (axis (movedVertices s vs) (i % 3)) (i / 3)) ≡ movedVertices s (tabulate (3 * n) (λ (i : ℕ). f (axis vs (i % 3)) (i / 3)))
+  moved-coordinates n vs f h =
+      tabulate-cong (3 * n) (λ (i : ℕ). f (axis (movedVertices s vs) (i % 3)) (i / 3)) (λ (i : ℕ). f (axis vs (i % 3)) (i / 3) +ℤ onAxis s (i % 3)) (λ i b. h (i % 3) (i / 3) (omega arith) (omega arith))
+      ∙ sym (moved-tabulate (3 * n) (λ (i : ℕ). f (axis vs (i % 3)) (i / 3)))

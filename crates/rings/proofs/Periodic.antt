@@ -5,7 +5,6 @@ use mathlib.Core.List.{[], _∷_}
 use Prim.Native.Nat.{ℕ, zero, suc, _+_, _*_, _/_, _%_, _≤_, _<_}
 use native.Mathlib.Nat.{zero-add, add-assoc, add-mod-right, suc-mul, mod-add-div'}
 use native.Mathlib.Decide.{ℕ-discrete}
-use native.Mathlib.Numerals.{add-one}
 use native.Mathlib.Omega.{arith}
 use borrow.Author.Tests.{eq-eqb, ne-eqb}
 use lib.IntN.{ℤ, pos, _+ℤ_, _-ℤ_, _*ℤ_, +ℤ-idr, zero-*ℤ}
@@ -35,20 +34,7 @@ module _ {A : Type 0} (n : ℕ) (f : ℕ → A) where
 pub periodic-sub : (n : ℕ) (f g : ℕ → ℤ) → Periodic n f → Periodic n g → Periodic n (λ (d : ℕ). f d -ℤ g d)
 periodic-sub n f g r s = record { again = λ i. ap₂ _-ℤ_ (r .again i) (s .again i) }
 
--- ---- sums
-pub sum-const : (n : ℕ) (c : ℤ) → sum n (λ (d : ℕ). c) ≡ pos n *ℤ c
-unfolding sum
-sum-const zero c = sym (zero-*ℤ c)
-sum-const (suc n) c = ap (λ (t : ℤ). t +ℤ c) (sum-const n c) ∙ same (var 0 ⊠ var 1 ⊞ var 1) ((var 0 ⊞ lit (pos 1)) ⊠ var 1) (pos n ∷ c ∷ []) refl ∙ ap (λ (m : ℕ). pos m *ℤ c) (add-one n)
-
-pub sum-sub : (n : ℕ) (f g : ℕ → ℤ) → sum n (λ (d : ℕ). f d -ℤ g d) ≡ sum n f -ℤ sum n g
-unfolding sum
-sum-sub zero f g = refl
-sum-sub (suc n) f g =
-    ap (λ (t : ℤ). t +ℤ (f n -ℤ g n)) (sum-sub n f g)
-    ∙ same ((var 0 ⊟ var 2) ⊞ (var 1 ⊟ var 3)) ((var 0 ⊞ var 1) ⊟ (var 2 ⊞ var 3)) (sum n f ∷ f n ∷ sum n g ∷ g n ∷ []) refl
-
--- one place on: what comes in and what goes out
+-- ---- sums, one place on: what comes in and what goes out
 slide : (n : ℕ) (f : ℕ → ℤ) → sum n (λ (d : ℕ). f (suc d)) +ℤ f 0 ≡ sum n f +ℤ f n
 unfolding sum
 slide zero f = refl

@@ -6,12 +6,12 @@ use native.Mathlib.Nat.{add-zero, zero-add}
 use native.Mathlib.Omega.{arith}
 use lib.IntN.{ℤ, pos, negsuc, _+ℤ_, _-ℤ_, _*ℤ_}
 use Rattle.integers.specs.Sum.{sum}
-use Rattle.integers.proofs.Sum.{sum-cong, sum-add, sum-times}
+use Rattle.integers.proofs.Sum.{sum-cong, sum-add, sum-times, sum-const, sum-sub}
 use Rattle.integers.proofs.Polynomial.{Poly, var, lit, _⊞_, _⊟_, _⊠_, same}
 use Rattle.curve.specs.Weights.{Weights}
 use Rattle.rings.specs.Ring.{Periodic}
 use Rattle.rings.specs.RingWeights.{virtualZ, oneAt, weightL, weightK}
-use Rattle.rings.proofs.Periodic.{sum-const, sum-sub, sum-turned, sum-one-at}
+use Rattle.rings.proofs.Periodic.{sum-turned, sum-one-at}
 
 -- the formula over its parts: near, far, n, the two sums, the three neighbours and the four corners; as a polynomial, and as a number
 abbrev formula : (near far n sl sk a b c d e f g : Poly) → Poly

@@ -10,10 +10,9 @@ use lib.IntN.{ℤ, pos, natAbs, _+ℤ_, _-ℤ_, _*ℤ_}
 use Rattle.integers.specs.Sum.{sum}
 use Rattle.integers.proofs.AbsoluteValue.{abs-add, abs-sub, abs-mul}
 use Rattle.integers.proofs.Polynomial.{var, lit, _⊞_, _⊟_, _⊠_, same}
-use Rattle.integers.proofs.Sum.{abs-sum}
+use Rattle.integers.proofs.Sum.{abs-sum, sum-const, sum-sub}
 use Rattle.curve.specs.Weights.{Weights, kobbelt, interior, endEdge, singleEdge}
 use Rattle.curve.proofs.Distance.{Tame, interior-size, end-size, single-size}
-use Rattle.rings.proofs.Periodic.{sum-const, sum-sub}
 use Rattle.rules.specs.Numerators.{extrapolatedZ, extrapolatedCornerZ, innerEdgeZ}
 use Rattle.rules.proofs.Ties.{over-60}
 

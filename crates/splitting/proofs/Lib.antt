@@ -3,3 +3,4 @@ pub mod Coordinates
 pub mod Split
 pub mod Growth
 pub mod Room
+pub mod Moved
