@@ -40,8 +40,8 @@ cube-edge-fifth = refl
 abbrev cubeDirection : Fraction
 cubeDirection = directionTwo kobbelt cubeOpposite (cubeEdge kobbelt) (cubeEdge kobbelt) cubeOpposite
 
--- "the face at z = -540 gets (0,0,-738) from -737.5"
-cube-face : toWhole (meanOfBoth cubeDirection cubeDirection) ≡ negsuc 737
+-- Paper 02: "So -737.5 gives -737"
+cube-face : toWhole (meanOfBoth cubeDirection cubeDirection) ≡ negsuc 736
 unfolding interiorPoint midpoint virtual sumᶠ round
 cube-face = refl
 

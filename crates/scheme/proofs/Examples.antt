@@ -92,12 +92,12 @@ computed =
     ∷ (refinedAt raised 2 21 ∷ refinedAt raised 2 22 ∷ refinedAt raised 2 23 ∷ refinedAt raised 2 24 ∷ [])
     ∷ []
 
--- the square without marks and with all four; the cube's edge point (0,-590,-590) and face point (0,0,-738); inner edge points z = 10, face points z = 6
+-- the square without marks and with all four; the cube's edge point (0,-590,-590) and face point (0,0,-737); inner edge points z = 10, face points z = 6
 abbrev stated : List (List ℤ)
 stated =
     plane (pos 8) (negsuc 1) (plane (pos 18) (pos 8) (plane (pos 8) (pos 18) (plane (negsuc 1) (pos 8) (plane (pos 8) (pos 8) []))))
     ∷ plane (pos 8) (pos 0) (plane (pos 16) (pos 8) (plane (pos 8) (pos 16) (plane (pos 0) (pos 8) (plane (pos 8) (pos 8) []))))
-    ∷ (pos 0 ∷ negsuc 589 ∷ negsuc 589 ∷ pos 0 ∷ pos 0 ∷ negsuc 737 ∷ [])
+    ∷ (pos 0 ∷ negsuc 589 ∷ negsuc 589 ∷ pos 0 ∷ pos 0 ∷ negsuc 736 ∷ [])
     ∷ (pos 10 ∷ pos 10 ∷ pos 10 ∷ pos 10 ∷ [])
     ∷ (pos 6 ∷ pos 6 ∷ pos 6 ∷ pos 6 ∷ [])
     ∷ []
