@@ -8,6 +8,7 @@ pub mod Sizes
 pub mod Steps
 pub mod Growth
 pub mod Difference
+pub mod Moved
 pub mod Virtual
 pub mod Straight
 pub mod Beyond
