@@ -7,6 +7,8 @@ pub mod Constant
 pub mod Sizes
 pub mod Steps
 pub mod Growth
+pub mod Difference
+pub mod Moved
 pub mod Virtual
 pub mod Straight
 pub mod Beyond
