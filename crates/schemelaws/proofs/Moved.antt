@@ -2,11 +2,10 @@
 -- times its denominator, so each rounded point by c.
 use mathlib.Core.Path.{_≡_, refl, sym, ap, _∙_}
 use mathlib.Core.List.{List, [], _∷_}
-use Prim.Native.Nat.{ℕ, zero, suc, _*_, _/_, _%_, _≤_, _<_}
+use Prim.Native.Nat.{ℕ, zero, suc, _*_, _≤_, _<_}
 use native.Mathlib.Omega.{arith}
 use lib.IntN.{ℤ, pos, natAbs, _+ℤ_, _-ℤ_, _*ℤ_}
 use lib.ListN.{length}
-use Rattle.lists.proofs.Tabulate.{tabulate-cong}
 use Rattle.integers.proofs.Order.{eq-of-abs}
 use Rattle.integers.proofs.Polynomial.{var, lit, _⊞_, _⊟_, _⊠_, same}
 use Rattle.rounding.proofs.Laws.{round-shift}
@@ -14,10 +13,11 @@ use Rattle.curve.specs.Curve.{Point}
 use Rattle.curve.specs.Weights.{kobbelt}
 use Rattle.topology.specs.Shape.{quads}
 use Rattle.topology.specs.Manifold.{Manifold}
-use Rattle.nets.specs.Net.{Net, net, axis}
+use Rattle.nets.specs.Net.{Net, axis}
 use Rattle.nets.specs.Moved.{onAxis, movedVertices, moved}
-use Rattle.nets.proofs.Moved.{axis-moved, moved-tabulate}
-use Rattle.refinedfaces.specs.Refined.{refinedVertices, refined, refinedMarks}
+use Rattle.nets.proofs.Laws.{same-net}
+use Rattle.nets.proofs.Moved.{axis-moved, moved-coordinates}
+use Rattle.refinedfaces.specs.Refined.{refinedVertices}
 use Rattle.refinedfaces.proofs.Corners.{refined-cases}
 use Rattle.scheme.specs.Step.{refinedCoordinate, step, steps}
 use Rattle.schemelaws.specs.Nets.{Refinable}
@@ -65,13 +65,10 @@ module _ (s : Point) where
   step-moved m ok =
       let v : ℕ = length (m .marks) in
       let l : List ℕ = m .faces in
-      let n : ℕ = 3 * refinedVertices quads v l in
-      let at : Net → ℕ → ℤ = λ m′ i. refinedCoordinate kobbelt v l (m .marks) (axis (m′ .vertices) (i % 3)) (i / 3) in
-      ap (λ (t : List ℤ). net t (refined quads v l) (refinedMarks quads v l (m .marks)))
-      (tabulate-cong n (at (moved s m)) (λ (i : ℕ). at m i +ℤ onAxis s (i % 3))
-      (λ i b. refined-moved v l (m .marks) (refinable-manifold m ok) (axis (m .vertices) (i % 3)) (axis (movedVertices s (m .vertices)) (i % 3)) (onAxis s (i % 3))
-      (λ x k. let e = ok .threes in axis-moved s (m .vertices) (i % 3) x (omega arith) (omega arith)) (i / 3) (omega arith))
-      ∙ sym (moved-tabulate s n (at m)))
+      let t = ok .threes in
+      same-net (moved-coordinates s (refinedVertices quads v l) (m .vertices) (refinedCoordinate kobbelt v l (m .marks))
+      (λ a i b j. refined-moved v l (m .marks) (refinable-manifold m ok) (axis (m .vertices) a) (axis (movedVertices s (m .vertices)) a) (onAxis s a)
+      (λ x k. axis-moved s (m .vertices) a x b (omega arith)) i j)) refl refl
 
   pub steps-moved : (m : Net) → Refinable m → (k : ℕ) → steps kobbelt k (moved s m) ≡ moved s (steps kobbelt k m)
   unfolding steps
