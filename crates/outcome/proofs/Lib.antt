@@ -3,3 +3,4 @@ pub mod SharedSegment
 pub mod Coordinates
 pub mod AsBefore
 pub mod SplitSegment
+pub mod Moved

@@ -3,6 +3,7 @@ use mathlib.Core.Path.{_≡_}
 use Prim.Native.Nat.{ℕ}
 use Rattle.curve.specs.Curve.{Point}
 use Rattle.integers.specs.Within.{Within}
+use Rattle.tables.specs.Tables.{filled}
 use Rattle.nets.specs.Moved.{movedVertices, moved, movedControl}
 use Rattle.outcome.specs.Outcome.{Request}
 use Rattle.outcome.specs.SharedSegment.{resultAfter, netAfter}
@@ -17,7 +18,8 @@ pub record MovedAfter (s : Point) (a : Request) (k : ℕ) : Type 0 where
   pub result : resultAfter (movedBy s a) k .result ≡ resultAfter a k .result
   -- "must equal moving the refined net"; where the call is refused, there is no net in either
   pub net : netAfter (movedBy s a) k ≡ moved s (netAfter a k)
-  -- the other tables as the call returns
+  -- the tables as the call returns: beyond that net the vertex table is as found, the others are the same
+  pub vertices : resultAfter (movedBy s a) k .buffers .vertices ≡ filled (movedVertices s (netAfter a k .vertices)) (a .buffers .vertices)
   pub faces : resultAfter (movedBy s a) k .buffers .faces ≡ resultAfter a k .buffers .faces
   pub marks : resultAfter (movedBy s a) k .buffers .marks ≡ resultAfter a k .buffers .marks
   pub work : resultAfter (movedBy s a) k .buffers .work ≡ resultAfter a k .buffers .work

@@ -1,0 +1,95 @@
+-- Paper 02: "Refining a net moved by whole counts must equal moving the refined net, wherever both are within the coordinate limit." Assumes nothing.
+use mathlib.Core.Path.{_≡_, refl, sym, ap, ap₂, _∙_}
+use mathlib.Core.List.{List, []}
+use Prim.Native.Nat.{ℕ}
+use lib.IntN.{ℤ}
+use Rattle.lists.specs.Tabulate.{tabulate}
+use Rattle.integers.specs.Within.{Within}
+use Rattle.curve.specs.Curve.{Point}
+use Rattle.curve.specs.Weights.{kobbelt}
+use Rattle.tables.specs.Tables.{filled}
+use Rattle.nets.specs.Net.{Net, net}
+use Rattle.nets.specs.Buffers.{Buffers}
+use Rattle.nets.specs.Moved.{movedVertices, moved, movedControl}
+use Rattle.nets.proofs.Moved.{moved-length}
+use Rattle.scheme.specs.Step.{steps}
+use Rattle.schemelaws.proofs.Moved.{steps-moved}
+use Rattle.splitting.specs.Splitting.{startNet}
+use Rattle.splitting.proofs.Moved.{start-moved}
+use Rattle.verdict.specs.Call.{Call}
+use Rattle.verdict.specs.Verdict.{Verdict, accepted, refused, verdict, workAfter}
+use Rattle.verdict.proofs.Coordinates.{same-verdict, same-work}
+use Rattle.outcome.specs.Outcome.{Request, forRounds, Outcome, callOf, outcomeBy, outcome}
+use Rattle.outcome.specs.SharedSegment.{resultAfter, netBy, netAfter}
+use Rattle.outcome.specs.Moved.{movedBy, MovedAfter, MovedNets}
+use Rattle.outcome.proofs.Accepted.{accepted-drawn, accepted-refinable, accepted-after}
+
+-- no vertices, moved
+moved-none : (s : Point) → movedVertices s [] ≡ []
+unfolding movedVertices tabulate
+moved-none s = refl
+
+none-filled : (s : Point) (o : List ℤ) → filled (movedVertices s []) o ≡ o
+unfolding movedVertices tabulate filled
+none-filled s o = refl
+
+module _ (s : Point) (a : Request) (here : Within 1048576 (a .net .vertices)) (there : Within 1048576 (movedVertices s (a .net .vertices))) (k : ℕ) where
+  -- the request, asked for k rounds; the net that it refines to, and that of the moved net
+  abbrev c : Call
+  c = callOf (forRounds k a)
+
+  abbrev n : Net
+  n = steps kobbelt k (startNet (a .net))
+
+  abbrev n′ : Net
+  n′ = steps kobbelt k (startNet (movedControl s (a .net)))
+
+  one-verdict : verdict (callOf (forRounds k (movedBy s a))) ≡ verdict c
+  one-verdict = same-verdict k (a .net .vertices) (movedVertices s (a .net .vertices)) (a .net .faces) (a .net .sides) (a .net .marks) (c .room) (moved-length s (a .net .vertices)) here there
+
+  one-work : workAfter (callOf (forRounds k (movedBy s a))) (a .buffers .work) ≡ workAfter c (a .buffers .work)
+  one-work = same-work k (a .net .vertices) (movedVertices s (a .net .vertices)) (a .net .faces) (a .net .sides) (a .net .marks) (c .room) (moved-length s (a .net .vertices)) (a .buffers .work)
+
+  -- the outcome, were v the verdict and m the net that is handed out
+  abbrev given : Verdict → Net → Outcome
+  given v m = outcomeBy v m (a .buffers) (workAfter c (a .buffers .work))
+
+  moved-given : resultAfter (movedBy s a) k ≡ given (verdict c) n′
+  unfolding outcome
+  moved-given = ap₂ (λ (v : Verdict) (w : List ℕ). outcomeBy v n′ (a .buffers) w) one-verdict one-work
+
+  here-given : resultAfter a k ≡ given (verdict c) n
+  unfolding outcome
+  here-given = refl
+
+  nets-moved : verdict c ≡ accepted → n′ ≡ moved s n
+  nets-moved e = ap (steps kobbelt k) (start-moved s (a .net) (accepted-drawn c e)) ∙ steps-moved s (startNet (a .net)) (accepted-refinable c e) k
+
+  by : (v : Verdict) → verdict c ≡ v → MovedAfter s a k
+  by accepted e =
+      let p : resultAfter (movedBy s a) k ≡ given accepted (moved s n) = moved-given ∙ ap₂ given e (nets-moved e) in
+      let q : resultAfter a k ≡ given accepted n = here-given ∙ ap (λ (v : Verdict). given v n) e in
+      record {
+        result = ap (λ (o : Outcome). o .result) p ∙ sym (ap (λ (o : Outcome). o .result) q);
+        net = accepted-after (movedBy s a) k (one-verdict ∙ e) ∙ nets-moved e ∙ ap (moved s) (sym (accepted-after a k e));
+        vertices = ap (λ (o : Outcome). o .buffers .vertices) p ∙ ap (λ (m : Net). filled (movedVertices s (m .vertices)) (a .buffers .vertices)) (sym (accepted-after a k e));
+        faces = ap (λ (o : Outcome). o .buffers .faces) p ∙ sym (ap (λ (o : Outcome). o .buffers .faces) q);
+        marks = ap (λ (o : Outcome). o .buffers .marks) p ∙ sym (ap (λ (o : Outcome). o .buffers .marks) q);
+        work = ap (λ (o : Outcome). o .buffers .work) p ∙ sym (ap (λ (o : Outcome). o .buffers .work) q);
+      }
+  by (refused r p) e =
+      let o : resultAfter (movedBy s a) k ≡ resultAfter a k = moved-given ∙ ap (λ (v : Verdict). given v n′) e ∙ sym (here-given ∙ ap (λ (v : Verdict). given v n) e) in
+      let none : netAfter a k ≡ net [] [] [] = ap (λ (t : Outcome). netBy (t .result) t) (here-given ∙ ap (λ (v : Verdict). given v n) e) in
+      record {
+        result = ap (λ (t : Outcome). t .result) o;
+        net = ap (λ (t : Outcome). netBy (t .result) t) o ∙ none ∙ sym (ap (moved s) none ∙ ap (λ (vs : List ℤ). net vs [] []) (moved-none s));
+        vertices =
+            ap (λ (t : Outcome). t .buffers .vertices) (moved-given ∙ ap (λ (v : Verdict). given v n′) e)
+            ∙ sym (ap (λ (m : Net). filled (movedVertices s (m .vertices)) (a .buffers .vertices)) none ∙ none-filled s (a .buffers .vertices));
+        faces = ap (λ (t : Outcome). t .buffers .faces) o;
+        marks = ap (λ (t : Outcome). t .buffers .marks) o;
+        work = ap (λ (t : Outcome). t .buffers .work) o;
+      }
+
+pub moved-nets : MovedNets
+moved-nets = record { moves = λ s a h t k. by s a h t k (verdict (callOf (forRounds k a))) refl }
