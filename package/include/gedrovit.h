@@ -152,9 +152,9 @@
 #include <stdint.h>
 
 /* The version of this header. */
-#define GEDROVIT_VERSION "0.2.0"
+#define GEDROVIT_VERSION "0.3.0"
 #define GEDROVIT_VERSION_MAJOR 0
-#define GEDROVIT_VERSION_MINOR 2
+#define GEDROVIT_VERSION_MINOR 3
 #define GEDROVIT_VERSION_PATCH 0
 
 /* The same as a number, to be compared with gedrovit_version(), and at the end of a name. */
