@@ -136,7 +136,7 @@ cmake_finds() {
         && cmake -S "$scratch/find" -B "$scratch/find/build" -DCMAKE_PREFIX_PATH="$prefix" "${@:2}"
 }
 
-# of version 0.2.0, say
+# of version 0.3.0, say
 cmake_versions() {
     local major minor patch
     IFS=. read -r major minor patch <<<"$version"

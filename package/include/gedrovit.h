@@ -1,9 +1,10 @@
 /*
  * Gedrovit refines nets of quadrilateral faces by Kobbelt's interpolatory subdivision at weight 1.
  * Nets with faces of 3 to 8 sides are first split into quadrilaterals. Every new coordinate is worked
- * out exactly and rounded once, to the nearest whole number, halves away from zero. Two nets that
- * share a boundary segment where refining begins, after the split if there is one, share it
- * afterwards, point for point, whatever the rest of either net is.
+ * out exactly and rounded once, to the nearest whole number, halves upward: 2.5 to 3, -2.5 to -2. Two
+ * nets that share a boundary segment where refining begins, after the split if there is one, share it
+ * afterwards, point for point, whatever the rest of either net is. A net that is moved by whole
+ * numbers gives its refined net moved by the same.
  *
  * C11 and C++17, x86-64 Linux (System V ABI). Link with libgedrovit.a; nothing but the C library is
  * needed beside it.
@@ -39,6 +40,10 @@
  * share as they are drawn is shared there if both have side counts or neither has. If only one has
  * them it need not be: one net has the midpoints of its edges, the other has not.
  *
+ * Both nets must be refined by versions with the same rounding: 0.3.0 and later round halves upward,
+ * 0.1.x and 0.2.0 away from zero. Two nets of which only one is refined by an older version need not
+ * share the segment afterwards.
+ *
  *
  * The split
  *
@@ -60,6 +65,12 @@
  * are 0. Face f becomes the faces 4f + i, for i = 0 to 3, with the corners: old corner i, point of
  * side i, point of the face, point of side i - 1. Refined coordinates stay within 268,435,456 in
  * absolute value.
+ *
+ * Let a net be moved: one whole number is added to the x of every vertex, one to every y and one to
+ * every z. If the coordinates of both nets are in the range above, the call on the moved net reports
+ * the same, a refusal too, gives the same faces and marks, and the same points moved by these numbers.
+ * This does not hold of mirroring: where a half is rounded, a mirrored net may give other points than
+ * the mirrored ones.
  *
  * A refined net may not be fit to be handed in again: its coordinates may lie beyond 1,048,576, and
  * it may have more than 8,192 vertices or 4,096 faces. Reasons 6 to 12 below never hold for it.
@@ -152,9 +163,9 @@
 #include <stdint.h>
 
 /* The version of this header. */
-#define GEDROVIT_VERSION "0.2.0"
+#define GEDROVIT_VERSION "0.3.0"
 #define GEDROVIT_VERSION_MAJOR 0
-#define GEDROVIT_VERSION_MINOR 2
+#define GEDROVIT_VERSION_MINOR 3
 #define GEDROVIT_VERSION_PATCH 0
 
 /* The same as a number, to be compared with gedrovit_version(), and at the end of a name. */

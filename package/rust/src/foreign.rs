@@ -29,7 +29,7 @@ pub struct Sizes {
 unsafe extern "C" {
     pub fn gedrovit_version() -> u32;
 
-    pub fn gedrovit_version_0_2_0() -> u32;
+    pub fn gedrovit_version_0_3_0() -> u32;
 
     pub fn gedrovit_refine(
         rounds: u32,

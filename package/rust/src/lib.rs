@@ -1,7 +1,9 @@
 //! Refines nets of quadrilateral faces by Kobbelt's interpolatory subdivision at weight 1, with exact
-//! arithmetic and one rounding for each new coordinate. Nets with faces of 3 to 8 sides are first
-//! split into quadrilaterals. Two nets that share a boundary segment where refining begins, after the
-//! split if there is one, share it afterwards, point for point.
+//! arithmetic and one rounding for each new coordinate, halves upward. Nets with faces of 3 to 8
+//! sides are first split into quadrilaterals. Two nets that share a boundary segment where refining
+//! begins, after the split if there is one, share it afterwards, point for point, if both are refined
+//! by versions with the same rounding: 0.3.0 and later. A net that is moved by whole numbers gives
+//! its refined net moved by the same.
 //!
 //! The work is done by proved code in the archive `libgedrovit.a`. The header `gedrovit.h` has the
 //! whole contract; what it says of tables, numbering and limits holds here too.
