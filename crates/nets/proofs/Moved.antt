@@ -10,6 +10,7 @@ use Rattle.lists.proofs.Tabulate.{length-tabulate, getD-tabulate, tabulate-cong
 use Rattle.curve.specs.Curve.{Point}
 use Rattle.nets.specs.Net.{axis}
 use Rattle.nets.specs.Moved.{onAxis, movedVertices}
+use Rattle.nets.proofs.Examples
 
 module _ (s : Point) where
   pub moved-length : (vs : List ℤ) → length (movedVertices s vs) ≡ length vs
