@@ -129,8 +129,8 @@ def cures(folder):
 
 
 def scales():
-    """Halves away from zero, worked out exactly: in binary floats 1.005 * 100 is below 100.5."""
-    exact = {"1.005": 101, "-1.005": -101, "0.005": 1, "-0.005": -1, "0.00499999999999999999999999": 0, "-0.00499999999999999999999999": 0,
+    """Halves upward, worked out exactly: in binary floats 1.005 * 100 is below 100.5."""
+    exact = {"1.005": 101, "-1.005": -100, "0.005": 1, "-0.005": 0, "0.00499999999999999999999999": 0, "-0.00499999999999999999999999": 0,
              "1e2": 10000, "5e-3": 1, "10485.76": 1048576, "-10485.76499": -1048576, ".5": 50, "7.": 700}
     for n in range(0, len(exact), 4):
         words = list(exact)[n:n + 4]

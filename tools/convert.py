@@ -6,7 +6,7 @@
 
 FILE is of either kind, and standard input is read without FILE or with -. Line ends of any system, a byte order mark, surplus blanks, plus signs
 and leading zeros are cured. In an OBJ file the points of `p` lines are the corner marks. S is the number of counts in a unit of the file:
-coordinates times S are worked out exactly and rounded once to whole counts, halves away from zero; an OBJ file gets counts divided by S, exactly.
+coordinates times S are worked out exactly and rounded once to whole counts, halves upward; an OBJ file gets counts divided by S, exactly.
 """
 import argparse
 import os
@@ -151,9 +151,8 @@ def read(data):
 
 
 def rounded(value):
-    """The nearest whole number, halves away from zero."""
-    size = (2 * abs(value.numerator) + value.denominator) // (2 * value.denominator)
-    return size if value > 0 else -size
+    """The nearest whole number, halves upward."""
+    return (2 * value.numerator + value.denominator) // (2 * value.denominator)
 
 
 def to_counts(net, scale):

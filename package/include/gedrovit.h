@@ -4,7 +4,7 @@
  * out exactly and rounded once, to the nearest whole number, halves upward: 2.5 to 3, -2.5 to -2. Two
  * nets that share a boundary segment where refining begins, after the split if there is one, share it
  * afterwards, point for point, whatever the rest of either net is. A net that is moved by whole
- * numbers gives its refined net moved by the same.
+ * numbers gives its refined net moved by the same, if the coordinates of both are in range.
  *
  * C11 and C++17, x86-64 Linux (System V ABI). Link with libgedrovit.a; nothing but the C library is
  * needed beside it.
@@ -40,9 +40,9 @@
  * share as they are drawn is shared there if both have side counts or neither has. If only one has
  * them it need not be: one net has the midpoints of its edges, the other has not.
  *
- * Both nets must be refined by versions with the same rounding: 0.3.0 and later round halves upward,
- * 0.1.x and 0.2.0 away from zero. Two nets of which only one is refined by an older version need not
- * share the segment afterwards.
+ * Both nets must be refined by versions with the same rounding: this version rounds halves upward, as
+ * every version since 0.3.0; 0.1.x and 0.2.0 away from zero. Two nets of which only one is refined by
+ * one of these need not share the segment afterwards.
  *
  *
  * The split

@@ -34,7 +34,7 @@ unfoldable pub sumᶠ : ℕ → (ℕ → Fraction) → Fraction
 sumᶠ zero f = whole (pos 0)
 sumᶠ (suc n) f = sumᶠ n f +ᶠ f n
 
--- Paper 01: "Every new coordinate is worked out exactly as a fraction and rounded once to the nearest whole count"
+-- rounded once
 abbrev pub toWhole : Fraction → ℤ
 toWhole x = round (x .num) (x .den)
 

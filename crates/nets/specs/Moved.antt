@@ -1,4 +1,4 @@
--- A net moved by whole counts. Paper 02: "Yards place a panel by adding whole counts to it."
+-- A net moved by whole numbers. Paper 02: "Yards place a panel by adding whole counts to it."
 use mathlib.Core.List.{List}
 use Prim.Native.Nat.{ℕ, zero, suc, _%_}
 use lib.IntN.{ℤ, pos, _+ℤ_}

@@ -52,20 +52,20 @@ pub accepted-refinable : (c : Call) → verdict c ≡ accepted → Refinable (st
 accepted-refinable c e = start-refinable (c .net) (accepted-drawn c e)
 
 -- ---- the net at the front of the outputs
+-- the outcome of the request for k rounds, were v the verdict and n the refined net
+abbrev pub given : Request → ℕ → Verdict → Net → Outcome
+given a k v n = outcomeBy v n (a .buffers) (workAfter (callOf (forRounds k a)) (a .buffers .work))
+
 module _ (a : Request) (k : ℕ) (e : verdict (callOf (forRounds k a)) ≡ accepted) where
   after : Refinable (steps kobbelt k (startNet (a .net)))
   after = refinable-steps kobbelt (startNet (a .net)) (accepted-refinable (callOf (forRounds k a)) e) k
-
-  -- the outcome, were v the verdict
-  abbrev given : Verdict → Outcome
-  given v = outcomeBy v (steps kobbelt k (startNet (a .net))) (a .buffers) (workAfter (callOf (forRounds k a)) (a .buffers .work))
 
   pub accepted-result : AcceptedFor a k
   unfolding outcome
   accepted-result = record {
     vertices = length (steps kobbelt k (startNet (a .net)) .marks);
     faces = length (steps kobbelt k (startNet (a .net)) .faces) / 4;
-    result = ap (λ (v : Verdict). given v .result) e;
+    result = ap (λ (v : Verdict). given a k v (steps kobbelt k (startNet (a .net))) .result) e;
   }
 
   pub accepted-after : netAfter a k ≡ steps kobbelt k (startNet (a .net))
@@ -75,6 +75,6 @@ module _ (a : Request) (k : ℕ) (e : verdict (callOf (forRounds k a)) ≡ accep
       let o = a .buffers in
       let t = after .threes in
       let f = after .fours in
-      ap (λ (v : Verdict). netBy (given v .result) (given v)) e
+      ap (λ (v : Verdict). netBy (given a k v n .result) (given a k v n)) e
       ∙ same-net (take-filled (n .vertices) (o .vertices) (3 * length (n .marks)) (omega arith))
       (take-filled (n .faces) (o .faces) (4 * (length (n .faces) / 4)) (omega arith)) (take-filled (n .marks) (o .marks) (length (n .marks)) refl)

@@ -1,4 +1,4 @@
--- Paper 02: "Refining a net moved by whole counts must equal moving the refined net, wherever both are within the coordinate limit." Assumes nothing.
+-- The call on a moved net gives the moved net. Assumes nothing.
 use mathlib.Core.Path.{_≡_, refl, sym, ap, ap₂, _∙_}
 use mathlib.Core.List.{List, []}
 use Prim.Native.Nat.{ℕ}
@@ -9,7 +9,6 @@ use Rattle.curve.specs.Curve.{Point}
 use Rattle.curve.specs.Weights.{kobbelt}
 use Rattle.tables.specs.Tables.{filled}
 use Rattle.nets.specs.Net.{Net, net}
-use Rattle.nets.specs.Buffers.{Buffers}
 use Rattle.nets.specs.Moved.{movedVertices, moved, movedControl}
 use Rattle.nets.proofs.Moved.{moved-length}
 use Rattle.scheme.specs.Step.{steps}
@@ -22,7 +21,7 @@ use Rattle.verdict.proofs.Coordinates.{same-verdict, same-work}
 use Rattle.outcome.specs.Outcome.{Request, forRounds, Outcome, callOf, outcomeBy, outcome}
 use Rattle.outcome.specs.SharedSegment.{resultAfter, netBy, netAfter}
 use Rattle.outcome.specs.Moved.{movedBy, MovedAfter, MovedNets}
-use Rattle.outcome.proofs.Accepted.{accepted-drawn, accepted-refinable, accepted-after}
+use Rattle.outcome.proofs.Accepted.{given, accepted-drawn, accepted-refinable, accepted-after}
 
 -- no vertices, moved
 moved-none : (s : Point) → movedVertices s [] ≡ []
@@ -50,25 +49,21 @@ module _ (s : Point) (a : Request) (here : Within 1048576 (a .net .vertices)) (t
   one-work : workAfter (callOf (forRounds k (movedBy s a))) (a .buffers .work) ≡ workAfter c (a .buffers .work)
   one-work = same-work k (a .net .vertices) (movedVertices s (a .net .vertices)) (a .net .faces) (a .net .sides) (a .net .marks) (c .room) (moved-length s (a .net .vertices)) (a .buffers .work)
 
-  -- the outcome, were v the verdict and m the net that is handed out
-  abbrev given : Verdict → Net → Outcome
-  given v m = outcomeBy v m (a .buffers) (workAfter c (a .buffers .work))
-
-  moved-given : resultAfter (movedBy s a) k ≡ given (verdict c) n′
+  moved-given : (v : Verdict) → verdict c ≡ v → resultAfter (movedBy s a) k ≡ given a k v n′
   unfolding outcome
-  moved-given = ap₂ (λ (v : Verdict) (w : List ℕ). outcomeBy v n′ (a .buffers) w) one-verdict one-work
+  moved-given v e = ap₂ (λ (u : Verdict) (w : List ℕ). outcomeBy u n′ (a .buffers) w) (one-verdict ∙ e) one-work
 
-  here-given : resultAfter a k ≡ given (verdict c) n
+  here-given : (v : Verdict) → verdict c ≡ v → resultAfter a k ≡ given a k v n
   unfolding outcome
-  here-given = refl
+  here-given v e = ap (λ (u : Verdict). given a k u n) e
 
   nets-moved : verdict c ≡ accepted → n′ ≡ moved s n
   nets-moved e = ap (steps kobbelt k) (start-moved s (a .net) (accepted-drawn c e)) ∙ steps-moved s (startNet (a .net)) (accepted-refinable c e) k
 
   by : (v : Verdict) → verdict c ≡ v → MovedAfter s a k
   by accepted e =
-      let p : resultAfter (movedBy s a) k ≡ given accepted (moved s n) = moved-given ∙ ap₂ given e (nets-moved e) in
-      let q : resultAfter a k ≡ given accepted n = here-given ∙ ap (λ (v : Verdict). given v n) e in
+      let p : resultAfter (movedBy s a) k ≡ given a k accepted (moved s n) = moved-given accepted e ∙ ap (given a k accepted) (nets-moved e) in
+      let q : resultAfter a k ≡ given a k accepted n = here-given accepted e in
       record {
         result = ap (λ (o : Outcome). o .result) p ∙ sym (ap (λ (o : Outcome). o .result) q);
         net = accepted-after (movedBy s a) k (one-verdict ∙ e) ∙ nets-moved e ∙ ap (moved s) (sym (accepted-after a k e));
@@ -78,14 +73,14 @@ module _ (s : Point) (a : Request) (here : Within 1048576 (a .net .vertices)) (t
         work = ap (λ (o : Outcome). o .buffers .work) p ∙ sym (ap (λ (o : Outcome). o .buffers .work) q);
       }
   by (refused r p) e =
-      let o : resultAfter (movedBy s a) k ≡ resultAfter a k = moved-given ∙ ap (λ (v : Verdict). given v n′) e ∙ sym (here-given ∙ ap (λ (v : Verdict). given v n) e) in
-      let none : netAfter a k ≡ net [] [] [] = ap (λ (t : Outcome). netBy (t .result) t) (here-given ∙ ap (λ (v : Verdict). given v n) e) in
+      let x = moved-given (refused r p) e in
+      let y = here-given (refused r p) e in
+      let o : resultAfter (movedBy s a) k ≡ resultAfter a k = x ∙ sym y in
+      let none : netAfter a k ≡ net [] [] [] = ap (λ (t : Outcome). netBy (t .result) t) y in
       record {
         result = ap (λ (t : Outcome). t .result) o;
-        net = ap (λ (t : Outcome). netBy (t .result) t) o ∙ none ∙ sym (ap (moved s) none ∙ ap (λ (vs : List ℤ). net vs [] []) (moved-none s));
-        vertices =
-            ap (λ (t : Outcome). t .buffers .vertices) (moved-given ∙ ap (λ (v : Verdict). given v n′) e)
-            ∙ sym (ap (λ (m : Net). filled (movedVertices s (m .vertices)) (a .buffers .vertices)) none ∙ none-filled s (a .buffers .vertices));
+        net = ap (λ (t : Outcome). netBy (t .result) t) x ∙ sym (ap (moved s) none ∙ ap (λ (vs : List ℤ). net vs [] []) (moved-none s));
+        vertices = ap (λ (t : Outcome). t .buffers .vertices) x ∙ sym (ap (λ (m : Net). filled (movedVertices s (m .vertices)) (a .buffers .vertices)) none ∙ none-filled s (a .buffers .vertices));
         faces = ap (λ (t : Outcome). t .buffers .faces) o;
         marks = ap (λ (t : Outcome). t .buffers .marks) o;
         work = ap (λ (t : Outcome). t .buffers .work) o;

@@ -1,4 +1,4 @@
--- A net moved by whole counts, over what calls give.
+-- A net moved by whole numbers, over what calls give.
 use mathlib.Core.Path.{_≡_}
 use Prim.Native.Nat.{ℕ}
 use Rattle.curve.specs.Curve.{Point}
@@ -24,6 +24,6 @@ pub record MovedAfter (s : Point) (a : Request) (k : ℕ) : Type 0 where
   pub marks : resultAfter (movedBy s a) k .buffers .marks ≡ resultAfter a k .buffers .marks
   pub work : resultAfter (movedBy s a) k .buffers .work ≡ resultAfter a k .buffers .work
 
--- Paper 02: "Refining a net moved by whole counts must equal moving the refined net, wherever both are within the coordinate limit": both nets as they are drawn
+-- Paper 02: "Refining a net moved by whole counts must equal moving the refined net, wherever both are within the coordinate limit": both control nets
 pub record MovedNets : Type 0 where
   pub moves : (s : Point) (a : Request) → Within 1048576 (a .net .vertices) → Within 1048576 (movedVertices s (a .net .vertices)) → (k : ℕ) → MovedAfter s a k

@@ -11,7 +11,7 @@ use lib.Signed.{_≤ℤ_}
 use Rattle.integers.proofs.AbsoluteValue.{abs-add, abs-mul}
 use Rattle.integers.proofs.Linear.{at, whole, _⊕_, _⊖_, _⊙_}
 use Rattle.integers.proofs.Polynomial.{var, lit, _⊞_, _⊟_, _⊠_, same}
-use Rattle.integers.proofs.Order.{up, dn, up-mul, dn-mul, diff, eq-by, abs-by, le-by, of-abs, eq-of-abs, of-le}
+use Rattle.integers.proofs.Order.{up, dn, up-mul, dn-mul, diff, eq-by, abs-by, le-by, eq-of-abs, of-le}
 use Rattle.rounding.specs.Rounding.{floor, round}
 use Rattle.rounding.proofs.Examples
 

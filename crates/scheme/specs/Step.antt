@@ -14,7 +14,7 @@ use Rattle.topology.specs.HalfEdge.{edgeCount, edgeAt}
 use Rattle.refinedfaces.specs.Refined.{refinedVertices, refined, refinedMarks}
 use Rattle.scheme.specs.Points.{edgePoint, facePoint}
 
--- "Refined vertices are the old ones, then one per edge, then one per face." "Every new coordinate is worked out exactly as a fraction and rounded once."
+-- "Refined vertices are the old ones, then one per edge, then one per face." Every new coordinate is an exact fraction, rounded once.
 unfoldable pub refinedCoordinate : Weights → ℕ → List ℕ → List ℕ → (ℕ → ℤ) → ℕ → ℤ
 refinedCoordinate w v l marks p i =
     cond (ltb i v) (p i)

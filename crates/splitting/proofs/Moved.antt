@@ -1,5 +1,5 @@
 -- The split moves with the net: a net moved by whole numbers and split is the split net, moved.
-use mathlib.Core.Path.{_≡_, refl, sym, ap, ap₂, _∙_, subst}
+use mathlib.Core.Path.{_≡_, refl, sym, ap, ap₂, _∙_}
 use mathlib.Core.List.{List, [], _∷_}
 use Prim.Native.Nat.{ℕ, _+_, _*_, _<_}
 use native.Mathlib.Omega.{arith}
@@ -19,7 +19,7 @@ use Rattle.topology.proofs.Shape.{nexts-lt}
 use Rattle.polygons.specs.Polygons.{shapeOf}
 use Rattle.refinedfaces.specs.Refined.{refinedVertices}
 use Rattle.refinedfaces.proofs.Corners.{refined-cases}
-use Rattle.nets.specs.Net.{Net, ControlNet, axis}
+use Rattle.nets.specs.Net.{ControlNet, axis}
 use Rattle.nets.specs.Moved.{onAxis, movedVertices, moved, movedControl}
 use Rattle.nets.proofs.Laws.{same-net}
 use Rattle.nets.proofs.Moved.{axis-moved, moved-coordinates}

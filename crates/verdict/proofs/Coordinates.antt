@@ -1,4 +1,4 @@
--- Coordinates decide refusal 5 alone: nets that pass it and differ in coordinates only get one verdict, and one work table. Assumes nothing.
+-- Coordinates decide nothing but refusal 5: nets that pass it and differ in coordinates only get one verdict, and one work table. Assumes nothing.
 use mathlib.Core.Path.{_≡_, refl, sym, ap, ap₂, _∙_}
 use mathlib.Core.List.{List}
 use Prim.Native.Nat.{ℕ, _*_, _/_}
@@ -32,7 +32,7 @@ module _ (rounds : ℕ) (vs ws : List ℤ) (faces sides marks : List ℕ) (room 
   abbrev other : Call
   other = call rounds (controlNet ws faces sides marks) room
 
-  -- the lengths decide refusals 1 to 4 and 14
+  -- rounds, side counts and lengths decide refusals 1 to 4 and 14
   abbrev limits : ℕ → Verdict
   limits n = limitsVerdict rounds sides (lengths n (length faces) (length marks) room)
 

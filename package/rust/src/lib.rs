@@ -2,8 +2,8 @@
 //! arithmetic and one rounding for each new coordinate, halves upward. Nets with faces of 3 to 8
 //! sides are first split into quadrilaterals. Two nets that share a boundary segment where refining
 //! begins, after the split if there is one, share it afterwards, point for point, if both are refined
-//! by versions with the same rounding: 0.3.0 and later. A net that is moved by whole numbers gives
-//! its refined net moved by the same.
+//! by versions with the same rounding, this one since 0.3.0. A net that is moved by whole numbers
+//! gives its refined net moved by the same, if the coordinates of both are in range.
 //!
 //! The work is done by proved code in the archive `libgedrovit.a`. The header `gedrovit.h` has the
 //! whole contract; what it says of tables, numbering and limits holds here too.
