@@ -45,13 +45,16 @@ impl MovedPair {
         Self::new(case, shift)
     }
 
-    /// Whether both nets are within the coordinate limit, so that both calls
-    /// must give the same.
-    pub fn is_within_limit(&self) -> bool {
+    /// Whether the net, and whether the moved one, is within the coordinate
+    /// limit.
+    pub fn within_limit(&self) -> [bool; 2] {
         let tables = [&self.case.vertices, &self.moved.vertices];
-        tables
-            .into_iter()
-            .all(|table| first_beyond(table).is_none())
+        tables.map(|table| first_beyond(table).is_none())
+    }
+
+    /// Whether both are, so that both calls must give the same.
+    pub fn is_within_limit(&self) -> bool {
+        self.within_limit() == [true; 2]
     }
 
     /// Whether a coordinate of the moved net is at the limit.
