@@ -18,11 +18,12 @@ Exact interior(Exact p, Exact q, Exact r, Exact s) { return 9 * (q + r) - p - s;
 Exact end_edge(Exact p, Exact q, Exact r) { return 7 * p + 10 * q - r; }
 Exact midpoint(Exact p, Exact q) { return 8 * (p + q); }
 
-// Halves away from zero.
+// Halves upward. Lifted by 2^31 the quotient is not negative, so that division takes its floor without a branch.
 template <int64_t Denominator> int32_t rounded(int64_t n)
 {
-    constexpr int64_t half = Denominator / 2;
-    return static_cast<int32_t>((n < 0 ? n - half : n + half) / Denominator);
+    constexpr int64_t lift = int64_t(1) << 31;
+    const uint64_t lifted = static_cast<uint64_t>(n + Denominator / 2 + lift * Denominator);
+    return static_cast<int32_t>(static_cast<int64_t>(lifted / Denominator) - lift);
 }
 
 template <int64_t Denominator> Point rounded(Exact e)

@@ -73,6 +73,7 @@ GROUPS = {
         "splitting.Splitting": "",
     },
     "Curve": {"rounding.Rounding": "", "curve.Weights": "kobbelt", "curve.Curve": "Kind, Open, Closed, Point"},
+    "Moved": {"lists.Tabulate": "", "curve.Curve": "Point", "nets.Net": "Net, ControlNet", "nets.Moved": "moved, movedControl"},
     "Reading": {**TOPOLOGY, "topology.Boundary": "withSides, againstSides", "lists.Tabulate": ""},
     "Seam": {
         **TOPOLOGY,
@@ -117,18 +118,25 @@ def naturals(values):
     return sequence(map(str, values))
 
 
+def point(values):
+    return "at " + " ".join(f"({integer(value)})" for value in values)
+
+
 def points(values):
-    rows = zip(values[0::3], values[1::3], values[2::3])
-    return sequence("at " + " ".join(f"({integer(c)})" for c in row) for row in rows)
+    return sequence(map(point, zip(values[0::3], values[1::3], values[2::3])))
+
+
+def net_record(net, sides):
+    vertices, faces, marks = net
+    fields = f"vertices = {integers(vertices)}; faces = {naturals(faces)}; "
+    fields += f"sides = {naturals(sides)}; " if sides else ""
+    return f"record {{ {fields}marks = {naturals(marks)} }}"
 
 
 def net_text(name, net, sides=()):
     """The text of a net, or with side counts of a net as it is drawn, after the name of its type."""
-    vertices, faces, marks = net
-    fields = f"vertices = {integers(vertices)}; faces = {naturals(faces)}; "
     kind = "ControlNet" if sides else "Net"
-    fields += f"sides = {naturals(sides)}; " if sides else ""
-    return kind, f"abbrev {name} : {kind}\n{name} = record {{ {fields}marks = {naturals(marks)} }}\n"
+    return kind, f"abbrev {name} : {kind}\n{name} = {net_record(net, sides)}\n"
 
 
 def lent_text(tables):
@@ -174,6 +182,15 @@ def outcome_facts(label, case):
     cost = 0.3 + (0.1 * size**2 if rounds else 0)
     asked = f"request {rounds} {drawn(label, case)} (record {{ {lent_text(call['lent'])} }})"
     yield "Outcome", "outcome", f"outcome ({asked})", f"record {{ result = {result}; buffers = record {{ {lent_text(call['left'])} }} }}", cost
+
+
+def moved_facts(label, case):
+    """The net of the call with its vertex table moved."""
+    if "net" not in case:
+        return
+    (_, faces, marks), (shift, vertices), sides = case["net"], case["moved"], case.get("sides", ())
+    definition = "movedControl" if sides else "moved"
+    yield "Moved", "moved", f"{definition} ({point(shift)}) {label}", net_record([vertices, faces, marks], sides), 0.05 + 0.00001 * len(vertices) ** 2
 
 
 def round_facts(label, name, nets, seed, whole_faces):
@@ -244,6 +261,7 @@ def all_facts(label, number, case, options):
     yield from verdict_facts(label, case)
     if options.outcome:
         yield from outcome_facts(label, case)
+    yield from moved_facts(label, case)
     if "split" in case:
         yield from split_facts(label, case, options.seed, options.whole)
     if "steps" not in case:
@@ -430,6 +448,12 @@ def print_detail(folder, case, fact, uses, crates):
 
 
 # ---- wrong definitions: the group of facts and the kinds of nets that must find each out, its file, and texts with what replaces them
+def halves(above, below):
+    """Rounding with 1 taken from the doubled numerator, which moves halves alone, above 0 or below it."""
+    clauses = (f"round ({z}) d = floor (pos 2 *ℤ {z} +ℤ pos d -ℤ pos {less}) (2 * d)" for z, less in (("pos a", above), ("negsuc a", below)))
+    return [("_+ℤ_, _*ℤ_}", "_+ℤ_, _-ℤ_, _*ℤ_}"), ("round z d = floor (pos 2 *ℤ z +ℤ pos d) (2 * d)", "\n".join(clauses))]
+
+
 MUTATIONS = {
     "1/5 for 1/9 in the virtual point": ("Round", "fan", "rings/specs/Ring.antt", [("+ᶠ k (j + 1)) /ᶠ w .near", "+ᶠ k (j + 1)) /ᶠ 5")]),
     "b* and c* exchanged": (
@@ -441,12 +465,9 @@ MUTATIONS = {
             ("    (cond (eqb i (valence l v + 1)) (extrapolatedAt", "    (cond (eqb i (valence l v)) (extrapolatedAt"),
         ],
     ),
-    "halves towards zero": (
-        "Round",
-        "halves",
-        "rounding/specs/Rounding.antt",
-        [("{ℕ, suc, _+_, _*_, _/_}", "{ℕ, suc, _+_, _-_, _*_, _/_}"), ("(2 * a + d) / (2 * d)", "(2 * a + d - 1) / (2 * d)")],
-    ),
+    "halves towards zero": ("Round", "halves", "rounding/specs/Rounding.antt", halves(1, 0)),
+    "halves away from zero": ("Round", "halves", "rounding/specs/Rounding.antt", halves(0, 1)),
+    "moved on two axes only": ("Moved", "single", "nets/specs/Moved.antt", [("(i % 3)", "(i % 2)")]),
     "edge points rounded before the face point": (
         "Round",
         "single",

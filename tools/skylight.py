@@ -27,11 +27,8 @@ def skylight():
 
 
 def mean(points):
-    """The mean, rounded to the nearest whole count, halves away from zero."""
-    def rounded(total):
-        return (2 * abs(total) + len(points)) // (2 * len(points)) * (1 if total >= 0 else -1)
-
-    return tuple(rounded(sum(axis)) for axis in zip(*points))
+    """The mean, rounded to the nearest whole count, halves upward."""
+    return tuple((2 * sum(axis) + len(points)) // (2 * len(points)) for axis in zip(*points))
 
 
 def split(points, faces):

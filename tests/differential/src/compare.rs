@@ -22,6 +22,11 @@ impl Known {
     /// The call with random contents in the tables for its results.
     pub fn new(case: Case, rng: &mut Rng) -> Result<Self, String> {
         let found = case.tables(rng);
+        Self::with_tables(case, found)
+    }
+
+    /// The call with these tables for its results.
+    pub fn with_tables(case: Case, found: Tables) -> Result<Self, String> {
         let mut left = found.clone();
         let outcome = case.outcome_in(&mut left);
         if !case.expected.agrees_with(&outcome) {

@@ -9,6 +9,7 @@ mod guards;
 mod huge;
 mod lengths;
 mod lent;
+mod moves;
 mod options;
 mod polygons;
 mod run;

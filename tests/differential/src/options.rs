@@ -9,11 +9,15 @@ use crate::huge;
 pub const USAGE: &str = "usage: differential [--nets N] [--seed S] [--here] [MODE]
 
 Compares N seeded nets (20000), one with side counts for every 3 of them,
-pairs with seams, the stored calls, and calls with huge lengths. A second
-process does it, so that the call is known if that dies; with --here this one.
+moved nets, pairs with seams, the stored calls, and calls with huge lengths. A
+second process does it, so that the call is known if that dies; with --here
+this one.
 MODE is one of
   --net I          compares only net I of the series
   --polygons I     compares only net I with side counts
+  --moved I        compares only net I of those that are moved, and its copy
+  --moved-polygons I
+                   the same with side counts
   --pair I         compares only pair I
   --polygon-pair I compares only pair I with side counts in one net or both
   --stored I       compares only stored call I
@@ -42,6 +46,8 @@ pub enum Mode {
 pub enum What {
     Net,
     Polygons,
+    Moved,
+    MovedPolygons,
     Pair,
     PolygonPair,
     Stored,
@@ -49,9 +55,11 @@ pub enum What {
 }
 
 impl What {
-    pub const ALL: [Self; 6] = [
+    pub const ALL: [Self; 8] = [
         Self::Net,
         Self::Polygons,
+        Self::Moved,
+        Self::MovedPolygons,
         Self::Pair,
         Self::PolygonPair,
         Self::Stored,
@@ -62,6 +70,8 @@ impl What {
         match self {
             What::Net => "net",
             What::Polygons => "polygons",
+            What::Moved => "moved",
+            What::MovedPolygons => "moved-polygons",
             What::Pair => "pair",
             What::PolygonPair => "polygon-pair",
             What::Stored => "stored",
@@ -80,7 +90,8 @@ impl What {
         match self {
             What::Net => nets,
             What::Polygons => nets.div_ceil(3),
-            What::Pair => nets.div_ceil(20),
+            What::Moved => nets.div_ceil(10),
+            What::MovedPolygons | What::Pair => nets.div_ceil(20),
             What::PolygonPair => nets.div_ceil(60),
             What::Stored => stored_calls().len() as u64,
             What::Huge => huge::COUNT,

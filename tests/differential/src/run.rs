@@ -10,6 +10,7 @@ use crate::compare::Known;
 use crate::draw::Kind;
 use crate::guards::announce;
 use crate::huge;
+use crate::moves::Moves;
 use crate::options::What;
 use crate::polygons::PolygonKind;
 use crate::seams::Seams;
@@ -24,13 +25,18 @@ pub fn rng(seed: u64, number: u64) -> Rng {
     Rng::new(first.wrapping_add(number))
 }
 
-/// A call of a series of nets, and its kind.
+/// A call of a series of nets, and its kind. Nets to move are of the next kind,
+/// so that they are others, and few are of the largest.
 pub fn drawn(what: What, number: u64, rng: &mut Rng) -> (String, Case) {
-    if let What::Polygons = what {
-        let kind = PolygonKind::of(number);
+    let at = match what {
+        What::Moved | What::MovedPolygons => number + 1,
+        _ => number,
+    };
+    if let What::Polygons | What::MovedPolygons = what {
+        let kind = PolygonKind::of(at);
         (format!("{kind:?}"), kind.draw(rng))
     } else {
-        let kind = Kind::of(number);
+        let kind = Kind::of(at);
         (format!("{kind:?}"), kind.draw(rng))
     }
 }
@@ -49,6 +55,8 @@ pub struct Run {
     seed: u64,
     calls: Calls,
     polygons: Calls,
+    moves: Moves,
+    polygon_moves: Moves,
     seams: Seams,
     polygon_seams: Seams,
 }
@@ -59,6 +67,8 @@ impl Run {
             seed,
             calls: Calls::without_sides(),
             polygons: Calls::with_sides(),
+            moves: Moves::without_sides(),
+            polygon_moves: Moves::with_sides(),
             seams: Seams::without_sides(),
             polygon_seams: Seams::with_sides(),
         }
@@ -71,14 +81,19 @@ impl Run {
             (0..count).try_for_each(|number| self.one(what, number).map(drop))?;
         }
         let (calls, polygons) = (&self.calls, &self.polygons);
+        let (moves, polygon_moves) = (&self.moves, &self.polygon_moves);
         let (seams, polygon_seams) = (&self.seams, &self.polygon_seams);
         let [stored, huge] = [What::Stored, What::Huge].map(|what| what.count(nets));
         let counts = format!(
-            "{calls}\nwith side counts: {polygons}\n{seams}\nwith side counts: {polygon_seams}\n\
+            "{calls}\nwith side counts: {polygons}\n\
+             {moves}\nwith side counts: {polygon_moves}\n\
+             {seams}\nwith side counts: {polygon_seams}\n\
              {stored} stored calls agree\n{huge} calls with lengths beyond 32 bits agree"
         );
         let is_complete = calls.is_complete()
             && polygons.is_complete()
+            && moves.is_complete()
+            && polygon_moves.is_complete()
             && seams.is_complete()
             && polygon_seams.is_complete();
         if is_complete {
@@ -93,7 +108,7 @@ impl Run {
         announce(self.seed, what, number);
         let rng = &mut rng(self.seed, number);
         let compared = match what {
-            What::Net | What::Polygons => {
+            What::Net | What::Polygons | What::Moved | What::MovedPolygons => {
                 let drawn = drawn(what, number, rng);
                 self.net(what, drawn, rng)
             }
@@ -116,18 +131,22 @@ impl Run {
         rng: &mut Rng,
     ) -> Result<(), String> {
         let shown = shown(&case);
-        let compared = Known::new(case, rng).and_then(|known| {
-            match what {
-                What::Net => self.calls.add(&known),
-                What::Polygons => self.polygons.add(&known),
-                _ => {}
-            }
-            known.compare(rng)
-        });
-        match compared {
-            Ok(_) => Ok(()),
-            Err(fault) => Err(format!("{kind}, {fault}\n{shown}")),
+        let compared = match what {
+            What::Moved => self.moves.compare(case, rng),
+            What::MovedPolygons => self.polygon_moves.compare(case, rng),
+            _ => self.call(what, case, rng),
+        };
+        compared.map_err(|fault| format!("{kind}, {fault}\n{shown}"))
+    }
+
+    fn call(&mut self, what: What, case: Case, rng: &mut Rng) -> Result<(), String> {
+        let known = Known::new(case, rng)?;
+        match what {
+            What::Net => self.calls.add(&known),
+            What::Polygons => self.polygons.add(&known),
+            _ => {}
         }
+        known.compare(rng).map(drop)
     }
 }
 

@@ -21,6 +21,7 @@ use crate::case::{Case, Expected};
 use crate::change::{Placing, boundary_loops, mark, place, renumber};
 use crate::damaged::{damaged_polygons, damaged_tables, random_polygons, random_tables};
 use crate::kind::CallKind;
+use crate::moved::MovedPair;
 use crate::polygons::{PolygonShape, accepted_polygons};
 use crate::refused::{POLYGON_REASONS, refused_call, refused_polygons};
 use crate::rng::Rng;
@@ -137,6 +138,7 @@ fn accepted_polygon_line(shape: PolygonShape, net: &PolygonNet, rng: &mut Rng) -
         ("kind", quoted(format!("polygons-{}", shape.name()))),
         ("call", call_text(&case, true)),
         ("net", tables_of(&case)),
+        ("moved", moved_text(&case)),
         ("sides", numbers(&case.sides)),
         ("split", list([&start, &refined].map(net_text))),
         ("traits", list(traits.map(quoted))),
@@ -229,6 +231,7 @@ fn accepted_line(kind: &str, net: &Net, rng: &mut Rng) -> String {
         ("kind", quoted(kind)),
         ("call", call_text(&case, true)),
         ("net", net_text(net)),
+        ("moved", moved_text(&case)),
         ("steps", list(nets[1..].iter().map(|net| net_text(net)))),
         (
             "readings",
@@ -290,6 +293,7 @@ fn call_line(kind: &str, case: &Case, reasons: &[u32]) -> String {
     let mut fields = vec![("kind", quoted(kind)), ("call", call_text(case, is_short))];
     if is_short {
         fields.push(("net", tables_of(case)));
+        fields.push(("moved", moved_text(case)));
     }
     if !case.sides.is_empty() {
         fields.push(("sides", numbers(&case.sides)));
@@ -306,6 +310,17 @@ fn tables_of(case: &Case) -> String {
         numbers(&case.faces),
         numbers(&case.marks),
     ])
+}
+
+/// A shift, drawn for the vertex table alone, and the table moved by it.
+fn moved_text(case: &Case) -> String {
+    let mix = |seed: u64, value: &i32| {
+        seed.wrapping_mul(31)
+            .wrapping_add(value.unsigned_abs().into())
+    };
+    let seed = case.vertices.iter().fold(0, mix);
+    let pair = MovedPair::draw(case.clone(), &mut Rng::new(seed));
+    list([numbers(&pair.shift), numbers(&pair.moved.vertices)])
 }
 
 /// Whether the lengths of the tables and the side counts fit.

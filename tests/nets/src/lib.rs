@@ -5,6 +5,7 @@
 //! - [`refused`]: calls and texts with one or more reasons for a refusal.
 //! - [`damaged`]: texts that lost their form, and damaged tables.
 //! - [`pairs`]: pairs of nets that share a boundary segment.
+//! - [`moved`]: calls and the same calls on the moved net.
 //! - [`facts`]: small calls with all that the reference says of them.
 //! - [`stored`]: the stored form of calls.
 //! - [`kind`]: all kinds by name, small nets, and a mixed series of calls.
@@ -38,6 +39,7 @@ pub mod change;
 pub mod damaged;
 pub mod facts;
 pub mod kind;
+pub mod moved;
 pub mod pairs;
 pub mod polygons;
 pub mod refused;

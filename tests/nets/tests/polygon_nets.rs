@@ -90,10 +90,10 @@ fn solids_are_closed() {
     assert_eq!(dodecahedron.points.len(), 20);
 }
 
-/// The whole number nearest to sum / count, halves away from zero.
+/// The whole number nearest to sum / count, halves upward.
 fn nearest(sum: i64, count: i64) -> i32 {
-    let size = (2 * sum.abs() + count) / (2 * count);
-    i32::try_from(size * sum.signum()).expect("no larger than the corners")
+    let nearest = (2 * sum + count).div_euclid(2 * count);
+    i32::try_from(nearest).expect("no larger than the corners")
 }
 
 fn mean(net: &PolygonNet, vertices: &[u32]) -> Point {

@@ -38,15 +38,12 @@ impl Fraction {
         self.denominator
     }
 
-    /// Nearest whole number, halves away from zero.
+    /// Paper 01: "rounded once to the nearest whole count"; paper 02: "From
+    /// now on halves round upward." So the greatest whole number that is not
+    /// above the fraction and a half.
     pub fn round(self) -> i128 {
-        let size = self.numerator.abs();
-        let nearest = add(mul(size, 2), self.denominator) / mul(self.denominator, 2);
-        if self.numerator < 0 {
-            -nearest
-        } else {
-            nearest
-        }
+        let twice_with_half = add(mul(self.numerator, 2), self.denominator);
+        twice_with_half.div_euclid(mul(self.denominator, 2))
     }
 }
 
@@ -138,18 +135,45 @@ mod tests {
     }
 
     #[test]
-    fn halves_round_away_from_zero() {
+    fn halves_round_upward() {
         let rounded = |n, d| Fraction::new(n, d).round();
         assert_eq!(rounded(1, 2), 1);
-        assert_eq!(rounded(-1, 2), -1);
+        assert_eq!(rounded(-1, 2), 0);
         assert_eq!(rounded(7, 16), 0);
         assert_eq!(rounded(-7, 16), 0);
-        assert_eq!(rounded(-1475, 2), -738);
+        assert_eq!(rounded(-9, 16), -1);
+        assert_eq!(rounded(-1475, 2), -737);
+        assert_eq!(rounded(1475, 2), 738);
         assert_eq!(rounded(5, 2), 3);
-        assert_eq!(rounded(-5, 2), -3);
+        assert_eq!(rounded(-5, 2), -2);
         assert_eq!(rounded(100, 16), 6);
         assert_eq!(rounded(2, 3), 1);
+        assert_eq!(rounded(-2, 3), -1);
         assert_eq!(rounded(-1, 3), 0);
+    }
+
+    #[test]
+    fn the_rounded_number_is_less_than_half_below_and_at_most_half_above() {
+        for d in 1..=48 {
+            for n in -200..=200 {
+                let distance = Fraction::whole(Fraction::new(n, d).round()) - Fraction::new(n, d);
+                let twice = distance * 2;
+                assert!(-twice.denominator() < twice.numerator());
+                assert!(twice.numerator() <= twice.denominator());
+            }
+        }
+    }
+
+    #[test]
+    fn rounding_commutes_with_adding_whole_numbers() {
+        for d in 1..=16 {
+            for n in -40..=40 {
+                for k in [-1_048_576, -3, -1, 1, 2, 1_048_576] {
+                    let moved = Fraction::new(n, d) + Fraction::whole(k);
+                    assert_eq!(moved.round(), Fraction::new(n, d).round() + k);
+                }
+            }
+        }
     }
 
     #[test]

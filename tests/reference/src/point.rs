@@ -15,7 +15,7 @@ pub struct ExactPoint(pub [Fraction; 3]);
 impl ExactPoint {
     pub const ORIGIN: Self = Self([Fraction::ZERO; 3]);
 
-    /// Each coordinate rounded to the nearest whole number, halves away from zero.
+    /// Each coordinate rounded to the nearest whole number, halves upward.
     pub fn round(self) -> Point {
         self.0
             .map(|value| i32::try_from(value.round()).expect("rounded coordinate fits 32 bits"))

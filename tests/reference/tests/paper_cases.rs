@@ -1,4 +1,5 @@
-//! The cases marked P in the scope paper, and its sample text.
+//! The cases marked P in the scope paper, where paper 02 does not state them
+//! anew, and its sample text.
 
 mod common;
 
@@ -48,14 +49,14 @@ fn the_open_segment_gets_8_22_54() {
 }
 
 #[test]
-fn halves_inside_a_segment_round_away_from_zero() {
-    assert_eq!(middles(Form::Open, &[0, 0, 0, 8])[1], -1);
+fn halves_inside_a_segment_round_upward() {
+    assert_eq!(middles(Form::Open, &[0, 0, 0, 8])[1], 0);
     assert_eq!(middles(Form::Open, &[-8, 0, 0, 0])[1], 1);
     assert_eq!(middles(Form::Open, &[0, 0, 0, -7])[1], 0);
 }
 
 #[test]
-fn the_cube_gets_590_and_738() {
+fn the_cube_gets_590_and_737() {
     let step = refine_once(&cube());
     let vertices = 8 + 12 + 6;
     assert_eq!(step.net.points.len(), vertices);
@@ -64,7 +65,10 @@ fn the_cube_gets_590_and_738() {
     assert_eq!(step.net.points[8 + 3], [0, -590, -590]);
     let face = step.made[12];
     assert_eq!(face.exact.0[2], Fraction::new(-1475, 2));
-    assert_eq!(step.net.points[8 + 12], [0, 0, -738]);
+    assert_eq!(step.net.points[8 + 12], [0, 0, -737]);
+    // The face opposite is from 737.5.
+    assert_eq!(step.made[13].exact.0[2], Fraction::new(1475, 2));
+    assert_eq!(step.net.points[8 + 13], [0, 0, 738]);
 }
 
 #[test]

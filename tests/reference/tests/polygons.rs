@@ -139,7 +139,7 @@ fn four_sided_faces_are_split_too() {
 }
 
 #[test]
-fn a_pentagon_rounds_halves_away_from_zero() {
+fn a_pentagon_rounds_halves_upward() {
     let flat = [[0, 0], [4, 0], [6, 2], [4, 4], [0, 4]];
     let heights = [0, 0, -1, 0, -2];
     let points: Vec<Point> = flat
@@ -149,7 +149,7 @@ fn a_pentagon_rounds_halves_away_from_zero() {
         .collect();
     let start = split(&polygons(&points, &[&[0, 1, 2, 3, 4]]));
     let new: Vec<i32> = start.points[5..].iter().map(|point| point[2]).collect();
-    assert_eq!(new, [0, -1, -1, -1, -1, -1]);
+    assert_eq!(new, [0, 0, 0, -1, -1, -1]);
     assert_eq!(start.points[5], [2, 0, 0]);
     assert_eq!(start.points[10][..2], [3, 2]);
 }

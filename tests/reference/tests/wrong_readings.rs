@@ -3,6 +3,7 @@
 
 mod common;
 
+use std::cmp::Ordering;
 use std::collections::BTreeMap;
 
 use common::{cube, fan, grid, square, unmarked, wheel, with_marks};
@@ -199,17 +200,54 @@ fn is_mean(rule: Rule) -> bool {
     )
 }
 
+/// What a reading makes of the half between a whole number and the next.
+type AtHalf = fn(i128) -> i128;
+
+const AWAY_FROM_ZERO: AtHalf = |low| if low < 0 { low } else { low + 1 };
+const TOWARDS_ZERO: AtHalf = |low| if low < 0 { low + 1 } else { low };
+const TO_EVEN: AtHalf = |low| low + low.rem_euclid(2);
+const DOWNWARD: AtHalf = |low| low;
+
+/// The nearest whole number, with another reading of halves.
+fn round_with(value: Fraction, at_half: AtHalf) -> i128 {
+    let low = value.numerator().div_euclid(value.denominator());
+    let twice_rest = (value - Fraction::whole(low)) * 2;
+    match twice_rest.numerator().cmp(&twice_rest.denominator()) {
+        Ordering::Less => low,
+        Ordering::Equal => at_half(low),
+        Ordering::Greater => low + 1,
+    }
+}
+
 #[test]
-fn halves_to_even_or_upwards() {
-    let half = |numerator| Fraction::new(numerator, 2);
-    let up = |value: Fraction| {
-        (value + half(1))
-            .numerator()
-            .div_euclid((value + half(1)).denominator())
-    };
-    assert_eq!((up(half(-1475)), half(-1475).round()), (-737, -738));
-    assert_eq!(half(1).round(), 1, "to even gives 0");
-    assert_eq!(half(5).round(), 3, "to even gives 2");
+fn halves_rounded_another_way() {
+    // The cube's face points are from -737.5 and 737.5.
+    let faces = [12, 13].map(|new| refine_once(&cube()).made[new].exact.0[2]);
+    assert_eq!(faces.map(Fraction::round), [-737, 738]);
+    for (at_half, wrong) in [
+        (AWAY_FROM_ZERO, [-738, 738]),
+        (TOWARDS_ZERO, [-737, 737]),
+        (TO_EVEN, [-738, 738]),
+        (DOWNWARD, [-738, 737]),
+    ] {
+        assert_eq!(faces.map(|value| round_with(value, at_half)), wrong);
+        // Where there is no half, all agree.
+        for value in (-50..=50).map(|n| Fraction::new(n, 9)) {
+            assert_eq!(round_with(value, at_half), value.round());
+        }
+    }
+}
+
+/// Away from zero a half goes another way on the other side of zero.
+#[test]
+fn halves_away_from_zero_do_not_move_with_the_net() {
+    let net = cube();
+    let mut moved = net.clone();
+    moved.points.iter_mut().for_each(|point| point[2] += 1_000);
+    let face_points = [&net, &moved].map(|net| refine_once(net).made[12].exact.0[2]);
+    let away = face_points.map(|value| round_with(value, AWAY_FROM_ZERO));
+    assert_eq!(away, [-738, 263]);
+    assert_eq!(face_points.map(Fraction::round), [-737, 263]);
 }
 
 #[test]
