@@ -287,7 +287,7 @@ fn zero_rounds_split_a_net_with_side_counts() {
 #[test]
 fn midpoints_and_means_are_rounded_once() {
     let split = lone(&[0, 0, -1, 0, -2]).refined(0).unwrap();
-    assert_eq!(axis(&split.vertices, 2)[5..], [0, -1, -1, -1, -1, -1]);
+    assert_eq!(axis(&split.vertices, 2)[5..], [0, 0, 0, -1, -1, -1]);
 }
 
 #[test]
