@@ -1,5 +1,5 @@
--- The cases that paper 01 marks P, in one table: what the definitions give, and what the paper states, in two rows as paper 02 changes it. The last row of the nets and the rows of nets with other
--- faces are not among them.
+-- The cases that paper 01 marks P, in one table: what the definitions give, and what the paper states, in two rows as paper 02 changes it. The last row of the nets
+-- and the rows of nets with other faces are not among them.
 use mathlib.Core.Path.{_≡_}
 use mathlib.Core.List.{List, [], _∷_, _++_}
 use Prim.Native.Nat.{ℕ, zero, suc, _<_}

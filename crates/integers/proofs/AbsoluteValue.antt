@@ -1,16 +1,16 @@
--- The absolute value: of a sum, a difference, a product, a quotient, so that a bound on a signed expression is one on naturals, which `omega` proves;
+-- The absolute value: of a sum, a difference, a product, so that a bound on a signed expression is one on naturals, which `omega` proves;
 -- and what a signed test tells of it. Assumes nothing.
 use mathlib.Core.Path.{_≡_, refl}
 use mathlib.Core.Bool.{Bool, true, false, cond}
-use Prim.Native.Nat.{ℕ, zero, suc, _+_, _*_, _-_, _/_, _≤_, _<_}
+use Prim.Native.Nat.{ℕ, zero, suc, _+_, _*_, _-_, _≤_, _<_}
 use native.Mathlib.Nat.{le-refl}
 use native.Mathlib.Omega.{arith}
 use lib.Dec.{T, ltb, ltb→lt}
 use lib.IntN.{ℤ, pos, negsuc, negℤ, subℕ, _+ℤ_, _-ℤ_, _*ℤ_, natAbs}
-use lib.Signed.{quotZ, ltZ}
+use lib.Signed.{ltZ}
 use borrow.Author.Tests.{ltb-true, ltb-false}
 
-pub abs-neg : (z : ℤ) → natAbs (negℤ z) ≡ natAbs z
+abs-neg : (z : ℤ) → natAbs (negℤ z) ≡ natAbs z
 abs-neg (pos zero) = refl
 abs-neg (pos (suc n)) = refl
 abs-neg (negsuc n) = refl
@@ -36,11 +36,6 @@ abs-mul (pos a) (pos b) = refl
 abs-mul (pos a) (negsuc b) = abs-neg (pos (a * suc b))
 abs-mul (negsuc a) (pos b) = abs-neg (pos (suc a * b))
 abs-mul (negsuc a) (negsuc b) = refl
-
--- division by a natural, cut toward zero, and its remainder
-pub abs-quot : (z : ℤ) (d : ℕ) → natAbs (quotZ z (pos d)) ≡ natAbs z / d
-abs-quot (pos a) d = refl
-abs-quot (negsuc a) d = abs-neg (pos (suc a / d))
 
 -- ---- the tests z < -(m + 1), m < z, and neither
 pub below-abs : (z : ℤ) (m : ℕ) → ltZ z (negsuc m) ≡ true → suc m < natAbs z

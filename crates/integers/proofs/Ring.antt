@@ -34,14 +34,11 @@ pub dist-*ℤ : (x y k : ℤ) → (x +ℤ y) *ℤ k ≡ x *ℤ k +ℤ y *ℤ k
 dist-*ℤ x y k = *ℤ-comm (x +ℤ y) k ∙ *ℤ-dist k x y ∙ ap₂ _+ℤ_ (*ℤ-comm k x) (*ℤ-comm k y)
 
 -- what adds to zero with x is the negation of x
-pub neg-unique : (x y : ℤ) → x +ℤ y ≡ pos zero → y ≡ negℤ x
+neg-unique : (x y : ℤ) → x +ℤ y ≡ pos zero → y ≡ negℤ x
 neg-unique x y h = sym (+ℤ-idl y) ∙ ap (λ (t : ℤ). t +ℤ y) (sym (+ℤ-invl x)) ∙ +ℤ-assoc (negℤ x) x y ∙ ap (λ (t : ℤ). negℤ x +ℤ t) h ∙ +ℤ-idr (negℤ x)
 
 pub neg-*ℤ : (x k : ℤ) → negℤ x *ℤ k ≡ negℤ (x *ℤ k)
 neg-*ℤ x k = neg-unique (x *ℤ k) (negℤ x *ℤ k) (sym (dist-*ℤ x (negℤ x) k) ∙ ap (λ (t : ℤ). t *ℤ k) (+ℤ-invr x) ∙ zero-*ℤ k)
-
-pub *ℤ-neg : (k x : ℤ) → k *ℤ negℤ x ≡ negℤ (k *ℤ x)
-*ℤ-neg k x = *ℤ-comm k (negℤ x) ∙ neg-*ℤ x k ∙ ap negℤ (*ℤ-comm x k)
 
 pub *ℤ-assoc : (a b c : ℤ) → (a *ℤ b) *ℤ c ≡ a *ℤ (b *ℤ c)
 *ℤ-assoc a b c = ℤ-ind P base up down a
