@@ -1,4 +1,4 @@
--- Paper 02: "a call without one, or with an empty one, is as before". What side counts decide, without them.
+-- What side counts decide, without them. Paper 02: "a call without one, or with an empty one, is as before"
 use mathlib.Core.Path.{_≡_}
 use mathlib.Core.Bool.{not}
 use mathlib.Core.List.{[]}
