@@ -1,44 +1,34 @@
 -- Paper 01: "Proved: if all corners of a face and all their neighbours lie inside, those neighbours that are not corners have n = 4, and no edge joins two opposite
 -- corners of the face, both directions agree exactly."
-use mathlib.Core.Path.{_≡_, refl, sym, ap, ap₂, _∙_, subst}
-use mathlib.Core.List.{List, [], _∷_}
-use Prim.Native.Nat.{ℕ, zero, suc, _+_, _-_, _*_, _/_, _≤_, _<_}
-use native.Mathlib.Nat.{add-comm, mul-left-comm}
+use mathlib.Core.Path.{_≡_, refl, sym, ap, _∙_, subst}
+use mathlib.Core.List.{List}
+use Prim.Native.Nat.{ℕ, _+_, _*_, _≤_, _<_}
 use native.Mathlib.Omega.{arith}
-use lib.IntN.{ℤ, pos, _*ℤ_}
+use lib.Dec.{lit≤}
+use lib.IntN.{ℤ}
 use lib.ListN.{length}
-use borrow.Author.Tests.{lt-ltb}
 use Rattle.search.specs.Search.{iterate}
-use Rattle.search.proofs.Iterate.{iterate-add}
 use Rattle.search.proofs.Quarters.{below-four}
-use Rattle.integers.proofs.Polynomial.{var, lit, _⊞_, _⊟_, _⊠_, same}
-use Rattle.curve.specs.Weights.{kobbelt, interior}
+use Rattle.curve.specs.Weights.{Weights, kobbelt, scale}
 use Rattle.fractions.specs.Fraction.{Equals, Same}
-use Rattle.fractions.proofs.Laws.{equals-cong, same-of-equals}
-use Rattle.rings.specs.RingWeights.{virtualNumerator}
-use Rattle.rings.proofs.Virtual.{virtual-turned}
-use Rattle.rings.proofs.Ties.{over-840}
-use Rattle.rules.specs.Numerators.{innerEdgeZ}
-use Rattle.rules.proofs.Directions.{Compatible, virtual-compatible, directions-equal}
 use Rattle.topology.specs.Shape.{quads}
 use Rattle.topology.specs.HalfEdge.{from, to, mate}
 use Rattle.topology.specs.Boundary.{boundaryFrom}
 use Rattle.topology.specs.Vertex.{valence, turn, turns, Ring}
 use Rattle.topology.specs.Manifold.{Manifold}
-use Rattle.topology.proofs.Shape.{face-prev, next-not, next-next-not, four-sides}
+use Rattle.topology.proofs.Shape.{face-prev, next-not, next-next-not}
 use Rattle.topology.proofs.Mates.{to-prev, mate-is}
 use Rattle.topology.proofs.Rings.{ring-mates, ring-turns}
 use Rattle.topology.proofs.Faces.{share-one}
-use Rattle.topology.specs.Quads.{oppositeCorner, across, beyond}
 use Rattle.scheme.specs.Points.{edgePoint, direction}
-use Rattle.schemelaws.specs.Numerators.{ringNeighbourZ, ringCornerZ, virtualAtZ, edgeZ, directionZ}
-use Rattle.schemelaws.specs.Agreement.{Inside, SideOf, Leaves, Regular}
-use Rattle.schemelaws.proofs.Vertices.{ring-of, ring-ge, ring-le, neighbours-periodic, corners-periodic}
-use Rattle.schemelaws.proofs.Ties.{across-lt, side₀-lt, side₁-lt, equals-edge, equals-direction}
-use Rattle.schemelaws.proofs.Coordinates.{edge-inner}
-use Rattle.schemelaws.proofs.Virtual.{virtual-inside}
-use Rattle.schemelaws.proofs.Straight.{edge-straight}
-use Rattle.schemelaws.proofs.Beyond.{next-across, across-next, opposite-across, turn-next, last-neighbour, start-straight, two-turns, third-neighbour, end-straight}
+use Rattle.topology.specs.Quads.{across, beyond}
+use Rattle.schemelaws.specs.Numerators.{edgeZ, directionZ}
+use Rattle.schemelaws.specs.Agreement.{Inside, SideOf, Leaves, Regular, FourBeyond}
+use Rattle.schemelaws.proofs.Vertices.{ring-of, ring-ge}
+use Rattle.schemelaws.proofs.Ties.{side₀-lt, side₁-lt, equals-edge, equals-direction}
+use Rattle.schemelaws.proofs.Beyond.{next-across, across-next, opposite-across, two-turns, third-neighbour}
+use Rattle.schemelaws.proofs.FanOfTwo.{equals-one}
+use Rattle.schemelaws.proofs.OneDirection.{equals-same, directions-agree}
 
 module _ (v : ℕ) (l : List ℕ) (ok : Manifold quads v l) (f : ℕ) (reg : Regular l f) where
   -- ---- the sides of the face
@@ -62,9 +52,6 @@ module _ (v : ℕ) (l : List ℕ) (ok : Manifold quads v l) (f : ℕ) (reg : Reg
 
     three : 3 ≤ valence l (from l h)
     three = ring-ge v l ok h (s .lt) (let e = reg .corners h s in omega arith)
-
-    eight : valence l (from l h) ≤ 8
-    eight = ring-le v l ok h (s .lt) (let e = reg .corners h s in omega arith)
 
     inner : mate quads l h < length l
     inner = ring-mates quads v l (ok .oriented) (from l h) h (valence l (from l h)) ring h (s .lt) refl
@@ -166,164 +153,30 @@ module _ (v : ℕ) (l : List ℕ) (ok : Manifold quads v l) (f : ℕ) (reg : Reg
         (λ e. not-after (sym end-is ∙ e))
         (λ e. reg .opposite (quads .next h) (mate quads l q) (next-side h s) beside-end (e ∙ ap (from l) (sym (across-next v l ok h (s .lt))) ∙ sym (opposite-across v l ok (quads .next h))))
 
-    beyond-lt : beyond l h < length l
-    unfolding beyond
-    beyond-lt = across-lt v l ok (mate quads l h) t-lt
-
-    beyond-inner : mate quads l (beyond l h) < length l
-    beyond-inner =
-        let g : ℕ = beyond l h in
-        let r = ring-of v l ok g beyond-lt (let e = start-inside h s in omega arith) in
-        ring-mates quads v l (ok .oriented) (from l g) g (valence l (from l g)) r g beyond-lt refl
-
-    end-at : to quads l (mate quads l (quads .prev (mate quads l h))) ≡ from l (mate quads l (beyond l h))
-    end-at =
-        ap (to quads l) (sym (two-turns v l ok h (s .lt) t-lt)) ∙ third-neighbour v l ok h (s .lt) t-lt two-lt ∙ sym (mate-is quads l (beyond l h) beyond-inner .start)
+    end-at : to quads l (mate quads l (quads .prev (mate quads l h))) ≡ to quads l (beyond l h)
+    end-at = ap (to quads l) (sym (two-turns v l ok h (s .lt) t-lt)) ∙ third-neighbour v l ok h (s .lt) t-lt two-lt
 
     -- it lies inside too, and has four faces
-    end-inside : Inside l (from l (mate quads l (beyond l h)))
+    end-inside : Inside l (to quads l (beyond l h))
     end-inside = subst (λ (q : ℕ). boundaryFrom quads l q ≡ length l) end-at (reg .neighbours (quads .next h) (mate quads l (quads .prev t)) (next-side h s) beside-end)
 
-    end-four : valence l (from l (mate quads l (beyond l h))) ≡ 4
+    end-four : valence l (to quads l (beyond l h)) ≡ 4
     end-four = subst (λ (q : ℕ). valence l q ≡ 4) end-at (reg .four (quads .next h) (mate quads l (quads .prev t)) (next-side h s) beside-end end-off)
 
-  -- ---- the numerators, over 7,257,600
-  module _ (p : ℕ → ℤ) where
-    -- the virtual point on edge j of the ring of the vertex that h leaves
-    abbrev virtualFrom : ℕ → ℕ → ℤ
-    virtualFrom h j = virtualNumerator (valence l (from l h)) (ringNeighbourZ l p h) (ringCornerZ l p h) j
+  pub regular-beyond : FourBeyond l f
+  regular-beyond = record { corners = reg .corners; startInside = start-inside; startFour = start-four; endInside = end-inside; endFour = end-four }
 
-    -- at the end of h, the edge of h is edge 1 of the ring from next h
-    virtual-end : (h : ℕ) → SideOf l f h → virtualAtZ l p (mate quads l h) ≡ virtualFrom (quads .next h) 1
-    unfolding ringNeighbourZ ringCornerZ iterate to
-    virtual-end h s =
-        let g : ℕ = quads .next h in
-        let i = next-side h s in
-        let q : from l (mate quads l h) ≡ from l g = mate-is quads l h (inner h s) .start in
-        let turned : (d : ℕ) → turns quads l d (mate quads l h) ≡ turns quads l (1 + d) g =
-        λ d. ap (turns quads l d) (sym (turn-next v l ok h)) ∙ sym (iterate-add (turn quads l) d 1 g) ∙ ap (λ (j : ℕ). turns quads l j g) (add-comm d 1) in
-        let fl : ringNeighbourZ l p (mate quads l h) ≡ (λ (d : ℕ). ringNeighbourZ l p g (1 + d)) = λ x d. pos 60 *ℤ p (to quads l (turned d x)) in
-        let fk : ringCornerZ l p (mate quads l h) ≡ (λ (d : ℕ). ringCornerZ l p g (1 + d)) = λ x d. pos 60 *ℤ p (oppositeCorner l (turned d x)) in
-        virtual-inside l p (mate quads l h) (ap (boundaryFrom quads l) q ∙ reg .corners g i)
-        ∙ ap (λ (u : ℕ). virtualNumerator (valence l u) (ringNeighbourZ l p (mate quads l h)) (ringCornerZ l p (mate quads l h)) 0) q
-        ∙ ap₂ (λ (x y : ℕ → ℤ). virtualNumerator (valence l (from l g)) x y 0) fl fk
-        ∙ ap (λ (z : ℤ). pos (840 / valence l (from l g)) *ℤ z)
-        (virtual-turned kobbelt (valence l (from l g)) (ringNeighbourZ l p g) (ringCornerZ l p g) (neighbours-periodic l p (from l g) g (valence l (from l g)) (ring g i)) (corners-periodic l p (from l g) g (valence l (from l g)) (ring g i)) 1)
+-- ---- the law, at any weights
+module _ (w : Weights) (near : 0 < w .near) (apart : 0 < scale w) (v : ℕ) (l marks : List ℕ) (ok : Manifold quads v l) (p : ℕ → ℤ) (f : ℕ) (k : f < quads .faces (length l)) (reg : Regular l f) where
+  -- "both directions agree exactly"
+  pub both-directions : Same (direction w l (edgePoint w l marks p) (4 * f)) (direction w l (edgePoint w l marks p) (4 * f + 1))
+  both-directions = directions-agree w near apart v l marks ok p f (regular-beyond v l ok f reg) k
 
-    -- the corner, its neighbours beyond and what lies straight across from there
-    abbrev cornerPoint : ℕ → ℤ
-    cornerPoint h = pos 453600 *ℤ p (from l h)
-
-    abbrev lastNeighbour : ℕ → ℤ
-    lastNeighbour h = pos 7560 *ℤ ringNeighbourZ l p h (valence l (from l h) - 1)
-
-    abbrev thirdNeighbour : ℕ → ℤ
-    thirdNeighbour h = pos 7560 *ℤ ringNeighbourZ l p h 2
-
-    abbrev lastCorner : ℕ → ℤ
-    lastCorner h = pos 7560 *ℤ ringCornerZ l p h (valence l (from l h) - 2)
-
-    abbrev thirdCorner : ℕ → ℤ
-    thirdCorner h = pos 7560 *ℤ ringCornerZ l p h 2
-
-    compatible : (h : ℕ) → SideOf l f h → Compatible kobbelt (virtualFrom h 0) (virtualFrom h 1) (lastNeighbour h) (thirdNeighbour h) (lastCorner h) (thirdCorner h)
-    compatible h s =
-        let m : ℕ = valence l (from l h) in
-        let L : ℕ → ℤ = ringNeighbourZ l p h in
-        let K : ℕ → ℤ = ringCornerZ l p h in
-        let r = ring h s in
-        let o = over-840 m (three h s) (eight h s) in
-        let e : 840 / m * (9 * m) ≡ 7560 = let a : 840 / m * (9 * m) ≡ 9 * (840 / m * m) = mul-left-comm (840 / m) 9 m in omega arith in
-        subst (λ (u : ℕ). Compatible kobbelt (virtualFrom h 0) (virtualFrom h 1) (pos u *ℤ L (m - 1)) (pos u *ℤ L 2) (pos u *ℤ K (m - 2)) (pos u *ℤ K 2)) e
-        (virtual-compatible kobbelt m L K (840 / m) (three h s) (neighbours-periodic l p (from l h) h m r) (corners-periodic l p (from l h) h m r))
-
-    module _ (marks : List ℕ) where
-      side-point : (h e : ℕ) → SideOf l f h → quads .next h ≡ e → edgeZ l marks p h ≡ interior kobbelt (virtualFrom h 0) (cornerPoint h) (cornerPoint e) (virtualFrom e 1)
-      unfolding to
-      side-point h e s q =
-          edge-inner v l marks (ok .oriented) p h (s .lt) (inner h s)
-          ∙ ap₂ (λ (x y : ℤ). innerEdgeZ (p (from l h)) (p (to quads l h)) x y) (virtual-inside l p h (reg .corners h s)) (virtual-end h s)
-          ∙ same (lit (pos 4082400) ⊠ (var 0 ⊞ var 1) ⊟ (var 2 ⊞ var 3)) (lit (pos 9) ⊠ (lit (pos 453600) ⊠ var 0 ⊞ lit (pos 453600) ⊠ var 1) ⊟ lit (pos 1) ⊠ (var 2 ⊞ var 3))
-          (p (from l h) ∷ p (from l (quads .next h)) ∷ virtualFrom h 0 ∷ virtualFrom (quads .next h) 1 ∷ []) refl
-          ∙ ap (λ (g : ℕ). interior kobbelt (virtualFrom h 0) (cornerPoint h) (cornerPoint g) (virtualFrom g 1)) q
-
-      beyond-point : (h e : ℕ) → SideOf l f h → quads .next h ≡ e → edgeZ l marks p (beyond l h) ≡ interior kobbelt (lastCorner h) (lastNeighbour h) (thirdNeighbour e) (thirdCorner e)
-      unfolding ringNeighbourZ ringCornerZ
-      beyond-point h e s q =
-          let m : ℕ = valence l (from l h) in
-          let g : ℕ = beyond l h in
-          let i = next-side h s in
-          let r₀ : Ring quads l (from l g) g 4 = subst (Ring quads l (from l g) g) (start-four h s) (ring-of v l ok g (beyond-lt h s) (let z = start-inside h s in omega arith)) in
-          let r₁ : Ring quads l (from l (mate quads l g)) (mate quads l g) 4 =
-          subst (Ring quads l (from l (mate quads l g)) (mate quads l g)) (end-four h s) (ring-of v l ok (mate quads l g) (beyond-inner h s) (let z = end-inside h s in omega arith)) in
-          let a = ap p (start-straight v l ok h (s .lt) (inner h s) m (ring h s) (three h s) (r₀ .walk .inside 2 (omega arith))) in
-          let x = ap p (sym (last-neighbour v l ok h (s .lt) (inner h s) m (ring h s) (three h s))) in
-          let y = ap p (sym (third-neighbour v l ok h (s .lt) (inner h s) (two-lt h s))) in
-          let b = ap p (end-straight v l ok h (s .lt) (inner h s) (two-lt h s) r₁) in
-          edge-straight v l ok p marks g (beyond-lt h s) (beyond-inner h s) (start-inside h s) (start-four h s) (end-inside h s) (end-four h s)
-          ∙ ap₂ (λ (c d : ℤ). pos 453600 *ℤ interior kobbelt c d (p (to quads l g)) (p (to quads l (turns quads l 2 (mate quads l g))))) a x
-          ∙ ap₂ (λ (c d : ℤ). pos 453600 *ℤ interior kobbelt (p (oppositeCorner l (turns quads l (m - 2) h))) (p (to quads l (turns quads l (m - 1) h))) c d) y b
-          ∙ same (lit (pos 453600) ⊠ (lit (pos 9) ⊠ (var 1 ⊞ var 2) ⊟ lit (pos 1) ⊠ (var 0 ⊞ var 3)))
-          (lit (pos 9) ⊠ (lit (pos 7560) ⊠ (lit (pos 60) ⊠ var 1) ⊞ lit (pos 7560) ⊠ (lit (pos 60) ⊠ var 2)) ⊟ lit (pos 1) ⊠ (lit (pos 7560) ⊠ (lit (pos 60) ⊠ var 0) ⊞ lit (pos 7560) ⊠ (lit (pos 60) ⊠ var 3)))
-          (p (oppositeCorner l (turns quads l (m - 2) h)) ∷ p (to quads l (turns quads l (m - 1) h)) ∷ p (to quads l (turns quads l 2 (quads .next h))) ∷ p (oppositeCorner l (turns quads l 2 (quads .next h))) ∷ []) refl
-          ∙ ap (λ (u : ℕ). interior kobbelt (lastCorner h) (lastNeighbour h) (thirdNeighbour u) (thirdCorner u)) q
-
-      -- where both sides have a neighbour, the direction is the four-point rule
-      direction-two : (h : ℕ) → SideOf l f h → SideOf l f (across h)
-          → directionZ l (edgeZ l marks p) h ≡ interior kobbelt (edgeZ l marks p (beyond l h)) (edgeZ l marks p h) (edgeZ l marks p (across h)) (edgeZ l marks p (beyond l (across h)))
-      unfolding directionZ
-      direction-two h s u = rw (lt-ltb (mate quads l h) (length l) (inner h s), lt-ltb (mate quads l (across h)) (length l) (inner (across h) u))
-
-      -- the corners of the face, from that of h on
-      abbrev cornerOf : ℕ → ℕ → ℕ
-      cornerOf h zero = h
-      cornerOf h (suc zero) = quads .next h
-      cornerOf h (suc (suc zero)) = across h
-      cornerOf h (suc (suc (suc i))) = quads .prev h
-
-      directions-at : (h : ℕ) → SideOf l f h → directionZ l (edgeZ l marks p) h ≡ directionZ l (edgeZ l marks p) (quads .next h)
-      unfolding across
-      directions-at h s₀ =
-          let s₁ = next-side h s₀ in
-          let s₂ : SideOf l f (across h) = next-side (quads .next h) s₁ in
-          let s₃ = prev-side h s₀ in
-          let e₀₁ : quads .next h ≡ quads .next h = refl in
-          let e₁₂ : quads .next (quads .next h) ≡ across h = refl in
-          let e₂₃ : quads .next (across h) ≡ quads .prev h = next-across v l ok h (s₀ .lt) in
-          let e₃₀ : quads .next (quads .prev h) ≡ h = ok .oriented .shape .next-prev h in
-          let E : ℕ → ℤ = edgeZ l marks p in
-          let four : ℤ → ℤ → ℤ → ℤ → ℤ = interior kobbelt in
-          direction-two h s₀ s₂
-          ∙ ap₂ (λ (x y : ℤ). four x y (E (across h)) (E (beyond l (across h)))) (beyond-point h (quads .next h) s₀ e₀₁) (side-point h (quads .next h) s₀ e₀₁)
-          ∙ ap₂ (λ (x y : ℤ). four (interior kobbelt (lastCorner h) (lastNeighbour h) (thirdNeighbour (quads .next h)) (thirdCorner (quads .next h))) (interior kobbelt (virtualFrom h 0) (cornerPoint h) (cornerPoint (quads .next h)) (virtualFrom (quads .next h) 1)) x y)
-          (side-point (across h) (quads .prev h) s₂ e₂₃) (beyond-point (across h) (quads .prev h) s₂ e₂₃)
-          ∙ directions-equal kobbelt (λ i. cornerPoint (cornerOf h i)) (λ i. virtualFrom (cornerOf h i) 0) (λ i. virtualFrom (cornerOf h i) 1) (λ i. lastNeighbour (cornerOf h i)) (λ i. thirdNeighbour (cornerOf h i))
-          (λ i. lastCorner (cornerOf h i)) (λ i. thirdCorner (cornerOf h i)) (laws s₀ s₁ s₂ s₃)
-          ∙ sym (direction-two (quads .next h) s₁ (subst (SideOf l f) (sym (across-next v l ok h (s₀ .lt))) s₃)
-          ∙ ap (λ (g : ℕ). four (E (beyond l (quads .next h))) (E (quads .next h)) (E g) (E (beyond l g))) (across-next v l ok h (s₀ .lt))
-          ∙ ap₂ (λ (x y : ℤ). four x y (E (quads .prev h)) (E (beyond l (quads .prev h)))) (beyond-point (quads .next h) (across h) s₁ e₁₂) (side-point (quads .next h) (across h) s₁ e₁₂)
-          ∙ ap₂ (λ (x y : ℤ). four (interior kobbelt (lastCorner (quads .next h)) (lastNeighbour (quads .next h)) (thirdNeighbour (across h)) (thirdCorner (across h))) (interior kobbelt (virtualFrom (quads .next h) 0) (cornerPoint (quads .next h)) (cornerPoint (across h)) (virtualFrom (across h) 1)) x y)
-          (side-point (quads .prev h) h s₃ e₃₀) (beyond-point (quads .prev h) h s₃ e₃₀))
-        where
-          laws : SideOf l f h → SideOf l f (quads .next h) → SideOf l f (across h) → SideOf l f (quads .prev h) → (i : ℕ) → i < 4
-              → Compatible kobbelt (virtualFrom (cornerOf h i) 0) (virtualFrom (cornerOf h i) 1) (lastNeighbour (cornerOf h i)) (thirdNeighbour (cornerOf h i)) (lastCorner (cornerOf h i)) (thirdCorner (cornerOf h i))
-          laws a b c d zero z = compatible h a
-          laws a b c d (suc zero) z = compatible (quads .next h) b
-          laws a b c d (suc (suc zero)) z = compatible (across h) c
-          laws a b c d (suc (suc (suc i))) z = compatible (quads .prev h) d
-
--- ---- the law
+-- ---- and over 116,121,600 at paper 01's
 module _ (v : ℕ) (l marks : List ℕ) (ok : Manifold quads v l) (p : ℕ → ℤ) (f : ℕ) (k : f < quads .faces (length l)) (reg : Regular l f) where
   pub directions-same : directionZ l (edgeZ l marks p) (4 * f) ≡ directionZ l (edgeZ l marks p) (4 * f + 1)
   directions-same =
-      directions-at v l ok f reg p marks (4 * f) (record { lt = side₀-lt l f k; face = first-side }) ∙ ap (directionZ l (edgeZ l marks p)) (four-sides f .next₀)
-    where
-      first-side : quads .face (4 * f) ≡ f
-      first-side = unfold quads in omega arith
-
-  -- "both directions agree exactly"
-  pub both-directions : Same (direction kobbelt l (edgePoint kobbelt l marks p) (4 * f)) (direction kobbelt l (edgePoint kobbelt l marks p) (4 * f + 1))
-  both-directions =
       let tied : (h : ℕ) → h < length l → Equals (direction kobbelt l (edgePoint kobbelt l marks p) h) (directionZ l (edgeZ l marks p) h) (16 * 7257600) =
       equals-direction v l ok (edgePoint kobbelt l marks p) (edgeZ l marks p) 7257600 (equals-edge v l marks ok p) in
-      same-of-equals (omega arith) (equals-cong directions-same refl (tied (4 * f) (side₀-lt l f k))) (tied (4 * f + 1) (side₁-lt l f k))
+      equals-one (directionZ l (edgeZ l marks p) (4 * f)) (directionZ l (edgeZ l marks p) (4 * f + 1)) (tied (4 * f) (side₀-lt l f k))
+      (equals-same (both-directions kobbelt (lit≤ tt) (lit≤ tt) v l marks ok p f k reg) (tied (4 * f + 1) (side₁-lt l f k)))

@@ -13,3 +13,8 @@ pub mod Virtual
 pub mod Straight
 pub mod Beyond
 pub mod Directions
+pub mod FanOfTwo
+pub mod Made
+pub mod OneDirection
+pub mod OrdinarySizes
+pub mod OrdinaryFaces

@@ -1,0 +1,381 @@
+-- Both directions of a face agree exactly where the edges beyond its sides end in rings of four and its corners lie inside, at any weights and any valences of the
+-- corners. So one direction is enough where all eight edges of both are inner and have ordinary ends: then no end is a fan. Nothing is asked of edges that join two
+-- opposite corners. Assumes a manifold net.
+use mathlib.Core.Path.{_≡_, refl, sym, ap, ap₂, _∙_, subst}
+use mathlib.Core.Bool.{true}
+use mathlib.Core.List.{List, [], _∷_}
+use Prim.Native.Nat.{ℕ, zero, suc, _+_, _-_, _*_, _%_, _≤_, _<_}
+use native.Mathlib.Nat.{add-comm, mul-one, mul-pos}
+use native.Mathlib.Omega.{arith}
+use lib.Dec.{lit≤}
+use lib.IntN.{ℤ, pos, _+ℤ_, _*ℤ_}
+use lib.ListN.{length}
+use borrow.Author.Tests.{lt-ltb, le-ltb}
+use Rattle.search.specs.Search.{iterate}
+use Rattle.search.proofs.Quarters.{below-four}
+use Rattle.search.proofs.Iterate.{iterate-add}
+use Rattle.integers.proofs.Polynomial.{var, lit, _⊞_, _⊠_, same}
+use Rattle.rounding.specs.Rounding.{round}
+use Rattle.curve.specs.Weights.{Weights, scale, interior}
+use Rattle.fractions.specs.Fraction.{Fraction, whole, Equals, Same}
+use Rattle.fractions.proofs.Laws.{toWhole-equals, equals-whole, equals-cong, cancel}
+use Rattle.rings.specs.Ring.{Periodic}
+use Rattle.rings.specs.RingWeights.{virtualZ}
+use Rattle.rings.proofs.Virtual.{virtual-turned}
+use Rattle.rings.proofs.Ties.{equals-virtual}
+use Rattle.rules.specs.Rules.{midpoint, innerEdge, directionTwo}
+use Rattle.rules.proofs.Ties.{equals-interior}
+use Rattle.rules.proofs.Directions.{Corner, both-directions}
+use Rattle.topology.specs.Shape.{quads}
+use Rattle.topology.specs.HalfEdge.{from, to, mate, edgeCount}
+use Rattle.topology.specs.Boundary.{boundaryFrom}
+use Rattle.topology.specs.Vertex.{valence, turn, turns, Ring}
+use Rattle.topology.specs.Manifold.{Manifold}
+use Rattle.topology.proofs.Shape.{face-prev, four-sides}
+use Rattle.topology.proofs.Mates.{mate-is}
+use Rattle.topology.proofs.Turn.{turn-from}
+use Rattle.topology.proofs.Rings.{ring-mates, ring-turns}
+use Rattle.topology.proofs.Boundary.{boundaryFrom-none}
+use Rattle.scheme.specs.Rings.{ringVirtual, virtualAt}
+use Rattle.topology.specs.Quads.{oppositeCorner, across, beyond}
+use Rattle.scheme.specs.Points.{edgeValue, edgePoint, direction, inner, fourInner, bothDirections, faceRule, faceValue, facePoint}
+use Rattle.scheme.specs.Step.{refinedCoordinate}
+use Rattle.schemelaws.specs.Agreement.{SideOf, FourBeyond, EightOrdinary}
+use Rattle.schemelaws.specs.Ordinary.{ordinaryEdge}
+use Rattle.schemelaws.proofs.Vertices.{ring-of, ring-ge}
+use Rattle.schemelaws.proofs.Ties.{inner-rule, across-lt, side₀-lt, side₁-lt}
+use Rattle.schemelaws.proofs.Coordinates.{refined-face-at}
+use Rattle.schemelaws.proofs.Beyond.{prev-across, next-across, across-next, last-neighbour, start-straight, third-neighbour, end-straight}
+use Rattle.schemelaws.proofs.FanOfTwo.{virtual-ring-of-four, edge-ordinary}
+use Rattle.schemelaws.proofs.Made.{turn-ring}
+
+module _ (v : ℕ) (l : List ℕ) (ok : Manifold quads v l) (f : ℕ) where
+  module _ (h : ℕ) (s : SideOf l f h) where
+    next-side : SideOf l f (quads .next h)
+    next-side = record { lt = ok .oriented .shape .next-lt h (s .lt); face = ok .oriented .shape .face-next h ∙ s .face }
+
+    prev-side : SideOf l f (quads .prev h)
+    prev-side = record { lt = ok .oriented .shape .prev-lt h (s .lt); face = face-prev quads (length l) (ok .oriented .shape) h ∙ s .face }
+
+-- ---- fractions of one value
+same-cong : {a b a′ b′ : Fraction} → a ≡ a′ → b ≡ b′ → Same a b → Same a′ b′
+same-cong {a} {b} {a′} {b′} x y r = subst (λ (c : Fraction). Same c b′) x (subst (λ (c : Fraction). Same a c) y r)
+
+-- the mean of two that are the same
+same-mean : {x y : Fraction} → Same x y → Same (midpoint x y) x
+unfolding midpoint
+same-mean {x} {y} r = record {
+  left = mul-pos (mul-pos (r .left) (r .right)) (lit≤ tt);
+  right = r .left;
+  same =
+      ap (λ (t : ℤ). (x .num *ℤ pos (y .den) +ℤ t) *ℤ pos (x .den)) (sym (r .same))
+      ∙ same ((var 0 ⊠ var 1 ⊞ var 0 ⊠ var 1) ⊠ var 2) (var 0 ⊠ (var 2 ⊠ var 1 ⊠ lit (pos 2))) (x .num ∷ pos (y .den) ∷ pos (x .den) ∷ []) refl;
+}
+
+pub equals-same : {x y : Fraction} {z : ℤ} {d : ℕ} → Same x y → Equals y z d → Equals x z d
+equals-same {x} {y} {z} {d} r i = record {
+  some = r .left;
+  value = cancel (y .den) (x .num *ℤ pos d) (z *ℤ pos (x .den)) (r .right)
+      (same (var 0 ⊠ (var 1 ⊠ var 2)) ((var 1 ⊠ var 0) ⊠ var 2) (pos (y .den) ∷ x .num ∷ pos d ∷ []) refl
+      ∙ ap (λ (t : ℤ). t *ℤ pos d) (r .same)
+      ∙ same ((var 0 ⊠ var 1) ⊠ var 2) ((var 0 ⊠ var 2) ⊠ var 1) (y .num ∷ pos (x .den) ∷ pos d ∷ []) refl
+      ∙ ap (λ (t : ℤ). t *ℤ pos (x .den)) (i .value)
+      ∙ same ((var 0 ⊠ var 1) ⊠ var 2) (var 1 ⊠ (var 0 ⊠ var 2)) (z ∷ pos (y .den) ∷ pos (x .den) ∷ []) refl);
+}
+
+-- ---- the virtual point at an inner vertex, from its ring over 1
+module _ (w : Weights) (near : 0 < w .near) (v : ℕ) (l : List ℕ) (ok : Manifold quads v l) (p : ℕ → ℤ) where
+  abbrev neighbour : ℕ → ℕ → ℤ
+  neighbour h i = p (to quads l (turns quads l i h))
+
+  abbrev opposite : ℕ → ℕ → ℤ
+  opposite h i = p (oppositeCorner l (turns quads l i h))
+
+  module _ (h : ℕ) (k : h < length l) (b : boundaryFrom quads l (from l h) ≡ length l) where
+    abbrev n : ℕ
+    n = valence l (from l h)
+
+    ring-at-h : Ring quads l (from l h) h n
+    ring-at-h = ring-of v l ok h k (omega arith)
+
+    three : 3 ≤ n
+    three = ring-ge v l ok h k (omega arith)
+
+    again : (i : ℕ) → turns quads l (i + n) h ≡ turns quads l i h
+    again i = iterate-add (turn quads l) i n h ∙ ap (turns quads l i) (ring-at-h .back)
+
+    neighbours-again : Periodic n (neighbour h)
+    neighbours-again = record { again = λ i. ap (λ (g : ℕ). p (to quads l g)) (again i) }
+
+    opposites-again : Periodic n (opposite h)
+    opposites-again = record { again = λ i. ap (λ (g : ℕ). p (oppositeCorner l g)) (again i) }
+
+    virtual-here : Equals (virtualAt w l p h) (virtualZ w n (neighbour h) (opposite h) 0) (w .near * n)
+    unfolding virtualAt ringVirtual
+    virtual-here =
+        let t = le-ltb (boundaryFrom quads l (from l h)) (length l) (omega arith) in
+        let c = three in
+        rw t
+        (equals-cong refl (mul-one (w .near * n))
+        (equals-virtual w near n (λ (i : ℕ). whole (neighbour h i)) (λ (i : ℕ). whole (opposite h i)) (neighbour h) (opposite h) 1 (omega arith) (λ i. equals-whole (neighbour h i)) (λ i. equals-whole (opposite h i)) 0))
+
+  -- on the next edge of the ring
+  virtual-turn : (h : ℕ) (k : h < length l) (b : boundaryFrom quads l (from l h) ≡ length l)
+      → Equals (virtualAt w l p (turn quads l h)) (virtualZ w (valence l (from l h)) (neighbour h) (opposite h) 1) (w .near * valence l (from l h))
+  unfolding iterate
+  virtual-turn h k b =
+      let g : ℕ = turn quads l h in
+      let N : ℕ = valence l (from l h) in
+      let g-lt : turn quads l h < length l = ring-turns quads v l (ok .oriented) (from l h) h N (ring-at-h h k b) h k refl in
+      let e : from l g ≡ from l h = turn-from quads v l (ok .oriented) h g-lt in
+      let turned : (d : ℕ) → turns quads l d g ≡ turns quads l (1 + d) h = λ d. sym (iterate-add (turn quads l) d 1 h) ∙ ap (λ (j : ℕ). turns quads l j h) (add-comm d 1) in
+      let fl : neighbour g ≡ (λ (d : ℕ). neighbour h (1 + d)) = λ x d. p (to quads l (turned d x)) in
+      let fk : opposite g ≡ (λ (d : ℕ). opposite h (1 + d)) = λ x d. p (oppositeCorner l (turned d x)) in
+      equals-cong
+      (ap (λ (u : ℕ). virtualZ w (valence l u) (neighbour g) (opposite g) 0) e ∙ ap₂ (λ (x y : ℕ → ℤ). virtualZ w N x y 0) fl fk
+      ∙ virtual-turned w N (neighbour h) (opposite h) (neighbours-again h k b) (opposites-again h k b) 1)
+      (ap (λ (u : ℕ). w .near * valence l u) e)
+      (virtual-here g g-lt (ap (boundaryFrom quads l) e ∙ b))
+
+-- ---- the law, at a side
+module _ (w : Weights) (near : 0 < w .near) (apart : 0 < scale w) (v : ℕ) (l marks : List ℕ) (ok : Manifold quads v l) (p : ℕ → ℤ) (f : ℕ) (reg : FourBeyond l f) where
+  module _ (h : ℕ) (s : SideOf l f h) where
+    ring : Ring quads l (from l h) h (valence l (from l h))
+    ring = ring-at-h w near v l ok p h (s .lt) (reg .corners h s)
+
+    mated : mate quads l h < length l
+    mated = ring-mates quads v l (ok .oriented) (from l h) h (valence l (from l h)) ring h (s .lt) refl
+
+    beyond-lt : beyond l h < length l
+    unfolding beyond
+    beyond-lt = across-lt v l ok (mate quads l h) mated
+
+    start-ring : Ring quads l (from l (beyond l h)) (beyond l h) 4
+    start-ring = subst (Ring quads l (from l (beyond l h)) (beyond l h)) (reg .startFour h s) (ring-of v l ok (beyond l h) beyond-lt (let e = reg .startInside h s in omega arith))
+
+    beyond-inner : mate quads l (beyond l h) < length l
+    beyond-inner = ring-mates quads v l (ok .oriented) (from l (beyond l h)) (beyond l h) 4 start-ring (beyond l h) beyond-lt refl
+
+    end-at : from l (mate quads l (beyond l h)) ≡ to quads l (beyond l h)
+    end-at = mate-is quads l (beyond l h) beyond-inner .start
+
+    end-inside : boundaryFrom quads l (from l (mate quads l (beyond l h))) ≡ length l
+    end-inside = ap (boundaryFrom quads l) end-at ∙ reg .endInside h s
+
+    end-four : valence l (from l (mate quads l (beyond l h))) ≡ 4
+    end-four = ap (valence l) end-at ∙ reg .endFour h s
+
+    end-ring : Ring quads l (from l (mate quads l (beyond l h))) (mate quads l (beyond l h)) 4
+    end-ring = subst (Ring quads l (from l (mate quads l (beyond l h))) (mate quads l (beyond l h))) end-four (ring-of v l ok (mate quads l (beyond l h)) beyond-inner (let e = end-inside in omega arith))
+
+  two-lt : (h : ℕ) → SideOf l f h → turns quads l 2 (quads .next h) < length l
+  two-lt h s =
+      let i = next-side v l ok f h s in
+      let c = three w near v l ok p (quads .next h) (i .lt) (reg .corners (quads .next h) i) in
+      ring (quads .next h) i .walk .inside 2 (omega arith)
+
+  -- the corner that h leaves, with the edges beyond h and beyond the side before it
+  corner : (h : ℕ) → SideOf l f h → Corner w (valence l (from l h)) (neighbour w near v l ok p h) (opposite w near v l ok p h)
+      (virtualAt w l p h) (virtualAt w l p (mate quads l (quads .prev h))) (virtualAt w l p (beyond l h)) (virtualAt w l p (mate quads l (beyond l (quads .prev h))))
+  unfolding turn
+  corner h s =
+      let b = reg .corners h s in
+      let g : ℕ = quads .prev h in
+      let t = prev-side v l ok f h s in
+      let q : quads .next g ≡ h = ok .oriented .shape .next-prev h in
+      let N : ℕ = valence l (from l h) in
+      record {
+        valence = three w near v l ok p h (s .lt) b;
+        neighbours = neighbours-again w near v l ok p h (s .lt) b;
+        opposites = opposites-again w near v l ok p h (s .lt) b;
+        next = virtual-here w near v l ok p h (s .lt) b;
+        last = virtual-turn w near v l ok p h (s .lt) b;
+        acrossNext = equals-cong (ap p (start-straight v l ok h (s .lt) (mated h s) N (ring h s) (three w near v l ok p h (s .lt) b) (start-ring h s .walk .inside 2 (lit≤ tt)))) refl
+            (virtual-ring-of-four w near v l ok p (beyond l h) (beyond-lt h s) (reg .startInside h s) (reg .startFour h s));
+        acrossLast = equals-cong (ap p (end-straight v l ok g (t .lt) (mated g t) (two-lt g t) (end-ring g t)) ∙ ap (λ (u : ℕ). p (oppositeCorner l (turns quads l 2 u))) q) refl
+            (virtual-ring-of-four w near v l ok p (mate quads l (beyond l g)) (beyond-inner g t) (end-inside g t) (end-four g t));
+      }
+
+  -- ---- the edges
+  edge-is : (h : ℕ) → mate quads l h < length l → edgePoint w l marks p h ≡ innerEdge w (whole (p (from l h))) (whole (p (to quads l h))) (virtualAt w l p h) (virtualAt w l p (mate quads l h))
+  unfolding edgePoint edgeValue
+  edge-is h m = rw (inner-rule l marks h m)
+
+  -- the side from the corner of h to that of e, and the edge beyond it
+  abbrev sideFrom : ℕ → ℕ → Fraction
+  sideFrom h e = innerEdge w (whole (p (from l h))) (whole (p (from l e))) (virtualAt w l p h) (virtualAt w l p (mate quads l (quads .prev e)))
+
+  abbrev beyondFrom : ℕ → ℕ → Fraction
+  beyondFrom h e =
+      innerEdge w (whole (neighbour w near v l ok p h (valence l (from l h) - 1))) (whole (neighbour w near v l ok p e 2)) (virtualAt w l p (beyond l h)) (virtualAt w l p (mate quads l (beyond l (quads .prev e))))
+
+  module _ (h e : ℕ) (s : SideOf l f h) (q : quads .next h ≡ e) where
+    before : h ≡ quads .prev e
+    before = sym (ok .oriented .shape .prev-next h) ∙ ap (quads .prev) q
+
+    side-is : edgePoint w l marks p h ≡ sideFrom h e
+    unfolding to
+    side-is = edge-is h (mated h s) ∙ ap₂ (λ (x y : ℕ). innerEdge w (whole (p (from l h))) (whole (p (from l x))) (virtualAt w l p h) (virtualAt w l p (mate quads l y))) q before
+
+    beyond-is : edgePoint w l marks p (beyond l h) ≡ beyondFrom h e
+    beyond-is =
+        let N : ℕ = valence l (from l h) in
+        let x = sym (last-neighbour v l ok h (s .lt) (mated h s) N (ring h s) (three w near v l ok p h (s .lt) (reg .corners h s))) in
+        let y = sym (third-neighbour v l ok h (s .lt) (mated h s) (two-lt h s)) ∙ ap (λ (u : ℕ). to quads l (turns quads l 2 u)) q in
+        edge-is (beyond l h) (beyond-inner h s) ∙ (λ i. innerEdge w (whole (p (x i))) (whole (p (y i))) (virtualAt w l p (beyond l h)) (virtualAt w l p (mate quads l (beyond l (before i)))))
+
+  abbrev E : ℕ → Fraction
+  E = edgePoint w l marks p
+
+  pub direction-two : (h : ℕ) → SideOf l f h → SideOf l f (across h) → direction w l E h ≡ directionTwo w (E (beyond l h)) (E h) (E (across h)) (E (beyond l (across h)))
+  unfolding direction
+  direction-two h s u = rw (lt-ltb (mate quads l h) (length l) (mated h s), lt-ltb (mate quads l (across h)) (length l) (mated (across h) u))
+
+  -- the corners of the face, from that of h on
+  abbrev cornerOf : ℕ → ℕ → ℕ
+  cornerOf h zero = h
+  cornerOf h (suc zero) = quads .next h
+  cornerOf h (suc (suc zero)) = across h
+  cornerOf h (suc (suc (suc i))) = quads .prev h
+
+  four : {a b c d a′ b′ c′ d′ : Fraction} → a ≡ a′ → b ≡ b′ → c ≡ c′ → d ≡ d′ → directionTwo w a b c d ≡ directionTwo w a′ b′ c′ d′
+  four x y z u = λ i. directionTwo w (x i) (y i) (z i) (u i)
+
+  agree-at : (h : ℕ) → SideOf l f h → Same (direction w l E h) (direction w l E (quads .next h))
+  unfolding across
+  agree-at h s₀ =
+      let s₁ = next-side v l ok f h s₀ in
+      let s₂ : SideOf l f (across h) = next-side v l ok f (quads .next h) s₁ in
+      let s₃ = prev-side v l ok f h s₀ in
+      let e₂₃ : quads .next (across h) ≡ quads .prev h = next-across v l ok h (s₀ .lt) in
+      let e₃₀ : quads .next (quads .prev h) ≡ h = ok .oriented .shape .next-prev h in
+      let e₁₃ : across (quads .next h) ≡ quads .prev h = across-next v l ok h (s₀ .lt) in
+      let x : direction w l E h ≡ directionTwo w (beyondFrom h (quads .next h)) (sideFrom h (quads .next h)) (sideFrom (across h) (quads .prev h)) (beyondFrom (across h) (quads .prev h)) =
+      direction-two h s₀ s₂ ∙ four (beyond-is h (quads .next h) s₀ refl) (side-is h (quads .next h) s₀ refl) (side-is (across h) (quads .prev h) s₂ e₂₃) (beyond-is (across h) (quads .prev h) s₂ e₂₃) in
+      let y : direction w l E (quads .next h) ≡ directionTwo w (beyondFrom (quads .next h) (across h)) (sideFrom (quads .next h) (across h)) (sideFrom (quads .prev h) h) (beyondFrom (quads .prev h) h) =
+      direction-two (quads .next h) s₁ (subst (SideOf l f) (sym e₁₃) s₃)
+      ∙ four (beyond-is (quads .next h) (across h) s₁ refl) (side-is (quads .next h) (across h) s₁ refl) (ap E e₁₃ ∙ side-is (quads .prev h) h s₃ e₃₀) (ap (λ (g : ℕ). E (beyond l g)) e₁₃ ∙ beyond-is (quads .prev h) h s₃ e₃₀) in
+      same-cong (sym x) (sym y)
+      (both-directions w (λ i. p (from l (cornerOf h i))) (λ i. valence l (from l (cornerOf h i))) (λ i. neighbour w near v l ok p (cornerOf h i)) (λ i. opposite w near v l ok p (cornerOf h i))
+      (λ i. virtualAt w l p (cornerOf h i)) (λ i. virtualAt w l p (mate quads l (quads .prev (cornerOf h i)))) (λ i. virtualAt w l p (beyond l (cornerOf h i))) (λ i. virtualAt w l p (mate quads l (beyond l (quads .prev (cornerOf h i)))))
+      near apart (corners s₀ s₁ s₂ s₃))
+    where
+      corners : SideOf l f h → SideOf l f (quads .next h) → SideOf l f (across h) → SideOf l f (quads .prev h) → (i : ℕ) → i < 4
+          → Corner w (valence l (from l (cornerOf h i))) (neighbour w near v l ok p (cornerOf h i)) (opposite w near v l ok p (cornerOf h i))
+          (virtualAt w l p (cornerOf h i)) (virtualAt w l p (mate quads l (quads .prev (cornerOf h i)))) (virtualAt w l p (beyond l (cornerOf h i))) (virtualAt w l p (mate quads l (beyond l (quads .prev (cornerOf h i)))))
+      corners a b c d zero z = corner h a
+      corners a b c d (suc zero) z = corner (quads .next h) b
+      corners a b c d (suc (suc zero)) z = corner (across h) c
+      corners a b c d (suc (suc (suc i))) z = corner (quads .prev h) d
+
+  -- ---- at the face
+  module _ (k : f < quads .faces (length l)) where
+    side₀ : SideOf l f (4 * f)
+    side₀ = record { lt = side₀-lt l f k; face = unfold quads in omega arith }
+
+    side₁ : SideOf l f (4 * f + 1)
+    side₁ = record { lt = side₁-lt l f k; face = unfold quads in omega arith }
+
+    across-side : (h : ℕ) → SideOf l f h → SideOf l f (across h)
+    unfolding across
+    across-side h s = next-side v l ok f (quads .next h) (next-side v l ok f h s)
+
+    pub directions-agree : Same (direction w l E (4 * f)) (direction w l E (4 * f + 1))
+    directions-agree = same-cong refl (ap (direction w l E) (four-sides f .next₀)) (agree-at (4 * f) side₀)
+
+    four-inner : (h : ℕ) → SideOf l f h → fourInner l h ≡ true
+    unfolding fourInner inner
+    four-inner h s =
+        let u = across-side h s in
+        rw (lt-ltb (mate quads l h) (length l) (mated h s), lt-ltb (mate quads l (across h)) (length l) (mated (across h) u), lt-ltb (mate quads l (beyond l h)) (length l) (beyond-inner h s), lt-ltb (mate quads l (beyond l (across h))) (length l) (beyond-inner (across h) u))
+
+    both-count : faceRule l f ≡ bothDirections
+    unfolding faceRule
+    both-count = rw (four-inner (4 * f) side₀, four-inner (4 * f + 1) side₁)
+
+    -- the face point is its first direction
+    pub face-direction : Same (facePoint w l marks p f) (direction w l E (4 * f))
+    unfolding facePoint faceValue
+    face-direction = rw both-count (same-mean directions-agree)
+
+-- ---- the sides of a face are its four: what the code tests at each of them holds at all
+pub by-sides : (l : List ℕ) (f : ℕ) (P : ℕ → Type 0) → P (4 * f) → P (4 * f + 1) → P (4 * f + 2) → P (4 * f + 3) → (g : ℕ) → SideOf l f g → P g
+unfolding quads
+by-sides l f P p₀ p₁ p₂ p₃ g s =
+    let q = s .face in
+    let r : g % 4 < 4 = omega arith in
+    let e : 4 * f + g % 4 ≡ g = omega arith in
+    let z : 4 * f ≡ 4 * f + 0 = omega arith in
+    subst P e (below-four (λ (i : ℕ). P (4 * f + i)) (subst P z p₀) p₁ p₂ p₃ (g % 4) r)
+
+-- ---- from ordinary ends
+module _ (v : ℕ) (l : List ℕ) (ok : Manifold quads v l) (f : ℕ) (all : EightOrdinary l f) where
+  module _ (g : ℕ) (s : SideOf l f g) where
+    t-lt : mate quads l g < length l
+    t-lt = all .inner g s
+
+    -- no corner is a fan, since both its sides are inner
+    corner-four : (boundaryFrom quads l (from l g) ≡ length l) × (valence l (from l g) ≡ 4)
+    unfolding turn
+    corner-four = turn-ring v l ok g (s .lt) t-lt (all .corner g s) (all .inner (quads .prev g) (prev-side v l ok f g s))
+
+  -- nor is an end of an edge beyond, since the sides of the neighbour leave corners
+  start-four : (g : ℕ) → SideOf l f g → (boundaryFrom quads l (from l (beyond l g)) ≡ length l) × (valence l (from l (beyond l g)) ≡ 4)
+  unfolding turn to beyond
+  start-four g s =
+      let t : ℕ = mate quads l g in
+      let e : from l (quads .next t) ≡ from l g = mate-is quads l g (t-lt g s) .end in
+      let m : mate quads l (quads .next t) < length l = boundaryFrom-none quads l (from l g) (corner-four g s .0) (quads .next t) (ok .oriented .shape .next-lt t (t-lt g s)) e in
+      turn-ring v l ok (across t) (across-lt v l ok t (t-lt g s)) (all .beyondInner g s) (all .start g s) (subst (λ (u : ℕ). mate quads l u < length l) (sym (prev-across v l ok t)) m)
+
+  end-four′ : (g : ℕ) → SideOf l f g → (boundaryFrom quads l (to quads l (beyond l g)) ≡ length l) × (valence l (to quads l (beyond l g)) ≡ 4)
+  unfolding turn to beyond
+  end-four′ g s =
+      let t : ℕ = mate quads l g in
+      let i = next-side v l ok f g s in
+      let y : ℕ = quads .next (across t) in
+      let e : from l t ≡ from l (quads .next g) = mate-is quads l g (t-lt g s) .start in
+      let b : boundaryFrom quads l (from l t) ≡ length l = ap (boundaryFrom quads l) e ∙ corner-four (quads .next g) i .0 in
+      let r = ring-of v l ok t (t-lt g s) (omega arith) in
+      let m : mate quads l (quads .prev t) < length l = ring-turns quads v l (ok .oriented) (from l t) t (valence l (from l t)) r t (t-lt g s) refl in
+      turn-ring v l ok y (ok .oriented .shape .next-lt (across t) (across-lt v l ok t (t-lt g s))) (subst (λ (u : ℕ). mate quads l u < length l) (sym (next-across v l ok t (t-lt g s))) m) (all .end g s)
+      (subst (λ (u : ℕ). mate quads l u < length l) (sym (ok .oriented .shape .prev-next (across t))) (all .beyondInner g s))
+
+  pub eight-beyond : FourBeyond l f
+  eight-beyond = record {
+    corners = λ g s. corner-four g s .0;
+    startInside = λ g s. start-four g s .0;
+    startFour = λ g s. start-four g s .1;
+    endInside = λ g s. end-four′ g s .0;
+    endFour = λ g s. end-four′ g s .1;
+  }
+
+-- ---- what the code computes: one direction of numerators over the scale, rounded over its square
+module _ (w : Weights) (near : 0 < w .near) (apart : 0 < scale w) (v : ℕ) (l marks : List ℕ) (ok : Manifold quads v l) (p : ℕ → ℤ) (f : ℕ) (k : f < quads .faces (length l)) (all : EightOrdinary l f) where
+  abbrev O : ℕ → ℤ
+  O = ordinaryEdge w l marks p
+
+  abbrev pub oneDirection : ℤ
+  oneDirection = interior w (O (beyond l (4 * f))) (O (4 * f)) (O (across (4 * f))) (O (beyond l (across (4 * f))))
+
+  tied-side : (g : ℕ) → SideOf l f g → Equals (edgePoint w l marks p g) (O g) (scale w)
+  unfolding to
+  tied-side g s = edge-ordinary w near apart v l marks ok p g (s .lt) (λ m. (all .corner g s, all .corner (quads .next g) (next-side v l ok f g s)))
+
+  tied-beyond : (g : ℕ) → SideOf l f g → Equals (edgePoint w l marks p (beyond l g)) (O (beyond l g)) (scale w)
+  unfolding beyond
+  tied-beyond g s = edge-ordinary w near apart v l marks ok p (across (mate quads l g)) (across-lt v l ok (mate quads l g) (all .inner g s)) (λ m. (all .start g s, all .end g s))
+
+  pub direction-ordinary : Equals (direction w l (edgePoint w l marks p) (4 * f)) oneDirection (scale w * scale w)
+  direction-ordinary =
+      let reg = eight-beyond v l ok f all in
+      let s = side₀ w near apart v l marks ok p f reg k in
+      let u = across-side w near apart v l marks ok p f reg k (4 * f) s in
+      subst (λ (x : Fraction). Equals x oneDirection (scale w * scale w)) (sym (direction-two w near apart v l marks ok p f reg (4 * f) s u))
+      (equals-interior w apart (tied-beyond (4 * f) s) (tied-side (4 * f) s) (tied-side (across (4 * f)) u) (tied-beyond (across (4 * f)) u))
+
+  pub face-ordinary : Equals (facePoint w l marks p f) oneDirection (scale w * scale w)
+  face-ordinary = equals-same (face-direction w near apart v l marks ok p f (eight-beyond v l ok f all) k) direction-ordinary
+
+  pub face-rounded : refinedCoordinate w v l marks p (v + edgeCount quads l + f) ≡ round oneDirection (scale w * scale w)
+  face-rounded = refined-face-at w v l marks p f ∙ toWhole-equals (mul-pos apart apart) face-ordinary
