@@ -18,3 +18,4 @@ pub mod Made
 pub mod OneDirection
 pub mod OrdinarySizes
 pub mod OrdinaryFaces
+pub mod Plain
