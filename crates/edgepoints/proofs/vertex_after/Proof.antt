@@ -4,8 +4,8 @@ use borrow.Author.Needs.{needs}
 use Rattle.topology.specs.Shape.{quads}
 use Rattle.topology.specs.HalfEdge.{to}
 use Rattle.topology.proofs.Boundary.{along-on}
-use Rattle.boundarypoints.proofs.vertex_after.Statement.{statement}
-use Rattle.boundarypoints.proofs.vertex_after.Tie as tie
+use Rattle.edgepoints.proofs.vertex_after.Statement.{statement}
+use Rattle.edgepoints.proofs.vertex_after.Tie as tie
 
 along-side-requires : tie.Need-along-side-requires
 along-side-requires c κs = search needs

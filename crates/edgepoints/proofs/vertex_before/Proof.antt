@@ -4,8 +4,8 @@ use borrow.Author.Needs.{needs}
 use Rattle.topology.specs.Shape.{quads}
 use Rattle.topology.specs.HalfEdge.{from}
 use Rattle.topology.proofs.Boundary.{back-on}
-use Rattle.boundarypoints.proofs.vertex_before.Statement.{statement}
-use Rattle.boundarypoints.proofs.vertex_before.Tie as tie
+use Rattle.edgepoints.proofs.vertex_before.Statement.{statement}
+use Rattle.edgepoints.proofs.vertex_before.Tie as tie
 
 back-side-requires : tie.Need-back-side-requires
 back-side-requires c κs = search needs

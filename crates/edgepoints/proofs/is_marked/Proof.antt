@@ -2,8 +2,8 @@
 use mathlib.Core.Path.{refl}
 use borrow.Author.Needs.{needs}
 use Rattle.nets.specs.Net.{marked}
-use Rattle.boundarypoints.proofs.is_marked.Statement.{statement}
-use Rattle.boundarypoints.proofs.is_marked.Tie as tie
+use Rattle.edgepoints.proofs.is_marked.Statement.{statement}
+use Rattle.edgepoints.proofs.is_marked.Tie as tie
 
 shared-slice-read-result : tie.Need-shared-slice-read-result
 shared-slice-read-result c = search needs
