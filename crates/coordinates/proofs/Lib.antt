@@ -1,2 +1,3 @@
 pub mod Packed
 pub mod Values
+pub mod Points

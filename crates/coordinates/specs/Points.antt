@@ -1,9 +1,10 @@
 -- The caller's tables of points and marks during a round.
 use mathlib.Core.Path.{_≡_}
-use mathlib.Core.List.{List}
-use Prim.Native.Nat.{ℕ, _+_, _*_, _<_}
+use mathlib.Core.List.{List, _++_}
+use Prim.Native.Nat.{ℕ, _+_, _*_, _/_, _%_, _<_}
 use lib.IntN.{ℤ}
-use lib.ListN.{length, set}
+use lib.ListN.{length, set, drop}
+use Rattle.lists.specs.Tabulate.{tabulate}
 use Rattle.integers.specs.Within.{Within}
 use Rattle.topology.specs.HalfEdge.{from}
 use Rattle.rings.specs.Scales.{coordinateRange}
@@ -30,3 +31,8 @@ pub record OnAxes (f : ℕ → ℤ) (x y z : ℤ) : Type 0 where
 -- t with the coordinates of vertex i
 unfoldable pub putPoint : List ℤ → ℕ → ℤ → ℤ → ℤ → List ℤ
 putPoint t i x y z = set (set (set t (3 * i) x) (3 * i + 1) y) (3 * i + 2) z
+
+-- t is o with the first i points over its front: coordinate a of point j is G a j
+pub record Written (G : ℕ → ℕ → ℤ) (o t : List ℤ) (i : ℕ) : Type 0 where
+  pub kept : length t ≡ length o
+  pub points : t ≡ tabulate (3 * i) (λ (k : ℕ). G (k % 3) (k / 3)) ++ drop (3 * i) o
