@@ -116,6 +116,11 @@ module _ (S : Shape) (v : ℕ) (l : List ℕ) (ok : Oriented S v l) where
   unfolding edge edgeCount lead
   edge-lt h k = count-under (firstMet S l) (lead h) (length l) (lead-lt h k) (lead-met h k)
 
+  -- a half-edge before h has one of the edges that are met before h
+  pub edge-below : (g h : ℕ) → g < length l → g < h → edge S l g < count (firstMet S l) h
+  unfolding edge lead
+  edge-below g h k b = count-under (firstMet S l) (lead g) h (omega arith) (lead-met g k)
+
   pub edge-mate : (h : ℕ) → h < length l → mate S l h < length l → edge S l (mate S l h) ≡ edge S l h
   unfolding edge
   edge-mate h k m =
