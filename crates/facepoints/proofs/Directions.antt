@@ -22,10 +22,11 @@ use Rattle.curve.proofs.Kobbelt.{tame}
 use Rattle.curve.proofs.Mirror.{end-mirrored, single-mirrored, interior-turned, mirror-size}
 use Rattle.rings.specs.Scales.{edgeRange, faceScale}
 use Rattle.topology.specs.Quads.{across}
+use Rattle.coordinates.specs.Points.{putPoint}
 use Rattle.coordinates.specs.Entry.{boundaryFlag, entryOf, exactOf}
 use Rattle.facepoints.specs.declared.FaceRule.{FaceRule}
 use Rattle.facepoints.specs.declared.FaceRule.the-variants.{FirstAlone, SecondAlone, BothInner, NeitherInner}
-use Rattle.facepoints.specs.Faces.{FaceTable, beyondOf, farOf, directionOf, innerTwiceOf, fourInnerOf, faceRuleOf, faceValueOf}
+use Rattle.facepoints.specs.Faces.{FaceTable, beyondOf, farOf, directionOf, innerTwiceOf, fourInnerOf, faceRuleOf, faceValueOf, faceCoordinate}
 use Rattle.facepoints.proofs.Reading.{across-lt}
 
 -- the interior rule with mirrored points is that of an end edge or of a single edge, so it grows no more
@@ -132,3 +133,10 @@ module _ (n : ℕ) (w : List ℕ) where
   pub rule-is : (f : ℕ) (b c : Bool) → fourInnerOf n w (4 * f) ≡ b → fourInnerOf n w (4 * f + 1) ≡ c → faceRuleOf n w f ≡ cond b (cond c BothInner FirstAlone) (cond c SecondAlone NeitherInner)
   unfolding faceRuleOf
   rule-is f b c p q = rw (p, q) refl
+
+-- ---- the three coordinates of a face
+pub put-by-rule : (n : ℕ) (w : List ℕ) (f : ℕ) (r : FaceRule) (t t′ : List ℤ) (x y z : ℤ) → r ≡ faceRuleOf n w f → x ≡ round (faceValueOf n w 0 f r) (faceScale kobbelt)
+    → y ≡ round (faceValueOf n w 1 f r) (faceScale kobbelt) → z ≡ round (faceValueOf n w 2 f r) (faceScale kobbelt) → t′ ≡ putPoint t f x y z
+    → t′ ≡ putPoint t f (faceCoordinate n w 0 f) (faceCoordinate n w 1 f) (faceCoordinate n w 2 f)
+unfolding faceCoordinate
+put-by-rule n w f r t t′ x y z e a b c d = cc

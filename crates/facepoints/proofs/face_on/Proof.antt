@@ -1,65 +1,78 @@
+-- `face_on` meets its contract, by cases. Assumes nothing.
 use borrow.Author.Needs.{needs}
+use mathlib.Core.Path.{sym, ap, _∙_}
+use mir.Syntax.{w32}
+use mir.Val.{SFits}
+use mir.Facts.{toZ-ofZ}
+use Rattle.rounding.specs.Rounding.{round}
+use Rattle.curve.specs.Weights.{kobbelt}
+use Rattle.rings.specs.Scales.{faceScale}
+use Rattle.facepoints.specs.declared.FaceRule.{FaceRule}
+use Rattle.facepoints.specs.Faces.{faceValueOf}
 use Rattle.facepoints.proofs.face_on.Statement.{statement}
 use Rattle.facepoints.proofs.face_on.Tie as tie
-use Rattle.facepoints.proofs.face_on.Reads as reads
-use Rattle.facepoints.proofs.face_on.Lts as lts
-use Rattle.facepoints.proofs.mean_on.Reads as mean-on-reads
 
--- src/lib.rt:164:13
 mul-g : tie.Need-mul-g
 mul-g c = search needs
 
--- src/lib.rt:165:13
 add-h : tie.Need-add-h
 add-h c = search needs
 
--- src/lib.rt:167:33
 enum-told : tie.Need-enum-told
 enum-told c = search needs
 
--- src/lib.rt:167:33
 mean-on-requires : tie.Need-mean-on-requires
 mean-on-requires c κs = search needs
 
--- src/lib.rt:168:34
 enum-told-2 : tie.Need-enum-told-2
 enum-told-2 c = search needs
 
--- src/lib.rt:168:34
 mean-on-requires-2 : tie.Need-mean-on-requires-2
 mean-on-requires-2 c κs = search needs
 
--- src/lib.rt:169:32
 enum-told-3 : tie.Need-enum-told-3
 enum-told-3 c = search needs
 
--- src/lib.rt:169:32
 mean-on-requires-3 : tie.Need-mean-on-requires-3
 mean-on-requires-3 c κs = search needs
 
--- src/lib.rt:170:35
 enum-told-4 : tie.Need-enum-told-4
 enum-told-4 c = search needs
 
--- src/lib.rt:170:35
 mean-on-requires-4 : tie.Need-mean-on-requires-4
 mean-on-requires-4 c κs = search needs
 
--- src/lib.rt:160:1
 returns : tie.Need-returns
-returns c = ?
+unfolding faceValueOf
+returns c =
+    let s = c .before .before .before .before in
+    let f : SFits w32 (c .mean-on .result) = search needs in
+    let e = ap (λ (r : FaceRule). round (faceValueOf (s .args .n) (s .args .work .now) (s .args .a) (s .args .f) r) (faceScale kobbelt)) (c .before .enum-told .given .1) in
+    simp toZ-ofZ (c .mean-on .ensures ∙ sym e)
 
--- src/lib.rt:160:1
 returns-2 : tie.Need-returns-2
-returns-2 c = ?
+unfolding faceValueOf
+returns-2 c =
+    let s = c .before .before .before .before in
+    let f : SFits w32 (c .mean-on2 .result) = search needs in
+    let e = ap (λ (r : FaceRule). round (faceValueOf (s .args .n) (s .args .work .now) (s .args .a) (s .args .f) r) (faceScale kobbelt)) (c .before .enum-told2 .given .1) in
+    simp toZ-ofZ (c .mean-on2 .ensures ∙ sym e)
 
--- src/lib.rt:160:1
 returns-3 : tie.Need-returns-3
-returns-3 c = ?
+unfolding faceValueOf
+returns-3 c =
+    let s = c .before .before .before .before in
+    let f : SFits w32 (c .mean-on3 .result) = search needs in
+    let e = ap (λ (r : FaceRule). round (faceValueOf (s .args .n) (s .args .work .now) (s .args .a) (s .args .f) r) (faceScale kobbelt)) (c .before .enum-told3 .given .1) in
+    simp toZ-ofZ (c .mean-on3 .ensures ∙ sym e)
 
--- src/lib.rt:160:1
 returns-4 : tie.Need-returns-4
-returns-4 c = ?
+unfolding faceValueOf
+returns-4 c =
+    let s = c .before .before .before .before in
+    let f : SFits w32 (c .mean-on4 .result) = search needs in
+    let e = ap (λ (r : FaceRule). round (faceValueOf (s .args .n) (s .args .work .now) (s .args .a) (s .args .f) r) (faceScale kobbelt)) (c .before .enum-told4 .given .1) in
+    simp toZ-ofZ (c .mean-on4 .ensures ∙ sym e)
 
 pub face-on-spec : {M : Type 1} → statement M
 face-on-spec =
