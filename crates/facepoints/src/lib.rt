@@ -263,9 +263,7 @@ pub fn face_points(
     v: usize,
     edges: usize,
 )
-    requires { ⌜ FaceTable n (now work) ⌝ }
-    requires { ⌜ FacesIn n v edges (now faces) (now work) ⌝ }
-    requires { ⌜ 3 * (n / 4) ≤ length (now out) ⌝ }
+    requires { ⌜ FaceTable n (now work) × FacesIn n v edges (now faces) (now work) × (3 * (n / 4) ≤ length (now out)) ⌝ }
     ensures { λ _. ⌜ now (out .exit) ≡ filled (faceCoordinates n (now (work .entry))) (now (out .entry)) ⌝ }
     ensures { λ _. ⌜ now (faces .exit) ≡ filled (refined quads v (take n (now (faces .entry)))) (now (faces .entry)) ⌝ }
 {

@@ -1,51 +1,77 @@
+-- `face_points` meets its contract: the points of the faces from f on, and their refined corners, are written. Assumes nothing.
+use native.Mathlib.Omega.{arith}
+use Prim.Native.Nat.{ℕ, _-_, _/_, _%_}
+use lib.ListN.{take}
+use Rattle.topology.specs.Shape.{quads}
+use Rattle.refinedfaces.specs.Refined.{corner}
+use Rattle.tables.proofs.Written.{Refining, refining-none, refining-next}
+use Rattle.roundfaces.proofs.Faces.{face-in, corners-as, corners-all}
+use Rattle.facepoints.specs.Faces.{faceCoordinate, faceCoordinates}
+use Rattle.facepoints.proofs.Pass.{Writing, writing-none, writing-next, writing-all}
 use Rattle.facepoints.proofs.face_points.Statement.{statement}
 use Rattle.facepoints.proofs.face_points.Tie as tie
-use Rattle.facepoints.proofs.face_points.Reads as reads
-use Rattle.facepoints.proofs.face_points.Lts as lts
-use Rattle.facepoints.proofs.put_face.Reads as put-face-reads
-use Rattle.roundfaces.proofs.refine_face.Reads as refine-face-reads
 
 abbrev Inv-loop : tie.InvT-loop
-Inv-loop out₀ faces₀ work n v edges f₀ out faces f = ?
+Inv-loop out₀ faces₀ work n v edges f₀ out faces f =
+    Writing (faceCoordinate n work) (n / 4) out₀ out f × Refining n (λ (k : ℕ). corner quads v (take n faces₀) (k / 4) (k % 4)) faces₀ faces f
 
 abbrev μ-loop : tie.MeasureT-loop
-μ-loop out₀ faces₀ work n v edges f₀ out faces f = ?
+μ-loop out₀ faces₀ work n v edges f₀ out faces f = f
 
--- src/lib.rt:273:5
 loop-holds : tie.Need-loop-holds Inv-loop μ-loop
-loop-holds c = ?
+loop-holds c = let s = c .before .before in (writing-none (faceCoordinate (s .args .n) (s .args .work .now)) (s .args .n / 4) (s .args .out .now), refining-none _ _ _ (s .pre .1 .sides .fours))
 
--- src/lib.rt:274:9
 sub-f : tie.Need-sub-f Inv-loop μ-loop
-sub-f c = ?
+sub-f c = omega arith
 
--- src/lib.rt:275:9
 put-face-requires : tie.Need-put-face-requires Inv-loop μ-loop
-put-face-requires c κs = ?
+put-face-requires c κs =
+    let head = c .before .before .loop in
+    let s = c .before .before .before .before .before in
+    let i = head .inv .0 in
+    let b = i .le in
+    let k = i .kept in
+    let r = s .pre .2 in
+    let t = c .before .loop-test .taken in
+    (s .pre .0, omega arith, omega arith)
 
--- src/lib.rt:276:9
 refine-face-requires : tie.Need-refine-face-requires Inv-loop μ-loop
-refine-face-requires c κs = ?
+refine-face-requires c κs =
+    let head = c .before .before .before .before .before .loop in
+    let s = c .before .before .before .before .before .before .before .before in
+    let t = c .before .before .before .before .loop-test .taken in
+    let b = head .inv .1 .le in
+    face-in (s .args .n) (s .args .v) (s .args .edges) (s .args .faces .now) (s .args .work .now) (s .pre .1) (head .faces) (head .f - 1) (head .inv .1 .kept) (omega arith)
 
--- src/lib.rt:273:5
 loop-less : tie.Need-loop-less Inv-loop μ-loop
-loop-less c = ?
+loop-less c = let t = c .before .before .before .before .before .before .before .loop-test .taken in omega arith
 
--- src/lib.rt:273:5
 loop-again : tie.Need-loop-again Inv-loop μ-loop
-loop-again c = ?
+loop-again c =
+    let head = c .before .before .before .before .before .before .before .before .loop in
+    let s = c .before .before .before .before .before .before .before .before .before .before .before in
+    let t = c .before .before .before .before .before .before .before .loop-test .taken in
+    let call = c .before .before .refine-face in (
+      writing-next (faceCoordinate (s .args .n) (s .args .work .now)) (s .args .n / 4) (s .args .out .now) (head .out) _ (head .f) t (s .pre .2) (head .inv .0) (c .before .before .before .before .before .put-face .ensures),
+      refining-next (s .args .n) _ (s .args .faces .now) (head .faces) _ (head .f) t (head .inv .1) (call .kept .0)
+          (corners-as (s .args .n) (s .args .v) (s .args .edges) (s .args .faces .now) (s .args .work .now) (s .pre .1) (head .faces) _ (head .f) t (head .inv .1) (call .ensures)),
+    )
 
--- src/lib.rt:258:1
 same-length : tie.Need-same-length Inv-loop μ-loop
-same-length c = ?
+same-length c = c .before .loop .inv .0 .kept
 
--- src/lib.rt:258:1
 same-length-2 : tie.Need-same-length-2 Inv-loop μ-loop
-same-length-2 c = ?
+same-length-2 c = c .before .loop .inv .1 .kept
 
--- src/lib.rt:258:1
 returns : tie.Need-returns Inv-loop μ-loop
-returns c = ?
+unfolding faceCoordinates
+returns c =
+    let head = c .before .loop in
+    let s = c .before .before .before .before in
+    let z = c .loop-test .left in (
+      writing-all (faceCoordinate (s .args .n) (s .args .work .now)) (s .args .n / 4) (s .args .out .now) (head .out) (head .f) z (s .pre .2) (head .inv .0),
+      corners-all (s .args .n) (s .args .v) (s .args .edges) (s .args .faces .now) (s .args .work .now) (s .pre .1) (head .faces) (head .f) z (head .inv .1),
+    )
 
 pub face-points-spec : {M : Type 1} → statement M
 face-points-spec =
