@@ -1,1 +1,4 @@
-pub mod Values
+pub mod Reading
+pub mod Directions
+pub mod Plain
+pub mod Pass

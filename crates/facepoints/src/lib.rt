@@ -1,138 +1,276 @@
-// Face points, from the exact edge points at the places of a stencil.
+// The points of all faces of a round, from the mates, the entries of the edges and their exact points in the work table.
 ghost use mathlib.Core.Path.{_≡_};
-ghost use Prim.Native.Nat.{ℕ, _*_, _≤_};
-ghost use lib.IntN.{natAbs, _+ℤ_};
+ghost use Prim.Native.Nat.{_+_, _*_, _/_, _^_, _≤_, _<_};
+ghost use lib.IntN.{pos, natAbs, _+ℤ_};
+ghost use lib.ListN.{length, getD, take};
 ghost use Rattle.rounding.specs.Rounding.{round};
-ghost use Rattle.curvepoints.specs.Exact.{OnAxes};
-ghost use Rattle.stencils.specs.Stencils.{stencilZ, faceStencilZ, OnStencil, OnFaceStencil};
-ghost use Rattle.facepoints.specs.Stored.{storedAt, Readable, ReadablePoint, DirectionRange, interiorStored, endStored, singleStored};
-use stencils::FaceStencil;
-use stencils::Stencil;
+ghost use Rattle.curve.specs.Weights.{kobbelt};
+ghost use Rattle.rings.specs.Scales.{faceScale, edgeRange};
+ghost use Rattle.topology.specs.Shape.{quads};
+ghost use Rattle.refinedfaces.specs.Refined.{refined};
+ghost use Rattle.tables.specs.Tables.{filled};
+ghost use Rattle.coordinates.specs.Points.{putPoint};
+ghost use Rattle.coordinates.specs.Entry.{entryOf, unitOf, exactAt};
+ghost use Rattle.roundfaces.specs.Faces.{FacesIn};
+ghost use Rattle.facepoints.specs.Faces.{FaceTable, beyondOf, farOf, directionOf, innerTwiceOf, fourInnerOf, faceRuleOf, faceValueOf, faceCoordinate, faceCoordinates};
+ghost use Rattle.facepoints.specs.Reading.{Readable, PlainAt, PlainEdge, plainDirection, plainCoordinate};
 
-// A rounded point.
-pub struct Point {
-    pub x: i32,
-    pub y: i32,
-    pub z: i32,
+// The entries of inner edges whose points are kept over 16 are smaller, and so is every edge number.
+const WIDE: usize = 536870912;
+
+// The entries of inner edges are smaller.
+const BOUNDARY: usize = 1073741824;
+
+// What makes a numerator over 16 one over 7,257,600.
+const VIRTUAL_SCALE: i64 = 453600;
+
+// Half the denominator of a face point.
+const HALF_FACE_SCALE: u64 = 116121600;
+
+// Which directions of a face have four inner edges.
+pub enum FaceRule {
+    FirstAlone,
+    SecondAlone,
+    BothInner,
+    NeitherInner,
 }
 
-// Coordinate a of the exact point at place i.
-fn stored(work: &[u32], i: usize, a: usize) -> i64
-    requires { ⌜ Readable (now work) a i ⌝ }
-    ensures { λ r. ⌜ r ≡ storedAt (now (work .entry)) a i ⌝ }
+// The entry of the edge of h.
+fn entry(work: &[u32], n: usize, h: usize) -> usize
+    requires { ⌜ FaceTable n (now work) × (h < n) ⌝ }
+    ensures { λ r. ⌜ (r ≡ entryOf n (now (work .entry)) h) × (r < 2 ^ 32) ⌝ }
 {
-    packing::load(work, i + 2 * a)
+    work[n + h] as usize
 }
 
-// A direction between two neighbours.
-fn interior_value(work: &[u32], p: usize, q: usize, r: usize, s: usize, a: usize) -> i64
-    requires { ⌜ Readable (now work) a p × Readable (now work) a q × Readable (now work) a r × Readable (now work) a s ⌝ }
-    ensures { λ z. ⌜ z ≡ interiorStored (now (work .entry)) p q r s a ⌝ }
+// The mate of h, or n for none.
+fn mate(work: &[u32], n: usize, h: usize) -> usize
+    requires { ⌜ FaceTable n (now work) × (h < n) ⌝ }
+    ensures { λ r. ⌜ r ≡ getD (now (work .entry)) h 0 ⌝ }
 {
-    rules::direction_two(
-        stored(work, p, a),
-        stored(work, q, a),
-        stored(work, r, a),
-        stored(work, s, a),
-    )
+    work[h] as usize
 }
 
-// A direction beside one neighbour: p is on the boundary.
-fn end_value(work: &[u32], p: usize, q: usize, r: usize, a: usize) -> i64
-    requires { ⌜ Readable (now work) a p × Readable (now work) a q × Readable (now work) a r ⌝ }
-    ensures { λ z. ⌜ z ≡ endStored (now (work .entry)) p q r a ⌝ }
+// The entry of the edge beyond the side h.
+fn beyond(work: &[u32], n: usize, h: usize) -> usize
+    requires { ⌜ FaceTable n (now work) × (h < n) × (getD (now work) h 0 < n) ⌝ }
+    ensures { λ r. ⌜ (r ≡ entryOf n (now (work .entry)) (beyondOf (now (work .entry)) h)) × (r < 2 ^ 32) ⌝ }
 {
-    rules::direction_one(stored(work, p, a), stored(work, q, a), stored(work, r, a))
+    entry(work, n, halfedges::across_side(mate(work, n, h)))
 }
 
-// A direction beside no neighbour.
-fn single_value(work: &[u32], p: usize, q: usize, a: usize) -> i64
-    requires { ⌜ Readable (now work) a p × Readable (now work) a q ⌝ }
-    ensures { λ z. ⌜ z ≡ singleStored (now (work .entry)) p q a ⌝ }
+// What makes a stored numerator of the entry t one over 7,257,600.
+fn unit(t: usize) -> i64
+    ensures { λ r. ⌜ r ≡ pos (unitOf t) ⌝ }
 {
-    rules::direction_none(stored(work, p, a), stored(work, q, a))
-}
-
-// The same on all axes: a direction over 16 times 7,257,600.
-fn interior_point(work: &[u32], p: usize, q: usize, r: usize, s: usize) -> curvepoints::Exact
-    requires { ⌜ ReadablePoint (now work) p × ReadablePoint (now work) q × ReadablePoint (now work) r × ReadablePoint (now work) s ⌝ }
-    ensures { λ e. ⌜ OnAxes (interiorStored (now (work .entry)) p q r s) (e .x) (e .y) (e .z) ⌝ }
-{
-    curvepoints::Exact {
-        x: interior_value(work, p, q, r, s, 0),
-        y: interior_value(work, p, q, r, s, 1),
-        z: interior_value(work, p, q, r, s, 2),
+    if t < WIDE {
+        return VIRTUAL_SCALE;
     }
-}
-
-fn end_point(work: &[u32], p: usize, q: usize, r: usize) -> curvepoints::Exact
-    requires { ⌜ ReadablePoint (now work) p × ReadablePoint (now work) q × ReadablePoint (now work) r ⌝ }
-    ensures { λ e. ⌜ OnAxes (endStored (now (work .entry)) p q r) (e .x) (e .y) (e .z) ⌝ }
-{
-    curvepoints::Exact {
-        x: end_value(work, p, q, r, 0),
-        y: end_value(work, p, q, r, 1),
-        z: end_value(work, p, q, r, 2),
+    if t < BOUNDARY {
+        return 1;
     }
+    VIRTUAL_SCALE
 }
 
-fn single_point(work: &[u32], p: usize, q: usize) -> curvepoints::Exact
-    requires { ⌜ ReadablePoint (now work) p × ReadablePoint (now work) q ⌝ }
-    ensures { λ e. ⌜ OnAxes (singleStored (now (work .entry)) p q) (e .x) (e .y) (e .z) ⌝ }
+// Coordinate a of the exact point of the entry t, over 7,257,600.
+fn exact_on(work: &[u32], n: usize, t: usize, a: usize) -> i64
+    requires { ⌜ Readable n (now work) a t ⌝ }
+    ensures { λ r. ⌜ r ≡ exactAt n (now (work .entry)) a t ⌝ }
 {
-    curvepoints::Exact {
-        x: single_value(work, p, q, 0),
-        y: single_value(work, p, q, 1),
-        z: single_value(work, p, q, 2),
+    let z = coordinates::load(work, 2 * n + 6 * (t % WIDE) + 2 * a);
+    unit(t) * z
+}
+
+// Coordinate a beyond the side h: x is that of h, y that of the opposite side.
+fn far_on(work: &[u32], n: usize, h: usize, x: i64, y: i64, a: usize) -> i64
+    requires { ⌜ FaceTable n (now work) × (h < n) × (a < 3) × (natAbs x ≤ edgeRange kobbelt) × (natAbs y ≤ edgeRange kobbelt) ⌝ }
+    ensures { λ r. ⌜ r ≡ farOf n (now (work .entry)) a h x y ⌝ }
+{
+    if mate(work, n, h) < n {
+        return exact_on(work, n, beyond(work, n, h), a);
     }
+    curve::mirrored(x, y)
 }
 
-// A direction, by its kind.
-fn stencil_point(work: &[u32], s: Stencil) -> curvepoints::Exact
-    requires { ⌜ OnStencil (ReadablePoint (now work)) s ⌝ }
-    ensures { λ e. ⌜ OnAxes (λ (a : ℕ). stencilZ (storedAt (now (work .entry)) a) s) (e .x) (e .y) (e .z) ⌝ }
+// Coordinate a of the direction of the side h.
+fn direction_on(work: &[u32], n: usize, h: usize, a: usize) -> i64
+    requires { ⌜ FaceTable n (now work) × (h < n) × (a < 3) ⌝ }
+    ensures { λ r. ⌜ r ≡ directionOf n (now (work .entry)) a h ⌝ }
 {
-    match s {
-        Stencil::Interior(p, q, r, t) => interior_point(work, p, q, r, t),
-        Stencil::End(p, q, r) => end_point(work, p, q, r),
-        Stencil::Single(p, q) => single_point(work, p, q),
+    let g = halfedges::across_side(h);
+    let x = exact_on(work, n, entry(work, n, h), a);
+    let y = exact_on(work, n, entry(work, n, g), a);
+    let u = far_on(work, n, h, x, y, a);
+    let v = far_on(work, n, g, y, x, a);
+    curve::four_point(u, x, y, v)
+}
+
+// Whether h has a mate and the edge beyond it is an inner edge.
+fn inner_twice(work: &[u32], n: usize, h: usize) -> bool
+    requires { ⌜ FaceTable n (now work) × (h < n) ⌝ }
+    ensures { λ r. ⌜ r ≡ innerTwiceOf n (now (work .entry)) h ⌝ }
+{
+    if mate(work, n, h) < n {
+        return beyond(work, n, h) < BOUNDARY;
     }
+    false
 }
 
-// A coordinate of the mean of two directions, rounded.
-fn rounded_mean(u: i64, v: i64) -> i32
-    requires { ⌜ (natAbs u ≤ 20 * (13305600 * 67108864)) × (natAbs v ≤ 20 * (13305600 * 67108864)) ⌝ }
-    ensures { λ r. ⌜ r ≡ round (u +ℤ v) 232243200 ⌝ }
+// Whether the direction of the side h has four inner edges.
+fn four_inner(work: &[u32], n: usize, h: usize) -> bool
+    requires { ⌜ FaceTable n (now work) × (h < n) ⌝ }
+    ensures { λ r. ⌜ r ≡ fourInnerOf n (now (work .entry)) h ⌝ }
 {
-    rounding::round_div(u + v, 116121600) as i32
-}
-
-// The mean of two directions, rounded.
-fn mean_point(u: curvepoints::Exact, v: curvepoints::Exact) -> Point
-    requires { ⌜ DirectionRange (u .x) (u .y) (u .z) × DirectionRange (v .x) (v .y) (v .z) ⌝ }
-    ensures { λ r. ⌜ (r .x ≡ round (u .x +ℤ v .x) 232243200) × (r .y ≡ round (u .y +ℤ v .y) 232243200) × (r .z ≡ round (u .z +ℤ v .z) 232243200) ⌝ }
-{
-    Point {
-        x: rounded_mean(u.x, v.x),
-        y: rounded_mean(u.y, v.y),
-        z: rounded_mean(u.z, v.z),
+    if inner_twice(work, n, h) {
+        return inner_twice(work, n, halfedges::across_side(h));
     }
+    false
 }
 
-// A face point, rounded: one direction alone is its mean with itself.
-pub fn face_point(work: &[u32], s: FaceStencil) -> Point
-    requires { ⌜ OnFaceStencil (ReadablePoint (now work)) s ⌝ }
-    ensures { λ r. ⌜ OnAxes (λ (a : ℕ). round (faceStencilZ (storedAt (now (work .entry)) a) s) 232243200) (r .x) (r .y) (r .z) ⌝ }
+// The rule of face f.
+fn face_rule(work: &[u32], n: usize, f: usize) -> FaceRule
+    requires { ⌜ FaceTable n (now work) × (4 * f < n) ⌝ }
+    ensures { λ r. ⌜ r ≡ faceRuleOf n (now (work .entry)) f ⌝ }
 {
-    match s {
-        FaceStencil::Alone(d) => {
-            let u = stencil_point(work, d);
-            mean_point(u, u)
+    let h = 4 * f;
+    let second = four_inner(work, n, h + 1);
+    if four_inner(work, n, h) {
+        if second {
+            return FaceRule::BothInner;
         }
-        FaceStencil::Both(d, e) => {
-            let u = stencil_point(work, d);
-            let v = stencil_point(work, e);
-            mean_point(u, v)
+        return FaceRule::FirstAlone;
+    }
+    if second {
+        return FaceRule::SecondAlone;
+    }
+    FaceRule::NeitherInner
+}
+
+// Coordinate a of the mean of the directions of the sides g and h, rounded.
+fn mean_on(work: &[u32], n: usize, g: usize, h: usize, a: usize) -> i32
+    requires { ⌜ FaceTable n (now work) × (g < n) × (h < n) × (a < 3) ⌝ }
+    ensures { λ r. ⌜ r ≡ round (directionOf n (now (work .entry)) a g +ℤ directionOf n (now (work .entry)) a h) (faceScale kobbelt) ⌝ }
+{
+    let u = direction_on(work, n, g, a);
+    let v = direction_on(work, n, h, a);
+    rounding::round_div(u + v, HALF_FACE_SCALE) as i32
+}
+
+// Coordinate a of the point of face f by a rule: a direction that counts alone is its mean with itself.
+fn face_on(work: &[u32], n: usize, f: usize, rule: FaceRule, a: usize) -> i32
+    requires { ⌜ FaceTable n (now work) × (4 * f < n) × (a < 3) ⌝ }
+    ensures { λ r. ⌜ r ≡ round (faceValueOf n (now (work .entry)) a f rule) (faceScale kobbelt) ⌝ }
+{
+    let g = 4 * f;
+    let h = g + 1;
+    match rule {
+        FaceRule::FirstAlone => mean_on(work, n, g, g, a),
+        FaceRule::SecondAlone => mean_on(work, n, h, h, a),
+        FaceRule::BothInner => mean_on(work, n, g, h, a),
+        FaceRule::NeitherInner => mean_on(work, n, g, h, a),
+    }
+}
+
+// Writes the point of face f by its rule.
+fn general_face(out: &mut [i32], work: &[u32], n: usize, f: usize)
+    requires { ⌜ FaceTable n (now work) × (4 * f < n) × (3 * f + 3 ≤ length (now out)) ⌝ }
+    ensures { λ _. ⌜ now (out .exit) ≡ putPoint (now (out .entry)) f (faceCoordinate n (now (work .entry)) 0 f) (faceCoordinate n (now (work .entry)) 1 f) (faceCoordinate n (now (work .entry)) 2 f) ⌝ }
+{
+    let rule = face_rule(work, n, f);
+    let x = face_on(work, n, f, rule, 0);
+    let y = face_on(work, n, f, rule, 1);
+    let z = face_on(work, n, f, rule, 2);
+    coordinates::put_point(&mut *out, f, x, y, z);
+}
+
+// One direction by the numerators over 16 at the places p, q, r, s, rounded.
+fn plain_on(work: &[u32], p: usize, q: usize, r: usize, s: usize) -> i32
+    requires { ⌜ PlainAt (now work) p × PlainAt (now work) q × PlainAt (now work) r × PlainAt (now work) s ⌝ }
+    ensures { λ z. ⌜ z ≡ plainDirection (now (work .entry)) p q r s ⌝ }
+{
+    let z = curve::four_point(
+        coordinates::load(work, p),
+        coordinates::load(work, q),
+        coordinates::load(work, r),
+        coordinates::load(work, s),
+    );
+    rounding::round_shift(z, 128, 8) as i32
+}
+
+// Writes the point of face f by one direction alone, that of the plain edges p, q, r, s.
+fn plain_face(
+    out: &mut [i32],
+    work: &[u32],
+    n: usize,
+    p: usize,
+    q: usize,
+    r: usize,
+    s: usize,
+    f: usize,
+)
+    requires { ⌜ PlainEdge n (now work) p × PlainEdge n (now work) q × PlainEdge n (now work) r × PlainEdge n (now work) s ⌝ }
+    requires { ⌜ 3 * f + 3 ≤ length (now out) ⌝ }
+    ensures { λ _. ⌜ now (out .exit) ≡ putPoint (now (out .entry)) f (plainCoordinate n (now (work .entry)) 0 p q r s) (plainCoordinate n (now (work .entry)) 1 p q r s) (plainCoordinate n (now (work .entry)) 2 p q r s) ⌝ }
+{
+    let b = 2 * n;
+    let x = plain_on(work, b + 6 * p, b + 6 * q, b + 6 * r, b + 6 * s);
+    let y = plain_on(
+        work,
+        b + 6 * p + 2,
+        b + 6 * q + 2,
+        b + 6 * r + 2,
+        b + 6 * s + 2,
+    );
+    let z = plain_on(
+        work,
+        b + 6 * p + 4,
+        b + 6 * q + 4,
+        b + 6 * r + 4,
+        b + 6 * s + 4,
+    );
+    coordinates::put_point(&mut *out, f, x, y, z);
+}
+
+// Writes the point of face f. Where all eight edges of both directions are plain, as the sums tell, one direction is enough.
+fn put_face(out: &mut [i32], work: &[u32], n: usize, f: usize)
+    requires { ⌜ FaceTable n (now work) × (4 * f < n) × (3 * f + 3 ≤ length (now out)) ⌝ }
+    ensures { λ _. ⌜ now (out .exit) ≡ putPoint (now (out .entry)) f (faceCoordinate n (now (work .entry)) 0 f) (faceCoordinate n (now (work .entry)) 1 f) (faceCoordinate n (now (work .entry)) 2 f) ⌝ }
+{
+    let h = 4 * f;
+    let p = entry(work, n, h);
+    let q = entry(work, n, h + 1);
+    let r = entry(work, n, h + 2);
+    let s = entry(work, n, h + 3);
+    if p + q + r + s < WIDE {
+        let t = beyond(work, n, h);
+        let u = beyond(work, n, h + 1);
+        let v = beyond(work, n, h + 2);
+        let w = beyond(work, n, h + 3);
+        if t + u + v + w < WIDE {
+            plain_face(&mut *out, work, n, t, p, r, v, f);
+            return;
         }
+    }
+    general_face(&mut *out, work, n, f);
+}
+
+// Writes the points of all faces to `out`, and the refined corners over the corners, from the last face to the first.
+pub fn face_points(
+    out: &mut [i32],
+    faces: &mut [u32],
+    work: &[u32],
+    n: usize,
+    v: usize,
+    edges: usize,
+)
+    requires { ⌜ FaceTable n (now work) × FacesIn n v edges (now faces) (now work) × (3 * (n / 4) ≤ length (now out)) ⌝ }
+    ensures { λ _. ⌜ now (out .exit) ≡ filled (faceCoordinates n (now (work .entry))) (now (out .entry)) ⌝ }
+    ensures { λ _. ⌜ now (faces .exit) ≡ filled (refined quads v (take n (now (faces .entry)))) (now (faces .entry)) ⌝ }
+{
+    let mut f = n / 4;
+    while f > 0 {
+        f -= 1;
+        put_face(&mut *out, work, n, f);
+        roundfaces::refine_face(&mut *faces, work, n, v, edges, f);
     }
 }

@@ -1,5 +1,5 @@
 -- Laws of corners refined in place.
-use mathlib.Core.Path.{_≡_, refl, sym, ap, _∙_, subst}
+use mathlib.Core.Path.{_≡_, refl, sym, ap, _∙_}
 use mathlib.Core.List.{List}
 use Prim.Native.Nat.{ℕ, _+_, _-_, _*_, _/_, _%_, _≤_, _<_}
 use native.Mathlib.Nat.{add-assoc, add-zero}
@@ -11,6 +11,7 @@ use Rattle.topology.specs.Shape.{Shape, quads}
 use Rattle.topology.specs.HalfEdge.{from, edgeCount, edge}
 use Rattle.topology.proofs.Shape.{four-sides}
 use Rattle.topology.proofs.Mates.{edges-le}
+use Rattle.coordinates.specs.Entry.{entryOf, edgeOf}
 use Rattle.refinedfaces.specs.Refined.{corner, refined}
 use Rattle.tables.specs.Tables.{filled, putFour, Written}
 use Rattle.roundfaces.specs.Faces.{cornerBy, refinedBy, FaceIn, FacesIn}
@@ -20,22 +21,23 @@ use Rattle.tables.proofs.Written.{written-as, written-face, Refining, refining-
 -- the numbers that a face's corners and edges give
 module _ (n v count f : ℕ) (c w : List ℕ) where
   number : ℕ → ℕ → ℕ
-  number = cornerBy quads v count (λ (h : ℕ). getD c h 0) (λ (h : ℕ). getD w (n + h) 0)
+  number = cornerBy quads v count (λ (h : ℕ). getD c h 0) (λ (h : ℕ). edgeOf (entryOf n w h))
 
   faces-four : (i : ℕ) → i < 4 → quads .face (4 * f + i) ≡ f
   unfolding quads
   faces-four i b = omega arith
 
-  side : (i : ℕ) → getD w (n + 4 * f + i) 0 ≡ getD w (n + (4 * f + i)) 0
-  side i = ap (λ (k : ℕ). getD w k 0) (add-assoc n (4 * f) i)
+  side : (i : ℕ) → edgeOf (getD w (n + 4 * f + i) 0) ≡ edgeOf (entryOf n w (4 * f + i))
+  unfolding entryOf
+  side i = ap (λ (k : ℕ). edgeOf (getD w k 0)) (add-assoc n (4 * f) i)
 
   pub corners-written : (c₁ c₂ c₃ c₄ : List ℕ) → 16 * f + 16 ≤ length c
-      → c₁ ≡ putFour c (16 * f + 12) (getD c (4 * f + 3) 0) (v + getD w (n + 4 * f + 3) 0) (v + count + f) (v + getD w (n + 4 * f + 2) 0)
-      → c₂ ≡ putFour c₁ (16 * f + 8) (getD c (4 * f + 2) 0) (v + getD w (n + 4 * f + 2) 0) (v + count + f) (v + getD w (n + 4 * f + 1) 0)
-      → c₃ ≡ putFour c₂ (16 * f + 4) (getD c (4 * f + 1) 0) (v + getD w (n + 4 * f + 1) 0) (v + count + f) (v + getD w (n + 4 * f) 0)
-      → c₄ ≡ putFour c₃ (16 * f) (getD c (4 * f) 0) (v + getD w (n + 4 * f) 0) (v + count + f) (v + getD w (n + 4 * f + 3) 0)
+      → c₁ ≡ putFour c (16 * f + 12) (getD c (4 * f + 3) 0) (v + edgeOf (getD w (n + 4 * f + 3) 0)) (v + count + f) (v + edgeOf (getD w (n + 4 * f + 2) 0))
+      → c₂ ≡ putFour c₁ (16 * f + 8) (getD c (4 * f + 2) 0) (v + edgeOf (getD w (n + 4 * f + 2) 0)) (v + count + f) (v + edgeOf (getD w (n + 4 * f + 1) 0))
+      → c₃ ≡ putFour c₂ (16 * f + 4) (getD c (4 * f + 1) 0) (v + edgeOf (getD w (n + 4 * f + 1) 0)) (v + count + f) (v + edgeOf (getD w (n + 4 * f) 0))
+      → c₄ ≡ putFour c₃ (16 * f) (getD c (4 * f) 0) (v + edgeOf (getD w (n + 4 * f) 0)) (v + count + f) (v + edgeOf (getD w (n + 4 * f + 3) 0))
       → Written (16 * f) (16 * f + 16) (refinedBy n v count c w) c c₄
-  unfolding cornerBy number
+  unfolding cornerBy number entryOf
   corners-written c₁ c₂ c₃ c₄ b p₁ p₂ p₃ p₄ =
       let z : quads .face (4 * f) ≡ f = rw add-zero at (faces-four 0 (omega arith)) in
       let s = four-sides f in
@@ -46,11 +48,10 @@ module _ (n v count f : ℕ) (c w : List ℕ) where
       (rw (z, s .prev₀, ← side 3) p₄)
 
 -- an edge number is small
-pub side-le : (n v count f : ℕ) (c w : List ℕ) (i : ℕ) → i < 4 → FaceIn n v count f c w → getD w (n + 4 * f + i) 0 ≤ n
+pub side-le : (n v count f : ℕ) (c w : List ℕ) (i : ℕ) → i < 4 → FaceIn n v count f c w → edgeOf (getD w (n + 4 * f + i) 0) ≤ n
 side-le n v count f c w i b ok = let e = side n v count f c w i in let r = ok .lt in rw e (ok .below (4 * f + i) (omega arith))
 
--- ---- the loop
-
+-- ---- the faces of a net, from the last to the first
 corner-by : (S : Shape) (v : ℕ) (l : List ℕ) (c e : ℕ → ℕ) (h : ℕ) → c h ≡ from l h → e h ≡ edge S l h → e (S .prev h) ≡ edge S l (S .prev h) → (j : ℕ) → j < 4
     → cornerBy S v (edgeCount S l) c e h j ≡ corner S v l h j
 unfolding corner cornerBy
@@ -64,10 +65,6 @@ module _ (n v count : ℕ) (faces w : List ℕ) (ok : FacesIn n v count faces w)
   unfolding l
   length-l = let r = ok .room in length-take-le n faces (omega arith)
 
-  number-at : (g : ℕ) → g < n → getD w (n + g) 0 ≡ edge quads l g
-  unfolding l
-  number-at g b = let e = length-l in subst (λ (m : ℕ). getD w (m + g) 0 ≡ edge quads l g) e (ok .numbered .numbers g (omega arith))
-
   pub face-in : (c : List ℕ) (f : ℕ) → length c ≡ length faces → 4 * f + 4 ≤ n → FaceIn n v count f c w
   face-in c f e b = record {
     sides = ok .sides;
@@ -76,7 +73,7 @@ module _ (n v count : ℕ) (faces w : List ℕ) (ok : FacesIn n v count faces w)
     edges = let a = ok .counted in let k = edges-le quads l in let m = length-l in unfold l in omega arith;
     room = let r = ok .room in omega arith;
     numbers = ok .behind;
-    below = λ g a. let x = number-at g a in let y = edge-le quads l g in omega arith;
+    below = λ g a. let x = ok .numbered g a in let y = edge-le quads l g in unfold l in omega arith;
   }
 
   -- the corners of face f - 1 are still the old ones
@@ -86,10 +83,10 @@ module _ (n v count : ℕ) (faces w : List ℕ) (ok : FacesIn n v count faces w)
   unfolding l from quads
   corners-as c c′ f p x y =
       let b = x .le in
-      written-as (16 * (f - 1)) (16 * (f - 1) + 16) _ _ c c′ (λ k h g. rw (ok .counted) (corner-by quads v l (λ (h : ℕ). getD c h 0) (λ (h : ℕ). getD w (n + h) 0) (k / 4)
+      written-as (16 * (f - 1)) (16 * (f - 1) + 16) _ _ c c′ (λ k h g. rw (ok .counted) (corner-by quads v l (λ (h : ℕ). getD c h 0) (λ (h : ℕ). edgeOf (entryOf n w h)) (k / 4)
       (x .written .before (k / 4) (omega arith) ∙ sym (getD-take n faces (k / 4) 0 (omega arith)))
-      (number-at (k / 4) (omega arith))
-      (number-at (quads .prev (k / 4)) (omega arith)) (k % 4) (omega arith))) y
+      (ok .numbered (k / 4) (omega arith))
+      (ok .numbered (quads .prev (k / 4)) (omega arith)) (k % 4) (omega arith))) y
 
   pub corners-all : (c : List ℕ) (f : ℕ) → f ≤ 0 → Refining n (λ (k : ℕ). corner quads v (take n faces) (k / 4) (k % 4)) faces c f → c ≡ filled (refined quads v (take n faces)) faces
   unfolding refined l

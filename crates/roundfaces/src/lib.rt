@@ -1,14 +1,15 @@
 // One round's topology on the caller's tables, in place: refined faces and refined marks.
 ghost use mathlib.Core.Path.{_≡_};
 ghost use Prim.Native.Nat.{_+_, _*_, _≤_};
-ghost use lib.ListN.{length, take};
-ghost use Rattle.topology.specs.Shape.{quads};
-ghost use Rattle.refinedfaces.specs.Refined.{refined};
+ghost use lib.ListN.{length};
 ghost use Rattle.tables.specs.Tables.{filled, Written};
-ghost use Rattle.roundfaces.specs.Faces.{refinedBy, FaceIn, FacesIn, extended};
+ghost use Rattle.roundfaces.specs.Faces.{refinedBy, FaceIn, extended};
+
+// Edge numbers are smaller, and the flags of an entry are multiples of it.
+const FLAG: u32 = 536870912;
 
 // Writes the refined faces of face f, the last first, from the corners a to d of the face and the points p to s of its sides.
-fn refine_face(faces: &mut [u32], work: &[u32], n: usize, v: usize, edges: usize, f: usize)
+pub fn refine_face(faces: &mut [u32], work: &[u32], n: usize, v: usize, edges: usize, f: usize)
     requires { ⌜ FaceIn n v edges f (now faces) (now work) ⌝ }
     ensures { λ _. ⌜ Written (16 * f) (16 * f + 16) (refinedBy n v edges (now (faces .entry)) (now (work .entry))) (now (faces .entry)) (now (faces .exit)) ⌝ }
 {
@@ -17,10 +18,10 @@ fn refine_face(faces: &mut [u32], work: &[u32], n: usize, v: usize, edges: usize
     let first = v as u32;
     let point = (v + edges + f) as u32;
     let e = n + h;
-    let p = first + work[e];
-    let q = first + work[e + 1];
-    let r = first + work[e + 2];
-    let s = first + work[e + 3];
+    let p = first + work[e] % FLAG;
+    let q = first + work[e + 1] % FLAG;
+    let r = first + work[e + 2] % FLAG;
+    let s = first + work[e + 3] % FLAG;
     let a = faces[h];
     let b = faces[h + 1];
     let c = faces[h + 2];
@@ -29,18 +30,6 @@ fn refine_face(faces: &mut [u32], work: &[u32], n: usize, v: usize, edges: usize
     tables::put_four(&mut *faces, at + 8, c, r, point, q);
     tables::put_four(&mut *faces, at + 4, b, q, point, p);
     tables::put_four(&mut *faces, at, a, p, point, s);
-}
-
-// Refines the faces in place, from the last to the first.
-pub fn refine_faces(faces: &mut [u32], work: &[u32], n: usize, v: usize, edges: usize)
-    requires { ⌜ FacesIn n v edges (now faces) (now work) ⌝ }
-    ensures { λ _. ⌜ now (faces .exit) ≡ filled (refined quads v (take n (now (faces .entry)))) (now (faces .entry)) ⌝ }
-{
-    let mut f = n / 4;
-    while f > 0 {
-        f -= 1;
-        refine_face(&mut *faces, work, n, v, edges, f);
-    }
 }
 
 // Extends the marks of v vertices by 0, to `count` marks.

@@ -1,0 +1,75 @@
+-- Laws of entries and of the exact points that they lead to. Assumes nothing.
+use mathlib.Core.Path.{_≡_, refl, sym, ap, ap₂, _∙_}
+use mathlib.Core.Bool.{true, false, cond}
+use mathlib.Core.List.{List}
+use Prim.Native.Nat.{ℕ, _+_, _*_, _%_, _^_, _≤_, _<_}
+use native.Mathlib.Omega.{arith}
+use borrow.Author.Tests.{lt-ltb, le-ltb}
+use lib.Dec.{ltb}
+use lib.IntN.{ℤ, pos, natAbs, _*ℤ_}
+use lib.ListN.{length, getD}
+use mir.Syntax.{w64}
+use mir.Val.{SFits}
+use Rattle.integers.proofs.Range.{fits-abs}
+use Rattle.curve.specs.Weights.{kobbelt}
+use Rattle.rings.specs.Scales.{virtualScale, edgeRange}
+use Rattle.topology.specs.Shape.{quads}
+use Rattle.topology.specs.Quads.{across}
+use Rattle.coordinates.specs.Packed.{packedAt}
+use Rattle.coordinates.specs.Entry.{wideFlag, boundaryFlag, entryOf, placeOf, unitOf, exactAt, exactOf}
+use Rattle.facepoints.specs.Faces.{FaceTable, beyondOf}
+use Rattle.facepoints.specs.Reading.{Readable}
+
+-- ---- units
+pub unit-plain : (t : ℕ) → t < wideFlag → unitOf t ≡ virtualScale kobbelt
+unfolding unitOf
+unit-plain t h = let a = lt-ltb t wideFlag h in rw a refl
+
+pub unit-wide : (t : ℕ) → wideFlag ≤ t → t < boundaryFlag → unitOf t ≡ 1
+unfolding unitOf
+unit-wide t h k = let a = le-ltb t wideFlag h in let b = lt-ltb t boundaryFlag k in rw (a, b) refl
+
+pub unit-boundary : (t : ℕ) → wideFlag ≤ t → boundaryFlag ≤ t → unitOf t ≡ virtualScale kobbelt
+unfolding unitOf
+unit-boundary t h k = let a = le-ltb t wideFlag h in let b = le-ltb t boundaryFlag k in rw (a, b) refl
+
+-- ---- opposite sides
+pub across-lt : (n h : ℕ) → n % 4 ≡ 0 → h < n → across h < n
+unfolding across quads
+across-lt n h f k = omega arith
+
+pub across-first : (f : ℕ) → across (4 * f) ≡ 4 * f + 2
+unfolding across quads
+across-first f = omega arith
+
+pub across-second : (f : ℕ) → across (4 * f + 1) ≡ 4 * f + 3
+unfolding across quads
+across-second f = omega arith
+
+-- ---- exact points
+module _ (n : ℕ) (w : List ℕ) where
+  pub readable : (a h t : ℕ) → FaceTable n w → a < 3 → h < n → t ≡ entryOf n w h → Readable n w a t
+  unfolding exactOf
+  readable a h t ok on lt e = rw e (record {
+    on = on;
+    few = ok .few;
+    room = ok .room;
+    number = ok .numbers h lt;
+    high = ok .high a h on lt;
+    small = ok .small a h on lt;
+  })
+
+  pub exact-fits : (a t : ℕ) → Readable n w a t → SFits w64 (exactAt n w a t)
+  exact-fits a t k = let s = k .small in fits-abs w64 (exactAt n w a t) (omega arith)
+
+  pub exact-read : (a t : ℕ) (u z : ℤ) → u ≡ pos (unitOf t) → z ≡ packedAt w (2 * n + 6 * (t % wideFlag) + 2 * a) → u *ℤ z ≡ exactAt n w a t
+  unfolding exactAt placeOf
+  exact-read a t u z e k = ap₂ (λ (x y : ℤ). x *ℤ y) e k
+
+  -- what was read by the entry of h
+  pub exact-of : (a h t : ℕ) (x : ℤ) → t ≡ entryOf n w h → x ≡ exactAt n w a t → x ≡ exactOf n w a h
+  unfolding exactOf
+  exact-of a h t x e k = k ∙ ap (exactAt n w a) e
+
+  pub exact-small : (a h : ℕ) (x : ℤ) → FaceTable n w → a < 3 → h < n → x ≡ exactOf n w a h → natAbs x ≤ edgeRange kobbelt
+  exact-small a h x ok on lt e = rw e (ok .small a h on lt)

@@ -1,0 +1,32 @@
+-- `beyond` meets its contract. Assumes nothing.
+use borrow.Author.Needs.{needs}
+use native.Mathlib.Omega.{arith}
+use mathlib.Core.Path.{ap, _∙_}
+use Rattle.topology.specs.Quads.{across}
+use Rattle.coordinates.specs.Entry.{entryOf}
+use Rattle.facepoints.specs.Faces.{beyondOf}
+use Rattle.facepoints.proofs.Reading.{across-lt}
+use Rattle.facepoints.proofs.beyond.Statement.{statement}
+use Rattle.facepoints.proofs.beyond.Tie as tie
+
+mate-requires : tie.Need-mate-requires
+mate-requires c κs = search needs
+
+across-side-requires : tie.Need-across-side-requires
+across-side-requires c κs = search needs
+
+entry-requires : tie.Need-entry-requires
+entry-requires c κs =
+    let s = c .before .before .before in
+    let e = c .before .mate .ensures in
+    let b = across-lt (s .args .n) (c .before .mate .result) (s .pre .0 .fours) (omega arith) in
+    (s .pre .0, omega (arith, c .across-side .ensures))
+
+returns : tie.Need-returns
+unfolding beyondOf
+returns c =
+    let s = c .before .before .before .before in
+    (c .entry .ensures .0 ∙ ap (entryOf (s .args .n) (s .args .work .now)) (c .before .across-side .ensures ∙ ap across (c .before .before .mate .ensures)), c .entry .ensures .1)
+
+pub beyond-spec : {M : Type 1} → statement M
+beyond-spec = tie.close (tie.spec mate-requires across-side-requires entry-requires returns)
