@@ -43,4 +43,4 @@ abbrev pub edgeRange : Weights → ℕ
 edgeRange w = edgeScale w / 6 * 11 * coordinateRange
 
 abbrev pub directionRange : Weights → ℕ
-directionRange w = 2 * (w .near + w .far) * edgeRange w
+directionRange w = scale w / 4 * 5 * edgeRange w

@@ -18,7 +18,7 @@ use Rattle.integers.proofs.Polynomial.{var, lit, _⊞_, _⊠_, same}
 use Rattle.rounding.specs.Rounding.{round}
 use Rattle.curve.specs.Weights.{Weights, scale, interior}
 use Rattle.fractions.specs.Fraction.{Fraction, whole, Equals, Same}
-use Rattle.fractions.proofs.Laws.{toWhole-equals, equals-whole, equals-cong, cancel}
+use Rattle.fractions.proofs.Laws.{toWhole-equals, equals-whole, equals-cong, equals-one, equals-same}
 use Rattle.rings.specs.Ring.{Periodic}
 use Rattle.rings.specs.RingWeights.{virtualZ}
 use Rattle.rings.proofs.Virtual.{virtual-turned}
@@ -31,31 +31,24 @@ use Rattle.topology.specs.HalfEdge.{from, to, mate, edgeCount}
 use Rattle.topology.specs.Boundary.{boundaryFrom}
 use Rattle.topology.specs.Vertex.{valence, turn, turns, Ring}
 use Rattle.topology.specs.Manifold.{Manifold}
-use Rattle.topology.proofs.Shape.{face-prev, four-sides}
+use Rattle.topology.proofs.Shape.{four-sides}
 use Rattle.topology.proofs.Mates.{mate-is}
 use Rattle.topology.proofs.Turn.{turn-from}
 use Rattle.topology.proofs.Rings.{ring-mates, ring-turns}
 use Rattle.topology.proofs.Boundary.{boundaryFrom-none}
 use Rattle.scheme.specs.Rings.{ringVirtual, virtualAt}
 use Rattle.topology.specs.Quads.{oppositeCorner, across, beyond}
-use Rattle.scheme.specs.Points.{edgeValue, edgePoint, direction, inner, fourInner, bothDirections, faceRule, faceValue, facePoint}
+use Rattle.scheme.specs.Points.{edgePoint, direction, inner, fourInner, bothInner, faceRule, faceValue, facePoint}
 use Rattle.scheme.specs.Step.{refinedCoordinate}
 use Rattle.schemelaws.specs.Agreement.{SideOf, FourBeyond, EightOrdinary}
 use Rattle.schemelaws.specs.Ordinary.{ordinaryEdge}
+use Rattle.schemelaws.specs.Numerators.{edgeZ, directionZ}
 use Rattle.schemelaws.proofs.Vertices.{ring-of, ring-ge}
-use Rattle.schemelaws.proofs.Ties.{inner-rule, across-lt, side₀-lt, side₁-lt}
+use Rattle.schemelaws.proofs.Ties.{point-inner, across-lt, side₀-lt, side₁-lt, side₀, side₁, next-side, prev-side, across-side, equals-direction}
 use Rattle.schemelaws.proofs.Coordinates.{refined-face-at}
 use Rattle.schemelaws.proofs.Beyond.{prev-across, next-across, across-next, last-neighbour, start-straight, third-neighbour, end-straight}
-use Rattle.schemelaws.proofs.FanOfTwo.{virtual-ring-of-four, edge-ordinary}
+use Rattle.schemelaws.proofs.FanOfTwo.{virtual-neighbour, edge-ordinary}
 use Rattle.schemelaws.proofs.Made.{turn-ring}
-
-module _ (v : ℕ) (l : List ℕ) (ok : Manifold quads v l) (f : ℕ) where
-  module _ (h : ℕ) (s : SideOf l f h) where
-    next-side : SideOf l f (quads .next h)
-    next-side = record { lt = ok .oriented .shape .next-lt h (s .lt); face = ok .oriented .shape .face-next h ∙ s .face }
-
-    prev-side : SideOf l f (quads .prev h)
-    prev-side = record { lt = ok .oriented .shape .prev-lt h (s .lt); face = face-prev quads (length l) (ok .oriented .shape) h ∙ s .face }
 
 -- ---- fractions of one value
 same-cong : {a b a′ b′ : Fraction} → a ≡ a′ → b ≡ b′ → Same a b → Same a′ b′
@@ -70,17 +63,6 @@ same-mean {x} {y} r = record {
   same =
       ap (λ (t : ℤ). (x .num *ℤ pos (y .den) +ℤ t) *ℤ pos (x .den)) (sym (r .same))
       ∙ same ((var 0 ⊠ var 1 ⊞ var 0 ⊠ var 1) ⊠ var 2) (var 0 ⊠ (var 2 ⊠ var 1 ⊠ lit (pos 2))) (x .num ∷ pos (y .den) ∷ pos (x .den) ∷ []) refl;
-}
-
-pub equals-same : {x y : Fraction} {z : ℤ} {d : ℕ} → Same x y → Equals y z d → Equals x z d
-equals-same {x} {y} {z} {d} r i = record {
-  some = r .left;
-  value = cancel (y .den) (x .num *ℤ pos d) (z *ℤ pos (x .den)) (r .right)
-      (same (var 0 ⊠ (var 1 ⊠ var 2)) ((var 1 ⊠ var 0) ⊠ var 2) (pos (y .den) ∷ x .num ∷ pos d ∷ []) refl
-      ∙ ap (λ (t : ℤ). t *ℤ pos d) (r .same)
-      ∙ same ((var 0 ⊠ var 1) ⊠ var 2) ((var 0 ⊠ var 2) ⊠ var 1) (y .num ∷ pos (x .den) ∷ pos d ∷ []) refl
-      ∙ ap (λ (t : ℤ). t *ℤ pos (x .den)) (i .value)
-      ∙ same ((var 0 ⊠ var 1) ⊠ var 2) (var 1 ⊠ (var 0 ⊠ var 2)) (z ∷ pos (y .den) ∷ pos (x .den) ∷ []) refl);
 }
 
 -- ---- the virtual point at an inner vertex, from its ring over 1
@@ -191,16 +173,12 @@ module _ (w : Weights) (near : 0 < w .near) (apart : 0 < scale w) (v : ℕ) (l m
         next = virtual-here w near v l ok p h (s .lt) b;
         last = virtual-turn w near v l ok p h (s .lt) b;
         acrossNext = equals-cong (ap p (start-straight v l ok h (s .lt) (mated h s) N (ring h s) (three w near v l ok p h (s .lt) b) (start-ring h s .walk .inside 2 (lit≤ tt)))) refl
-            (virtual-ring-of-four w near v l ok p (beyond l h) (beyond-lt h s) (reg .startInside h s) (reg .startFour h s));
+            (virtual-neighbour w near v l ok p (beyond l h) (beyond-lt h s) (reg .startInside h s) (reg .startFour h s));
         acrossLast = equals-cong (ap p (end-straight v l ok g (t .lt) (mated g t) (two-lt g t) (end-ring g t)) ∙ ap (λ (u : ℕ). p (oppositeCorner l (turns quads l 2 u))) q) refl
-            (virtual-ring-of-four w near v l ok p (mate quads l (beyond l g)) (beyond-inner g t) (end-inside g t) (end-four g t));
+            (virtual-neighbour w near v l ok p (mate quads l (beyond l g)) (beyond-inner g t) (end-inside g t) (end-four g t));
       }
 
   -- ---- the edges
-  edge-is : (h : ℕ) → mate quads l h < length l → edgePoint w l marks p h ≡ innerEdge w (whole (p (from l h))) (whole (p (to quads l h))) (virtualAt w l p h) (virtualAt w l p (mate quads l h))
-  unfolding edgePoint edgeValue
-  edge-is h m = rw (inner-rule l marks h m)
-
   -- the side from the corner of h to that of e, and the edge beyond it
   abbrev sideFrom : ℕ → ℕ → Fraction
   sideFrom h e = innerEdge w (whole (p (from l h))) (whole (p (from l e))) (virtualAt w l p h) (virtualAt w l p (mate quads l (quads .prev e)))
@@ -215,14 +193,14 @@ module _ (w : Weights) (near : 0 < w .near) (apart : 0 < scale w) (v : ℕ) (l m
 
     side-is : edgePoint w l marks p h ≡ sideFrom h e
     unfolding to
-    side-is = edge-is h (mated h s) ∙ ap₂ (λ (x y : ℕ). innerEdge w (whole (p (from l h))) (whole (p (from l x))) (virtualAt w l p h) (virtualAt w l p (mate quads l y))) q before
+    side-is = point-inner w l marks p h (mated h s) ∙ ap₂ (λ (x y : ℕ). innerEdge w (whole (p (from l h))) (whole (p (from l x))) (virtualAt w l p h) (virtualAt w l p (mate quads l y))) q before
 
     beyond-is : edgePoint w l marks p (beyond l h) ≡ beyondFrom h e
     beyond-is =
         let N : ℕ = valence l (from l h) in
         let x = sym (last-neighbour v l ok h (s .lt) (mated h s) N (ring h s) (three w near v l ok p h (s .lt) (reg .corners h s))) in
         let y = sym (third-neighbour v l ok h (s .lt) (mated h s) (two-lt h s)) ∙ ap (λ (u : ℕ). to quads l (turns quads l 2 u)) q in
-        edge-is (beyond l h) (beyond-inner h s) ∙ (λ i. innerEdge w (whole (p (x i))) (whole (p (y i))) (virtualAt w l p (beyond l h)) (virtualAt w l p (mate quads l (beyond l (before i)))))
+        point-inner w l marks p (beyond l h) (beyond-inner h s) ∙ (λ i. innerEdge w (whole (p (x i))) (whole (p (y i))) (virtualAt w l p (beyond l h)) (virtualAt w l p (mate quads l (beyond l (before i)))))
 
   abbrev E : ℕ → Fraction
   E = edgePoint w l marks p
@@ -270,33 +248,29 @@ module _ (w : Weights) (near : 0 < w .near) (apart : 0 < scale w) (v : ℕ) (l m
 
   -- ---- at the face
   module _ (k : f < quads .faces (length l)) where
-    side₀ : SideOf l f (4 * f)
-    side₀ = record { lt = side₀-lt l f k; face = unfold quads in omega arith }
-
-    side₁ : SideOf l f (4 * f + 1)
-    side₁ = record { lt = side₁-lt l f k; face = unfold quads in omega arith }
-
-    across-side : (h : ℕ) → SideOf l f h → SideOf l f (across h)
-    unfolding across
-    across-side h s = next-side v l ok f (quads .next h) (next-side v l ok f h s)
-
     pub directions-agree : Same (direction w l E (4 * f)) (direction w l E (4 * f + 1))
-    directions-agree = same-cong refl (ap (direction w l E) (four-sides f .next₀)) (agree-at (4 * f) side₀)
+    directions-agree = same-cong refl (ap (direction w l E) (four-sides f .next₀)) (agree-at (4 * f) (side₀ l f k))
 
     four-inner : (h : ℕ) → SideOf l f h → fourInner l h ≡ true
     unfolding fourInner inner
     four-inner h s =
-        let u = across-side h s in
+        let u = across-side v l ok f h s in
         rw (lt-ltb (mate quads l h) (length l) (mated h s), lt-ltb (mate quads l (across h)) (length l) (mated (across h) u), lt-ltb (mate quads l (beyond l h)) (length l) (beyond-inner h s), lt-ltb (mate quads l (beyond l (across h))) (length l) (beyond-inner (across h) u))
 
-    both-count : faceRule l f ≡ bothDirections
+    pub both-count : faceRule l f ≡ bothInner
     unfolding faceRule
-    both-count = rw (four-inner (4 * f) side₀, four-inner (4 * f + 1) side₁)
+    both-count = rw (four-inner (4 * f) (side₀ l f k), four-inner (4 * f + 1) (side₁ l f k))
 
     -- the face point is its first direction
     pub face-direction : Same (facePoint w l marks p f) (direction w l E (4 * f))
     unfolding facePoint faceValue
     face-direction = rw both-count (same-mean directions-agree)
+
+    -- in the numerators over `directionScale`
+    pub directions-beyond : directionZ w l (edgeZ w l marks p) (4 * f) ≡ directionZ w l (edgeZ w l marks p) (4 * f + 1)
+    directions-beyond =
+        equals-one (directionZ w l (edgeZ w l marks p) (4 * f)) (directionZ w l (edgeZ w l marks p) (4 * f + 1)) (equals-direction w near apart v l marks ok p (4 * f) (side₀-lt l f k))
+        (equals-same directions-agree (equals-direction w near apart v l marks ok p (4 * f + 1) (side₁-lt l f k)))
 
 -- ---- the sides of a face are its four: what the code tests at each of them holds at all
 pub by-sides : (l : List ℕ) (f : ℕ) (P : ℕ → Type 0) → P (4 * f) → P (4 * f + 1) → P (4 * f + 2) → P (4 * f + 3) → (g : ℕ) → SideOf l f g → P g
@@ -368,10 +342,9 @@ module _ (w : Weights) (near : 0 < w .near) (apart : 0 < scale w) (v : ℕ) (l m
 
   pub direction-ordinary : Equals (direction w l (edgePoint w l marks p) (4 * f)) oneDirection (scale w * scale w)
   direction-ordinary =
-      let reg = eight-beyond v l ok f all in
-      let s = side₀ w near apart v l marks ok p f reg k in
-      let u = across-side w near apart v l marks ok p f reg k (4 * f) s in
-      subst (λ (x : Fraction). Equals x oneDirection (scale w * scale w)) (sym (direction-two w near apart v l marks ok p f reg (4 * f) s u))
+      let s = side₀ l f k in
+      let u = across-side v l ok f (4 * f) s in
+      subst (λ (x : Fraction). Equals x oneDirection (scale w * scale w)) (sym (direction-two w near apart v l marks ok p f (eight-beyond v l ok f all) (4 * f) s u))
       (equals-interior w apart (tied-beyond (4 * f) s) (tied-side (4 * f) s) (tied-side (across (4 * f)) u) (tied-beyond (across (4 * f)) u))
 
   pub face-ordinary : Equals (facePoint w l marks p f) oneDirection (scale w * scale w)
