@@ -1,6 +1,6 @@
 -- The common denominators of the exact points of a round, over the weights, and the ranges of their numerators. The numbers in brackets are those of paper 01's
 -- weights.
-use Prim.Native.Nat.{ℕ, _+_, _*_, _/_}
+use Prim.Native.Nat.{ℕ, _*_, _/_}
 use Rattle.curve.specs.Weights.{Weights, scale}
 
 -- ---- denominators

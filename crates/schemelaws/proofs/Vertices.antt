@@ -110,14 +110,14 @@ module _ (v : ℕ) (l : List ℕ) (ok : Manifold quads v l) where
     turns-lt i c = ring-of .walk .inside i c
 
 -- ---- a full ring comes round
-module _ (l : List ℕ) (p : ℕ → ℤ) (P h n : ℕ) (r : Ring quads l P h n) where
-  again : (i : ℕ) → turns quads l (i + n) h ≡ turns quads l i h
-  again i = iterate-add (turn quads l) i n h ∙ ap (turns quads l i) (r .back)
+pub comes-round : (l : List ℕ) (P h n : ℕ) → Ring quads l P h n → (i : ℕ) → turns quads l (i + n) h ≡ turns quads l i h
+comes-round l P h n r i = iterate-add (turn quads l) i n h ∙ ap (turns quads l i) (r .back)
 
+module _ (l : List ℕ) (p : ℕ → ℤ) (P h n : ℕ) (r : Ring quads l P h n) where
   pub neighbours-periodic : Periodic n (ringNeighbourZ l p h)
   unfolding ringNeighbourZ
-  neighbours-periodic = record { again = λ i. ap (λ (g : ℕ). pos extrapolatedScale *ℤ p (to quads l g)) (again i) }
+  neighbours-periodic = record { again = λ i. ap (λ (g : ℕ). pos extrapolatedScale *ℤ p (to quads l g)) (comes-round l P h n r i) }
 
   pub corners-periodic : Periodic n (ringCornerZ l p h)
   unfolding ringCornerZ
-  corners-periodic = record { again = λ i. ap (λ (g : ℕ). pos extrapolatedScale *ℤ p (oppositeCorner l g)) (again i) }
+  corners-periodic = record { again = λ i. ap (λ (g : ℕ). pos extrapolatedScale *ℤ p (oppositeCorner l g)) (comes-round l P h n r i) }
