@@ -9,7 +9,7 @@ use lib.ListN.{length}
 use Rattle.integers.proofs.Polynomial.{var, lit, _⊟_, _⊠_, same}
 use Rattle.curve.specs.Weights.{Weights, scale}
 use Rattle.curve.proofs.Distance.{Tame, tame-end}
-use Rattle.rings.specs.Scales.{extrapolatedScale, virtualScale, edgeScale, faceScale, coordinateRange, extrapolatedRange, virtualRange, edgeRange, directionRange}
+use Rattle.rings.specs.Scales.{extrapolatedScale, valenceScale, virtualScale, edgeScale, faceScale, coordinateRange, extrapolatedRange, virtualRange, edgeRange, directionRange}
 use Rattle.topology.specs.Shape.{quads}
 use Rattle.topology.specs.HalfEdge.{mate}
 use Rattle.topology.specs.Boundary.{boundaryFrom}
@@ -93,8 +93,8 @@ module _ (v : ℕ) (l : List ℕ) (ok : Manifold quads v l) (p : ℕ → ℤ) (s
     virtual-range h k m = let r = virtualAt-size w tame v l ok p coordinateRange small h k m in omega arith
 
     -- the scale of edge points goes by six
-    sixths : edgeScale w ≡ 6 * (scale w * (w .near * 8400))
-    sixths = ap natAbs (same (var 0 ⊠ (var 1 ⊠ lit (pos 50400))) (lit (pos 6) ⊠ (var 0 ⊠ (var 1 ⊠ lit (pos 8400)))) (pos (scale w) ∷ pos (w .near) ∷ []) refl)
+    sixths : edgeScale w ≡ 6 * (scale w * (w .near * (valenceScale * extrapolatedScale / 6)))
+    sixths = ap natAbs (same (var 0 ⊠ (var 1 ⊠ lit (pos (valenceScale * extrapolatedScale)))) (lit (pos 6) ⊠ (var 0 ⊠ (var 1 ⊠ lit (pos (valenceScale * extrapolatedScale / 6))))) (pos (scale w) ∷ pos (w .near) ∷ []) refl)
 
     pub edge-range : (marks : List ℕ) (h : ℕ) → h < length l → natAbs (edgeZ w l marks p h) ≤ edgeRange w
     edge-range marks h k = let r = edge-size w tame v l ok p coordinateRange small marks h k in let s = sixths in omega arith
