@@ -26,3 +26,7 @@ endEdge w p q r = pos (w .near - 2 * w .far) *ℤ p +ℤ pos (w .near + w .far) 
 -- "A stretch of one edge: the midpoint"; "for a midpoint 8(q + r)" over 16
 abbrev pub singleEdge : Weights → ℤ → ℤ → ℤ
 singleEdge w p q = pos (w .near - w .far) *ℤ (p +ℤ q)
+
+-- q mirrored at p. The rules of an end edge and of a single edge are the interior rule with mirrored points where a segment ends: `end-mirrored`, `single-mirrored`
+abbrev pub mirror : ℤ → ℤ → ℤ
+mirror p q = pos 2 *ℤ p -ℤ q

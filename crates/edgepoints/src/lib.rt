@@ -1,164 +1,155 @@
-// The exact point on any edge, over 7,257,600, on the caller's tables.
+// The exact point on any edge, on the caller's tables.
 ghost use mathlib.Core.Path.{_≡_};
-ghost use Prim.Native.Nat.{ℕ, _*_, _≤_, _<_};
-ghost use lib.IntN.{natAbs};
+ghost use Prim.Native.Nat.{ℕ, _<_};
 ghost use lib.ListN.{length};
+ghost use Rattle.integers.specs.Within.{Within};
 ghost use Rattle.curve.specs.Weights.{kobbelt};
-ghost use Rattle.rules.specs.Numerators.{innerEdgeZ};
+ghost use Rattle.rings.specs.Scales.{coordinateRange};
 ghost use Rattle.topology.specs.Shape.{quads};
-ghost use Rattle.topology.specs.HalfEdge.{mate};
-ghost use Rattle.scheme.specs.Points.{innerRule, edgeValue, edgePoint};
-ghost use Rattle.scheme.specs.Rings.{virtualAt};
-ghost use Rattle.nets.specs.Net.{axis};
-ghost use Rattle.walks.specs.Ready.{Ready, Across};
-ghost use Rattle.curvepoints.specs.Exact.{Points, Marks, ExactEdge, ExactPoint};
-ghost use Rattle.ringpoints.specs.Gathered.{Over453600};
+ghost use Rattle.topology.specs.HalfEdge.{from, to, mate};
+ghost use Rattle.topology.specs.Boundary.{OnBoundary, along, back};
+ghost use Rattle.scheme.specs.Points.{innerRule, edgeRule};
+ghost use Rattle.nets.specs.Net.{marked, axis};
+ghost use Rattle.schemelaws.specs.Ordinary.{Ordinary, ordinaryValue};
+ghost use Rattle.halfedges.specs.Tables.{Quadrilaterals};
+ghost use Rattle.walks.specs.Ready.{Ready};
+ghost use Rattle.coordinates.specs.Points.{InTable, Points, OnAxes};
+ghost use Rattle.coordinates.specs.Entry.{boundaryFlag};
+ghost use Rattle.coordinates.specs.Stencil.{FarIn, stencilValue};
+ghost use Rattle.edgepoints.specs.Edge.{ruleOf, StraightFar, OrdinaryEnds};
+use coordinates::Exact;
+use coordinates::Far;
 
-// The numerator of an inner edge's point, from the ends p and q of the edge and the virtual points u and w over 453,600.
-fn inner_sum(p: i64, q: i64, u: i64, w: i64) -> i64
-    requires { ⌜ (natAbs p ≤ 67108864) × (natAbs q ≤ 67108864) × (natAbs u ≤ 2570400 * 67108864) × (natAbs w ≤ 2570400 * 67108864) ⌝ }
-    ensures { λ r. ⌜ r ≡ innerEdgeZ p q u w ⌝ }
-{
-    4082400 * (p + q) - (u + w)
+// Flags beside the numbers of edges.
+const WIDE: u32 = 536870912;
+
+const BOUNDARY: u32 = 1073741824;
+
+// Which rule makes the point on an edge.
+pub enum EdgeRule {
+    InsideSegment,
+    StartOfSegment,
+    EndOfSegment,
+    WholeSegment,
+    InnerRule,
 }
 
-// Coordinate a of the virtual point at the vertex that h leaves, on the inner edge of h. At a full ring of four it is the vertex o straight across.
-fn virtual_on(points: &[i32], faces: &[u32], work: &[u32], h: usize, o: usize, a: usize) -> i64
-    requires { ⌜ Ready (now faces) (now work) ⌝ }
-    requires { ⌜ Points (now faces) (now points) × (a < 3) ⌝ }
-    requires { ⌜ (h < length (now faces)) × (mate quads (now faces) h < length (now faces)) × Across (now faces) h o ⌝ }
-    ensures { λ r. ⌜ Over453600 (virtualAt kobbelt (now (faces .entry)) (axis (now (points .entry)) a) h) r ⌝ }
+// Whether vertex v is marked.
+fn is_marked(marks: &[u8], v: usize) -> bool
+    requires { ⌜ v < length (now marks) ⌝ }
+    ensures { λ r. ⌜ r ≡ marked (now (marks .entry)) v ⌝ }
 {
-    if o < faces.len() {
-        return 453600 * extrapolation::coordinate_wide(points, o, a);
+    marks[v] == 1
+}
+
+// The rule for the edge of h, by its mate m and the marks of its ends.
+pub fn edge_rule(faces: &[u32], marks: &[u8], h: usize, m: usize) -> EdgeRule
+    requires { ⌜ Quadrilaterals (length (now faces)) × (h < length (now faces)) × (m ≡ mate quads (now faces) h) ⌝ }
+    requires { ⌜ (from (now faces) h < length (now marks)) × (to quads (now faces) h < length (now marks)) ⌝ }
+    ensures { λ r. ⌜ ruleOf r ≡ edgeRule (now (faces .entry)) (now (marks .entry)) h ⌝ }
+{
+    if m < faces.len() {
+        return EdgeRule::InnerRule;
     }
-    fanpoints::virtual_point(points, faces, work, h, a)
-}
-
-// Coordinate a of the point on the inner edge of h, whose mate is g. The vertices straight across are o and r, or none.
-fn inner_on(
-    points: &[i32],
-    faces: &[u32],
-    work: &[u32],
-    h: usize,
-    g: usize,
-    o: usize,
-    r: usize,
-    a: usize,
-) -> i64
-    requires { ⌜ Ready (now faces) (now work) ⌝ }
-    requires { ⌜ Points (now faces) (now points) × (a < 3) ⌝ }
-    requires { ⌜ (h < length (now faces)) × (g ≡ mate quads (now faces) h) × (g < length (now faces)) × Across (now faces) h o × Across (now faces) g r ⌝ }
-    ensures { λ z. ⌜ ExactEdge (edgeValue kobbelt (now (faces .entry)) (axis (now (points .entry)) a) h innerRule) z ⌝ }
-{
-    let p = extrapolation::coordinate_wide(points, halfedges::start_of(faces, h), a);
-    let q = extrapolation::coordinate_wide(points, halfedges::end_of(faces, h), a);
-    let u = virtual_on(points, faces, work, h, o, a);
-    let w = virtual_on(points, faces, work, g, r, a);
-    inner_sum(p, q, u, w)
-}
-
-// The point on the inner edge of h, whose mate is g, from its two virtual points. The vertices straight across are o and r, or none.
-fn inner_exact(
-    points: &[i32],
-    faces: &[u32],
-    work: &[u32],
-    h: usize,
-    g: usize,
-    o: usize,
-    r: usize,
-) -> curvepoints::Exact
-    requires { ⌜ Ready (now faces) (now work) ⌝ }
-    requires { ⌜ Points (now faces) (now points) ⌝ }
-    requires { ⌜ (h < length (now faces)) × (g ≡ mate quads (now faces) h) × (g < length (now faces)) × Across (now faces) h o × Across (now faces) g r ⌝ }
-    ensures { λ e. ⌜ ExactPoint (λ (a : ℕ). edgeValue kobbelt (now (faces .entry)) (axis (now (points .entry)) a) h innerRule) (e .x) (e .y) (e .z) ⌝ }
-{
-    curvepoints::Exact {
-        x: inner_on(points, faces, work, h, g, o, r, 0),
-        y: inner_on(points, faces, work, h, g, o, r, 1),
-        z: inner_on(points, faces, work, h, g, o, r, 2),
+    let ends = is_marked(marks, halfedges::end_of(faces, h));
+    if is_marked(marks, halfedges::start_of(faces, h)) {
+        if ends {
+            return EdgeRule::WholeSegment;
+        }
+        return EdgeRule::StartOfSegment;
     }
-}
-
-// The same by the general rule at the vertex that h leaves. A function of its own, so that the common path stays short.
-fn inner_at_end(
-    points: &[i32],
-    faces: &[u32],
-    work: &[u32],
-    h: usize,
-    g: usize,
-) -> curvepoints::Exact
-    requires { ⌜ Ready (now faces) (now work) ⌝ }
-    requires { ⌜ Points (now faces) (now points) ⌝ }
-    requires { ⌜ (h < length (now faces)) × (g ≡ mate quads (now faces) h) × (g < length (now faces)) ⌝ }
-    ensures { λ e. ⌜ ExactPoint (λ (a : ℕ). edgeValue kobbelt (now (faces .entry)) (axis (now (points .entry)) a) h innerRule) (e .x) (e .y) (e .z) ⌝ }
-{
-    let n = faces.len();
-    inner_exact(
-        points,
-        faces,
-        work,
-        h,
-        g,
-        n,
-        walks::regular_across(faces, work, g, h),
-    )
-}
-
-// The same by the general rule at the vertex that g leaves, likewise.
-fn inner_at_start(
-    points: &[i32],
-    faces: &[u32],
-    work: &[u32],
-    h: usize,
-    g: usize,
-    o: usize,
-) -> curvepoints::Exact
-    requires { ⌜ Ready (now faces) (now work) ⌝ }
-    requires { ⌜ Points (now faces) (now points) ⌝ }
-    requires { ⌜ (h < length (now faces)) × (g ≡ mate quads (now faces) h) × (g < length (now faces)) × Across (now faces) h o ⌝ }
-    ensures { λ e. ⌜ ExactPoint (λ (a : ℕ). edgeValue kobbelt (now (faces .entry)) (axis (now (points .entry)) a) h innerRule) (e .x) (e .y) (e .z) ⌝ }
-{
-    inner_exact(points, faces, work, h, g, o, faces.len())
-}
-
-// The point on the inner edge of h, whose mate is g. Where both ends have full rings of four, the virtual points are the vertices straight across.
-fn inner_edge(points: &[i32], faces: &[u32], work: &[u32], h: usize, g: usize) -> curvepoints::Exact
-    requires { ⌜ Ready (now faces) (now work) ⌝ }
-    requires { ⌜ Points (now faces) (now points) ⌝ }
-    requires { ⌜ (h < length (now faces)) × (g ≡ mate quads (now faces) h) × (g < length (now faces)) ⌝ }
-    ensures { λ e. ⌜ ExactPoint (λ (a : ℕ). edgeValue kobbelt (now (faces .entry)) (axis (now (points .entry)) a) h innerRule) (e .x) (e .y) (e .z) ⌝ }
-{
-    let n = faces.len();
-    let o = walks::regular_across(faces, work, h, g);
-    if o >= n {
-        return inner_at_end(points, faces, work, h, g);
+    if ends {
+        return EdgeRule::EndOfSegment;
     }
-    let r = walks::regular_across(faces, work, g, h);
-    if r >= n {
-        return inner_at_start(points, faces, work, h, g, o);
-    }
+    EdgeRule::InsideSegment
+}
+
+// The end of the boundary half-edge after h.
+fn vertex_after(faces: &[u32], work: &[u32], h: usize) -> usize
+    requires { ⌜ Ready (now faces) (now work) ⌝ }
+    requires { ⌜ OnBoundary quads (now faces) h ⌝ }
+    ensures { λ r. ⌜ r ≡ to quads (now (faces .entry)) (along quads (now (faces .entry)) h) ⌝ }
+{
+    halfedges::end_of(faces, walks::along_side(faces, work, h))
+}
+
+// The start of the boundary half-edge before h.
+fn vertex_before(faces: &[u32], work: &[u32], h: usize) -> usize
+    requires { ⌜ Ready (now faces) (now work) ⌝ }
+    requires { ⌜ OnBoundary quads (now faces) h ⌝ }
+    ensures { λ r. ⌜ r ≡ from (now (faces .entry)) (back quads (now (faces .entry)) h) ⌝ }
+{
+    halfedges::start_of(faces, walks::back_side(faces, work, h))
+}
+
+// The exact point of an edge: its numerators, and the flag that tells their denominator.
+pub struct Edge {
+    pub x: i64,
+    pub y: i64,
+    pub z: i64,
+    pub flag: u32,
+}
+
+// The point on the boundary edge of h between the far points o and r.
+fn boundary_edge(points: &[i32], faces: &[u32], h: usize, o: Far, r: Far) -> Edge
+    requires { ⌜ Quadrilaterals (length (now faces)) × (h < length (now faces)) × Within coordinateRange (now points) ⌝ }
+    requires { ⌜ FarIn (now points) o × InTable (now points) (from (now faces) h) × InTable (now points) (to quads (now faces) h) × FarIn (now points) r ⌝ }
+    ensures { λ e. ⌜ (e .flag ≡ boundaryFlag) × OnAxes (λ (a : ℕ). stencilValue (axis (now (points .entry)) a) o (from (now (faces .entry)) h) (to quads (now (faces .entry)) h) r) (e .x) (e .y) (e .z) ⌝ }
+{
     let p = halfedges::start_of(faces, h);
     let q = halfedges::end_of(faces, h);
-    curvepoints::interior_exact(points, o, p, q, r)
+    let e = coordinates::stencil_exact(points, o, p, q, r);
+    Edge {
+        x: e.x,
+        y: e.y,
+        z: e.z,
+        flag: BOUNDARY,
+    }
 }
 
-// The point on the edge of h.
-pub fn edge_point(
-    points: &[i32],
-    faces: &[u32],
-    marks: &[u8],
-    work: &[u32],
-    h: usize,
-) -> curvepoints::Exact
+// What lies straight across the ordinary vertex that the inner half-edge h leaves: with g the mate of the side before h, the start of the side before g.
+fn straight_far(faces: &[u32], work: &[u32], h: usize) -> Far
     requires { ⌜ Ready (now faces) (now work) ⌝ }
-    requires { ⌜ Points (now faces) (now points) × Marks (now faces) (now marks) × (h < length (now faces)) ⌝ }
-    ensures { λ e. ⌜ ExactPoint (λ (a : ℕ). edgePoint kobbelt (now (faces .entry)) (now (marks .entry)) (axis (now (points .entry)) a) h) (e .x) (e .y) (e .z) ⌝ }
+    requires { ⌜ (h < length (now faces)) × (mate quads (now faces) h < length (now faces)) × Ordinary (now faces) (from (now faces) h) ⌝ }
+    ensures { λ r. ⌜ StraightFar (now (faces .entry)) h r ⌝ }
+{
+    let g = halfedges::turn_side(faces, work, h);
+    if g < faces.len() {
+        return Far::At(halfedges::corner_before(faces, g));
+    }
+    Far::Nowhere
+}
+
+// The point on the inner edge of h, whose mate is m, beside the boundary: one of its ordinary ends at least is a boundary vertex.
+fn sided_exact(points: &[i32], faces: &[u32], work: &[u32], h: usize, m: usize) -> Exact
+    requires { ⌜ Ready (now faces) (now work) ⌝ }
+    requires { ⌜ Points (now faces) (now points) × OrdinaryEnds (now faces) h × (m ≡ mate quads (now faces) h) ⌝ }
+    ensures { λ e. ⌜ OnAxes (λ (a : ℕ). ordinaryValue kobbelt (now (faces .entry)) (axis (now (points .entry)) a) h innerRule) (e .x) (e .y) (e .z) ⌝ }
+{
+    let p = halfedges::start_of(faces, h);
+    let q = halfedges::end_of(faces, h);
+    let o = straight_far(faces, work, h);
+    let r = straight_far(faces, work, m);
+    coordinates::stencil_exact(points, o, p, q, r)
+}
+
+// The point on the inner edge of h, whose mate is m, between ordinary vertices. Where both have full rings, far points are at hand: the common case.
+fn plain_exact(points: &[i32], faces: &[u32], work: &[u32], h: usize, m: usize) -> Exact
+    requires { ⌜ Ready (now faces) (now work) ⌝ }
+    requires { ⌜ Points (now faces) (now points) × OrdinaryEnds (now faces) h × (m ≡ mate quads (now faces) h) ⌝ }
+    ensures { λ e. ⌜ OnAxes (λ (a : ℕ). ordinaryValue kobbelt (now (faces .entry)) (axis (now (points .entry)) a) h innerRule) (e .x) (e .y) (e .z) ⌝ }
 {
     let n = faces.len();
-    let g = halfedges::mate_side(faces, work, h);
-    if g == n {
-        return boundarypoints::boundary_edge(points, faces, marks, work, h);
+    let a = halfedges::turn_side(faces, work, h);
+    let b = halfedges::turn_side(faces, work, m);
+    if a < n {
+        if b < n {
+            let o = halfedges::corner_before(faces, a);
+            let p = halfedges::start_of(faces, h);
+            let q = halfedges::end_of(faces, h);
+            let r = halfedges::corner_before(faces, b);
+            return coordinates::interior_exact(points, o, p, q, r);
+        }
     }
-    inner_edge(points, faces, work, h, g)
+    sided_exact(points, faces, work, h, m)
 }

@@ -1,1 +1,1 @@
-pub mod EdgeTable
+pub mod Rounded

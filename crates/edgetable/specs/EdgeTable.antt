@@ -2,47 +2,98 @@
 use mathlib.Core.Path.{_≡_}
 use mathlib.Core.List.{List}
 use Prim.Native.Nat.{ℕ, _+_, _*_, _≤_, _<_}
-use lib.IntN.{ℤ, natAbs}
-use lib.ListN.{length, getD, take}
+use lib.IntN.{ℤ, pos, natAbs, _*ℤ_}
+use lib.ListN.{length, getD, take, set}
 use Rattle.integers.specs.Within.{Within}
+use Rattle.rounding.specs.Rounding.{round}
 use Rattle.curve.specs.Weights.{kobbelt}
+use Rattle.rings.specs.Scales.{virtualScale, edgeScale, coordinateRange, edgeRange}
 use Rattle.topology.specs.Shape.{quads}
-use Rattle.topology.specs.HalfEdge.{edge}
+use Rattle.topology.specs.HalfEdge.{mate, edge}
 use Rattle.topology.specs.Manifold.{Manifold}
 use Rattle.refinedfaces.specs.Refined.{refinedVertices}
-use Rattle.scheme.specs.Step.{refinedCoordinate}
 use Rattle.nets.specs.Net.{axis}
+use Rattle.scheme.specs.Step.{refinedCoordinate}
 use Rattle.schemelaws.specs.Numerators.{edgeZ}
-use Rattle.packing.specs.Packed.{Holds}
-use Rattle.stencils.specs.Stencils.{Indexed, place}
-use Rattle.facetable.specs.FaceTable.{Written}
+use Rattle.halfedges.specs.Tables.{Connectivity}
+use Rattle.walks.specs.Ready.{Ready}
+use Rattle.classes.specs.Classes.{Classes}
+use Rattle.coordinates.specs.Points.{Points, Marks, putPoint, Written}
+use Rattle.coordinates.specs.Packed.{putThree, Holds}
+use Rattle.coordinates.specs.Entry.{wideFlag, entryOf, placeOf, unitOf}
+use Rattle.edgepoints.specs.Edge.{Flagged, ExactPoint}
 
--- an exact point within 11/6 of 2^26, over 7,257,600
-pub record Small (x y z : ℤ) : Type 0 where
-  pub on₀ : natAbs x ≤ 13305600 * 67108864
-  pub on₁ : natAbs y ≤ 13305600 * 67108864
-  pub on₂ : natAbs z ≤ 13305600 * 67108864
+-- a stored numerator of an edge with this flag, rounded
+unfoldable pub roundedBy : ℕ → ℤ → ℤ
+roundedBy flag z = round (pos (unitOf flag) *ℤ z) (edgeScale kobbelt)
 
--- what a round's points assume of its tables: p has room for the refined vertices, w for the exact edge points
-pub record Round (l marks : List ℕ) (p : List ℤ) (w : List ℕ) : Type 0 where
-  pub indexed : Indexed l w
-  pub net : Manifold quads (length marks) l
-  pub vertices : length marks ≤ length l
-  pub room : 3 * refinedVertices quads (length marks) l ≤ length p
-  pub bounded : Within 67108864 (take (3 * length marks) p)
+-- an exact point in the range of edges, with a flag that tells its denominator
+pub record Small (flag : ℕ) (x y z : ℤ) : Type 0 where
+  pub plain : (flag ≡ wideFlag → ⊥) → unitOf flag ≡ virtualScale kobbelt
+  pub on₀ : natAbs (pos (unitOf flag) *ℤ x) ≤ edgeRange kobbelt
+  pub on₁ : natAbs (pos (unitOf flag) *ℤ y) ≤ edgeRange kobbelt
+  pub on₂ : natAbs (pos (unitOf flag) *ℤ z) ≤ edgeRange kobbelt
 
--- coordinate a of the old vertices, and of the refined ones
+-- coordinate a of the old vertices, of the refined ones, and of the exact points of edges
 unfoldable pub oldAxis : List ℕ → List ℤ → ℕ → ℕ → ℤ
 oldAxis marks p a = axis (take (3 * length marks) p) a
 
 unfoldable pub refinedAxis : List ℕ → List ℕ → List ℤ → ℕ → ℕ → ℤ
 refinedAxis l marks p a i = refinedCoordinate kobbelt (length marks) l marks (oldAxis marks p a) i
 
--- of the tables p₀ and w₀, p and w have the points of the edges below e: rounded behind the old ones, and exact
-pub record Edges (l marks : List ℕ) (p₀ : List ℤ) (w₀ : List ℕ) (p : List ℤ) (w : List ℕ) (e : ℕ) : Type 0 where
+unfoldable pub edgeAxis : List ℕ → List ℕ → List ℤ → ℕ → ℕ → ℤ
+edgeAxis l marks p a h = edgeZ l marks (oldAxis marks p a) h
+
+-- what the pass assumes of the tables: mates in front of w, classes of the vertices from `at` on, and room
+pub record Round (l marks : List ℕ) (p : List ℤ) (w : List ℕ) (at drawn : ℕ) : Type 0 where
+  pub net : Manifold quads (length marks) l
+  pub table : Connectivity l w
+  pub classes : Classes (length marks) at drawn l w
+  pub vertices : length marks ≤ length l
+  pub room : 3 * refinedVertices quads (length marks) l ≤ length p
+  pub behind : 8 * length l ≤ at
+  pub bounded : Within coordinateRange (take (3 * length marks) p)
+
+-- before half-edge h, with e edges met, the tables have room for the point of its edge
+pub record Turn (l marks : List ℕ) (p : List ℤ) (w : List ℕ) (at drawn h e : ℕ) : Type 0 where
+  pub ready : Ready l w
+  pub points : Points l (take (3 * length marks) p)
+  pub marked : Marks l marks
+  pub classes : Classes (length marks) at drawn l w
+  pub lt : h < length l
+  pub other : mate quads l h ≡ h → ⊥
+  pub vertices : length marks ≤ length l
+  pub below : e ≤ length l
+  pub entries : 2 * length l ≤ length w
+  pub old : 3 * length marks ≤ length p
+  pub room : h < mate quads l h → 3 * (length marks + e) + 3 ≤ length p
+  pub exact : h < mate quads l h → 2 * length l + 6 * e + 6 ≤ length w
+
+-- after it, with r edges met: the point of its edge went, rounded and exact, to the tables, and its entry; or the edge was met before, and has the entry of its mate
+pub data Turned (l marks : List ℕ) (h e r : ℕ) (p : List ℤ) (w : List ℕ) (p′ : List ℤ) (w′ : List ℕ) : Type 0 where
+  met : (flag : ℕ) (x y z : ℤ) → h < mate quads l h → r ≡ e + 1 → Flagged l h flag → ExactPoint flag (λ (a : ℕ). edgeZ l marks (axis (take (3 * length marks) p) a) h) x y z
+      → p′ ≡ putPoint p (length marks + e) (roundedBy flag x) (roundedBy flag y) (roundedBy flag z) → w′ ≡ set (putThree w (2 * length l + 6 * e) x y z) (length l + h) (e + flag)
+      → Turned l marks h e r p w p′ w′
+  passed : mate quads l h < h → r ≡ e → p′ ≡ p → w′ ≡ set w (length l + h) (getD w (length l + mate quads l h) 0) → Turned l marks h e r p w p′ w′
+
+-- the entry t of the edge of h: its number and its flag
+pub record Entry (l : List ℕ) (h t : ℕ) : Type 0 where
+  pub flag : ℕ
+  pub flagged : Flagged l h flag
+  pub is : t ≡ edge quads l h + flag
+
+-- w has coordinate a of an exact point for the entry t: over `edgeScale` it is X
+pub record StoredAt (n : ℕ) (w : List ℕ) (a t : ℕ) (X : ℤ) : Type 0 where
+  pub number : ℤ
+  pub holds : Holds w (placeOf n t + 2 * a) number
+  pub value : pos (unitOf t) *ℤ number ≡ X
+
+-- of the tables p₀ and w₀, p and w have the points of the edges of the half-edges below h, of which there are e: rounded behind the old ones, and exact
+pub record Edges (l marks : List ℕ) (p₀ : List ℤ) (w₀ : List ℕ) (p : List ℤ) (w : List ℕ) (h e : ℕ) : Type 0 where
   pub old : take (3 * length marks) p ≡ take (3 * length marks) p₀
   pub points : Written (refinedAxis l marks p₀) p₀ p (length marks + e)
   pub kept : length w ≡ length w₀
-  pub front : (k : ℕ) → k < 2 * length l → getD w k 0 ≡ getD w₀ k 0
+  pub mates : (k : ℕ) → k < length l → getD w k 0 ≡ getD w₀ k 0
   pub behind : (k : ℕ) → 8 * length l ≤ k → getD w k 0 ≡ getD w₀ k 0
-  pub stored : (a g : ℕ) → a < 3 → g < length l → edge quads l g < e → Holds w (place l g + 2 * a) (edgeZ l marks (oldAxis marks p₀ a) g)
+  pub entries : (g : ℕ) → g < h → Entry l g (entryOf (length l) w g)
+  pub stored : (a g : ℕ) → a < 3 → g < h → StoredAt (length l) w a (entryOf (length l) w g) (edgeAxis l marks p₀ a g)

@@ -1,38 +1,49 @@
-// The exact points of edges in the work table and their rounded coordinates in the table of points; laws of the pass over all edges are in proofs/.
+// The pass over the edges of a round: each edge is numbered as it is met, its exact point goes to the work table, its rounded point behind the old ones.
 ghost use mathlib.Core.Path.{_≡_};
 ghost use Prim.Native.Nat.{_+_, _*_, _≤_};
-ghost use lib.IntN.{natAbs};
+ghost use lib.IntN.{pos, natAbs, _*ℤ_};
 ghost use lib.ListN.{length};
 ghost use Rattle.rounding.specs.Rounding.{round};
-ghost use Rattle.packing.specs.Packed.{putThree};
-ghost use Rattle.facetable.specs.FaceTable.{putPoint};
-ghost use Rattle.edgetable.specs.EdgeTable.{Small};
+ghost use Rattle.curve.specs.Weights.{kobbelt};
+ghost use Rattle.rings.specs.Scales.{virtualScale, edgeScale, edgeRange};
+ghost use Rattle.coordinates.specs.Points.{putPoint};
+ghost use Rattle.edgetable.specs.EdgeTable.{roundedBy, Small};
+use edgepoints::Edge;
 
-// A coordinate of an edge point, rounded.
-fn rounded(z: i64) -> i32
-    requires { ⌜ natAbs z ≤ 13305600 * 67108864 ⌝ }
-    ensures { λ r. ⌜ r ≡ round z 7257600 ⌝ }
+const WIDE: u32 = 536870912;
+
+const HALF_EDGE_SCALE: u64 = 3628800;
+
+// A coordinate over 16, rounded.
+fn rounded_plain(z: i64) -> i32
+    requires { ⌜ natAbs (pos (virtualScale kobbelt) *ℤ z) ≤ edgeRange kobbelt ⌝ }
+    ensures { λ r. ⌜ r ≡ round (pos (virtualScale kobbelt) *ℤ z) (edgeScale kobbelt) ⌝ }
 {
-    rounding::round_div(z, 3628800) as i32
+    rounding::round_shift(z, 8, 4) as i32
 }
 
-// Writes the rounded coordinates of vertex i.
-pub fn put_rounded(points: &mut [i32], i: usize, e: curvepoints::Exact)
-    requires { ⌜ 3 * i + 3 ≤ length (now points) ⌝ }
-    requires { ⌜ Small (e .x) (e .y) (e .z) ⌝ }
-    ensures { λ _. ⌜ now (points .exit) ≡ putPoint (now (points .entry)) i (round (e .x) 7257600) (round (e .y) 7257600) (round (e .z) 7257600) ⌝ }
+// A coordinate over the wide denominator, rounded.
+fn rounded_wide(z: i64) -> i32
+    requires { ⌜ natAbs z ≤ edgeRange kobbelt ⌝ }
+    ensures { λ r. ⌜ r ≡ round z (edgeScale kobbelt) ⌝ }
 {
-    let x = rounded(e.x);
-    let y = rounded(e.y);
-    let z = rounded(e.z);
-    facetable::put_point(&mut *points, i, x, y, z);
+    rounding::round_div(z, HALF_EDGE_SCALE) as i32
 }
 
-// Writes an exact point from the place `at` on.
-pub fn put_exact(work: &mut [u32], at: usize, e: curvepoints::Exact)
-    requires { ⌜ at + 6 ≤ length (now work) ⌝ }
-    requires { ⌜ Small (e .x) (e .y) (e .z) ⌝ }
-    ensures { λ _. ⌜ now (work .exit) ≡ putThree (now (work .entry)) at (e .x) (e .y) (e .z) ⌝ }
+// Writes the rounded coordinates of vertex i, from its exact point.
+fn put_rounded(points: &mut [i32], i: usize, e: Edge)
+    requires { ⌜ (3 * i + 3 ≤ length (now points)) × Small (e .flag) (e .x) (e .y) (e .z) ⌝ }
+    ensures { λ _. ⌜ now (points .exit) ≡ putPoint (now (points .entry)) i (roundedBy (e .flag) (e .x)) (roundedBy (e .flag) (e .y)) (roundedBy (e .flag) (e .z)) ⌝ }
 {
-    packing::store_exact(&mut *work, at, e);
+    if e.flag == WIDE {
+        let x = rounded_wide(e.x);
+        let y = rounded_wide(e.y);
+        let z = rounded_wide(e.z);
+        coordinates::put_point(&mut *points, i, x, y, z);
+        return;
+    }
+    let x = rounded_plain(e.x);
+    let y = rounded_plain(e.y);
+    let z = rounded_plain(e.z);
+    coordinates::put_point(&mut *points, i, x, y, z);
 }

@@ -7,7 +7,7 @@ use native.Mathlib.Nat.{div-add-mod, mod-lt, mul-comm, mul-add, mul-left-comm, m
 use native.Mathlib.Decide.{decLt}
 use native.Mathlib.Omega.{arith}
 use lib.IntN.{ℤ, pos, negsuc, negℤ, natAbs, _+ℤ_, _-ℤ_, _*ℤ_}
-use lib.Signed.{_≤ℤ_}
+use lib.Signed.{_≤ℤ_, shrZ}
 use Rattle.integers.proofs.AbsoluteValue.{abs-add, abs-mul}
 use Rattle.integers.proofs.Linear.{at, whole, _⊕_, _⊖_, _⊙_}
 use Rattle.integers.proofs.Polynomial.{var, lit, _⊞_, _⊟_, _⊠_, same}
@@ -198,3 +198,25 @@ round-raised z h K u g e =
           ∙ same (lit (pos 2) ⊠ ((lit (pos 2) ⊠ var 0) ⊠ var 1 ⊞ var 3) ⊟ (lit (pos 2) ⊠ (lit (pos 2) ⊠ var 0)) ⊠ var 2) ((lit (pos 2) ⊠ (lit (pos 2) ⊠ var 0)) ⊠ (var 1 ⊟ var 2) ⊞ lit (pos 2) ⊠ var 3)
           (pos h ∷ pos q ∷ pos K ∷ pos r ∷ []) refl;
     }))
+
+-- ---- by a shift: half the divisor added, and the floor taken; the machine's signed shift to the right goes downward too
+pub round-floor : (z : ℤ) (h : ℕ) → 0 < h → floor (z +ℤ pos h) (2 * h) ≡ round z (2 * h)
+round-floor z h g =
+    let s = floor-rest (z +ℤ pos h) (2 * h) (omega arith) in
+    let q : ℤ = floor (z +ℤ pos h) (2 * h) in
+    let b = s .below in
+    sym (round-is z q (2 * h) (omega arith) (record {
+      rest = 2 * s .rest;
+      below = omega arith;
+      sum =
+          same (lit (pos 2) ⊠ var 0 ⊞ lit (pos 2) ⊠ var 1) (lit (pos 2) ⊠ (var 0 ⊞ var 1)) (z ∷ pos h ∷ []) refl
+          ∙ ap (λ (x : ℤ). pos 2 *ℤ x) (s .sum)
+          ∙ same (lit (pos 2) ⊠ (var 0 ⊠ var 1 ⊞ var 2)) ((lit (pos 2) ⊠ var 0) ⊠ var 1 ⊞ lit (pos 2) ⊠ var 2) (pos (2 * h) ∷ q ∷ pos (s .rest) ∷ []) refl;
+    }))
+
+shr-floor : (z : ℤ) (d : ℕ) → shrZ z d ≡ floor z d
+shr-floor (pos a) d = refl
+shr-floor (negsuc a) d = refl
+
+pub round-shr : (z : ℤ) (h : ℕ) → 0 < h → shrZ (z +ℤ pos h) (2 * h) ≡ round z (2 * h)
+round-shr z h g = shr-floor (z +ℤ pos h) (2 * h) ∙ round-floor z h g

@@ -7,7 +7,7 @@ use Rattle.integers.specs.Sum.{sum}
 use Rattle.rounding.specs.Rounding.{round}
 use Rattle.topology.specs.HalfEdge.{from}
 use Rattle.nets.specs.Net.{axis}
-use Rattle.curvepoints.specs.Exact.{InTable}
+use Rattle.coordinates.specs.Points.{InTable}
 
 -- the coordinates of vertex v are in the table, and within the limit on coordinates
 pub record DrawnVertex (t : List ℤ) (v : ℕ) : Type 0 where

@@ -5,7 +5,7 @@ ghost use lib.IntN.{natAbs};
 ghost use lib.ListN.{length};
 ghost use Rattle.integers.specs.Sum.{sum};
 ghost use Rattle.rounding.specs.Rounding.{round};
-ghost use Rattle.facetable.specs.FaceTable.{putPoint};
+ghost use Rattle.coordinates.specs.Points.{putPoint};
 ghost use Rattle.splitpoints.specs.Points.{DrawnVertex, Corners, midpointOn, cornerOn, meanOn};
 
 // z / d, where z is a sum of d coordinates, rounded.
@@ -21,8 +21,8 @@ fn midpoint(points: &[i32], p: usize, q: usize, a: usize) -> i32
     requires { ⌜ DrawnVertex (now points) p × DrawnVertex (now points) q × (a < 3) ⌝ }
     ensures { λ r. ⌜ r ≡ midpointOn (now (points .entry)) p q a ⌝ }
 {
-    let x = extrapolation::coordinate_wide(points, p, a);
-    let y = extrapolation::coordinate_wide(points, q, a);
+    let x = coordinates::coordinate(points, p, a);
+    let y = coordinates::coordinate(points, q, a);
     rounded(x + y, 2)
 }
 
@@ -36,7 +36,7 @@ pub fn put_midpoint(points: &mut [i32], i: usize, p: usize, q: usize)
     let x = midpoint(&*points, p, q, 0);
     let y = midpoint(&*points, p, q, 1);
     let z = midpoint(&*points, p, q, 2);
-    facetable::put_point(&mut *points, i, x, y, z);
+    coordinates::put_point(&mut *points, i, x, y, z);
 }
 
 // The sum of coordinate a of c corners, from h on.
@@ -48,7 +48,7 @@ fn corner_sum(points: &[i32], faces: &[u32], h: usize, c: usize, a: usize) -> i6
     let mut k = 0;
     while k < c {
         let v = halfedges::start_of(faces, h + k);
-        total = total + extrapolation::coordinate_wide(points, v, a);
+        total = total + coordinates::coordinate(points, v, a);
         k += 1;
     }
     total
@@ -73,5 +73,5 @@ pub fn put_mean(points: &mut [i32], faces: &[u32], i: usize, h: usize, c: usize)
     let x = mean(&*points, faces, h, c, 0);
     let y = mean(&*points, faces, h, c, 1);
     let z = mean(&*points, faces, h, c, 2);
-    facetable::put_point(&mut *points, i, x, y, z);
+    coordinates::put_point(&mut *points, i, x, y, z);
 }

@@ -24,9 +24,9 @@ use Rattle.nets.specs.Net.{axis}
 use Rattle.splitting.specs.Splitting.{splitCoordinate}
 use Rattle.splitting.proofs.Coordinates.{split-old, split-edge, split-face-counts}
 use Rattle.sidetable.specs.Table.{Linked}
-use Rattle.facetable.specs.FaceTable.{putPoint}
-use Rattle.facetable.proofs.FaceTable.{written-next}
-use Rattle.edgetable.proofs.EdgeTable.{put-point-is}
+use Rattle.coordinates.specs.Points.{putPoint}
+use Rattle.coordinates.proofs.Points.{written-next}
+use Rattle.coordinates.proofs.Points.{put-point-is}
 use Rattle.splitpoints.specs.Points.{DrawnVertex, Corners, midpointOn, cornerOn, meanOn}
 use Rattle.splitvertices.specs.Passes.{Splittable, splitAxis, splitVertices, Made, Turn, Turned, met, passed}
 

@@ -14,7 +14,7 @@ use Rattle.refinedfaces.specs.Refined.{refinedVertices}
 use Rattle.nets.specs.Net.{axis}
 use Rattle.splitting.specs.Splitting.{splitCoordinate}
 use Rattle.sidetable.specs.Table.{Linked}
-use Rattle.facetable.specs.FaceTable.{putPoint, Written}
+use Rattle.coordinates.specs.Points.{putPoint, Written}
 use Rattle.splitpoints.specs.Points.{DrawnVertex, midpointOn}
 
 -- what the passes assume: t has room for the vertices of the split

@@ -39,28 +39,28 @@ add-start-of c = omega arith
 start-of-requires : tie.Need-start-of-requires Inv-loop μ-loop
 start-of-requires c κs = let s = c .before .before .before in let e = s .pre .0 .ends in omega arith
 
-coordinate-wide-requires : tie.Need-coordinate-wide-requires Inv-loop μ-loop
-coordinate-wide-requires c κs =
+coordinate-requires : tie.Need-coordinate-requires Inv-loop μ-loop
+coordinate-requires c κs =
     let q = c .before .before in
     let s = q .before .before in
     let e = c .start-of .ensures in
     (s .pre .1, rw e (s .pre .0 .each (q .loop .k) (omega arith) .room))
 
 -- the sum goes on
-more : (c : tie.After-coordinate-wide Inv-loop μ-loop) → (let q = c .before .before .before in let z = toZ w64 (q .loop .total) +ℤ c .coordinate-wide .result in
+more : (c : tie.After-coordinate Inv-loop μ-loop) → (let q = c .before .before .before in let z = toZ w64 (q .loop .total) +ℤ c .coordinate .result in
     (z ≡ sum (q .loop .k + 1) (term (q .before .before))) × SFits w64 z)
 unfolding cornerOn
 more c =
     let q = c .before .before .before in
     let s = q .before .before in
-    let e : c .coordinate-wide .result ≡ term s (q .loop .k) =
-    c .coordinate-wide .ensures ∙ ap (λ (v : ℕ). axis (s .args .points .now) (s .args .a) v) (c .before .start-of .ensures) in
+    let e : c .coordinate .result ≡ term s (q .loop .k) =
+    c .coordinate .ensures ∙ ap (λ (v : ℕ). axis (s .args .points .now) (s .args .a) v) (c .before .start-of .ensures) in
     let g = ap₂ _+ℤ_ (so-far q) e ∙ sum-more (q .loop .k) (term s) in
     let b = c .before .before .loop-test .taken in
     (g, rw g (fits s (q .loop .k + 1) (omega arith)))
 
 add-total : tie.Need-add-total Inv-loop μ-loop
-add-total c = let f : SFits w64 (c .coordinate-wide .result) = search needs in let g = more c .1 in simp toZ-ofZ g
+add-total c = let f : SFits w64 (c .coordinate .result) = search needs in let g = more c .1 in simp toZ-ofZ g
 
 add-k : tie.Need-add-k Inv-loop μ-loop
 add-k c = omega arith
@@ -70,7 +70,7 @@ loop-less c = omega arith
 
 loop-again : tie.Need-loop-again Inv-loop μ-loop
 loop-again c =
-    let f : SFits w64 (c .coordinate-wide .result) = search needs in
+    let f : SFits w64 (c .coordinate .result) = search needs in
     let g = more c .1 in
     (omega arith, simp toZ-ofZ (ap (ofZ w64) (more c .0)))
 
@@ -89,7 +89,7 @@ corner-sum-spec =
     loop-holds
     add-start-of
     start-of-requires
-    coordinate-wide-requires
+    coordinate-requires
     add-total
     add-k
     loop-less

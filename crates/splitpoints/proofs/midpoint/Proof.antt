@@ -14,39 +14,39 @@ use Rattle.splitpoints.specs.Points.{midpointOn}
 use Rattle.splitpoints.proofs.midpoint.Statement.{statement}
 use Rattle.splitpoints.proofs.midpoint.Tie as tie
 
-coordinate-wide-requires : tie.Need-coordinate-wide-requires
-coordinate-wide-requires c κs = search needs
+coordinate-requires : tie.Need-coordinate-requires
+coordinate-requires c κs = search needs
 
-coordinate-wide-requires-2 : tie.Need-coordinate-wide-requires-2
-coordinate-wide-requires-2 c κs = search needs
+coordinate-requires-2 : tie.Need-coordinate-requires-2
+coordinate-requires-2 c κs = search needs
 
 -- the sum of both coordinates
-abbrev both : tie.After-coordinate-wide2 → ℤ
-both c = c .before .coordinate-wide .result +ℤ c .coordinate-wide2 .result
+abbrev both : tie.After-coordinate2 → ℤ
+both c = c .before .coordinate .result +ℤ c .coordinate2 .result
 
-small : (c : tie.After-coordinate-wide2) → natAbs (both c) ≤ 2 * 1048576
+small : (c : tie.After-coordinate2) → natAbs (both c) ≤ 2 * 1048576
 small c =
     let s = c .before .before in
-    let x = c .before .coordinate-wide in
-    let y = c .coordinate-wide2 in
+    let x = c .before .coordinate in
+    let y = c .coordinate2 in
     let p : natAbs (x .result) ≤ 1048576 = rw (x .ensures) (s .pre .0 .small (s .args .a) (s .pre .2)) in
     let q : natAbs (y .result) ≤ 1048576 = rw (y .ensures) (s .pre .1 .small (s .args .a) (s .pre .2)) in
     omega (arith, abs-add (x .result) (y .result))
 
-fits : (c : tie.After-coordinate-wide2) → SFits w64 (both c)
+fits : (c : tie.After-coordinate2) → SFits w64 (both c)
 fits c = let b = small c in fits-abs w64 (both c) (omega arith)
 
 add-rounded : tie.Need-add-rounded
 add-rounded c =
-    let f : SFits w64 (c .before .coordinate-wide .result) = search needs in
-    let g : SFits w64 (c .coordinate-wide2 .result) = search needs in
+    let f : SFits w64 (c .before .coordinate .result) = search needs in
+    let g : SFits w64 (c .coordinate2 .result) = search needs in
     let k = fits c in
     simp toZ-ofZ k
 
 rounded-requires : tie.Need-rounded-requires
 rounded-requires c κs =
-    let f : SFits w64 (c .before .coordinate-wide .result) = search needs in
-    let g : SFits w64 (c .coordinate-wide2 .result) = search needs in
+    let f : SFits w64 (c .before .coordinate .result) = search needs in
+    let g : SFits w64 (c .coordinate2 .result) = search needs in
     let k = fits c in
     let b = small c in
     simp toZ-ofZ (omega arith, omega arith, b)
@@ -54,8 +54,8 @@ rounded-requires c κs =
 returns : tie.Need-returns
 unfolding midpointOn
 returns c =
-    let x = c .before .before .coordinate-wide in
-    let y = c .before .coordinate-wide2 in
+    let x = c .before .before .coordinate in
+    let y = c .before .coordinate2 in
     let f : SFits w64 (x .result) = search needs in
     let g : SFits w64 (y .result) = search needs in
     let k = fits (c .before) in
@@ -67,8 +67,8 @@ pub midpoint-spec : {M : Type 1} → statement M
 midpoint-spec =
     tie.close
     (tie.spec
-    coordinate-wide-requires
-    coordinate-wide-requires-2
+    coordinate-requires
+    coordinate-requires-2
     add-rounded
     rounded-requires
     returns)

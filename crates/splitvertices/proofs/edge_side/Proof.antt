@@ -7,7 +7,7 @@ use borrow.Author.Needs.{needs}
 use Rattle.topology.specs.HalfEdge.{from, to, mate}
 use Rattle.polygons.specs.Polygons.{shapeOf}
 use Rattle.polygons.proofs.Counts.{shape-lawful}
-use Rattle.facetable.specs.FaceTable.{putPoint}
+use Rattle.coordinates.specs.Points.{putPoint}
 use Rattle.splitpoints.specs.Points.{midpointOn}
 use Rattle.splitvertices.specs.Passes.{met, passed}
 use Rattle.splitvertices.proofs.edge_side.Statement.{statement}

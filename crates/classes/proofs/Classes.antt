@@ -1,0 +1,217 @@
+-- Ring sizes tell which vertices are ordinary, and rounds keep the classes.
+use mathlib.Core.Path.{_≡_, refl, sym, ap, _∙_}
+use mathlib.Core.Bool.{Bool, true, false, cond}
+use mathlib.Core.List.{List}
+use Prim.Native.Nat.{ℕ, suc, _+_, _*_, _≤_, _<_}
+use native.Mathlib.Decide.{decLt, ℕ-discrete}
+use native.Mathlib.Numerals.{add-one}
+use native.Mathlib.Omega.{arith}
+use lib.Dec.{ltb, eqb, lit≤}
+use lib.ListN.{length, getD, set, take}
+use lib.Seq.{getD-set-same, getD-set-other, getD-take}
+use borrow.Author.Tests.{lt-ltb, le-ltb, eq-eqb, eqb-true}
+use Rattle.search.specs.Search.{count}
+use Rattle.search.proofs.Tests.{cond-elim}
+use Rattle.search.proofs.First.{first-before, first-holds}
+use Rattle.search.proofs.Count.{count-more, count-same, count-skip, count-none, count-le}
+use Rattle.topology.specs.Shape.{quads}
+use Rattle.topology.specs.HalfEdge.{from, mate}
+use Rattle.topology.specs.Boundary.{isBoundaryFrom, boundaryFrom}
+use Rattle.topology.specs.Vertex.{leaves, valence}
+use Rattle.topology.specs.Manifold.{Manifold}
+use Rattle.topology.proofs.Mates.{mate-le}
+use Rattle.topology.proofs.Boundary.{from-on, from-none, from-at, boundaryFrom-le, boundaryFrom-is}
+use Rattle.tables.specs.Tables.{SameOutside}
+use Rattle.halfedges.proofs.Tables.{mates-cong}
+use Rattle.refinedfaces.specs.Refined.{refinedVertices, refined}
+use Rattle.schemelaws.specs.Ordinary.{Ordinary, ringOfFour, fanOfTwo}
+use Rattle.schemelaws.proofs.Made.{made-ordinary, old-ordinary}
+use Rattle.classes.specs.Classes.{ringSize, RingSizes, ordinaryBy, Classes, Countable, ZerosFrom, shareOf, CountedBelow}
+
+not-true : (b : Bool) → (b ≡ true → ⊥) → b ≡ false
+not-true true f = absurd (f refl)
+not-true false f = refl
+
+leaves-on : (l : List ℕ) (p h : ℕ) → from l h ≡ p → leaves l p h ≡ true
+unfolding leaves
+leaves-on l p h e = eq-eqb (from l h) p e
+
+leaves-at : (l : List ℕ) (p h : ℕ) → leaves l p h ≡ true → from l h ≡ p
+unfolding leaves
+leaves-at l p h t = eqb-true (from l h) p t
+
+-- equal before m: equal at each place there
+same-front : (m : ℕ) (w w′ : List ℕ) → take m w′ ≡ take m w → (i : ℕ) → i < m → getD w′ i 0 ≡ getD w i 0
+same-front m w w′ e i h = sym (getD-take m w′ i 0 h) ∙ ap (λ (t : List ℕ). getD t i 0) e ∙ getD-take m w i 0 h
+
+-- ---- ring sizes
+module _ (l : List ℕ) (p : ℕ) where
+  ring-size-inner : boundaryFrom quads l p ≡ length l → ringSize l p ≡ valence l p
+  unfolding ringSize
+  ring-size-inner b = let a = le-ltb (boundaryFrom quads l p) (length l) (omega arith) in rw a (omega arith)
+
+  ring-size-boundary : boundaryFrom quads l p < length l → ringSize l p ≡ valence l p + 2
+  unfolding ringSize
+  ring-size-boundary b = let a = lt-ltb (boundaryFrom quads l p) (length l) b in rw a
+
+  -- the ring of a vertex has four faces exactly where it is ordinary
+  pub four-ordinary : ringSize l p ≡ 4 → Ordinary l p
+  four-ordinary e = go (decLt (boundaryFrom quads l p) (length l))
+    where
+      go : Dec (boundaryFrom quads l p < length l) → Ordinary l p
+      go (yes b) = let s = ring-size-boundary b in fanOfTwo b (omega arith)
+      go (no b) = let c : boundaryFrom quads l p ≡ length l = omega (arith, boundaryFrom-le quads l p) in let s = ring-size-inner c in ringOfFour c (omega arith)
+
+  pub ordinary-four : Ordinary l p → ringSize l p ≡ 4
+  ordinary-four (ringOfFour b n) = ring-size-inner b ∙ n
+  ordinary-four (fanOfTwo b n) = let s = ring-size-boundary b in omega arith
+
+-- ---- classes: as counted, and after a round
+-- where the table has the ring size of each vertex
+pub classes-counted : (v at : ℕ) (l w : List ℕ) → at + v ≤ length w → RingSizes v at l w → Classes v at v l w
+unfolding ordinaryBy
+classes-counted v at l w b r = record {
+  fewer = omega arith;
+  room = b;
+  ordinary = λ p c e. let d = lt-ltb p v c in four-ordinary l p (sym (r .sizes p c) ∙ eqb-true (getD w (at + p) 0) 4 (rw d at e));
+}
+
+-- the table is the same for the drawn vertices
+pub classes-same : (v at drawn : ℕ) (l w w′ : List ℕ) → at + drawn ≤ length w′ → ((p : ℕ) → p < drawn → getD w′ (at + p) 0 ≡ getD w (at + p) 0) → Classes v at drawn l w → Classes v at drawn l w′
+unfolding ordinaryBy
+classes-same v at drawn l w w′ b f k = record { fewer = k .fewer; room = b; ordinary = λ p c e. k .ordinary p c (sym (same p (decLt p drawn)) ∙ e) }
+  where
+    same : (p : ℕ) → Dec (p < drawn) → ordinaryBy w′ at drawn p ≡ ordinaryBy w at drawn p
+    same p (yes c) = ap (λ (x : ℕ). cond (ltb p drawn) (eqb x 4) true) (f p c)
+    same p (no c) = let d = le-ltb p drawn (omega arith) in rw d
+
+pub classes-refined : (v at drawn : ℕ) (l w : List ℕ) → Manifold quads v l → Classes v at drawn l w → Classes (refinedVertices quads v l) at drawn (refined quads v l) w
+unfolding ordinaryBy
+classes-refined v at drawn l w ok k = record { fewer = (let f = k .fewer in omega arith); room = k .room; ordinary = λ p c e. go p c e (decLt p v) }
+  where
+    go : (p : ℕ) → p < refinedVertices quads v l → ordinaryBy w at drawn p ≡ true → Dec (p < v) → Ordinary (refined quads v l) p
+    go p c e (yes b) = old-ordinary v l ok p b (k .ordinary p b e)
+    go p c e (no b) = made-ordinary v l ok p (omega arith) c
+
+-- ---- counting
+module _ (v : ℕ) (l : List ℕ) (ok : Manifold quads v l) (p : ℕ) where
+  -- a boundary vertex starts one boundary half-edge, another none
+  boundary-once : boundaryFrom quads l p < length l → count (isBoundaryFrom quads l p) (length l) ≡ 1
+  unfolding boundaryFrom
+  boundary-once b =
+      let t : ℕ → Bool = isBoundaryFrom quads l p in
+      let s : ℕ = boundaryFrom quads l p in
+      let a : count t (length l) ≡ count t (suc s) = count-skip t (suc s) (length l) b (λ j c d. later j c d) in
+      let c = count-more t s holds in
+      let d = count-none t s before in
+      omega arith
+    where
+      holds : isBoundaryFrom quads l p (boundaryFrom quads l p) ≡ true
+      holds = first-holds (isBoundaryFrom quads l p) (length l) b
+
+      before : (j : ℕ) → j < boundaryFrom quads l p → isBoundaryFrom quads l p j ≡ false
+      before j c = first-before (isBoundaryFrom quads l p) (length l) j c
+
+      later : (j : ℕ) → suc (boundaryFrom quads l p) ≤ j → j < length l → isBoundaryFrom quads l p j ≡ false
+      later j c d = not-true (isBoundaryFrom quads l p j) (λ t. let e = boundaryFrom-is quads v l ok p j (record { lt = d; none = from-none quads l p j t }) (from-at quads l p j t) in let z : ⊥ = omega arith in z)
+
+  boundary-never : boundaryFrom quads l p ≡ length l → count (isBoundaryFrom quads l p) (length l) ≡ 0
+  unfolding boundaryFrom
+  boundary-never b = count-none (isBoundaryFrom quads l p) (length l) (λ j c. first-before (isBoundaryFrom quads l p) (length l) j (omega arith))
+
+  counted-size : count (leaves l p) (length l) + 2 * count (isBoundaryFrom quads l p) (length l) ≡ ringSize l p
+  unfolding valence
+  counted-size = go (decLt (boundaryFrom quads l p) (length l))
+    where
+      go : Dec (boundaryFrom quads l p < length l) → count (leaves l p) (length l) + 2 * count (isBoundaryFrom quads l p) (length l) ≡ ringSize l p
+      go (yes b) = let s = ring-size-boundary l p b in let c = boundary-once b in omega arith
+      go (no b) = let e : boundaryFrom quads l p ≡ length l = omega (arith, boundaryFrom-le quads l p) in let s = ring-size-inner l p e in let c = boundary-never e in omega arith
+
+pub counted-all : (v at : ℕ) (l w : List ℕ) → Manifold quads v l → CountedBelow v at l w (length l) → RingSizes v at l w
+counted-all v at l w ok c = record { sizes = λ p b. c .sizes p b ∙ counted-size v l ok p }
+
+pub zeros-none : (at : ℕ) (w : List ℕ) → ZerosFrom 0 at w
+zeros-none at w = record { zeros = λ p b. let z : ⊥ = omega arith in absurd z }
+
+pub zeros-next : (v at : ℕ) (w : List ℕ) → at + v < length w → ZerosFrom v at w → ZerosFrom (v + 1) at (set w (at + v) 0)
+zeros-next v at w b c = record { zeros = λ p d. go p d (ℕ-discrete p v) }
+  where
+    go : (p : ℕ) → p < v + 1 → Dec (p ≡ v) → getD (set w (at + v) 0) (at + p) 0 ≡ 0
+    go p d (yes e) = rw e (getD-set-same w (at + v) 0 0 b)
+    go p d (no e) = getD-set-other w (at + v) (at + p) 0 0 (λ q. e (omega arith)) ∙ c .zeros p (omega arith)
+
+pub counted-none : (v at : ℕ) (l w : List ℕ) → ZerosFrom v at w → CountedBelow v at l w 0
+unfolding count
+counted-none v at l w z = record { sizes = z .zeros }
+
+pub share-le : (l : List ℕ) (h : ℕ) → shareOf l h ≤ 3
+unfolding shareOf
+share-le l h = cond-elim (λ r. r ≤ 3) (ltb (mate quads l h) (length l)) 1 3 (λ e. lit≤ tt) (λ e. lit≤ tt)
+
+module _ (v at : ℕ) (l w : List ℕ) (h : ℕ) (b : h < length l) where
+  -- the vertex that h leaves is counted once more, the others are not
+  share-here : (p : ℕ) → from l h ≡ p
+      → count (leaves l p) (h + 1) + 2 * count (isBoundaryFrom quads l p) (h + 1) ≡ count (leaves l p) h + 2 * count (isBoundaryFrom quads l p) h + shareOf l h
+  unfolding shareOf
+  share-here p e = go (decLt (mate quads l h) (length l))
+    where
+      x : count (leaves l p) (h + 1) ≡ count (leaves l p) h + 1
+      x = rw (add-one h) (count-more (leaves l p) h (leaves-on l p h e))
+
+      go : Dec (mate quads l h < length l) → count (leaves l p) (h + 1) + 2 * count (isBoundaryFrom quads l p) (h + 1) ≡ count (leaves l p) h + 2 * count (isBoundaryFrom quads l p) h + cond (ltb (mate quads l h) (length l)) 1 3
+      go (yes m) =
+          let s = lt-ltb (mate quads l h) (length l) m in
+          let y : count (isBoundaryFrom quads l p) (h + 1) ≡ count (isBoundaryFrom quads l p) h = rw (add-one h) (count-same (isBoundaryFrom quads l p) h (not-true _ (λ t. let z = from-none quads l p h t in omega arith))) in
+          rw s (omega (arith, x))
+      go (no m) =
+          let s = le-ltb (mate quads l h) (length l) (omega arith) in
+          let k : mate quads l h ≡ length l = omega (arith, mate-le quads l h) in
+          let y : count (isBoundaryFrom quads l p) (h + 1) ≡ count (isBoundaryFrom quads l p) h + 1 = rw (add-one h) (count-more (isBoundaryFrom quads l p) h (from-on quads l p h k e)) in
+          rw s (omega (arith, x))
+
+  share-elsewhere : (p : ℕ) → (from l h ≡ p → ⊥)
+      → count (leaves l p) (h + 1) + 2 * count (isBoundaryFrom quads l p) (h + 1) ≡ count (leaves l p) h + 2 * count (isBoundaryFrom quads l p) h
+  share-elsewhere p n =
+      let x : count (leaves l p) (h + 1) ≡ count (leaves l p) h = rw (add-one h) (count-same (leaves l p) h (not-true _ (λ t. n (leaves-at l p h t)))) in
+      let y : count (isBoundaryFrom quads l p) (h + 1) ≡ count (isBoundaryFrom quads l p) h = rw (add-one h) (count-same (isBoundaryFrom quads l p) h (not-true _ (λ t. n (from-at quads l p h t)))) in
+      omega arith
+
+  module _ (ok : Countable v at l w) (c : CountedBelow v at l w h) where
+    pub place-lt : at + from l h < length w
+    place-lt = let r = ok .room in let x = ok .net .oriented .below h b in omega arith
+
+    pub counted-few : getD w (at + from l h) 0 ≤ 3 * h
+    counted-few =
+        let p : ℕ = from l h in
+        let x = c .sizes p (ok .net .oriented .below h b) in
+        let y = count-le (leaves l p) h in
+        let z = count-le (isBoundaryFrom quads l p) h in
+        omega arith
+
+    pub counted-next : CountedBelow v at l (set w (at + from l h) (getD w (at + from l h) 0 + shareOf l h)) (h + 1)
+    counted-next = record { sizes = λ p d. go p d (ℕ-discrete (from l h) p) }
+      where
+        x : ℕ
+        x = getD w (at + from l h) 0 + shareOf l h
+
+        go : (p : ℕ) → p < v → Dec (from l h ≡ p) → getD (set w (at + from l h) x) (at + p) 0 ≡ count (leaves l p) (h + 1) + 2 * count (isBoundaryFrom quads l p) (h + 1)
+        go p d (yes e) =
+            let a : at + from l h ≡ at + p = omega arith in
+            let f : getD (set w (at + from l h) x) (at + from l h) 0 ≡ x = getD-set-same w (at + from l h) x 0 place-lt in
+            let g : getD w (at + from l h) 0 ≡ getD w (at + p) 0 = ap (λ (i : ℕ). getD w i 0) a in
+            let j = c .sizes p d in
+            let k = share-here p e in
+            ap (λ (i : ℕ). getD (set w (at + from l h) x) i 0) (sym a) ∙ f ∙ omega arith
+        go p d (no e) = getD-set-other w (at + from l h) (at + p) x 0 (λ q. e (omega arith)) ∙ c .sizes p d ∙ sym (share-elsewhere p e)
+
+-- the mates stay where nothing outside the ring sizes changes
+pub countable-next : (v at : ℕ) (l w : List ℕ) → Countable v at l w → (w′ : List ℕ) → length w′ ≡ length w → SameOutside at (at + v) w w′ → Countable v at l w′
+countable-next v at l w ok w′ k s =
+    let d = ok .table .room in
+    let r = ok .room in
+    record {
+      net = ok .net;
+      table = record { sides = ok .table .sides; room = omega arith; mated = mates-cong l w w′ (λ i e. same-front at w w′ (s .front) i (let q = ok .behind in omega arith)) (ok .table .mated) };
+      behind = ok .behind;
+      room = omega arith;
+    }

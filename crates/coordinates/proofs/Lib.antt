@@ -1,0 +1,3 @@
+pub mod Packed
+pub mod Values
+pub mod Points

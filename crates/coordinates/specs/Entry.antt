@@ -1,0 +1,40 @@
+-- Edges in the work table w of n half-edges during a round: the mate of h stands at h, the entry of its edge at n + h, and from 2n on the exact points of the
+-- edges, six numbers each. An entry is the number of the edge and a flag.
+use mathlib.Core.Bool.{cond}
+use mathlib.Core.List.{List}
+use Prim.Native.Nat.{ℕ, _+_, _*_, _%_}
+use lib.Dec.{ltb}
+use lib.IntN.{ℤ, pos, _*ℤ_}
+use lib.ListN.{getD}
+use Rattle.curve.specs.Weights.{kobbelt}
+use Rattle.rings.specs.Scales.{virtualScale}
+use Rattle.coordinates.specs.Packed.{packedAt}
+
+-- an inner edge whose point is kept over `edgeScale`, and a boundary edge; other inner edges have no flag. Edge numbers are smaller.
+abbrev pub wideFlag : ℕ
+wideFlag = 536870912
+
+abbrev pub boundaryFlag : ℕ
+boundaryFlag = 1073741824
+
+-- the entry of the edge of h
+unfoldable pub entryOf : (n : ℕ) (w : List ℕ) (h : ℕ) → ℕ
+entryOf n w h = getD w (n + h) 0
+
+-- the number of an edge, and where its exact point stands, by the entry t
+abbrev pub edgeOf : ℕ → ℕ
+edgeOf t = t % wideFlag
+
+unfoldable pub placeOf : (n t : ℕ) → ℕ
+placeOf n t = 2 * n + 6 * edgeOf t
+
+-- what makes a stored numerator one over `edgeScale`: those of edges that are not wide are kept over `scale`
+unfoldable pub unitOf : ℕ → ℕ
+unitOf t = cond (ltb t wideFlag) (virtualScale kobbelt) (cond (ltb t boundaryFlag) 1 (virtualScale kobbelt))
+
+-- coordinate a of the exact point of an entry, over `edgeScale`; and of the edge of h
+unfoldable pub exactAt : (n : ℕ) (w : List ℕ) (a t : ℕ) → ℤ
+exactAt n w a t = pos (unitOf t) *ℤ packedAt w (placeOf n t + 2 * a)
+
+unfoldable pub exactOf : (n : ℕ) (w : List ℕ) (a h : ℕ) → ℤ
+exactOf n w a h = exactAt n w a (entryOf n w h)

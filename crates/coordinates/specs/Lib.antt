@@ -1,0 +1,4 @@
+pub mod Points
+pub mod Packed
+pub mod Stencil
+pub mod Entry

@@ -1,0 +1,154 @@
+// Coordinates of vertices in the caller's table of points, and exact points in the work table: each coordinate as two 32-bit numbers, its lower half first.
+ghost use mathlib.Core.Path.{_≡_};
+ghost use Prim.Native.Nat.{ℕ, _+_, _*_, _^_, _≤_, _<_};
+ghost use lib.IntN.{natAbs};
+ghost use lib.ListN.{length, getD};
+ghost use Rattle.integers.specs.Within.{Within};
+ghost use Rattle.rings.specs.Scales.{coordinateRange};
+ghost use Rattle.nets.specs.Net.{axis};
+ghost use Rattle.coordinates.specs.Points.{InTable, OnAxes, putPoint};
+ghost use Rattle.coordinates.specs.Packed.{biased, packedAt, put, putThree};
+ghost use Rattle.coordinates.specs.Stencil.{FarIn, farValue, stencilValue, interiorValue};
+
+// An exact point: its numerators over one denominator.
+pub struct Exact {
+    pub x: i64,
+    pub y: i64,
+    pub z: i64,
+}
+
+// A point at the far end of a stencil: the one at an index, or none, where the near points are mirrored.
+pub enum Far {
+    At(usize),
+    Nowhere,
+}
+
+// Coordinate a of vertex v.
+pub fn coordinate(points: &[i32], v: usize, a: usize) -> i64
+    requires { ⌜ (a < 3) × InTable (now points) v ⌝ }
+    ensures { λ r. ⌜ r ≡ axis (now (points .entry)) a v ⌝ }
+{
+    let x = points[3 * v + a];
+    x as i64
+}
+
+// Writes the coordinates of vertex i.
+pub fn put_point(table: &mut [i32], i: usize, x: i32, y: i32, z: i32)
+    requires { ⌜ 3 * i + 3 ≤ length (now table) ⌝ }
+    ensures { λ _. ⌜ now (table .exit) ≡ putPoint (now (table .entry)) i x y z ⌝ }
+{
+    table[3 * i] = x;
+    table[3 * i + 1] = y;
+    table[3 * i + 2] = z;
+}
+
+// z + 2^62 + 2^31. With this number the compiler makes one store of the two halves.
+fn bias(z: i64) -> u64
+    requires { ⌜ natAbs z < 2 ^ 61 ⌝ }
+    ensures { λ r. ⌜ r ≡ biased z ⌝ }
+{
+    (z + 4611686020574871552) as u64
+}
+
+// x in 64 bits.
+fn wide(x: u32) -> u64
+    ensures { λ r. ⌜ (r ≡ x) × (r < 2 ^ 32) ⌝ }
+{
+    x as u64
+}
+
+// The number at the place `at`. The halves are joined where they are read, so that the compiler makes one read of both.
+pub fn load(table: &[u32], at: usize) -> i64
+    requires { ⌜ (at + 2 ≤ length (now table)) × (getD (now table) (at + 1) 0 < 2 ^ 31) ⌝ }
+    ensures { λ r. ⌜ r ≡ packedAt (now (table .entry)) at ⌝ }
+{
+    let lo = wide(table[at]);
+    let hi = wide(table[at + 1]);
+    let u = hi * 4294967296 + lo;
+    u as i64 - 4611686020574871552
+}
+
+// Writes z at the place `at`.
+fn store(table: &mut [u32], at: usize, z: i64)
+    requires { ⌜ (at + 2 ≤ length (now table)) × (natAbs z < 2 ^ 61) ⌝ }
+    ensures { λ _. ⌜ now (table .exit) ≡ put (now (table .entry)) at z ⌝ }
+{
+    let u = bias(z);
+    table[at] = (u % 4294967296) as u32;
+    table[at + 1] = (u / 4294967296) as u32;
+}
+
+// Writes an exact point from the place `at` on.
+pub fn store_exact(table: &mut [u32], at: usize, e: Exact)
+    requires { ⌜ at + 6 ≤ length (now table) ⌝ }
+    requires { ⌜ (natAbs (e .x) < 2 ^ 61) × (natAbs (e .y) < 2 ^ 61) × (natAbs (e .z) < 2 ^ 61) ⌝ }
+    ensures { λ _. ⌜ now (table .exit) ≡ putThree (now (table .entry)) at (e .x) (e .y) (e .z) ⌝ }
+{
+    store(&mut *table, at, e.x);
+    store(&mut *table, at + 2, e.y);
+    store(&mut *table, at + 4, e.z);
+}
+
+// The four-point rule on axis a of the vertices o, p, q, r.
+fn interior_on(points: &[i32], o: usize, p: usize, q: usize, r: usize, a: usize) -> i64
+    requires { ⌜ Within coordinateRange (now points) ⌝ }
+    requires { ⌜ (a < 3) × InTable (now points) o × InTable (now points) p × InTable (now points) q × InTable (now points) r ⌝ }
+    ensures { λ z. ⌜ z ≡ interiorValue (axis (now (points .entry)) a) o p q r ⌝ }
+{
+    curve::four_point(
+        coordinate(points, o, a),
+        coordinate(points, p, a),
+        coordinate(points, q, a),
+        coordinate(points, r, a),
+    )
+}
+
+// The same on all axes.
+pub fn interior_exact(points: &[i32], o: usize, p: usize, q: usize, r: usize) -> Exact
+    requires { ⌜ Within coordinateRange (now points) ⌝ }
+    requires { ⌜ InTable (now points) o × InTable (now points) p × InTable (now points) q × InTable (now points) r ⌝ }
+    ensures { λ e. ⌜ OnAxes (λ (a : ℕ). interiorValue (axis (now (points .entry)) a) o p q r) (e .x) (e .y) (e .z) ⌝ }
+{
+    Exact {
+        x: interior_on(points, o, p, q, r, 0),
+        y: interior_on(points, o, p, q, r, 1),
+        z: interior_on(points, o, p, q, r, 2),
+    }
+}
+
+// Coordinate a of the far point o beyond p, which is x; y is that of the other near point.
+fn far_on(points: &[i32], o: Far, x: i64, y: i64, a: usize) -> i64
+    requires { ⌜ (a < 3) × FarIn (now points) o × (natAbs x < 2 ^ 56) × (natAbs y < 2 ^ 56) ⌝ }
+    ensures { λ z. ⌜ z ≡ farValue (axis (now (points .entry)) a) o x y ⌝ }
+{
+    match o {
+        Far::At(v) => coordinate(points, v, a),
+        Far::Nowhere => curve::mirrored(x, y),
+    }
+}
+
+// The four-point rule on axis a of the vertices p and q between far points.
+fn stencil_on(points: &[i32], o: Far, p: usize, q: usize, r: Far, a: usize) -> i64
+    requires { ⌜ Within coordinateRange (now points) ⌝ }
+    requires { ⌜ (a < 3) × FarIn (now points) o × InTable (now points) p × InTable (now points) q × FarIn (now points) r ⌝ }
+    ensures { λ z. ⌜ z ≡ stencilValue (axis (now (points .entry)) a) o p q r ⌝ }
+{
+    let x = coordinate(points, p, a);
+    let y = coordinate(points, q, a);
+    let u = far_on(points, o, x, y, a);
+    let v = far_on(points, r, y, x, a);
+    curve::four_point(u, x, y, v)
+}
+
+// The same on all axes.
+pub fn stencil_exact(points: &[i32], o: Far, p: usize, q: usize, r: Far) -> Exact
+    requires { ⌜ Within coordinateRange (now points) ⌝ }
+    requires { ⌜ FarIn (now points) o × InTable (now points) p × InTable (now points) q × FarIn (now points) r ⌝ }
+    ensures { λ e. ⌜ OnAxes (λ (a : ℕ). stencilValue (axis (now (points .entry)) a) o p q r) (e .x) (e .y) (e .z) ⌝ }
+{
+    Exact {
+        x: stencil_on(points, o, p, q, r, 0),
+        y: stencil_on(points, o, p, q, r, 1),
+        z: stencil_on(points, o, p, q, r, 2),
+    }
+}

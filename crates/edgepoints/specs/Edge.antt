@@ -1,0 +1,61 @@
+-- The exact point of one edge on the caller's tables.
+use mathlib.Core.Path.{_≡_}
+use mathlib.Core.List.{List}
+use Prim.Native.Nat.{ℕ, _≤_, _<_}
+use lib.IntN.{ℤ, pos, natAbs, _*ℤ_}
+use lib.ListN.{length}
+use Rattle.curve.specs.Weights.{kobbelt}
+use Rattle.rings.specs.Scales.{edgeRange}
+use Rattle.topology.specs.Shape.{quads}
+use Rattle.topology.specs.HalfEdge.{from, to, mate}
+use Rattle.scheme.specs.Points as points
+use Rattle.schemelaws.specs.Ordinary.{Ordinary, straight}
+use Rattle.coordinates.specs.declared.Far.{Far}
+use Rattle.coordinates.specs.declared.Far.the-variants.{At}
+use Rattle.coordinates.specs.Entry.{wideFlag, boundaryFlag, unitOf}
+use Rattle.coordinates.specs.Stencil.{farValue}
+use Rattle.edgepoints.specs.declared.EdgeRule.{EdgeRule}
+use Rattle.edgepoints.specs.declared.EdgeRule.the-variants.{InsideSegment, StartOfSegment, EndOfSegment, WholeSegment, InnerRule}
+
+-- the rules of the definitions
+unfoldable pub ruleOf : EdgeRule → points.EdgeRule
+ruleOf InsideSegment = points.insideSegment
+ruleOf StartOfSegment = points.startOfSegment
+ruleOf EndOfSegment = points.endOfSegment
+ruleOf WholeSegment = points.wholeSegment
+ruleOf InnerRule = points.innerRule
+
+-- the vertex o is a corner of l
+pub record CornerOf (l : List ℕ) (o : ℕ) : Type 0 where
+  pub at : ℕ
+  pub lt : at < length l
+  pub is : from l at ≡ o
+
+-- h is an inner half-edge between ordinary vertices
+pub record OrdinaryEnds (l : List ℕ) (h : ℕ) : Type 0 where
+  pub lt : h < length l
+  pub inner : mate quads l h < length l
+  pub start : Ordinary l (from l h)
+  pub end : Ordinary l (to quads l h)
+
+-- the far point beyond the ordinary vertex that the inner half-edge h leaves
+pub record StraightFar (l : List ℕ) (h : ℕ) (f : Far) : Type 0 where
+  pub value : (e : ℕ → ℤ) → farValue e f (e (from l h)) (e (to quads l h)) ≡ straight l e h
+  pub corner : (o : ℕ) → f ≡ At o → CornerOf l o
+
+-- the flag that the edge of h has. Open, and may differ between correct programs: whether an inner edge between ordinary vertices is wide
+pub data Flagged (l : List ℕ) (h flag : ℕ) : Type 0 where
+  plain : mate quads l h < length l → Ordinary l (from l h) → Ordinary l (to quads l h) → flag ≡ 0 → Flagged l h flag
+  wide : mate quads l h < length l → flag ≡ wideFlag → Flagged l h flag
+  boundary : mate quads l h ≡ length l → flag ≡ boundaryFlag → Flagged l h flag
+
+-- x is a coordinate of the point of an edge with this flag: X is the same over `edgeScale`
+pub record ExactEdge (flag : ℕ) (X x : ℤ) : Type 0 where
+  pub value : pos (unitOf flag) *ℤ x ≡ X
+  pub small : natAbs X ≤ edgeRange kobbelt
+
+-- so on each axis
+pub record ExactPoint (flag : ℕ) (E : ℕ → ℤ) (x y z : ℤ) : Type 0 where
+  pub on₀ : ExactEdge flag (E 0) x
+  pub on₁ : ExactEdge flag (E 1) y
+  pub on₂ : ExactEdge flag (E 2) z
