@@ -1,16 +1,16 @@
 -- The coordinates that a round gives: old points stay, and each new one is a numerator rounded once. The point of an inner edge is the same from both its
 -- half-edges, so it does not matter at which of them it is worked out. At any weights.
-use mathlib.Core.Path.{_≡_, refl, ap, _∙_}
-use mathlib.Core.List.{List, [], _∷_}
+use mathlib.Core.Path.{_≡_, ap, _∙_}
+use mathlib.Core.List.{List}
 use Prim.Native.Nat.{ℕ, _+_, _-_, _<_, min}
 use native.Mathlib.Decide.{decLt}
 use native.Mathlib.Omega.{arith}
-use lib.IntN.{ℤ, pos}
+use lib.IntN.{ℤ, pos, _*ℤ_}
 use lib.ListN.{length}
 use borrow.Author.Tests.{lt-ltb, le-ltb}
-use Rattle.integers.proofs.Polynomial.{var, _⊞_, _⊟_, _⊠_, same}
 use Rattle.rounding.specs.Rounding.{round}
 use Rattle.curve.specs.Weights.{Weights, scale}
+use Rattle.curve.proofs.Mirror.{interior-turned}
 use Rattle.fractions.specs.Fraction.{toWhole}
 use Rattle.fractions.proofs.Laws.{toWhole-equals}
 use Rattle.rings.specs.Scales.{virtualScale, edgeScale, faceScale}
@@ -31,8 +31,7 @@ edge-either w v l marks ok p h k m =
     let b = mate-back quads v l ok h k m in
     let r = mate-is quads l h m in
     rw (edge-inner w l marks p (mate quads l h) (let x = b in omega arith), edge-inner w l marks p h m, b, r .start, r .end)
-    (same (var 0 ⊠ (var 2 ⊠ var 4 ⊞ var 2 ⊠ var 3) ⊟ var 1 ⊠ (var 6 ⊞ var 5)) (var 0 ⊠ (var 2 ⊠ var 3 ⊞ var 2 ⊠ var 4) ⊟ var 1 ⊠ (var 5 ⊞ var 6))
-    (pos (w .near) ∷ pos (w .far) ∷ pos (virtualScale w) ∷ p (from l h) ∷ p (to quads l h) ∷ virtualAtZ w l p h ∷ virtualAtZ w l p (mate quads l h) ∷ []) refl)
+    (interior-turned w (virtualAtZ w l p (mate quads l h)) (pos (virtualScale w) *ℤ p (to quads l h)) (pos (virtualScale w) *ℤ p (from l h)) (virtualAtZ w l p h))
 
 -- ---- what a round gives
 module _ (w : Weights) (v : ℕ) (l marks : List ℕ) (p : ℕ → ℤ) where

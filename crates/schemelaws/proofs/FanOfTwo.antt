@@ -1,4 +1,4 @@
--- A fan of two gives the end rule: at a boundary vertex P in two faces the virtual point on the inner edge PQ is 2P - Q, since P* stands straight across. So the
+-- A fan of two gives the end rule: at a boundary vertex P in two faces the virtual point on the inner edge PQ is Q mirrored at P, since P* stands straight across. So the
 -- point on an inner edge between ordinary vertices is the four-point rule over the scale alone: between two rings of four the interior rule, at a fan of two the
 -- end rule that starts there, between two fans of two the midpoint. At any weights; assumes a manifold net.
 use mathlib.Core.Path.{_≡_, refl, sym, ap, ap₂, _∙_, subst}
@@ -14,7 +14,8 @@ use borrow.Author.Tests.{lt-ltb, le-ltb}
 use Rattle.search.specs.Search.{iterate}
 use Rattle.integers.specs.Sum.{sum}
 use Rattle.integers.proofs.Polynomial.{var, lit, _⊞_, _⊟_, _⊠_, same}
-use Rattle.curve.specs.Weights.{Weights, scale, interior, endEdge, singleEdge}
+use Rattle.curve.specs.Weights.{Weights, scale, interior, endEdge, singleEdge, mirror}
+use Rattle.curve.proofs.Mirror.{end-mirrored, single-mirrored, interior-turned}
 use Rattle.fractions.specs.Fraction.{whole, Equals}
 use Rattle.fractions.proofs.Laws.{toWhole-equals, equals-whole, equals-cong, equals-reduced}
 use Rattle.rounding.specs.Rounding.{round}
@@ -47,7 +48,7 @@ module _ (l : List ℕ) (p : ℕ → ℤ) (h : ℕ) where
   unfolding straight
   straight-ring b = let t = le-ltb (boundaryFrom quads l (from l h)) (length l) (omega arith) in rw t
 
-  pub straight-fan : boundaryFrom quads l (from l h) < length l → straight l p h ≡ pos 2 *ℤ p (from l h) -ℤ p (to quads l h)
+  pub straight-fan : boundaryFrom quads l (from l h) < length l → straight l p h ≡ mirror (p (from l h)) (p (to quads l h))
   unfolding straight
   straight-fan b = let t = lt-ltb (boundaryFrom quads l (from l h)) (length l) b in rw t
 
@@ -74,13 +75,13 @@ module _ (w : Weights) (near : 0 < w .near) (v : ℕ) (l : List ℕ) (ok : Manif
     far-end = sym (turn-to quads v l (ok .oriented) s (rw turned k)) ∙ ap (to quads l) turned
 
     -- P*
-    own : fanNeighbourZ l p (from l h) 3 ≡ pos extrapolatedScale *ℤ (pos 2 *ℤ p (from l h) -ℤ p (to quads l h))
+    own : fanNeighbourZ l p (from l h) 3 ≡ pos extrapolatedScale *ℤ (mirror (p (from l h)) (p (to quads l h)))
     unfolding fanNeighbourZ extrapolatedAtZ sum
     own =
         rw (two, far-end)
         (same (lit (pos (2 * extrapolatedScale)) ⊠ var 0 ⊟ lit (pos extrapolatedScale) ⊠ (lit (pos 0) ⊞ var 1)) (lit (pos extrapolatedScale) ⊠ (lit (pos 2) ⊠ var 0 ⊟ var 1)) (p (from l h) ∷ p (to quads l h) ∷ []) refl)
 
-    fan-of-two : Equals (fanVirtual w l p h) (pos 2 *ℤ p (from l h) -ℤ p (to quads l h)) 1
+    fan-of-two : Equals (fanVirtual w l p h) (mirror (p (from l h)) (p (to quads l h))) 1
     unfolding fanVirtual
     fan-of-two =
         let P : ℕ = from l h in
@@ -88,13 +89,13 @@ module _ (w : Weights) (near : 0 < w .near) (v : ℕ) (l : List ℕ) (ok : Manif
         let K : ℕ → ℤ = fanCornerZ l p P in
         let n : valence l P + 2 ≡ 4 = omega arith in
         rw (n, place)
-        (equals-reduced extrapolatedScale (pos 2 *ℤ p P -ℤ p (to quads l h)) 1 (lit≤ tt)
+        (equals-reduced extrapolatedScale (mirror (p P) (p (to quads l h))) 1 (lit≤ tt)
         (equals-cong own refl
         (straight-across w near (wrap 4 (fanNeighbour l p P)) (wrap 4 (fanCorner l p P)) (wrap 4 L) (wrap 4 K) extrapolatedScale (wrap-periodic 4 L) (wrap-periodic 4 K)
         (λ i. equals-fanNeighbour v l ok p P b _) (λ i. equals-fanCorner v l ok p P b _) 1)))
 
     -- "a fan of two": the virtual point
-    pub virtual-fan-of-two : Equals (virtualAt w l p h) (pos 2 *ℤ p (from l h) -ℤ p (to quads l h)) 1
+    pub virtual-fan-of-two : Equals (virtualAt w l p h) (mirror (p (from l h)) (p (to quads l h))) 1
     unfolding virtualAt
     virtual-fan-of-two = let t = lt-ltb (boundaryFrom quads l (from l h)) (length l) b in rw t fan-of-two
 
@@ -117,39 +118,13 @@ module _ (w : Weights) (near : 0 < w .near) (v : ℕ) (l : List ℕ) (ok : Manif
   virtual-ordinary m (ringOfFour b n) = equals-cong (sym (straight-ring l p h b)) refl (virtual-neighbour b n)
   virtual-ordinary m (fanOfTwo b n) = equals-cong (sym (straight-fan l p h b)) refl (virtual-fan-of-two m b n)
 
--- ---- the algebra: the interior rule with 2P - Q before P is the end rule from P, and with both ends so it is the midpoint
-module _ (w : Weights) (P Q : ℤ) where
-  pub end-start : 2 * w .far ≤ w .near → (r : ℤ) → interior w (pos 2 *ℤ P -ℤ Q) P Q r ≡ endEdge w P Q r
-  end-start i r =
-      let d : ℕ = w .near - 2 * w .far in
-      let e : w .near ≡ d + 2 * w .far = omega arith in
-      ap (λ (n : ℕ). pos n *ℤ (P +ℤ Q) -ℤ pos (w .far) *ℤ (pos 2 *ℤ P -ℤ Q +ℤ r)) e
-      ∙ same ((var 0 ⊞ lit (pos 2) ⊠ var 1) ⊠ (var 2 ⊞ var 3) ⊟ var 1 ⊠ (lit (pos 2) ⊠ var 2 ⊟ var 3 ⊞ var 4)) (var 0 ⊠ var 2 ⊞ (var 0 ⊞ lit (pos 2) ⊠ var 1 ⊞ var 1) ⊠ var 3 ⊟ var 1 ⊠ var 4)
-      (pos d ∷ pos (w .far) ∷ P ∷ Q ∷ r ∷ []) refl
-      ∙ ap (λ (n : ℕ). pos d *ℤ P +ℤ pos (n + w .far) *ℤ Q -ℤ pos (w .far) *ℤ r) (sym e)
-
-  pub end-finish : 2 * w .far ≤ w .near → (o : ℤ) → interior w o P Q (pos 2 *ℤ Q -ℤ P) ≡ endEdge w Q P o
-  end-finish i o =
-      let d : ℕ = w .near - 2 * w .far in
-      let e : w .near ≡ d + 2 * w .far = omega arith in
-      ap (λ (n : ℕ). pos n *ℤ (P +ℤ Q) -ℤ pos (w .far) *ℤ (o +ℤ (pos 2 *ℤ Q -ℤ P))) e
-      ∙ same ((var 0 ⊞ lit (pos 2) ⊠ var 1) ⊠ (var 2 ⊞ var 3) ⊟ var 1 ⊠ (var 4 ⊞ (lit (pos 2) ⊠ var 3 ⊟ var 2))) (var 0 ⊠ var 3 ⊞ (var 0 ⊞ lit (pos 2) ⊠ var 1 ⊞ var 1) ⊠ var 2 ⊟ var 1 ⊠ var 4)
-      (pos d ∷ pos (w .far) ∷ P ∷ Q ∷ o ∷ []) refl
-      ∙ ap (λ (n : ℕ). pos d *ℤ Q +ℤ pos (n + w .far) *ℤ P -ℤ pos (w .far) *ℤ o) (sym e)
-
-  pub end-both : w .far ≤ w .near → interior w (pos 2 *ℤ P -ℤ Q) P Q (pos 2 *ℤ Q -ℤ P) ≡ singleEdge w P Q
-  end-both i =
-      let d : ℕ = w .near - w .far in
-      let e : w .near ≡ d + w .far = omega arith in
-      ap (λ (n : ℕ). pos n *ℤ (P +ℤ Q) -ℤ pos (w .far) *ℤ (pos 2 *ℤ P -ℤ Q +ℤ (pos 2 *ℤ Q -ℤ P))) e
-      ∙ same ((var 0 ⊞ var 1) ⊠ (var 2 ⊞ var 3) ⊟ var 1 ⊠ (lit (pos 2) ⊠ var 2 ⊟ var 3 ⊞ (lit (pos 2) ⊠ var 3 ⊟ var 2))) (var 0 ⊠ (var 2 ⊞ var 3)) (pos d ∷ pos (w .far) ∷ P ∷ Q ∷ []) refl
-
+-- ---- edge points, over the scale
 pub ordinary-inner : (w : Weights) (l marks : List ℕ) (p : ℕ → ℤ) (h : ℕ) → mate quads l h < length l
     → ordinaryEdge w l marks p h ≡ interior w (straight l p h) (p (from l h)) (p (to quads l h)) (straight l p (mate quads l h))
 unfolding ordinaryEdge ordinaryValue
 ordinary-inner w l marks p h m = rw (inner-rule l marks h m)
 
--- ---- edge points, over the scale: a boundary edge, or an inner edge with two ordinary ends
+-- a boundary edge, or an inner edge with two ordinary ends
 module _ (w : Weights) (near : 0 < w .near) (apart : 0 < scale w) (v : ℕ) (l marks : List ℕ) (ok : Manifold quads v l) (p : ℕ → ℤ) (h : ℕ) (k : h < length l)
     (f : mate quads l h < length l → Ordinary l (from l h) × Ordinary l (to quads l h)) where
   pub edge-ordinary : Equals (edgePoint w l marks p h) (ordinaryEdge w l marks p h) (scale w)
@@ -197,18 +172,18 @@ module _ (w : Weights) (l marks : List ℕ) (p : ℕ → ℤ) (h : ℕ) (m : mat
 
     -- fan and ring: (7P + 10Q - r)/16
     pub stencil-fan-ring : 2 * w .far ≤ w .near → boundaryFrom quads l (from l h) < length l → ordinaryEdge w l marks p h ≡ endEdge w P Q after
-    stencil-fan-ring i b = ordinary-inner w l marks p h m ∙ ap₂ (λ (x y : ℤ). interior w x P Q y) (straight-fan l p h b) after-ring ∙ end-start w P Q i after
+    stencil-fan-ring i b = ordinary-inner w l marks p h m ∙ ap₂ (λ (x y : ℤ). interior w x P Q y) (straight-fan l p h b) after-ring ∙ sym (end-mirrored w i P Q after)
 
   module _ (fan : boundaryFrom quads l (to quads l h) < length l) where
-    after-fan : straight l p (mate quads l h) ≡ pos 2 *ℤ Q -ℤ P
+    after-fan : straight l p (mate quads l h) ≡ mirror Q P
     after-fan =
         straight-fan l p (mate quads l h) (subst (λ (q : ℕ). boundaryFrom quads l q < length l) (sym end-at) fan)
-        ∙ ap₂ (λ (a b : ℕ). pos 2 *ℤ p a -ℤ p b) end-at (mate-is quads l h m .end)
+        ∙ ap₂ (λ (a b : ℕ). mirror (p a) (p b)) end-at (mate-is quads l h m .end)
 
     -- ring and fan: (7Q + 10P - o)/16
     pub stencil-ring-fan : 2 * w .far ≤ w .near → boundaryFrom quads l (from l h) ≡ length l → ordinaryEdge w l marks p h ≡ endEdge w Q P before
-    stencil-ring-fan i b = ordinary-inner w l marks p h m ∙ ap₂ (λ (x y : ℤ). interior w x P Q y) (straight-ring l p h b) after-fan ∙ end-finish w P Q i before
+    stencil-ring-fan i b = ordinary-inner w l marks p h m ∙ ap₂ (λ (x y : ℤ). interior w x P Q y) (straight-ring l p h b) after-fan ∙ interior-turned w before P Q (mirror Q P) ∙ sym (end-mirrored w i Q P before)
 
     -- fan and fan: (8P + 8Q)/16
     pub stencil-fan-fan : w .far ≤ w .near → boundaryFrom quads l (from l h) < length l → ordinaryEdge w l marks p h ≡ singleEdge w P Q
-    stencil-fan-fan i b = ordinary-inner w l marks p h m ∙ ap₂ (λ (x y : ℤ). interior w x P Q y) (straight-fan l p h b) after-fan ∙ end-both w P Q i
+    stencil-fan-fan i b = ordinary-inner w l marks p h m ∙ ap₂ (λ (x y : ℤ). interior w x P Q y) (straight-fan l p h b) after-fan ∙ sym (single-mirrored w i P Q)

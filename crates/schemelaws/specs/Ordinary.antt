@@ -4,9 +4,9 @@ use mathlib.Core.Bool.{cond}
 use mathlib.Core.List.{List}
 use Prim.Native.Nat.{ℕ, _<_}
 use lib.Dec.{ltb}
-use lib.IntN.{ℤ, pos, _-ℤ_, _*ℤ_}
+use lib.IntN.{ℤ}
 use lib.ListN.{length}
-use Rattle.curve.specs.Weights.{Weights, interior, endEdge, singleEdge}
+use Rattle.curve.specs.Weights.{Weights, interior, endEdge, singleEdge, mirror}
 use Rattle.topology.specs.Shape.{quads}
 use Rattle.topology.specs.HalfEdge.{from, to, mate}
 use Rattle.topology.specs.Boundary.{boundaryFrom, along, back}
@@ -19,10 +19,10 @@ pub data Ordinary (l : List ℕ) (q : ℕ) : Type 0 where
   ringOfFour : boundaryFrom quads l q ≡ length l → valence l q ≡ 4 → Ordinary l q
   fanOfTwo : boundaryFrom quads l q < length l → valence l q ≡ 2 → Ordinary l q
 
--- what the virtual point on an inner edge h is at an ordinary vertex P that h leaves for Q: the neighbour straight across, or 2P - Q where there is none
+-- what the virtual point on an inner edge h is at an ordinary vertex P that h leaves for Q: the neighbour straight across, or Q mirrored at P where there is none
 unfoldable pub straight : List ℕ → (ℕ → ℤ) → ℕ → ℤ
 straight l p h =
-    cond (ltb (boundaryFrom quads l (from l h)) (length l)) (pos 2 *ℤ p (from l h) -ℤ p (to quads l h))
+    cond (ltb (boundaryFrom quads l (from l h)) (length l)) (mirror (p (from l h)) (p (to quads l h)))
     (p (to quads l (turns quads l 2 h)))
 
 -- the point on the edge of h over the scale: a boundary edge always, an inner edge where both its ends are ordinary
