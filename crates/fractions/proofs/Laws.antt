@@ -116,3 +116,18 @@ same-of-equals {x} {y} {z} {d} h i j =
           ∙ ap (λ (t : ℤ). t *ℤ pos (x .den)) (sym (j .value))
           ∙ same ((var 1 ⊠ var 0) ⊠ var 2) (var 0 ⊠ (var 1 ⊠ var 2)) (pos d ∷ y .num ∷ pos (x .den) ∷ []) refl);
     }
+
+-- ---- a fraction has one numerator over a denominator, and fractions of one value have the same
+pub equals-one : {x : Fraction} (y z : ℤ) {d : ℕ} → Equals x y d → Equals x z d → y ≡ z
+equals-one {x} y z i j = cancel (x .den) y z (i .some) (*ℤ-comm (pos (x .den)) y ∙ sym (i .value) ∙ j .value ∙ *ℤ-comm z (pos (x .den)))
+
+pub equals-same : {x y : Fraction} {z : ℤ} {d : ℕ} → Same x y → Equals y z d → Equals x z d
+equals-same {x} {y} {z} {d} r i = record {
+  some = r .left;
+  value = cancel (y .den) (x .num *ℤ pos d) (z *ℤ pos (x .den)) (r .right)
+      (same (var 0 ⊠ (var 1 ⊠ var 2)) ((var 1 ⊠ var 0) ⊠ var 2) (pos (y .den) ∷ x .num ∷ pos d ∷ []) refl
+      ∙ ap (λ (t : ℤ). t *ℤ pos d) (r .same)
+      ∙ same ((var 0 ⊠ var 1) ⊠ var 2) ((var 0 ⊠ var 2) ⊠ var 1) (y .num ∷ pos (x .den) ∷ pos d ∷ []) refl
+      ∙ ap (λ (t : ℤ). t *ℤ pos (x .den)) (i .value)
+      ∙ same ((var 0 ⊠ var 1) ⊠ var 2) (var 1 ⊠ (var 0 ⊠ var 2)) (z ∷ pos (y .den) ∷ pos (x .den) ∷ []) refl);
+}

@@ -7,6 +7,7 @@ use Rattle.lists.specs.Tabulate.{tabulate}
 use Rattle.integers.specs.Within.{Within}
 use Rattle.curve.specs.Curve.{Point}
 use Rattle.curve.specs.Weights.{kobbelt}
+use Rattle.curve.proofs.Kobbelt.{tame}
 use Rattle.tables.specs.Tables.{filled}
 use Rattle.nets.specs.Net.{Net, net}
 use Rattle.nets.specs.Moved.{movedVertices, moved, movedControl}
@@ -58,7 +59,7 @@ module _ (s : Point) (a : Request) (here : Within 1048576 (a .net .vertices)) (t
   here-given v e = ap (λ (u : Verdict). given a k u n) e
 
   nets-moved : verdict c ≡ accepted → n′ ≡ moved s n
-  nets-moved e = ap (steps kobbelt k) (start-moved s (a .net) (accepted-drawn c e)) ∙ steps-moved s (startNet (a .net)) (accepted-refinable c e) k
+  nets-moved e = ap (steps kobbelt k) (start-moved s (a .net) (accepted-drawn c e)) ∙ steps-moved kobbelt tame s (startNet (a .net)) (accepted-refinable c e) k
 
   by : (v : Verdict) → verdict c ≡ v → MovedAfter s a k
   by accepted e =

@@ -2,7 +2,7 @@
 use mathlib.Core.Path.{_≡_, refl}
 use mathlib.Core.List.{List, [], _∷_}
 use Prim.Native.Nat.{ℕ}
-use lib.IntN.{ℤ, pos, negsuc}
+use lib.IntN.{ℤ, pos, negsuc, _*ℤ_}
 use lib.ListN.{getD}
 use Rattle.lists.specs.Tabulate.{tabulate}
 use Rattle.integers.specs.Sum.{sum}
@@ -10,7 +10,8 @@ use Rattle.rounding.specs.Rounding.{round}
 use Rattle.curve.specs.Weights.{kobbelt}
 use Rattle.fractions.specs.Fraction.{Fraction, whole, sumᶠ, toWhole}
 use Rattle.rings.specs.Ring.{wrap, virtual}
-use Rattle.rings.specs.RingWeights.{virtualZ, weightL, weightK, ringOf}
+use Rattle.rings.specs.RingWeights.{virtualZ, virtualNumerator, weightL, weightK, ringOf}
+use Rattle.rings.specs.Scales.{extrapolatedScale, virtualScale, edgeScale, directionScale, faceScale}
 
 -- paper 01's cube with corners at ±540: the ring of the corner (-540, -540, -540), second coordinates, from the edge to (540, -540, -540)
 abbrev cubeL : List ℤ
@@ -47,3 +48,12 @@ weights-five-l = refl
 weights-five-k : tabulate 5 (weightK kobbelt 5) ≡ pos 1 ∷ pos 1 ∷ negsuc 3 ∷ pos 1 ∷ pos 1 ∷ []
 unfolding tabulate
 weights-five-k = refl
+
+-- ---- the common denominators and ranges at paper 01's weights
+scales : (extrapolatedScale ≡ 60) × (virtualScale kobbelt ≡ 453600) × (edgeScale kobbelt ≡ 7257600) × (directionScale kobbelt ≡ 116121600) × (faceScale kobbelt ≡ 232243200)
+scales = (refl, refl, refl, refl, refl)
+
+-- the virtual point of the cube times 453,600 = 9 · 840 · 60
+cube-virtual-numerator : virtualNumerator kobbelt 3 (λ (i : ℕ). pos 60 *ℤ ringOf 3 cubeL i) (λ (i : ℕ). pos 60 *ℤ ringOf 3 cubeK i) 0 ≡ pos 453600 *ℤ negsuc 139
+unfolding virtualZ sum
+cube-virtual-numerator = refl

@@ -4,3 +4,4 @@ pub mod Virtual
 pub mod Ties
 pub mod Norm
 pub mod Table
+pub mod Scales

@@ -4,20 +4,21 @@ use mathlib.Core.Path.{_≡_, refl, sym, ap, ap₂, subst, _∙_}
 use mathlib.Core.Bool.{Bool, cond}
 use mathlib.Core.List.{[], _∷_}
 use Prim.Native.Nat.{ℕ, zero, suc, _+_, _-_, _*_, _/_, _≤_, _<_}
-use native.Mathlib.Nat.{add-mul, mul-add, zero-add, suc-add, mul-assoc, mul-comm, mul-left-comm, one-mul, mul-le-mul, mul-le-mul-left, mul-le-mul-right, le-refl, le-of-eq}
+use native.Mathlib.Nat.{add-mul, mul-add, zero-add, suc-add, mul-assoc, mul-left-comm, one-mul, mul-le-mul, mul-le-mul-left, mul-le-mul-right, le-refl, le-of-eq}
 use native.Mathlib.Omega.{arith}
 use lib.Dec.{eqb, leb, leb→le}
 use lib.IntN.{ℤ, pos, natAbs, _+ℤ_, _-ℤ_, _*ℤ_}
 use Rattle.lists.proofs.Table.{everyBelow, below-at}
 use Rattle.integers.specs.Sum.{sum}
 use Rattle.integers.proofs.AbsoluteValue.{abs-add, abs-mul}
-use Rattle.integers.proofs.Polynomial.{var, _⊟_, _⊠_, same}
+use Rattle.integers.proofs.Polynomial.{var, lit, _⊟_, _⊠_, same}
 use Rattle.curve.specs.Weights.{Weights, kobbelt}
 use Rattle.rings.specs.Ring.{Periodic}
 use Rattle.rings.specs.RingWeights.{virtualZ, virtualNumerator, oneAt, weightL, weightK}
+use Rattle.rings.specs.Scales.{extrapolatedScale, valenceScale, virtualScale}
 use Rattle.rings.proofs.Periodic.{periodic-sub}
 use Rattle.rings.proofs.Virtual.{virtual-weighted, virtual-sub}
-use Rattle.rings.proofs.Ties.{over-840}
+use Rattle.rings.proofs.Ties.{over-valence}
 
 -- f 0 + f 1 + .., of n naturals
 abbrev pub total : ℕ → (ℕ → ℕ) → ℕ
@@ -154,26 +155,43 @@ module _ (n : ℕ) (l k l′ k′ : ℕ → ℤ) (h : 3 ≤ n) (rl : Periodic n 
       → 9 * natAbs (virtualZ w n l k j -ℤ virtualZ w n l′ k′ j) ≤ w .near * (51 * n * B)
   boundary-near w small g B t z a b = near-by w small (threeAt t) (threeAround t) B 51 (boundary-norm n t g z) a b
 
-  -- ---- over 453,600, from rings over 60
-  numerator-near : n ≤ 8 → (c B : ℕ) → 9 * natAbs (virtualZ kobbelt n l k j -ℤ virtualZ kobbelt n l′ k′ j) ≤ 9 * (c * n * B)
-      → natAbs (virtualNumerator n l k j -ℤ virtualNumerator n l′ k′ j) ≤ 840 * (c * B)
-  numerator-near g c B r =
-      let q : ℕ = 840 / n in
-      let v : ℤ = virtualZ kobbelt n l k j in
-      let v′ : ℤ = virtualZ kobbelt n l′ k′ j in
-      let e : pos q *ℤ v -ℤ pos q *ℤ v′ ≡ pos q *ℤ (v -ℤ v′) = same (var 0 ⊠ var 1 ⊟ var 0 ⊠ var 2) (var 0 ⊠ (var 1 ⊟ var 2)) (pos q ∷ v ∷ v′ ∷ []) refl in
-      let a = ap natAbs e ∙ abs-mul (pos q) (v -ℤ v′) in
-      let m : q * natAbs (v -ℤ v′) ≤ q * (c * n * B) = mul-le-mul-left q (omega arith) in
-      let s : q * (c * n * B) ≡ q * n * (c * B) = ap (λ (t : ℕ). q * t) (ap (λ (t : ℕ). t * B) (mul-comm c n) ∙ mul-assoc n c B) ∙ sym (mul-assoc q n (c * B)) in
-      let o : q * n * (c * B) ≡ 840 * (c * B) = ap (λ (t : ℕ). t * (c * B)) (over-840 n h g) in
-      omega arith
+  -- ---- over `virtualScale`, from rings over `extrapolatedScale`
+  module _ (w : Weights) (small : 9 * w .far ≤ w .near) (g : n ≤ 8) where
+    numerator-near : (c B : ℕ) → 9 * natAbs (virtualZ w n l k j -ℤ virtualZ w n l′ k′ j) ≤ w .near * (c * n * B)
+        → 9 * natAbs (virtualNumerator w n l k j -ℤ virtualNumerator w n l′ k′ j) ≤ w .near * (valenceScale * (c * B))
+    numerator-near c B r =
+        let q : ℕ = valenceScale / n in
+        let v : ℤ = virtualZ w n l k j in
+        let v′ : ℤ = virtualZ w n l′ k′ j in
+        let e : pos q *ℤ v -ℤ pos q *ℤ v′ ≡ pos q *ℤ (v -ℤ v′) = same (var 0 ⊠ var 1 ⊟ var 0 ⊠ var 2) (var 0 ⊠ (var 1 ⊟ var 2)) (pos q ∷ v ∷ v′ ∷ []) refl in
+        let a = ap natAbs e ∙ abs-mul (pos q) (v -ℤ v′) in
+        let m : q * (9 * natAbs (v -ℤ v′)) ≤ q * (w .near * (c * n * B)) = mul-le-mul-left q r in
+        let o = mul-left-comm q 9 (natAbs (v -ℤ v′)) in
+        let s : q * (w .near * (c * n * B)) ≡ q * (w .near * n * (c * B)) =
+        ap natAbs (same (var 0 ⊠ (var 1 ⊠ (var 3 ⊠ var 2 ⊠ var 4))) (var 0 ⊠ (var 1 ⊠ var 2 ⊠ (var 3 ⊠ var 4))) (pos q ∷ pos (w .near) ∷ pos n ∷ pos c ∷ pos B ∷ []) refl) in
+        let t = over-valence w n h g (c * B) in
+        omega arith
 
-  pub inside-numerator-near : n ≤ 8 → (d : ℕ)
-      → ((i : ℕ) → i < n → natAbs (l (j + i) -ℤ l′ (j + i)) ≤ 60 * d) → ((i : ℕ) → i < n → natAbs (k (j + i) -ℤ k′ (j + i)) ≤ 60 * d)
-      → natAbs (virtualNumerator n l k j -ℤ virtualNumerator n l′ k′ j) ≤ 2016000 * d
-  inside-numerator-near g d a b = let r = numerator-near g 40 (60 * d) (inside-near kobbelt (omega arith) g (60 * d) a b) in omega arith
+    -- from an index that goes by d
+    over-virtual : (c d : ℕ) → w .near * (valenceScale * (c * (extrapolatedScale * d))) ≡ virtualScale w * (c * d)
+    over-virtual c d =
+        ap natAbs (same (var 0 ⊠ (lit (pos valenceScale) ⊠ (var 1 ⊠ (lit (pos extrapolatedScale) ⊠ var 2)))) (var 0 ⊠ lit (pos (valenceScale * extrapolatedScale)) ⊠ (var 1 ⊠ var 2)) (pos (w .near) ∷ pos c ∷ pos d ∷ []) refl)
 
-  pub boundary-numerator-near : n ≤ 8 → (d t : ℕ) → t < n - 1
-      → ((i : ℕ) → i < n → natAbs (l (j + i) -ℤ l′ (j + i)) ≤ threeAt t i * (60 * d)) → ((i : ℕ) → i < n → natAbs (k (j + i) -ℤ k′ (j + i)) ≤ threeAround t i * (60 * d))
-      → natAbs (virtualNumerator n l k j -ℤ virtualNumerator n l′ k′ j) ≤ 2570400 * d
-  boundary-numerator-near g d t z a b = let r = numerator-near g 51 (60 * d) (boundary-near kobbelt (omega arith) g (60 * d) t z a b) in omega arith
+    pub inside-numerator-near : (d : ℕ)
+        → ((i : ℕ) → i < n → natAbs (l (j + i) -ℤ l′ (j + i)) ≤ extrapolatedScale * d) → ((i : ℕ) → i < n → natAbs (k (j + i) -ℤ k′ (j + i)) ≤ extrapolatedScale * d)
+        → 9 * natAbs (virtualNumerator w n l k j -ℤ virtualNumerator w n l′ k′ j) ≤ virtualScale w * (40 * d)
+    inside-numerator-near d a b =
+        let B : ℕ = extrapolatedScale * d in
+        let r = numerator-near 40 B (inside-near w small g B a b) in
+        let e = over-virtual 40 d in
+        omega arith
+
+    pub boundary-numerator-near : (d t : ℕ) → t < n - 1
+        → ((i : ℕ) → i < n → natAbs (l (j + i) -ℤ l′ (j + i)) ≤ threeAt t i * (extrapolatedScale * d)) → ((i : ℕ) → i < n → natAbs (k (j + i) -ℤ k′ (j + i)) ≤ threeAround t i * (extrapolatedScale * d))
+        → 3 * natAbs (virtualNumerator w n l k j -ℤ virtualNumerator w n l′ k′ j) ≤ virtualScale w * (17 * d)
+    boundary-numerator-near d t z a b =
+        let B : ℕ = extrapolatedScale * d in
+        let r = numerator-near 51 B (boundary-near w small g B t z a b) in
+        let e = over-virtual 51 d in
+        let f = ap (λ (u : ℕ). virtualScale w * u) (mul-assoc 3 17 d) ∙ mul-left-comm (virtualScale w) 3 (17 * d) in
+        omega arith

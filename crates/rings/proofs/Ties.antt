@@ -1,20 +1,21 @@
 -- The virtual point in fractions is the one in whole numbers, over one denominator. Assumes nothing.
-use mathlib.Core.Path.{_≡_, refl, sym, ap, subst, _∙_}
+use mathlib.Core.Path.{_≡_, refl, ap, subst, _∙_}
 use mathlib.Core.Bool.{Bool}
 use mathlib.Core.List.{[], _∷_}
 use Prim.Native.Nat.{ℕ, _+_, _-_, _*_, _/_, _≤_, _<_}
-use native.Mathlib.Nat.{mul-assoc, mul-pos}
+use native.Mathlib.Nat.{mul-pos}
 use native.Mathlib.Omega.{arith}
 use lib.Dec.{eqb, eqb→eq}
-use lib.IntN.{ℤ, pos, _+ℤ_, _*ℤ_}
+use lib.IntN.{ℤ, pos, natAbs, _+ℤ_, _*ℤ_}
 use Rattle.lists.proofs.Table.{below-at}
 use Rattle.integers.specs.Sum.{sum}
 use Rattle.integers.proofs.Polynomial.{var, lit, _⊞_, _⊟_, _⊠_, same}
-use Rattle.curve.specs.Weights.{Weights, kobbelt}
+use Rattle.curve.specs.Weights.{Weights}
 use Rattle.fractions.specs.Fraction.{Fraction, Equals}
 use Rattle.fractions.proofs.Laws.{equals-cong, equals-scaled, equals-add, equals-sub, equals-times, equals-over, equals-sum, equals-reduced}
 use Rattle.rings.specs.Ring.{Periodic, virtual}
 use Rattle.rings.specs.RingWeights.{virtualZ, virtualNumerator}
+use Rattle.rings.specs.Scales.{extrapolatedScale, valenceScale, virtualScale}
 use Rattle.rings.proofs.Virtual.{virtual-constant, virtual-across}
 
 -- ---- at any valence and any weights, the ring being given over e
@@ -49,29 +50,30 @@ straight-across w some l k L K e rl rk el ek j =
     equals-reduced (w .near * 4) (L (j + 2)) e (omega arith)
     (equals-cong (virtual-across w L K rl rk j) refl (equals-virtual w some 4 l k L K e (omega arith) el ek j))
 
--- ---- at paper 01's weights, over 453,600
-divides-840 : ℕ → Bool
-divides-840 i = eqb (840 / (i + 3) * (i + 3)) 840
+-- ---- over one denominator for the valences 3 to 8
+divides : ℕ → Bool
+divides i = eqb (valenceScale / (i + 3) * (i + 3)) valenceScale
 
-pub over-840 : (n : ℕ) → 3 ≤ n → n ≤ 8 → 840 / n * n ≡ 840
-unfolding divides-840
-over-840 n h k =
+pub valence-divides : (n : ℕ) → 3 ≤ n → n ≤ 8 → valenceScale / n * n ≡ valenceScale
+unfolding divides
+valence-divides n h k =
     let e : n - 3 + 3 ≡ n = omega arith in
-    subst (λ (m : ℕ). 840 / m * m ≡ 840) e (eqb→eq (840 / (n - 3 + 3) * (n - 3 + 3)) 840 (below-at 6 divides-840 tt (n - 3) (omega arith)))
+    subst (λ (m : ℕ). valenceScale / m * m ≡ valenceScale) e (eqb→eq (valenceScale / (n - 3 + 3) * (n - 3 + 3)) valenceScale (below-at 6 divides tt (n - 3) (omega arith)))
 
-pub equals-numerator : (n : ℕ) (l k : ℕ → Fraction) (L K : ℕ → ℤ) → 3 ≤ n → n ≤ 8 → ((i : ℕ) → Equals (l i) (L i) 60) → ((i : ℕ) → Equals (k i) (K i) 60) → (j : ℕ)
-    → Equals (virtual kobbelt n l k j) (virtualNumerator n L K j) 453600
-equals-numerator n l k L K h g el ek j =
-    let q : ℕ = 840 / n in
-    let r : 9 * n * 60 ≡ n * 540 = omega arith in
-    let e : q * (9 * n * 60) ≡ 453600 = ap (λ (t : ℕ). q * t) r ∙ sym (mul-assoc q n 540) ∙ ap (λ (t : ℕ). t * 540) (over-840 n h g) in
-    equals-cong refl e (equals-scaled q (equals-virtual kobbelt (omega arith) n l k L K 60 (omega arith) el ek j))
+module _ (w : Weights) (n : ℕ) (h : 3 ≤ n) (g : n ≤ 8) where
+  -- a multiple of the near weight and n, times what n leaves of `valenceScale`
+  pub over-valence : (e : ℕ) → valenceScale / n * (w .near * n * e) ≡ w .near * (valenceScale * e)
+  over-valence e =
+      ap natAbs (same (var 0 ⊠ (var 1 ⊠ var 2 ⊠ var 3)) (var 1 ⊠ (var 0 ⊠ var 2 ⊠ var 3)) (pos (valenceScale / n) ∷ pos (w .near) ∷ pos n ∷ pos e ∷ []) refl)
+      ∙ ap (λ (t : ℕ). w .near * (t * e)) (valence-divides n h g)
 
--- a constant ring gives the constant
-pub numerator-constant : (n : ℕ) → 3 ≤ n → n ≤ 8 → (c : ℤ) (j : ℕ) → virtualNumerator n (λ (d : ℕ). pos 60 *ℤ c) (λ (d : ℕ). pos 60 *ℤ c) j ≡ pos 453600 *ℤ c
-numerator-constant n h g c j =
-    let q : ℕ = 840 / n in
-    ap (λ (t : ℤ). pos q *ℤ t) (virtual-constant kobbelt n (pos 60 *ℤ c) j)
-    ∙ same (var 0 ⊠ (lit (pos 9) ⊠ var 1 ⊠ (lit (pos 60) ⊠ var 2))) (var 0 ⊠ var 1 ⊠ (lit (pos 540) ⊠ var 2)) (pos q ∷ pos n ∷ c ∷ []) refl
-    ∙ ap (λ (t : ℕ). pos t *ℤ (pos 540 *ℤ c)) (over-840 n h g)
-    ∙ same (lit (pos 840) ⊠ (lit (pos 540) ⊠ var 0)) (lit (pos 453600) ⊠ var 0) (c ∷ []) refl
+  pub equals-numerator : 0 < w .near → (l k : ℕ → Fraction) (L K : ℕ → ℤ) → ((i : ℕ) → Equals (l i) (L i) extrapolatedScale) → ((i : ℕ) → Equals (k i) (K i) extrapolatedScale) → (j : ℕ)
+      → Equals (virtual w n l k j) (virtualNumerator w n L K j) (virtualScale w)
+  equals-numerator some l k L K el ek j = equals-cong refl (over-valence extrapolatedScale) (equals-scaled (valenceScale / n) (equals-virtual w some n l k L K extrapolatedScale (omega arith) el ek j))
+
+  -- a constant ring gives the constant
+  pub numerator-constant : (c : ℤ) (j : ℕ) → virtualNumerator w n (λ (d : ℕ). pos extrapolatedScale *ℤ c) (λ (d : ℕ). pos extrapolatedScale *ℤ c) j ≡ pos (virtualScale w) *ℤ c
+  numerator-constant c j =
+      ap (λ (t : ℤ). pos (valenceScale / n) *ℤ t) (virtual-constant w n (pos extrapolatedScale *ℤ c) j)
+      ∙ same (var 0 ⊠ (var 1 ⊠ var 2 ⊠ (lit (pos extrapolatedScale) ⊠ var 3))) (var 0 ⊠ (var 1 ⊠ var 2 ⊠ lit (pos extrapolatedScale)) ⊠ var 3) (pos (valenceScale / n) ∷ pos (w .near) ∷ pos n ∷ c ∷ []) refl
+      ∙ ap (λ (t : ℕ). pos t *ℤ c) (over-valence extrapolatedScale)

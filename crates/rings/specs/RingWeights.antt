@@ -1,4 +1,4 @@
--- The virtual point in whole numbers: over near · n, which is 9n, as a formula and as a sum of weights; and a ring held in a list.
+-- The virtual point in whole numbers: over near · n, as a formula and as a sum of weights, and over one denominator for all valences; and a ring held in a list.
 use mathlib.Core.Bool.{cond}
 use mathlib.Core.List.{List}
 use Prim.Native.Nat.{ℕ, _+_, _-_, _/_}
@@ -6,8 +6,9 @@ use lib.Dec.{eqb, ltb}
 use lib.IntN.{ℤ, pos, _+ℤ_, _-ℤ_, _*ℤ_}
 use lib.ListN.{getD}
 use Rattle.integers.specs.Sum.{sum}
-use Rattle.curve.specs.Weights.{Weights, kobbelt}
+use Rattle.curve.specs.Weights.{Weights}
 use Rattle.rings.specs.Ring.{wrap}
+use Rattle.rings.specs.Scales.{valenceScale}
 
 -- the formula of `virtual`, times near · n
 unfoldable pub virtualZ : Weights → (n : ℕ) (l k : ℕ → ℤ) (j : ℕ) → ℤ
@@ -15,9 +16,9 @@ virtualZ w n l k j =
     pos (w .near) *ℤ (pos 4 *ℤ sum n l -ℤ pos n *ℤ (l (j + (n - 1)) +ℤ l j +ℤ l (j + 1)))
     +ℤ pos (w .far) *ℤ (pos n *ℤ (k (j + (n - 2)) +ℤ k (j + (n - 1)) +ℤ k j +ℤ k (j + 1)) -ℤ pos 4 *ℤ sum n k)
 
--- over 453,600, which is 9 · 840 · 60, from a ring over 60; n from 3 to 8 divides 840
-abbrev pub virtualNumerator : (n : ℕ) (l k : ℕ → ℤ) (j : ℕ) → ℤ
-virtualNumerator n l k j = pos (840 / n) *ℤ virtualZ kobbelt n l k j
+-- over `virtualScale`, from a ring over `extrapolatedScale`; n from 3 to 8 divides `valenceScale`
+abbrev pub virtualNumerator : Weights → (n : ℕ) (l k : ℕ → ℤ) (j : ℕ) → ℤ
+virtualNumerator w n l k j = pos (valenceScale / n) *ℤ virtualZ w n l k j
 
 -- 1 at place e, else 0
 abbrev pub oneAt : ℕ → ℕ → ℤ

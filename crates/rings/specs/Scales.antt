@@ -1,6 +1,6 @@
 -- The common denominators of the exact points of a round, over the weights, and the ranges of their numerators. The numbers in brackets are those of paper 01's
 -- weights.
-use Prim.Native.Nat.{ℕ, _+_, _*_, _/_}
+use Prim.Native.Nat.{ℕ, _*_, _/_}
 use Rattle.curve.specs.Weights.{Weights, scale}
 
 -- ---- denominators
@@ -43,4 +43,4 @@ abbrev pub edgeRange : Weights → ℕ
 edgeRange w = edgeScale w / 6 * 11 * coordinateRange
 
 abbrev pub directionRange : Weights → ℕ
-directionRange w = 2 * (w .near + w .far) * edgeRange w
+directionRange w = scale w / 4 * 5 * edgeRange w

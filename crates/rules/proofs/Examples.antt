@@ -2,13 +2,15 @@
 use mathlib.Core.Path.{_≡_, refl}
 use mathlib.Core.List.{List, [], _∷_}
 use Prim.Native.Nat.{ℕ}
-use lib.IntN.{ℤ, pos, negsuc}
+use lib.IntN.{ℤ, pos, negsuc, _*ℤ_}
 use lib.ListN.{getD}
+use Rattle.integers.specs.Sum.{sum}
 use Rattle.rounding.specs.Rounding.{round}
 use Rattle.curve.specs.Weights.{Weights, kobbelt}
 use Rattle.fractions.specs.Fraction.{Fraction, whole, _×ᶠ_, sumᶠ, toWhole}
 use Rattle.rings.specs.Ring.{wrap, virtual}
 use Rattle.rules.specs.Rules.{interiorPoint, endPoint, midpoint, extrapolated, extrapolatedCorner, innerEdge, directionTwo, directionOne, meanOfBoth}
+use Rattle.rules.specs.Numerators.{extrapolatedZ, extrapolatedCornerZ, innerEdgeZ}
 
 abbrev ring : List ℤ → ℕ → ℕ → Fraction
 ring l n = wrap n (λ (i : ℕ). whole (getD l i (pos 0)))
@@ -37,6 +39,10 @@ cube-edge-fifth : toWhole (cubeEdge (record { near = 5; far = 1 })) ≡ negsuc 5
 unfolding interiorPoint virtual sumᶠ round
 cube-edge-fifth = refl
 
+-- the same over the common denominator, from virtual points of -140
+cube-edge-numerator : innerEdgeZ kobbelt low low (pos 453600 *ℤ negsuc 139) (pos 453600 *ℤ negsuc 139) ≡ pos 7257600 *ℤ negsuc 589
+cube-edge-numerator = refl
+
 abbrev cubeDirection : Fraction
 cubeDirection = directionTwo kobbelt cubeOpposite (cubeEdge kobbelt) (cubeEdge kobbelt) cubeOpposite
 
@@ -56,6 +62,11 @@ extrapolatedM = extrapolated (whole (pos 0)) 1 (λ i. whole (pos 16))
 
 abbrev extrapolatedOuter : Fraction
 extrapolatedOuter = extrapolatedCorner (whole (pos 0)) (whole (pos 16))
+
+-- over 60
+extrapolated-numerators : (extrapolatedZ (pos 0) 1 (λ i. pos 16) ≡ pos 60 *ℤ negsuc 15) × (extrapolatedCornerZ (pos 0) (pos 16) ≡ pos 60 *ℤ negsuc 15)
+unfolding sum
+extrapolated-numerators = (refl, refl)
 
 abbrev gridL : ℕ → Fraction
 gridL = wrap 4 (λ (i : ℕ). getD (whole (pos 0) ∷ whole (pos 16) ∷ whole (pos 0) ∷ extrapolatedM ∷ []) i (whole (pos 0)))

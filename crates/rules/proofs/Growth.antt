@@ -8,6 +8,7 @@ use lib.IntN.{ℤ, natAbs}
 use Rattle.lists.proofs.Table.{below-at}
 use Rattle.rounding.specs.Rounding.{round}
 use Rattle.rounding.proofs.Laws.{round-size}
+use Rattle.rings.specs.Scales.{coordinateRange}
 
 -- the bound after one more round
 abbrev pub grown : ℕ → ℕ
@@ -34,11 +35,11 @@ limit (suc k) = grown (limit k)
 -- what a round is given
 inputs : ℕ → Bool
 unfolding limit
-inputs k = leb (limit k) 66276137
+inputs k = leb (limit k) coordinateRange
 
-pub limit-input : (k : ℕ) → k ≤ 5 → limit k ≤ 66276137
+pub limit-input : (k : ℕ) → k ≤ 5 → limit k ≤ coordinateRange
 unfolding inputs
-limit-input k h = leb→le (limit k) 66276137 (below-at 6 inputs tt k (omega arith))
+limit-input k h = leb→le (limit k) coordinateRange (below-at 6 inputs tt k (omega arith))
 
 -- what it gives. Paper 01: "every coordinate stays within 268,435,456"
 outputs : ℕ → Bool

@@ -62,19 +62,21 @@ inner l h = ltb (mate quads l h) (length l)
 unfoldable pub fourInner : List ℕ → ℕ → Bool
 fourInner l h = inner l h && inner l (across h) && inner l (beyond l h) && inner l (beyond l (across h))
 
--- "If exactly one direction has four inner edges, it alone counts. Otherwise the mean of both.": the first direction is that of side 0, the second that of side 1
+-- "If exactly one direction has four inner edges, it alone counts. Otherwise the mean of both.": the first direction is that of side 0, the second that of side 1;
+-- both have four inner edges, or neither has
 pub data FaceRule : Type 0 where
-  firstAlone secondAlone bothDirections : FaceRule
+  firstAlone secondAlone bothInner neitherInner : FaceRule
 
 unfoldable pub faceRule : List ℕ → ℕ → FaceRule
 faceRule l f =
-    cond (fourInner l (4 * f)) (cond (fourInner l (4 * f + 1)) bothDirections firstAlone)
-    (cond (fourInner l (4 * f + 1)) secondAlone bothDirections)
+    cond (fourInner l (4 * f)) (cond (fourInner l (4 * f + 1)) bothInner firstAlone)
+    (cond (fourInner l (4 * f + 1)) secondAlone neitherInner)
 
 unfoldable pub faceValue : Weights → List ℕ → (ℕ → Fraction) → ℕ → FaceRule → Fraction
 faceValue w l e f firstAlone = direction w l e (4 * f)
 faceValue w l e f secondAlone = direction w l e (4 * f + 1)
-faceValue w l e f bothDirections = meanOfBoth (direction w l e (4 * f)) (direction w l e (4 * f + 1))
+faceValue w l e f bothInner = meanOfBoth (direction w l e (4 * f)) (direction w l e (4 * f + 1))
+faceValue w l e f neitherInner = meanOfBoth (direction w l e (4 * f)) (direction w l e (4 * f + 1))
 
 -- "Face points use the unrounded edge points."
 unfoldable pub facePoint : Weights → List ℕ → List ℕ → (ℕ → ℤ) → ℕ → Fraction

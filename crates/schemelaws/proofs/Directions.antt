@@ -4,13 +4,12 @@ use mathlib.Core.Path.{_≡_, refl, sym, ap, _∙_, subst}
 use mathlib.Core.List.{List}
 use Prim.Native.Nat.{ℕ, _+_, _*_, _≤_, _<_}
 use native.Mathlib.Omega.{arith}
-use lib.Dec.{lit≤}
 use lib.IntN.{ℤ}
 use lib.ListN.{length}
 use Rattle.search.specs.Search.{iterate}
 use Rattle.search.proofs.Quarters.{below-four}
-use Rattle.curve.specs.Weights.{Weights, kobbelt, scale}
-use Rattle.fractions.specs.Fraction.{Equals, Same}
+use Rattle.curve.specs.Weights.{Weights, scale}
+use Rattle.fractions.specs.Fraction.{Same}
 use Rattle.topology.specs.Shape.{quads}
 use Rattle.topology.specs.HalfEdge.{from, to, mate}
 use Rattle.topology.specs.Boundary.{boundaryFrom}
@@ -25,20 +24,12 @@ use Rattle.topology.specs.Quads.{across, beyond}
 use Rattle.schemelaws.specs.Numerators.{edgeZ, directionZ}
 use Rattle.schemelaws.specs.Agreement.{Inside, SideOf, Leaves, Regular, FourBeyond}
 use Rattle.schemelaws.proofs.Vertices.{ring-of, ring-ge}
-use Rattle.schemelaws.proofs.Ties.{side₀-lt, side₁-lt, equals-edge, equals-direction}
+use Rattle.schemelaws.proofs.Ties.{next-side, prev-side}
 use Rattle.schemelaws.proofs.Beyond.{next-across, across-next, opposite-across, two-turns, third-neighbour}
-use Rattle.schemelaws.proofs.FanOfTwo.{equals-one}
-use Rattle.schemelaws.proofs.OneDirection.{equals-same, directions-agree}
+use Rattle.schemelaws.proofs.OneDirection.{directions-agree, directions-beyond}
 
 module _ (v : ℕ) (l : List ℕ) (ok : Manifold quads v l) (f : ℕ) (reg : Regular l f) where
-  -- ---- the sides of the face
   module _ (h : ℕ) (s : SideOf l f h) where
-    next-side : SideOf l f (quads .next h)
-    next-side = record { lt = ok .oriented .shape .next-lt h (s .lt); face = ok .oriented .shape .face-next h ∙ s .face }
-
-    prev-side : SideOf l f (quads .prev h)
-    prev-side = record { lt = ok .oriented .shape .prev-lt h (s .lt); face = face-prev quads (length l) (ok .oriented .shape) h ∙ s .face }
-
     -- there are four
     sides : (P : ℕ → Type 0) → P h → P (quads .next h) → P (across h) → P (quads .prev h) → (c : ℕ) → SideOf l f c → P c
     unfolding quads iterate across
@@ -70,7 +61,7 @@ module _ (v : ℕ) (l : List ℕ) (ok : Manifold quads v l) (f : ℕ) (reg : Reg
       not-before : ⊥
       not-before =
           let t : ℕ = mate quads l h in
-          let j = prev-side .lt in
+          let j = prev-side v l ok f h s .lt in
           let c = mate-is quads l (quads .prev h) before-inner in
           let g : quads .next t ≡ mate quads l (quads .prev h) = ok .oriented .once (quads .next t) (mate quads l (quads .prev h)) (beside-start .lt) before-inner
           (beside-start .start ∙ sym (to-prev quads (length l) (ok .oriented .shape) l h) ∙ sym (c .start)) (e ∙ sym (c .end)) in
@@ -110,7 +101,7 @@ module _ (v : ℕ) (l : List ℕ) (ok : Manifold quads v l) (f : ℕ) (reg : Reg
     t-lt = inner h s
 
     two-lt : turns quads l 2 (quads .next h) < length l
-    two-lt = let k = three (quads .next h) (next-side h s) in ring (quads .next h) (next-side h s) .walk .inside 2 (omega arith)
+    two-lt = let k = three (quads .next h) (next-side v l ok f h s) in ring (quads .next h) (next-side v l ok f h s) .walk .inside 2 (omega arith)
 
     w-lt : mate quads l (quads .prev (mate quads l h)) < length l
     w-lt = subst (λ (g : ℕ). g < length l) (two-turns v l ok h (s .lt) t-lt) two-lt
@@ -129,7 +120,7 @@ module _ (v : ℕ) (l : List ℕ) (ok : Manifold quads v l) (f : ℕ) (reg : Reg
     unfolding to across
     not-after e =
         let w = ok .oriented .shape in
-        let i = next-side h s in
+        let i = next-side v l ok f h s in
         let j = inner (quads .next h) i in
         let c = mate-is quads l (quads .next h) j in
         let q-lt = w .prev-lt t t-lt in
@@ -151,17 +142,17 @@ module _ (v : ℕ) (l : List ℕ) (ok : Manifold quads v l) (f : ℕ) (reg : Reg
         (λ e. next-next-not quads (length l) w t t-lt (ap (quads .next) (sym (ok .oriented .apart q (quads .next t) q-lt n-lt (fq ∙ sym (w .face-next t)) (sym end-is ∙ e ∙ sym (m .end)))) ∙ w .next-prev t))
         (λ e. next-not quads (length l) w q q-lt (w .next-prev t ∙ sym (ok .oriented .apart q t q-lt t-lt fq (sym end-is ∙ e ∙ sym (m .start)))))
         (λ e. not-after (sym end-is ∙ e))
-        (λ e. reg .opposite (quads .next h) (mate quads l q) (next-side h s) beside-end (e ∙ ap (from l) (sym (across-next v l ok h (s .lt))) ∙ sym (opposite-across v l ok (quads .next h))))
+        (λ e. reg .opposite (quads .next h) (mate quads l q) (next-side v l ok f h s) beside-end (e ∙ ap (from l) (sym (across-next v l ok h (s .lt))) ∙ sym (opposite-across v l ok (quads .next h))))
 
     end-at : to quads l (mate quads l (quads .prev (mate quads l h))) ≡ to quads l (beyond l h)
     end-at = ap (to quads l) (sym (two-turns v l ok h (s .lt) t-lt)) ∙ third-neighbour v l ok h (s .lt) t-lt two-lt
 
     -- it lies inside too, and has four faces
     end-inside : Inside l (to quads l (beyond l h))
-    end-inside = subst (λ (q : ℕ). boundaryFrom quads l q ≡ length l) end-at (reg .neighbours (quads .next h) (mate quads l (quads .prev t)) (next-side h s) beside-end)
+    end-inside = subst (λ (q : ℕ). boundaryFrom quads l q ≡ length l) end-at (reg .neighbours (quads .next h) (mate quads l (quads .prev t)) (next-side v l ok f h s) beside-end)
 
     end-four : valence l (to quads l (beyond l h)) ≡ 4
-    end-four = subst (λ (q : ℕ). valence l q ≡ 4) end-at (reg .four (quads .next h) (mate quads l (quads .prev t)) (next-side h s) beside-end end-off)
+    end-four = subst (λ (q : ℕ). valence l q ≡ 4) end-at (reg .four (quads .next h) (mate quads l (quads .prev t)) (next-side v l ok f h s) beside-end end-off)
 
   pub regular-beyond : FourBeyond l f
   regular-beyond = record { corners = reg .corners; startInside = start-inside; startFour = start-four; endInside = end-inside; endFour = end-four }
@@ -172,11 +163,6 @@ module _ (w : Weights) (near : 0 < w .near) (apart : 0 < scale w) (v : ℕ) (l m
   pub both-directions : Same (direction w l (edgePoint w l marks p) (4 * f)) (direction w l (edgePoint w l marks p) (4 * f + 1))
   both-directions = directions-agree w near apart v l marks ok p f (regular-beyond v l ok f reg) k
 
--- ---- and over 116,121,600 at paper 01's
-module _ (v : ℕ) (l marks : List ℕ) (ok : Manifold quads v l) (p : ℕ → ℤ) (f : ℕ) (k : f < quads .faces (length l)) (reg : Regular l f) where
-  pub directions-same : directionZ l (edgeZ l marks p) (4 * f) ≡ directionZ l (edgeZ l marks p) (4 * f + 1)
-  directions-same =
-      let tied : (h : ℕ) → h < length l → Equals (direction kobbelt l (edgePoint kobbelt l marks p) h) (directionZ l (edgeZ l marks p) h) (16 * 7257600) =
-      equals-direction v l ok (edgePoint kobbelt l marks p) (edgeZ l marks p) 7257600 (equals-edge v l marks ok p) in
-      equals-one (directionZ l (edgeZ l marks p) (4 * f)) (directionZ l (edgeZ l marks p) (4 * f + 1)) (tied (4 * f) (side₀-lt l f k))
-      (equals-same (both-directions kobbelt (lit≤ tt) (lit≤ tt) v l marks ok p f k reg) (tied (4 * f + 1) (side₁-lt l f k)))
+  -- in the numerators over `directionScale`
+  pub directions-same : directionZ w l (edgeZ w l marks p) (4 * f) ≡ directionZ w l (edgeZ w l marks p) (4 * f + 1)
+  directions-same = directions-beyond w near apart v l marks ok p f (regular-beyond v l ok f reg) k

@@ -1,21 +1,29 @@
--- A net on which the law of both directions says something: three by three squares closed up both ways, where every vertex has a full ring of four.
--- Assumes nothing.
-use mathlib.Core.Path.{_≡_, subst}
-use mathlib.Core.Bool.{Bool, true, false, not, _&&_}
+-- A net on which the law of both directions says something: three by three squares closed up both ways, where every vertex has a full ring of four; and its
+-- numerators, computed. Assumes nothing.
+use mathlib.Core.Path.{_≡_, refl, subst}
+use mathlib.Core.Bool.{Bool, true, false, cond, not, _&&_}
 use mathlib.Core.List.{List, [], _∷_}
 use Prim.Native.Nat.{ℕ, _<_}
 use native.Mathlib.Omega.{arith}
 use lib.Dec.{T, eqb, ltb, eqb→eq, ltb→lt}
+use lib.IntN.{ℤ, pos, _*ℤ_}
 use borrow.Author.Tests.{eq-eqb}
 use Rattle.lists.proofs.Table.{both-parts, everyBelow, below-at}
-use Rattle.search.specs.Search.{firstFrom, first, count}
+use Rattle.search.specs.Search.{firstFrom, first, count, iterate}
 use Rattle.search.proofs.Tests.{and-on}
+use Rattle.integers.specs.Sum.{sum}
+use Rattle.curve.specs.Weights.{kobbelt}
+use Rattle.rings.specs.RingWeights.{virtualZ}
+use Rattle.nets.specs.Net.{marked}
 use Rattle.topology.specs.Shape.{quads}
 use Rattle.topology.specs.HalfEdge.{from, to, opposed, mate}
 use Rattle.topology.specs.Boundary.{isBoundaryFrom, boundaryFrom}
-use Rattle.topology.specs.Vertex.{leaves, valence}
-use Rattle.topology.specs.Quads.{oppositeCorner}
+use Rattle.topology.specs.Vertex.{leaves, valence, turn}
+use Rattle.topology.specs.Quads.{oppositeCorner, across, beyond}
+use Rattle.scheme.specs.Points.{edgeRule, inner, fourInner, faceRule}
 use Rattle.schemelaws.specs.Agreement.{Inside, Regular}
+use Rattle.schemelaws.specs.Ordinary.{straight, ordinaryValue, ordinaryEdge}
+use Rattle.schemelaws.specs.Numerators.{ringNeighbourZ, ringCornerZ, ringVirtualZ, virtualAtZ, edgeValueZ, edgeZ, directionZ, faceValueZ, faceZ}
 
 abbrev torus : List ℕ
 torus =
@@ -84,3 +92,25 @@ torus-regular = record {
     off : (b : Bool) → b ≡ true → T (not b) → ⊥
     off true e t = t
     off false e t = let z : _≡_ {A = ℕ} 0 1 = cc in omega arith
+
+-- ---- its numerators at paper 01's weights, where vertex 4 has the coordinate 16 and the others 0
+abbrev raised : ℕ → ℤ
+raised q = cond (eqb q 4) (pos 16) (pos 0)
+
+abbrev unmarked : List ℕ
+unmarked = 0 ∷ 0 ∷ 0 ∷ 0 ∷ 0 ∷ 0 ∷ 0 ∷ 0 ∷ 0 ∷ []
+
+-- the virtual point at vertex 3 on its edge to vertex 5 is vertex 4: 16 over 453,600
+torus-virtual : virtualAtZ kobbelt torus raised 10 ≡ pos 453600 *ℤ pos 16
+unfolding firstFrom first count iterate quads from to opposed mate isBoundaryFrom boundaryFrom leaves valence turn oppositeCorner sum virtualZ ringNeighbourZ ringCornerZ ringVirtualZ virtualAtZ
+torus-virtual = refl
+
+-- the point on the edge from vertex 3 to vertex 4: 144 over 16, and 9 over 7,257,600
+torus-edge : (ordinaryEdge kobbelt torus unmarked raised 12 ≡ pos 144) × (edgeZ kobbelt torus unmarked raised 12 ≡ pos 7257600 *ℤ pos 9)
+unfolding firstFrom first count iterate quads from to opposed mate isBoundaryFrom boundaryFrom leaves valence turn oppositeCorner sum virtualZ ringNeighbourZ ringCornerZ ringVirtualZ virtualAtZ marked edgeRule straight ordinaryValue ordinaryEdge edgeValueZ edgeZ
+torus-edge = (refl, refl)
+
+-- the point of its face 3: 81/16, over 116,121,600 and 232,243,200
+torus-face : (directionZ kobbelt torus (edgeZ kobbelt torus unmarked raised) 12 ≡ pos 7257600 *ℤ pos 81) × (faceZ kobbelt torus (edgeZ kobbelt torus unmarked raised) 3 ≡ pos 14515200 *ℤ pos 81)
+unfolding firstFrom first count iterate quads from to opposed mate isBoundaryFrom boundaryFrom leaves valence turn oppositeCorner sum virtualZ ringNeighbourZ ringCornerZ ringVirtualZ virtualAtZ marked edgeRule straight ordinaryValue ordinaryEdge edgeValueZ edgeZ across beyond inner fourInner faceRule directionZ faceValueZ faceZ
+torus-face = (refl, refl)

@@ -1,42 +1,46 @@
--- A fan of two gives the end rule: at a boundary vertex P in two faces the virtual point on the inner edge PQ is 2P - Q, since P* stands straight across. So the
+-- A fan of two gives the end rule: at a boundary vertex P in two faces the virtual point on the inner edge PQ is Q mirrored at P, since P* stands straight across. So the
 -- point on an inner edge between ordinary vertices is the four-point rule over the scale alone: between two rings of four the interior rule, at a fan of two the
 -- end rule that starts there, between two fans of two the midpoint. At any weights; assumes a manifold net.
 use mathlib.Core.Path.{_≡_, refl, sym, ap, ap₂, _∙_, subst}
 use mathlib.Core.List.{List, [], _∷_}
-use Prim.Native.Nat.{ℕ, _+_, _-_, _*_, _≤_, _<_, min}
+use Prim.Native.Nat.{ℕ, _+_, _-_, _*_, _≤_, _<_}
+use native.Mathlib.Nat.{mul-one}
+use native.Mathlib.Decide.{decLt}
 use native.Mathlib.Omega.{arith}
 use lib.Dec.{lit≤}
-use lib.IntN.{ℤ, pos, _+ℤ_, _-ℤ_, _*ℤ_, *ℤ-comm}
+use lib.IntN.{ℤ, pos, _+ℤ_, _-ℤ_, _*ℤ_}
 use lib.ListN.{length}
 use borrow.Author.Tests.{lt-ltb, le-ltb}
 use Rattle.search.specs.Search.{iterate}
 use Rattle.integers.specs.Sum.{sum}
 use Rattle.integers.proofs.Polynomial.{var, lit, _⊞_, _⊟_, _⊠_, same}
-use Rattle.curve.specs.Weights.{Weights, kobbelt, scale, interior, endEdge, singleEdge}
-use Rattle.fractions.specs.Fraction.{Fraction, whole, toWhole, Equals}
-use Rattle.fractions.proofs.Laws.{toWhole-equals, equals-whole, equals-scaled, equals-cong, equals-reduced, cancel}
+use Rattle.curve.specs.Weights.{Weights, scale, interior, endEdge, singleEdge, mirror}
+use Rattle.curve.proofs.Mirror.{end-mirrored, single-mirrored, interior-turned}
+use Rattle.fractions.specs.Fraction.{whole, Equals}
+use Rattle.fractions.proofs.Laws.{toWhole-equals, equals-whole, equals-cong, equals-reduced}
 use Rattle.rounding.specs.Rounding.{round}
-use Rattle.rounding.proofs.Laws.{round-scale}
 use Rattle.rings.specs.Ring.{wrap}
+use Rattle.rings.specs.Scales.{extrapolatedScale}
+use Rattle.rings.proofs.Scales.{edgeScale-some}
 use Rattle.rings.proofs.Periodic.{wrap-periodic}
 use Rattle.rings.proofs.Ties.{straight-across}
-use Rattle.rules.proofs.Ties.{equals-interior, equals-end, equals-single}
+use Rattle.rules.proofs.Ties.{whole-over, equals-interior}
 use Rattle.topology.specs.Shape.{quads}
 use Rattle.topology.specs.HalfEdge.{from, to, mate, edge}
-use Rattle.topology.specs.Boundary.{boundaryFrom, along, back}
+use Rattle.topology.specs.Boundary.{boundaryFrom}
 use Rattle.topology.specs.Vertex.{valence, turn, turns, Ring}
 use Rattle.topology.specs.Manifold.{Manifold}
 use Rattle.topology.proofs.Turn.{turn-to}
-use Rattle.topology.proofs.Mates.{mate-is, mate-back, edge-lt, edgeAt-edge}
+use Rattle.topology.proofs.Mates.{mate-is, mate-back}
 use Rattle.scheme.specs.Rings.{fanNeighbour, fanCorner, ringVirtual, fanVirtual, virtualAt}
 use Rattle.topology.specs.Quads.{oppositeCorner, fanEnd, fanPlace}
-use Rattle.scheme.specs.Points.{EdgeRule, insideSegment, startOfSegment, endOfSegment, wholeSegment, innerRule, edgeRule, edgeValue, edgePoint}
+use Rattle.scheme.specs.Points.{edgePoint}
 use Rattle.scheme.specs.Step.{refinedCoordinate}
-use Rattle.schemelaws.specs.Numerators.{extrapolatedAtZ, fanNeighbourZ, fanCornerZ, ringNeighbourZ, ringCornerZ, edgeZ}
+use Rattle.schemelaws.specs.Numerators.{extrapolatedAtZ, fanNeighbourZ, fanCornerZ, ringNeighbourZ, ringCornerZ}
 use Rattle.schemelaws.specs.Ordinary.{Ordinary, ringOfFour, fanOfTwo, straight, ordinaryValue, ordinaryEdge}
 use Rattle.schemelaws.proofs.Vertices.{ring-of, place-at, place-inner, neighbours-periodic, corners-periodic}
-use Rattle.schemelaws.proofs.Ties.{equals-fanNeighbour, equals-fanCorner, rule-inner, inner-rule, equals-edge}
-use Rattle.schemelaws.proofs.Coordinates.{refined-edge-at, refined-edge}
+use Rattle.schemelaws.proofs.Ties.{equals-fanNeighbour, equals-fanCorner, inner-rule, point-inner, equals-boundary, equals-edge}
+use Rattle.schemelaws.proofs.Coordinates.{refined-edge}
 
 -- ---- what lies straight across, by the kind of the vertex
 module _ (l : List ℕ) (p : ℕ → ℤ) (h : ℕ) where
@@ -44,7 +48,7 @@ module _ (l : List ℕ) (p : ℕ → ℤ) (h : ℕ) where
   unfolding straight
   straight-ring b = let t = le-ltb (boundaryFrom quads l (from l h)) (length l) (omega arith) in rw t
 
-  pub straight-fan : boundaryFrom quads l (from l h) < length l → straight l p h ≡ pos 2 *ℤ p (from l h) -ℤ p (to quads l h)
+  pub straight-fan : boundaryFrom quads l (from l h) < length l → straight l p h ≡ mirror (p (from l h)) (p (to quads l h))
   unfolding straight
   straight-fan b = let t = lt-ltb (boundaryFrom quads l (from l h)) (length l) b in rw t
 
@@ -70,14 +74,14 @@ module _ (w : Weights) (near : 0 < w .near) (v : ℕ) (l : List ℕ) (ok : Manif
     unfolding fanEnd iterate
     far-end = sym (turn-to quads v l (ok .oriented) s (rw turned k)) ∙ ap (to quads l) turned
 
-    -- P*, over 60
-    own : fanNeighbourZ l p (from l h) 3 ≡ pos 60 *ℤ (pos 2 *ℤ p (from l h) -ℤ p (to quads l h))
+    -- P*
+    own : fanNeighbourZ l p (from l h) 3 ≡ pos extrapolatedScale *ℤ (mirror (p (from l h)) (p (to quads l h)))
     unfolding fanNeighbourZ extrapolatedAtZ sum
     own =
         rw (two, far-end)
-        (same (lit (pos 120) ⊠ var 0 ⊟ lit (pos 60) ⊠ (lit (pos 0) ⊞ var 1)) (lit (pos 60) ⊠ (lit (pos 2) ⊠ var 0 ⊟ var 1)) (p (from l h) ∷ p (to quads l h) ∷ []) refl)
+        (same (lit (pos (2 * extrapolatedScale)) ⊠ var 0 ⊟ lit (pos extrapolatedScale) ⊠ (lit (pos 0) ⊞ var 1)) (lit (pos extrapolatedScale) ⊠ (lit (pos 2) ⊠ var 0 ⊟ var 1)) (p (from l h) ∷ p (to quads l h) ∷ []) refl)
 
-    fan-of-two : Equals (fanVirtual w l p h) (pos 2 *ℤ p (from l h) -ℤ p (to quads l h)) 1
+    fan-of-two : Equals (fanVirtual w l p h) (mirror (p (from l h)) (p (to quads l h))) 1
     unfolding fanVirtual
     fan-of-two =
         let P : ℕ = from l h in
@@ -85,96 +89,60 @@ module _ (w : Weights) (near : 0 < w .near) (v : ℕ) (l : List ℕ) (ok : Manif
         let K : ℕ → ℤ = fanCornerZ l p P in
         let n : valence l P + 2 ≡ 4 = omega arith in
         rw (n, place)
-        (equals-reduced 60 (pos 2 *ℤ p P -ℤ p (to quads l h)) 1 (lit≤ tt)
+        (equals-reduced extrapolatedScale (mirror (p P) (p (to quads l h))) 1 (lit≤ tt)
         (equals-cong own refl
-        (straight-across w near (wrap 4 (fanNeighbour l p P)) (wrap 4 (fanCorner l p P)) (wrap 4 L) (wrap 4 K) 60 (wrap-periodic 4 L) (wrap-periodic 4 K)
+        (straight-across w near (wrap 4 (fanNeighbour l p P)) (wrap 4 (fanCorner l p P)) (wrap 4 L) (wrap 4 K) extrapolatedScale (wrap-periodic 4 L) (wrap-periodic 4 K)
         (λ i. equals-fanNeighbour v l ok p P b _) (λ i. equals-fanCorner v l ok p P b _) 1)))
 
     -- "a fan of two": the virtual point
-    pub virtual-fan-of-two : Equals (virtualAt w l p h) (pos 2 *ℤ p (from l h) -ℤ p (to quads l h)) 1
+    pub virtual-fan-of-two : Equals (virtualAt w l p h) (mirror (p (from l h)) (p (to quads l h))) 1
     unfolding virtualAt
     virtual-fan-of-two = let t = lt-ltb (boundaryFrom quads l (from l h)) (length l) b in rw t fan-of-two
 
-  -- at a full ring of four
+  -- Paper 01: "For n = 4 inside, v is the neighbour straight across"
   module _ (b : boundaryFrom quads l (from l h) ≡ length l) (four : valence l (from l h) ≡ 4) where
-    pub virtual-ring-of-four : Equals (virtualAt w l p h) (p (to quads l (turns quads l 2 h))) 1
+    pub virtual-neighbour : Equals (virtualAt w l p h) (p (to quads l (turns quads l 2 h))) 1
     unfolding virtualAt ringVirtual ringNeighbourZ ringCornerZ
-    virtual-ring-of-four =
+    virtual-neighbour =
         let t = le-ltb (boundaryFrom quads l (from l h)) (length l) (omega arith) in
         let r : Ring quads l (from l h) h 4 = subst (Ring quads l (from l h) h) four (ring-of v l ok h k (omega arith)) in
         let L : ℕ → ℤ = ringNeighbourZ l p h in
         let K : ℕ → ℤ = ringCornerZ l p h in
         rw (t, four)
-        (equals-reduced 60 (p (to quads l (turns quads l 2 h))) 1 (lit≤ tt)
-        (straight-across w near (λ (i : ℕ). whole (p (to quads l (turns quads l i h)))) (λ (i : ℕ). whole (p (oppositeCorner l (turns quads l i h)))) L K 60
+        (equals-reduced extrapolatedScale (p (to quads l (turns quads l 2 h))) 1 (lit≤ tt)
+        (straight-across w near (λ (i : ℕ). whole (p (to quads l (turns quads l i h)))) (λ (i : ℕ). whole (p (oppositeCorner l (turns quads l i h)))) L K extrapolatedScale
         (neighbours-periodic l p (from l h) h 4 r) (corners-periodic l p (from l h) h 4 r)
-        (λ i. equals-scaled 60 (equals-whole (p (to quads l (turns quads l i h))))) (λ i. equals-scaled 60 (equals-whole (p (oppositeCorner l (turns quads l i h))))) 0))
+        (λ i. whole-over extrapolatedScale (p (to quads l (turns quads l i h)))) (λ i. whole-over extrapolatedScale (p (oppositeCorner l (turns quads l i h)))) 0))
 
   pub virtual-ordinary : mate quads l h < length l → Ordinary l (from l h) → Equals (virtualAt w l p h) (straight l p h) 1
-  virtual-ordinary m (ringOfFour b n) = equals-cong (sym (straight-ring l p h b)) refl (virtual-ring-of-four b n)
+  virtual-ordinary m (ringOfFour b n) = equals-cong (sym (straight-ring l p h b)) refl (virtual-neighbour b n)
   virtual-ordinary m (fanOfTwo b n) = equals-cong (sym (straight-fan l p h b)) refl (virtual-fan-of-two m b n)
 
--- ---- the algebra: the interior rule with 2P - Q before P is the end rule from P, and with both ends so it is the midpoint
-module _ (w : Weights) (P Q : ℤ) where
-  pub end-start : 2 * w .far ≤ w .near → (r : ℤ) → interior w (pos 2 *ℤ P -ℤ Q) P Q r ≡ endEdge w P Q r
-  end-start i r =
-      let d : ℕ = w .near - 2 * w .far in
-      let e : w .near ≡ d + 2 * w .far = omega arith in
-      ap (λ (n : ℕ). pos n *ℤ (P +ℤ Q) -ℤ pos (w .far) *ℤ (pos 2 *ℤ P -ℤ Q +ℤ r)) e
-      ∙ same ((var 0 ⊞ lit (pos 2) ⊠ var 1) ⊠ (var 2 ⊞ var 3) ⊟ var 1 ⊠ (lit (pos 2) ⊠ var 2 ⊟ var 3 ⊞ var 4)) (var 0 ⊠ var 2 ⊞ (var 0 ⊞ lit (pos 2) ⊠ var 1 ⊞ var 1) ⊠ var 3 ⊟ var 1 ⊠ var 4)
-      (pos d ∷ pos (w .far) ∷ P ∷ Q ∷ r ∷ []) refl
-      ∙ ap (λ (n : ℕ). pos d *ℤ P +ℤ pos (n + w .far) *ℤ Q -ℤ pos (w .far) *ℤ r) (sym e)
-
-  pub end-finish : 2 * w .far ≤ w .near → (o : ℤ) → interior w o P Q (pos 2 *ℤ Q -ℤ P) ≡ endEdge w Q P o
-  end-finish i o =
-      let d : ℕ = w .near - 2 * w .far in
-      let e : w .near ≡ d + 2 * w .far = omega arith in
-      ap (λ (n : ℕ). pos n *ℤ (P +ℤ Q) -ℤ pos (w .far) *ℤ (o +ℤ (pos 2 *ℤ Q -ℤ P))) e
-      ∙ same ((var 0 ⊞ lit (pos 2) ⊠ var 1) ⊠ (var 2 ⊞ var 3) ⊟ var 1 ⊠ (var 4 ⊞ (lit (pos 2) ⊠ var 3 ⊟ var 2))) (var 0 ⊠ var 3 ⊞ (var 0 ⊞ lit (pos 2) ⊠ var 1 ⊞ var 1) ⊠ var 2 ⊟ var 1 ⊠ var 4)
-      (pos d ∷ pos (w .far) ∷ P ∷ Q ∷ o ∷ []) refl
-      ∙ ap (λ (n : ℕ). pos d *ℤ Q +ℤ pos (n + w .far) *ℤ P -ℤ pos (w .far) *ℤ o) (sym e)
-
-  pub end-both : w .far ≤ w .near → interior w (pos 2 *ℤ P -ℤ Q) P Q (pos 2 *ℤ Q -ℤ P) ≡ singleEdge w P Q
-  end-both i =
-      let d : ℕ = w .near - w .far in
-      let e : w .near ≡ d + w .far = omega arith in
-      ap (λ (n : ℕ). pos n *ℤ (P +ℤ Q) -ℤ pos (w .far) *ℤ (pos 2 *ℤ P -ℤ Q +ℤ (pos 2 *ℤ Q -ℤ P))) e
-      ∙ same ((var 0 ⊞ var 1) ⊠ (var 2 ⊞ var 3) ⊟ var 1 ⊠ (lit (pos 2) ⊠ var 2 ⊟ var 3 ⊞ (lit (pos 2) ⊠ var 3 ⊟ var 2))) (var 0 ⊠ (var 2 ⊞ var 3)) (pos d ∷ pos (w .far) ∷ P ∷ Q ∷ []) refl
-
 -- ---- edge points, over the scale
-module _ (w : Weights) (near : 0 < w .near) (apart : 0 < scale w) (v : ℕ) (l marks : List ℕ) (ok : Manifold quads v l) (p : ℕ → ℤ) where
-  over-scale : scale w * 1 ≡ scale w
-  over-scale = omega arith
+pub ordinary-inner : (w : Weights) (l marks : List ℕ) (p : ℕ → ℤ) (h : ℕ) → mate quads l h < length l
+    → ordinaryEdge w l marks p h ≡ interior w (straight l p h) (p (from l h)) (p (to quads l h)) (straight l p (mate quads l h))
+unfolding ordinaryEdge ordinaryValue
+ordinary-inner w l marks p h m = rw (inner-rule l marks h m)
 
-  value-ordinary : (h : ℕ) → h < length l → (r : EdgeRule) → (r ≡ innerRule → (mate quads l h < length l) × Ordinary l (from l h) × Ordinary l (to quads l h))
-      → Equals (edgeValue w l p h r) (ordinaryValue w l p h r) (scale w)
-  unfolding edgeValue ordinaryValue
-  value-ordinary h k insideSegment f =
-      equals-cong refl over-scale (equals-interior w apart (equals-whole (p (from l (back quads l h)))) (equals-whole (p (from l h))) (equals-whole (p (to quads l h))) (equals-whole (p (to quads l (along quads l h)))))
-  value-ordinary h k startOfSegment f = equals-cong refl over-scale (equals-end w apart (equals-whole (p (from l h))) (equals-whole (p (to quads l h))) (equals-whole (p (to quads l (along quads l h)))))
-  value-ordinary h k endOfSegment f = equals-cong refl over-scale (equals-end w apart (equals-whole (p (to quads l h))) (equals-whole (p (from l h))) (equals-whole (p (from l (back quads l h)))))
-  value-ordinary h k wholeSegment f = equals-cong refl over-scale (equals-single w apart (equals-whole (p (from l h))) (equals-whole (p (to quads l h))))
-  value-ordinary h k innerRule f =
-      let x = f refl in
-      let m = x .0 in
-      let o : Ordinary l (from l (mate quads l h)) = subst (Ordinary l) (sym (mate-is quads l h m .start)) (x .2) in
-      let b = mate-back quads v l (ok .oriented) h k m in
-      equals-cong refl over-scale
-      (equals-interior w apart (virtual-ordinary w near v l ok p h k m (x .1)) (equals-whole (p (from l h))) (equals-whole (p (to quads l h))) (virtual-ordinary w near v l ok p (mate quads l h) m (rw b k) o))
+-- a boundary edge, or an inner edge with two ordinary ends
+module _ (w : Weights) (near : 0 < w .near) (apart : 0 < scale w) (v : ℕ) (l marks : List ℕ) (ok : Manifold quads v l) (p : ℕ → ℤ) (h : ℕ) (k : h < length l)
+    (f : mate quads l h < length l → Ordinary l (from l h) × Ordinary l (to quads l h)) where
+  pub edge-ordinary : Equals (edgePoint w l marks p h) (ordinaryEdge w l marks p h) (scale w)
+  edge-ordinary = go (decLt (mate quads l h) (length l))
+    where
+      go : Dec (mate quads l h < length l) → Equals (edgePoint w l marks p h) (ordinaryEdge w l marks p h) (scale w)
+      go (yes m) =
+          let o : Ordinary l (from l (mate quads l h)) = subst (Ordinary l) (sym (mate-is quads l h m .start)) (f m .1) in
+          let b = mate-back quads v l (ok .oriented) h k m in
+          rw (point-inner w l marks p h m, ordinary-inner w l marks p h m)
+          (equals-cong refl (mul-one (scale w))
+          (equals-interior w apart (virtual-ordinary w near v l ok p h k m (f m .0)) (equals-whole (p (from l h))) (equals-whole (p (to quads l h))) (virtual-ordinary w near v l ok p (mate quads l h) m (rw b k) o)))
+      go (no m) = equals-boundary w l marks p h m apart
 
-  -- a boundary edge, or an inner edge with two ordinary ends
-  pub edge-ordinary : (h : ℕ) → h < length l → (mate quads l h < length l → Ordinary l (from l h) × Ordinary l (to quads l h)) → Equals (edgePoint w l marks p h) (ordinaryEdge w l marks p h) (scale w)
-  unfolding edgePoint ordinaryEdge
-  edge-ordinary h k f = value-ordinary h k (edgeRule l marks h) (λ e. let m = rule-inner l marks h e in (m, f m .0, f m .1))
-
-  -- the new coordinate, at the half-edge where the edge is first met: rounded over the scale, which is a shift
-  pub first-rounded : (h : ℕ) → h < length l → h < mate quads l h → (mate quads l h < length l → Ordinary l (from l h) × Ordinary l (to quads l h))
-      → refinedCoordinate w v l marks p (v + edge quads l h) ≡ round (ordinaryEdge w l marks p h) (scale w)
-  first-rounded h k c f =
-      let m : min h (mate quads l h) ≡ h = omega arith in
-      refined-edge-at w v l marks p (edge quads l h) (edge-lt quads v l (ok .oriented) h k)
-      ∙ ap (λ (g : ℕ). toWhole (edgePoint w l marks p g)) (edgeAt-edge quads v l (ok .oriented) h k ∙ m)
-      ∙ toWhole-equals apart (edge-ordinary h k f)
+  -- the new coordinate, from either half-edge: rounded over the scale
+  pub coordinate-ordinary : refinedCoordinate w v l marks p (v + edge quads l h) ≡ round (ordinaryEdge w l marks p h) (scale w)
+  coordinate-ordinary =
+      refined-edge w near apart v l marks ok p h k ∙ sym (toWhole-equals (edgeScale-some w near apart) (equals-edge w near apart v l marks ok p h k)) ∙ toWhole-equals apart edge-ordinary
 
 -- ---- the stencil of an inner edge, by its ends
 module _ (w : Weights) (l marks : List ℕ) (p : ℕ → ℤ) (h : ℕ) (m : mate quads l h < length l) where
@@ -183,10 +151,6 @@ module _ (w : Weights) (l marks : List ℕ) (p : ℕ → ℤ) (h : ℕ) (m : mat
 
   abbrev Q : ℤ
   Q = p (to quads l h)
-
-  inner-form : ordinaryEdge w l marks p h ≡ interior w (straight l p h) P Q (straight l p (mate quads l h))
-  unfolding ordinaryEdge ordinaryValue
-  inner-form = rw (inner-rule l marks h m)
 
   -- what lies straight across at the two ends
   abbrev before : ℤ
@@ -204,36 +168,22 @@ module _ (w : Weights) (l marks : List ℕ) (p : ℕ → ℤ) (h : ℕ) (m : mat
 
     -- ring and ring: (9(P + Q) - o - r)/16
     pub stencil-ring-ring : boundaryFrom quads l (from l h) ≡ length l → ordinaryEdge w l marks p h ≡ interior w before P Q after
-    stencil-ring-ring b = inner-form ∙ ap₂ (λ (x y : ℤ). interior w x P Q y) (straight-ring l p h b) after-ring
+    stencil-ring-ring b = ordinary-inner w l marks p h m ∙ ap₂ (λ (x y : ℤ). interior w x P Q y) (straight-ring l p h b) after-ring
 
     -- fan and ring: (7P + 10Q - r)/16
     pub stencil-fan-ring : 2 * w .far ≤ w .near → boundaryFrom quads l (from l h) < length l → ordinaryEdge w l marks p h ≡ endEdge w P Q after
-    stencil-fan-ring i b = inner-form ∙ ap₂ (λ (x y : ℤ). interior w x P Q y) (straight-fan l p h b) after-ring ∙ end-start w P Q i after
+    stencil-fan-ring i b = ordinary-inner w l marks p h m ∙ ap₂ (λ (x y : ℤ). interior w x P Q y) (straight-fan l p h b) after-ring ∙ sym (end-mirrored w i P Q after)
 
   module _ (fan : boundaryFrom quads l (to quads l h) < length l) where
-    after-fan : straight l p (mate quads l h) ≡ pos 2 *ℤ Q -ℤ P
+    after-fan : straight l p (mate quads l h) ≡ mirror Q P
     after-fan =
         straight-fan l p (mate quads l h) (subst (λ (q : ℕ). boundaryFrom quads l q < length l) (sym end-at) fan)
-        ∙ ap₂ (λ (a b : ℕ). pos 2 *ℤ p a -ℤ p b) end-at (mate-is quads l h m .end)
+        ∙ ap₂ (λ (a b : ℕ). mirror (p a) (p b)) end-at (mate-is quads l h m .end)
 
     -- ring and fan: (7Q + 10P - o)/16
     pub stencil-ring-fan : 2 * w .far ≤ w .near → boundaryFrom quads l (from l h) ≡ length l → ordinaryEdge w l marks p h ≡ endEdge w Q P before
-    stencil-ring-fan i b = inner-form ∙ ap₂ (λ (x y : ℤ). interior w x P Q y) (straight-ring l p h b) after-fan ∙ end-finish w P Q i before
+    stencil-ring-fan i b = ordinary-inner w l marks p h m ∙ ap₂ (λ (x y : ℤ). interior w x P Q y) (straight-ring l p h b) after-fan ∙ interior-turned w before P Q (mirror Q P) ∙ sym (end-mirrored w i Q P before)
 
     -- fan and fan: (8P + 8Q)/16
     pub stencil-fan-fan : w .far ≤ w .near → boundaryFrom quads l (from l h) < length l → ordinaryEdge w l marks p h ≡ singleEdge w P Q
-    stencil-fan-fan i b = inner-form ∙ ap₂ (λ (x y : ℤ). interior w x P Q y) (straight-fan l p h b) after-fan ∙ end-both w P Q i
-
--- ---- at paper 01's weights, in the numerators over 7,257,600 that the code stores today
-pub equals-one : {x : Fraction} (y z : ℤ) {d : ℕ} → Equals x y d → Equals x z d → y ≡ z
-equals-one {x} y z i j =
-    cancel (x .den) y z (i .some) (*ℤ-comm (pos (x .den)) y ∙ sym (i .value) ∙ j .value ∙ *ℤ-comm z (pos (x .den)))
-
-module _ (v : ℕ) (l marks : List ℕ) (ok : Manifold quads v l) (p : ℕ → ℤ) (h : ℕ) (k : h < length l) (f : mate quads l h < length l → Ordinary l (from l h) × Ordinary l (to quads l h)) where
-  pub numerator-ordinary : edgeZ l marks p h ≡ pos 453600 *ℤ ordinaryEdge kobbelt l marks p h
-  numerator-ordinary =
-      equals-one (edgeZ l marks p h) (pos 453600 *ℤ ordinaryEdge kobbelt l marks p h) (equals-edge v l marks ok p h k) (equals-scaled 453600 (edge-ordinary kobbelt (lit≤ tt) (lit≤ tt) v l marks ok p h k f))
-
-  -- from either half-edge
-  pub coordinate-ordinary : refinedCoordinate kobbelt v l marks p (v + edge quads l h) ≡ round (ordinaryEdge kobbelt l marks p h) 16
-  coordinate-ordinary = refined-edge v l marks ok p h k ∙ ap (λ (z : ℤ). round z 7257600) numerator-ordinary ∙ round-scale 453600 (ordinaryEdge kobbelt l marks p h) 16 (lit≤ tt) (lit≤ tt)
+    stencil-fan-fan i b = ordinary-inner w l marks p h m ∙ ap₂ (λ (x y : ℤ). interior w x P Q y) (straight-fan l p h b) after-fan ∙ sym (single-mirrored w i P Q)

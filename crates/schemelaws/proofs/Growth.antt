@@ -1,10 +1,14 @@
 -- How far coordinates grow, rounded: one round and six. Paper 01: "every coordinate stays within 268,435,456".
 use mathlib.Core.List.{List}
 use Prim.Native.Nat.{ℕ, zero, suc, _+_, _*_, _/_, _%_, _≤_, _<_}
+use native.Mathlib.Nat.{mul-left-comm}
 use native.Mathlib.Omega.{arith}
 use lib.IntN.{ℤ, natAbs}
 use lib.ListN.{length}
-use Rattle.curve.specs.Weights.{kobbelt}
+use Rattle.curve.specs.Weights.{Weights}
+use Rattle.curve.proofs.Distance.{Tame, tame-near, tame-apart}
+use Rattle.rings.specs.Scales.{edgeScale, faceScale, coordinateRange}
+use Rattle.rings.proofs.Scales.{edgeScale-some, faceScale-some}
 use Rattle.rules.proofs.Growth.{grown, rounded-grown, grown-kept, limit, limit-input, limit-output}
 use Rattle.nets.specs.Net.{Net, axis}
 use Rattle.topology.specs.Shape.{quads}
@@ -21,34 +25,40 @@ use Rattle.schemelaws.proofs.Sizes.{edge-size, face-size}
 use Rattle.schemelaws.proofs.Steps.{refinable-manifold, refinable-steps, step-length, step-coordinate}
 
 -- ---- sizes
-module _ (v : ℕ) (l marks : List ℕ) (ok : Manifold quads v l) (p : ℕ → ℤ) (B : ℕ) (small : (x : ℕ) → x < v → natAbs (p x) ≤ B) where
-  pub refined-size : (i : ℕ) → i < refinedVertices quads v l → natAbs (refinedCoordinate kobbelt v l marks p i) ≤ grown B
-  refined-size = refined-cases quads v l (ok .oriented) (λ i. natAbs (refinedCoordinate kobbelt v l marks p i) ≤ grown B)
-      (λ i b. let s = small i b in let g = grown-kept B in rw (refined-old kobbelt v l marks p i b) (omega arith))
-      (λ h b. let s = edge-size v l ok p B small marks h b in rw (refined-edge v l marks ok p h b) (rounded-grown (edgeZ l marks p h) 7257600 B (omega arith) (omega arith)))
-      (λ f b. rw (refined-face v l marks ok p f b) (rounded-grown (faceZ l (edgeZ l marks p) f) 232243200 B (omega arith) (face-size v l marks ok p B small f b)))
+module _ (w : Weights) (tame : Tame w) (v : ℕ) (l marks : List ℕ) (ok : Manifold quads v l) (p : ℕ → ℤ) (B : ℕ) (small : (x : ℕ) → x < v → natAbs (p x) ≤ B) where
+  pub refined-size : (i : ℕ) → i < refinedVertices quads v l → natAbs (refinedCoordinate w v l marks p i) ≤ grown B
+  refined-size = refined-cases quads v l (ok .oriented) (λ i. natAbs (refinedCoordinate w v l marks p i) ≤ grown B)
+      (λ i b. let s = small i b in let g = grown-kept B in rw (refined-old w v l marks p i b) (omega arith))
+      (λ h b.
+      let s = edge-size w tame v l ok p B small marks h b in
+      let e = mul-left-comm (edgeScale w) 11 B in
+      let f = mul-left-comm (edgeScale w) 55 B in
+      rw (refined-edge w (tame-near w tame) (tame-apart w tame) v l marks ok p h b) (rounded-grown (edgeZ w l marks p h) (edgeScale w) B (edgeScale-some w (tame-near w tame) (tame-apart w tame)) (omega arith)))
+      (λ f b.
+      rw (refined-face w (tame-near w tame) (tame-apart w tame) v l marks ok p f b)
+      (rounded-grown (faceZ w l (edgeZ w l marks p) f) (faceScale w) B (faceScale-some w (tame-near w tame) (tame-apart w tame)) (face-size w tame v l marks ok p B small f b)))
 
 -- ---- a net
-pub step-within : (m : Net) → Refinable m → (B : ℕ) → Within B (m .vertices) → Within (grown B) (step kobbelt m .vertices)
+pub step-within : (w : Weights) → Tame w → (m : Net) → Refinable m → (B : ℕ) → Within B (m .vertices) → Within (grown B) (step w m .vertices)
 unfolding axis
-step-within m ok B t = record {
+step-within w tame m ok B t = record {
   at = λ i b.
-      let n = step-length kobbelt m in
-      let c = step-coordinate kobbelt m i (omega arith) in
-      rw c (refined-size (length (m .marks)) (m .faces) (m .marks) (refinable-manifold m ok) (axis (m .vertices) (i % 3)) B
+      let n = step-length w m in
+      let c = step-coordinate w m i (omega arith) in
+      rw c (refined-size w tame (length (m .marks)) (m .faces) (m .marks) (refinable-manifold m ok) (axis (m .vertices) (i % 3)) B
       (λ x k. let e = ok .threes in t .at (3 * x + i % 3) (omega arith)) (i / 3) (omega arith));
 }
 
-module _ (m : Net) where
+module _ (w : Weights) (tame : Tame w) (m : Net) where
   -- from input coordinates
-  steps-limit : Refinable m → Within 1048576 (m .vertices) → (k : ℕ) → Within (limit k) (steps kobbelt k m .vertices)
+  steps-limit : Refinable m → Within 1048576 (m .vertices) → (k : ℕ) → Within (limit k) (steps w k m .vertices)
   unfolding steps limit
   steps-limit ok t zero = t
-  steps-limit ok t (suc k) = step-within (steps kobbelt k m) (refinable-steps kobbelt m ok k) (limit k) (steps-limit ok t k)
+  steps-limit ok t (suc k) = step-within w tame (steps w k m) (refinable-steps w m ok k) (limit k) (steps-limit ok t k)
 
   -- what each round is given, and what any of six gives
-  pub steps-input : Refinable m → Within 1048576 (m .vertices) → (k : ℕ) → k ≤ 5 → Within 66276137 (steps kobbelt k m .vertices)
-  steps-input ok t k h = within-le (limit k) 66276137 (steps kobbelt k m .vertices) (limit-input k h) (steps-limit ok t k)
+  pub steps-input : Refinable m → Within 1048576 (m .vertices) → (k : ℕ) → k ≤ 5 → Within coordinateRange (steps w k m .vertices)
+  steps-input ok t k h = within-le (limit k) coordinateRange (steps w k m .vertices) (limit-input k h) (steps-limit ok t k)
 
-  pub steps-within : Refinable m → Within 1048576 (m .vertices) → (k : ℕ) → k ≤ 6 → Within 268435456 (steps kobbelt k m .vertices)
-  steps-within ok t k h = within-le (limit k) 268435456 (steps kobbelt k m .vertices) (limit-output k h) (steps-limit ok t k)
+  pub steps-within : Refinable m → Within 1048576 (m .vertices) → (k : ℕ) → k ≤ 6 → Within 268435456 (steps w k m .vertices)
+  steps-within ok t k h = within-le (limit k) 268435456 (steps w k m .vertices) (limit-output k h) (steps-limit ok t k)

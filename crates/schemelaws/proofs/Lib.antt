@@ -9,13 +9,11 @@ pub mod Steps
 pub mod Growth
 pub mod Difference
 pub mod Moved
-pub mod Virtual
-pub mod Straight
 pub mod Beyond
-pub mod Directions
 pub mod FanOfTwo
+pub mod Plain
 pub mod Made
 pub mod OneDirection
+pub mod Directions
 pub mod OrdinarySizes
 pub mod OrdinaryFaces
-pub mod Plain

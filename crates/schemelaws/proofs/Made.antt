@@ -7,10 +7,11 @@ use Prim.Native.Nat.{ℕ, zero, suc, _+_, _-_, _*_, _≤_, _<_}
 use native.Mathlib.Decide.{decLt}
 use native.Mathlib.Omega.{arith}
 use lib.Dec.{ltb, lit≤}
-use lib.IntN.{ℤ, pos, _-ℤ_, _*ℤ_}
+use lib.IntN.{ℤ}
 use lib.ListN.{length}
 use borrow.Author.Tests.{lt-ltb, le-ltb}
 use Rattle.search.specs.Search.{iterate}
+use Rattle.curve.specs.Weights.{mirror}
 use Rattle.topology.specs.Shape.{quads}
 use Rattle.topology.specs.HalfEdge.{from, to, mate, edgeCount, edge}
 use Rattle.topology.specs.Boundary.{boundaryFrom}
@@ -150,9 +151,9 @@ module _ (v : ℕ) (l : List ℕ) (ok : Manifold quads v l) (h : ℕ) (k : h < l
   turn-fan (ringOfFour b n) t = let e = ring-goes-on b in let z : ⊥ = omega arith in absurd z
   turn-fan (fanOfTwo b n) t = (b, n)
 
-  -- so what the code reads: with g the mate of the side before h, the start of the side before g, or 2P - Q if there is no g
+  -- so what the code reads: with g the mate of the side before h, the start of the side before g, or Q mirrored at P if there is no g
   pub straight-read : (p : ℕ → ℤ) → Ordinary l (from l h)
-      → straight l p h ≡ cond (ltb (mate quads l (quads .prev h)) (length l)) (p (from l (quads .prev (mate quads l (quads .prev h))))) (pos 2 *ℤ p (from l h) -ℤ p (to quads l h))
+      → straight l p h ≡ cond (ltb (mate quads l (quads .prev h)) (length l)) (p (from l (quads .prev (mate quads l (quads .prev h))))) (mirror (p (from l h)) (p (to quads l h)))
   unfolding straight turn iterate
   straight-read p (ringOfFour b n) =
       let a = le-ltb (boundaryFrom quads l (from l h)) (length l) (omega arith) in

@@ -18,7 +18,7 @@ use Rattle.integers.proofs.Polynomial.{var, lit, _⊞_, _⊠_, same}
 use Rattle.rounding.specs.Rounding.{round}
 use Rattle.curve.specs.Weights.{Weights, scale, interior}
 use Rattle.fractions.specs.Fraction.{Fraction, whole, Equals, Same}
-use Rattle.fractions.proofs.Laws.{toWhole-equals, equals-whole, equals-cong, cancel}
+use Rattle.fractions.proofs.Laws.{toWhole-equals, equals-whole, equals-cong, equals-one, equals-same}
 use Rattle.rings.specs.Ring.{Periodic}
 use Rattle.rings.specs.RingWeights.{virtualZ}
 use Rattle.rings.proofs.Virtual.{virtual-turned}
@@ -31,31 +31,24 @@ use Rattle.topology.specs.HalfEdge.{from, to, mate, edgeCount}
 use Rattle.topology.specs.Boundary.{boundaryFrom}
 use Rattle.topology.specs.Vertex.{valence, turn, turns, Ring}
 use Rattle.topology.specs.Manifold.{Manifold}
-use Rattle.topology.proofs.Shape.{face-prev, four-sides}
+use Rattle.topology.proofs.Shape.{four-sides}
 use Rattle.topology.proofs.Mates.{mate-is}
 use Rattle.topology.proofs.Turn.{turn-from}
 use Rattle.topology.proofs.Rings.{ring-mates, ring-turns}
 use Rattle.topology.proofs.Boundary.{boundaryFrom-none}
 use Rattle.scheme.specs.Rings.{ringVirtual, virtualAt}
 use Rattle.topology.specs.Quads.{oppositeCorner, across, beyond}
-use Rattle.scheme.specs.Points.{edgeValue, edgePoint, direction, inner, fourInner, bothDirections, faceRule, faceValue, facePoint}
+use Rattle.scheme.specs.Points.{edgePoint, direction, inner, fourInner, bothInner, faceRule, faceValue, facePoint}
 use Rattle.scheme.specs.Step.{refinedCoordinate}
 use Rattle.schemelaws.specs.Agreement.{SideOf, FourBeyond, EightOrdinary}
 use Rattle.schemelaws.specs.Ordinary.{ordinaryEdge}
-use Rattle.schemelaws.proofs.Vertices.{ring-of, ring-ge}
-use Rattle.schemelaws.proofs.Ties.{inner-rule, across-lt, side₀-lt, side₁-lt}
+use Rattle.schemelaws.specs.Numerators.{edgeZ, directionZ}
+use Rattle.schemelaws.proofs.Vertices.{comes-round, ring-of, ring-ge}
+use Rattle.schemelaws.proofs.Ties.{point-inner, across-lt, side₀-lt, side₁-lt, side₀, side₁, next-side, prev-side, across-side, equals-direction}
 use Rattle.schemelaws.proofs.Coordinates.{refined-face-at}
 use Rattle.schemelaws.proofs.Beyond.{prev-across, next-across, across-next, last-neighbour, start-straight, third-neighbour, end-straight}
-use Rattle.schemelaws.proofs.FanOfTwo.{virtual-ring-of-four, edge-ordinary}
+use Rattle.schemelaws.proofs.FanOfTwo.{virtual-neighbour, edge-ordinary}
 use Rattle.schemelaws.proofs.Made.{turn-ring}
-
-module _ (v : ℕ) (l : List ℕ) (ok : Manifold quads v l) (f : ℕ) where
-  module _ (h : ℕ) (s : SideOf l f h) where
-    next-side : SideOf l f (quads .next h)
-    next-side = record { lt = ok .oriented .shape .next-lt h (s .lt); face = ok .oriented .shape .face-next h ∙ s .face }
-
-    prev-side : SideOf l f (quads .prev h)
-    prev-side = record { lt = ok .oriented .shape .prev-lt h (s .lt); face = face-prev quads (length l) (ok .oriented .shape) h ∙ s .face }
 
 -- ---- fractions of one value
 same-cong : {a b a′ b′ : Fraction} → a ≡ a′ → b ≡ b′ → Same a b → Same a′ b′
@@ -72,76 +65,61 @@ same-mean {x} {y} r = record {
       ∙ same ((var 0 ⊠ var 1 ⊞ var 0 ⊠ var 1) ⊠ var 2) (var 0 ⊠ (var 2 ⊠ var 1 ⊠ lit (pos 2))) (x .num ∷ pos (y .den) ∷ pos (x .den) ∷ []) refl;
 }
 
-pub equals-same : {x y : Fraction} {z : ℤ} {d : ℕ} → Same x y → Equals y z d → Equals x z d
-equals-same {x} {y} {z} {d} r i = record {
-  some = r .left;
-  value = cancel (y .den) (x .num *ℤ pos d) (z *ℤ pos (x .den)) (r .right)
-      (same (var 0 ⊠ (var 1 ⊠ var 2)) ((var 1 ⊠ var 0) ⊠ var 2) (pos (y .den) ∷ x .num ∷ pos d ∷ []) refl
-      ∙ ap (λ (t : ℤ). t *ℤ pos d) (r .same)
-      ∙ same ((var 0 ⊠ var 1) ⊠ var 2) ((var 0 ⊠ var 2) ⊠ var 1) (y .num ∷ pos (x .den) ∷ pos d ∷ []) refl
-      ∙ ap (λ (t : ℤ). t *ℤ pos (x .den)) (i .value)
-      ∙ same ((var 0 ⊠ var 1) ⊠ var 2) (var 1 ⊠ (var 0 ⊠ var 2)) (z ∷ pos (y .den) ∷ pos (x .den) ∷ []) refl);
-}
-
 -- ---- the virtual point at an inner vertex, from its ring over 1
-module _ (w : Weights) (near : 0 < w .near) (v : ℕ) (l : List ℕ) (ok : Manifold quads v l) (p : ℕ → ℤ) where
+module _ (l : List ℕ) (p : ℕ → ℤ) where
   abbrev neighbour : ℕ → ℕ → ℤ
   neighbour h i = p (to quads l (turns quads l i h))
 
   abbrev opposite : ℕ → ℕ → ℤ
   opposite h i = p (oppositeCorner l (turns quads l i h))
 
-  module _ (h : ℕ) (k : h < length l) (b : boundaryFrom quads l (from l h) ≡ length l) where
-    abbrev n : ℕ
-    n = valence l (from l h)
-
-    ring-at-h : Ring quads l (from l h) h n
-    ring-at-h = ring-of v l ok h k (omega arith)
-
-    three : 3 ≤ n
-    three = ring-ge v l ok h k (omega arith)
-
-    again : (i : ℕ) → turns quads l (i + n) h ≡ turns quads l i h
-    again i = iterate-add (turn quads l) i n h ∙ ap (turns quads l i) (ring-at-h .back)
-
+  module _ (q h n : ℕ) (r : Ring quads l q h n) where
     neighbours-again : Periodic n (neighbour h)
-    neighbours-again = record { again = λ i. ap (λ (g : ℕ). p (to quads l g)) (again i) }
+    neighbours-again = record { again = λ i. ap (λ (g : ℕ). p (to quads l g)) (comes-round l q h n r i) }
 
     opposites-again : Periodic n (opposite h)
-    opposites-again = record { again = λ i. ap (λ (g : ℕ). p (oppositeCorner l g)) (again i) }
+    opposites-again = record { again = λ i. ap (λ (g : ℕ). p (oppositeCorner l g)) (comes-round l q h n r i) }
 
-    virtual-here : Equals (virtualAt w l p h) (virtualZ w n (neighbour h) (opposite h) 0) (w .near * n)
-    unfolding virtualAt ringVirtual
-    virtual-here =
-        let t = le-ltb (boundaryFrom quads l (from l h)) (length l) (omega arith) in
-        let c = three in
-        rw t
-        (equals-cong refl (mul-one (w .near * n))
-        (equals-virtual w near n (λ (i : ℕ). whole (neighbour h i)) (λ (i : ℕ). whole (opposite h i)) (neighbour h) (opposite h) 1 (omega arith) (λ i. equals-whole (neighbour h i)) (λ i. equals-whole (opposite h i)) 0))
+module _ (w : Weights) (near : 0 < w .near) (v : ℕ) (l : List ℕ) (ok : Manifold quads v l) (p : ℕ → ℤ) where
+  virtual-here : (h : ℕ) → h < length l → boundaryFrom quads l (from l h) ≡ length l
+      → Equals (virtualAt w l p h) (virtualZ w (valence l (from l h)) (neighbour l p h) (opposite l p h) 0) (w .near * valence l (from l h))
+  unfolding virtualAt ringVirtual
+  virtual-here h k b =
+      let t = le-ltb (boundaryFrom quads l (from l h)) (length l) (omega arith) in
+      let c = ring-ge v l ok h k (omega arith) in
+      let n : ℕ = valence l (from l h) in
+      rw t
+      (equals-cong refl (mul-one (w .near * n))
+      (equals-virtual w near n (λ (i : ℕ). whole (neighbour l p h i)) (λ (i : ℕ). whole (opposite l p h i)) (neighbour l p h) (opposite l p h) 1 (omega arith)
+      (λ i. equals-whole (neighbour l p h i)) (λ i. equals-whole (opposite l p h i)) 0))
 
   -- on the next edge of the ring
-  virtual-turn : (h : ℕ) (k : h < length l) (b : boundaryFrom quads l (from l h) ≡ length l)
-      → Equals (virtualAt w l p (turn quads l h)) (virtualZ w (valence l (from l h)) (neighbour h) (opposite h) 1) (w .near * valence l (from l h))
+  virtual-turn : (h : ℕ) → h < length l → boundaryFrom quads l (from l h) ≡ length l
+      → Equals (virtualAt w l p (turn quads l h)) (virtualZ w (valence l (from l h)) (neighbour l p h) (opposite l p h) 1) (w .near * valence l (from l h))
   unfolding iterate
   virtual-turn h k b =
       let g : ℕ = turn quads l h in
       let N : ℕ = valence l (from l h) in
-      let g-lt : turn quads l h < length l = ring-turns quads v l (ok .oriented) (from l h) h N (ring-at-h h k b) h k refl in
+      let r = ring-of v l ok h k (omega arith) in
+      let g-lt : turn quads l h < length l = ring-turns quads v l (ok .oriented) (from l h) h N r h k refl in
       let e : from l g ≡ from l h = turn-from quads v l (ok .oriented) h g-lt in
       let turned : (d : ℕ) → turns quads l d g ≡ turns quads l (1 + d) h = λ d. sym (iterate-add (turn quads l) d 1 h) ∙ ap (λ (j : ℕ). turns quads l j h) (add-comm d 1) in
-      let fl : neighbour g ≡ (λ (d : ℕ). neighbour h (1 + d)) = λ x d. p (to quads l (turned d x)) in
-      let fk : opposite g ≡ (λ (d : ℕ). opposite h (1 + d)) = λ x d. p (oppositeCorner l (turned d x)) in
+      let fl : neighbour l p g ≡ (λ (d : ℕ). neighbour l p h (1 + d)) = λ x d. p (to quads l (turned d x)) in
+      let fk : opposite l p g ≡ (λ (d : ℕ). opposite l p h (1 + d)) = λ x d. p (oppositeCorner l (turned d x)) in
       equals-cong
-      (ap (λ (u : ℕ). virtualZ w (valence l u) (neighbour g) (opposite g) 0) e ∙ ap₂ (λ (x y : ℕ → ℤ). virtualZ w N x y 0) fl fk
-      ∙ virtual-turned w N (neighbour h) (opposite h) (neighbours-again h k b) (opposites-again h k b) 1)
+      (ap (λ (u : ℕ). virtualZ w (valence l u) (neighbour l p g) (opposite l p g) 0) e ∙ ap₂ (λ (x y : ℕ → ℤ). virtualZ w N x y 0) fl fk
+      ∙ virtual-turned w N (neighbour l p h) (opposite l p h) (neighbours-again l p (from l h) h N r) (opposites-again l p (from l h) h N r) 1)
       (ap (λ (u : ℕ). w .near * valence l u) e)
       (virtual-here g g-lt (ap (boundaryFrom quads l) e ∙ b))
 
--- ---- the law, at a side
-module _ (w : Weights) (near : 0 < w .near) (apart : 0 < scale w) (v : ℕ) (l marks : List ℕ) (ok : Manifold quads v l) (p : ℕ → ℤ) (f : ℕ) (reg : FourBeyond l f) where
+-- ---- the rings at a side
+module _ (v : ℕ) (l : List ℕ) (ok : Manifold quads v l) (f : ℕ) (reg : FourBeyond l f) where
   module _ (h : ℕ) (s : SideOf l f h) where
     ring : Ring quads l (from l h) h (valence l (from l h))
-    ring = ring-at-h w near v l ok p h (s .lt) (reg .corners h s)
+    ring = ring-of v l ok h (s .lt) (let e = reg .corners h s in omega arith)
+
+    three : 3 ≤ valence l (from l h)
+    three = ring-ge v l ok h (s .lt) (let e = reg .corners h s in omega arith)
 
     mated : mate quads l h < length l
     mated = ring-mates quads v l (ok .oriented) (from l h) h (valence l (from l h)) ring h (s .lt) refl
@@ -169,13 +147,23 @@ module _ (w : Weights) (near : 0 < w .near) (apart : 0 < scale w) (v : ℕ) (l m
     end-ring = subst (Ring quads l (from l (mate quads l (beyond l h))) (mate quads l (beyond l h))) end-four (ring-of v l ok (mate quads l (beyond l h)) beyond-inner (let e = end-inside in omega arith))
 
   two-lt : (h : ℕ) → SideOf l f h → turns quads l 2 (quads .next h) < length l
-  two-lt h s =
-      let i = next-side v l ok f h s in
-      let c = three w near v l ok p (quads .next h) (i .lt) (reg .corners (quads .next h) i) in
-      ring (quads .next h) i .walk .inside 2 (omega arith)
+  two-lt h s = let i = next-side v l ok f h s in let c = three (quads .next h) i in ring (quads .next h) i .walk .inside 2 (omega arith)
 
+  -- both directions have four inner edges
+  four-inner : (h : ℕ) → SideOf l f h → fourInner l h ≡ true
+  unfolding fourInner inner
+  four-inner h s =
+      let u = across-side v l ok f h s in
+      rw (lt-ltb (mate quads l h) (length l) (mated h s), lt-ltb (mate quads l (across h)) (length l) (mated (across h) u), lt-ltb (mate quads l (beyond l h)) (length l) (beyond-inner h s), lt-ltb (mate quads l (beyond l (across h))) (length l) (beyond-inner (across h) u))
+
+  pub both-inner : f < quads .faces (length l) → faceRule l f ≡ bothInner
+  unfolding faceRule
+  both-inner k = rw (four-inner (4 * f) (side₀ l f k), four-inner (4 * f + 1) (side₁ l f k))
+
+-- ---- the law, at a side
+module _ (w : Weights) (near : 0 < w .near) (apart : 0 < scale w) (v : ℕ) (l marks : List ℕ) (ok : Manifold quads v l) (p : ℕ → ℤ) (f : ℕ) (reg : FourBeyond l f) where
   -- the corner that h leaves, with the edges beyond h and beyond the side before it
-  corner : (h : ℕ) → SideOf l f h → Corner w (valence l (from l h)) (neighbour w near v l ok p h) (opposite w near v l ok p h)
+  corner : (h : ℕ) → SideOf l f h → Corner w (valence l (from l h)) (neighbour l p h) (opposite l p h)
       (virtualAt w l p h) (virtualAt w l p (mate quads l (quads .prev h))) (virtualAt w l p (beyond l h)) (virtualAt w l p (mate quads l (beyond l (quads .prev h))))
   unfolding turn
   corner h s =
@@ -185,29 +173,25 @@ module _ (w : Weights) (near : 0 < w .near) (apart : 0 < scale w) (v : ℕ) (l m
       let q : quads .next g ≡ h = ok .oriented .shape .next-prev h in
       let N : ℕ = valence l (from l h) in
       record {
-        valence = three w near v l ok p h (s .lt) b;
-        neighbours = neighbours-again w near v l ok p h (s .lt) b;
-        opposites = opposites-again w near v l ok p h (s .lt) b;
+        valence = three v l ok f reg h s;
+        neighbours = neighbours-again l p (from l h) h N (ring v l ok f reg h s);
+        opposites = opposites-again l p (from l h) h N (ring v l ok f reg h s);
         next = virtual-here w near v l ok p h (s .lt) b;
         last = virtual-turn w near v l ok p h (s .lt) b;
-        acrossNext = equals-cong (ap p (start-straight v l ok h (s .lt) (mated h s) N (ring h s) (three w near v l ok p h (s .lt) b) (start-ring h s .walk .inside 2 (lit≤ tt)))) refl
-            (virtual-ring-of-four w near v l ok p (beyond l h) (beyond-lt h s) (reg .startInside h s) (reg .startFour h s));
-        acrossLast = equals-cong (ap p (end-straight v l ok g (t .lt) (mated g t) (two-lt g t) (end-ring g t)) ∙ ap (λ (u : ℕ). p (oppositeCorner l (turns quads l 2 u))) q) refl
-            (virtual-ring-of-four w near v l ok p (mate quads l (beyond l g)) (beyond-inner g t) (end-inside g t) (end-four g t));
+        acrossNext = equals-cong (ap p (start-straight v l ok h (s .lt) (mated v l ok f reg h s) N (ring v l ok f reg h s) (three v l ok f reg h s) (start-ring v l ok f reg h s .walk .inside 2 (lit≤ tt)))) refl
+            (virtual-neighbour w near v l ok p (beyond l h) (beyond-lt v l ok f reg h s) (reg .startInside h s) (reg .startFour h s));
+        acrossLast = equals-cong (ap p (end-straight v l ok g (t .lt) (mated v l ok f reg g t) (two-lt v l ok f reg g t) (end-ring v l ok f reg g t)) ∙ ap (λ (u : ℕ). p (oppositeCorner l (turns quads l 2 u))) q) refl
+            (virtual-neighbour w near v l ok p (mate quads l (beyond l g)) (beyond-inner v l ok f reg g t) (end-inside v l ok f reg g t) (end-four v l ok f reg g t));
       }
 
   -- ---- the edges
-  edge-is : (h : ℕ) → mate quads l h < length l → edgePoint w l marks p h ≡ innerEdge w (whole (p (from l h))) (whole (p (to quads l h))) (virtualAt w l p h) (virtualAt w l p (mate quads l h))
-  unfolding edgePoint edgeValue
-  edge-is h m = rw (inner-rule l marks h m)
-
   -- the side from the corner of h to that of e, and the edge beyond it
   abbrev sideFrom : ℕ → ℕ → Fraction
   sideFrom h e = innerEdge w (whole (p (from l h))) (whole (p (from l e))) (virtualAt w l p h) (virtualAt w l p (mate quads l (quads .prev e)))
 
   abbrev beyondFrom : ℕ → ℕ → Fraction
   beyondFrom h e =
-      innerEdge w (whole (neighbour w near v l ok p h (valence l (from l h) - 1))) (whole (neighbour w near v l ok p e 2)) (virtualAt w l p (beyond l h)) (virtualAt w l p (mate quads l (beyond l (quads .prev e))))
+      innerEdge w (whole (neighbour l p h (valence l (from l h) - 1))) (whole (neighbour l p e 2)) (virtualAt w l p (beyond l h)) (virtualAt w l p (mate quads l (beyond l (quads .prev e))))
 
   module _ (h e : ℕ) (s : SideOf l f h) (q : quads .next h ≡ e) where
     before : h ≡ quads .prev e
@@ -215,21 +199,21 @@ module _ (w : Weights) (near : 0 < w .near) (apart : 0 < scale w) (v : ℕ) (l m
 
     side-is : edgePoint w l marks p h ≡ sideFrom h e
     unfolding to
-    side-is = edge-is h (mated h s) ∙ ap₂ (λ (x y : ℕ). innerEdge w (whole (p (from l h))) (whole (p (from l x))) (virtualAt w l p h) (virtualAt w l p (mate quads l y))) q before
+    side-is = point-inner w l marks p h (mated v l ok f reg h s) ∙ ap₂ (λ (x y : ℕ). innerEdge w (whole (p (from l h))) (whole (p (from l x))) (virtualAt w l p h) (virtualAt w l p (mate quads l y))) q before
 
     beyond-is : edgePoint w l marks p (beyond l h) ≡ beyondFrom h e
     beyond-is =
         let N : ℕ = valence l (from l h) in
-        let x = sym (last-neighbour v l ok h (s .lt) (mated h s) N (ring h s) (three w near v l ok p h (s .lt) (reg .corners h s))) in
-        let y = sym (third-neighbour v l ok h (s .lt) (mated h s) (two-lt h s)) ∙ ap (λ (u : ℕ). to quads l (turns quads l 2 u)) q in
-        edge-is (beyond l h) (beyond-inner h s) ∙ (λ i. innerEdge w (whole (p (x i))) (whole (p (y i))) (virtualAt w l p (beyond l h)) (virtualAt w l p (mate quads l (beyond l (before i)))))
+        let x = sym (last-neighbour v l ok h (s .lt) (mated v l ok f reg h s) N (ring v l ok f reg h s) (three v l ok f reg h s)) in
+        let y = sym (third-neighbour v l ok h (s .lt) (mated v l ok f reg h s) (two-lt v l ok f reg h s)) ∙ ap (λ (u : ℕ). to quads l (turns quads l 2 u)) q in
+        point-inner w l marks p (beyond l h) (beyond-inner v l ok f reg h s) ∙ (λ i. innerEdge w (whole (p (x i))) (whole (p (y i))) (virtualAt w l p (beyond l h)) (virtualAt w l p (mate quads l (beyond l (before i)))))
 
   abbrev E : ℕ → Fraction
   E = edgePoint w l marks p
 
   pub direction-two : (h : ℕ) → SideOf l f h → SideOf l f (across h) → direction w l E h ≡ directionTwo w (E (beyond l h)) (E h) (E (across h)) (E (beyond l (across h)))
   unfolding direction
-  direction-two h s u = rw (lt-ltb (mate quads l h) (length l) (mated h s), lt-ltb (mate quads l (across h)) (length l) (mated (across h) u))
+  direction-two h s u = rw (lt-ltb (mate quads l h) (length l) (mated v l ok f reg h s), lt-ltb (mate quads l (across h)) (length l) (mated v l ok f reg (across h) u))
 
   -- the corners of the face, from that of h on
   abbrev cornerOf : ℕ → ℕ → ℕ
@@ -256,12 +240,12 @@ module _ (w : Weights) (near : 0 < w .near) (apart : 0 < scale w) (v : ℕ) (l m
       direction-two (quads .next h) s₁ (subst (SideOf l f) (sym e₁₃) s₃)
       ∙ four (beyond-is (quads .next h) (across h) s₁ refl) (side-is (quads .next h) (across h) s₁ refl) (ap E e₁₃ ∙ side-is (quads .prev h) h s₃ e₃₀) (ap (λ (g : ℕ). E (beyond l g)) e₁₃ ∙ beyond-is (quads .prev h) h s₃ e₃₀) in
       same-cong (sym x) (sym y)
-      (both-directions w (λ i. p (from l (cornerOf h i))) (λ i. valence l (from l (cornerOf h i))) (λ i. neighbour w near v l ok p (cornerOf h i)) (λ i. opposite w near v l ok p (cornerOf h i))
+      (both-directions w (λ i. p (from l (cornerOf h i))) (λ i. valence l (from l (cornerOf h i))) (λ i. neighbour l p (cornerOf h i)) (λ i. opposite l p (cornerOf h i))
       (λ i. virtualAt w l p (cornerOf h i)) (λ i. virtualAt w l p (mate quads l (quads .prev (cornerOf h i)))) (λ i. virtualAt w l p (beyond l (cornerOf h i))) (λ i. virtualAt w l p (mate quads l (beyond l (quads .prev (cornerOf h i)))))
       near apart (corners s₀ s₁ s₂ s₃))
     where
       corners : SideOf l f h → SideOf l f (quads .next h) → SideOf l f (across h) → SideOf l f (quads .prev h) → (i : ℕ) → i < 4
-          → Corner w (valence l (from l (cornerOf h i))) (neighbour w near v l ok p (cornerOf h i)) (opposite w near v l ok p (cornerOf h i))
+          → Corner w (valence l (from l (cornerOf h i))) (neighbour l p (cornerOf h i)) (opposite l p (cornerOf h i))
           (virtualAt w l p (cornerOf h i)) (virtualAt w l p (mate quads l (quads .prev (cornerOf h i)))) (virtualAt w l p (beyond l (cornerOf h i))) (virtualAt w l p (mate quads l (beyond l (quads .prev (cornerOf h i)))))
       corners a b c d zero z = corner h a
       corners a b c d (suc zero) z = corner (quads .next h) b
@@ -270,33 +254,19 @@ module _ (w : Weights) (near : 0 < w .near) (apart : 0 < scale w) (v : ℕ) (l m
 
   -- ---- at the face
   module _ (k : f < quads .faces (length l)) where
-    side₀ : SideOf l f (4 * f)
-    side₀ = record { lt = side₀-lt l f k; face = unfold quads in omega arith }
-
-    side₁ : SideOf l f (4 * f + 1)
-    side₁ = record { lt = side₁-lt l f k; face = unfold quads in omega arith }
-
-    across-side : (h : ℕ) → SideOf l f h → SideOf l f (across h)
-    unfolding across
-    across-side h s = next-side v l ok f (quads .next h) (next-side v l ok f h s)
-
     pub directions-agree : Same (direction w l E (4 * f)) (direction w l E (4 * f + 1))
-    directions-agree = same-cong refl (ap (direction w l E) (four-sides f .next₀)) (agree-at (4 * f) side₀)
-
-    four-inner : (h : ℕ) → SideOf l f h → fourInner l h ≡ true
-    unfolding fourInner inner
-    four-inner h s =
-        let u = across-side h s in
-        rw (lt-ltb (mate quads l h) (length l) (mated h s), lt-ltb (mate quads l (across h)) (length l) (mated (across h) u), lt-ltb (mate quads l (beyond l h)) (length l) (beyond-inner h s), lt-ltb (mate quads l (beyond l (across h))) (length l) (beyond-inner (across h) u))
-
-    both-count : faceRule l f ≡ bothDirections
-    unfolding faceRule
-    both-count = rw (four-inner (4 * f) side₀, four-inner (4 * f + 1) side₁)
+    directions-agree = same-cong refl (ap (direction w l E) (four-sides f .next₀)) (agree-at (4 * f) (side₀ l f k))
 
     -- the face point is its first direction
     pub face-direction : Same (facePoint w l marks p f) (direction w l E (4 * f))
     unfolding facePoint faceValue
-    face-direction = rw both-count (same-mean directions-agree)
+    face-direction = rw (both-inner v l ok f reg k) (same-mean directions-agree)
+
+    -- in the numerators over `directionScale`
+    pub directions-beyond : directionZ w l (edgeZ w l marks p) (4 * f) ≡ directionZ w l (edgeZ w l marks p) (4 * f + 1)
+    directions-beyond =
+        equals-one (directionZ w l (edgeZ w l marks p) (4 * f)) (directionZ w l (edgeZ w l marks p) (4 * f + 1)) (equals-direction w near apart v l marks ok p (4 * f) (side₀-lt l f k))
+        (equals-same directions-agree (equals-direction w near apart v l marks ok p (4 * f + 1) (side₁-lt l f k)))
 
 -- ---- the sides of a face are its four: what the code tests at each of them holds at all
 pub by-sides : (l : List ℕ) (f : ℕ) (P : ℕ → Type 0) → P (4 * f) → P (4 * f + 1) → P (4 * f + 2) → P (4 * f + 3) → (g : ℕ) → SideOf l f g → P g
@@ -368,10 +338,9 @@ module _ (w : Weights) (near : 0 < w .near) (apart : 0 < scale w) (v : ℕ) (l m
 
   pub direction-ordinary : Equals (direction w l (edgePoint w l marks p) (4 * f)) oneDirection (scale w * scale w)
   direction-ordinary =
-      let reg = eight-beyond v l ok f all in
-      let s = side₀ w near apart v l marks ok p f reg k in
-      let u = across-side w near apart v l marks ok p f reg k (4 * f) s in
-      subst (λ (x : Fraction). Equals x oneDirection (scale w * scale w)) (sym (direction-two w near apart v l marks ok p f reg (4 * f) s u))
+      let s = side₀ l f k in
+      let u = across-side v l ok f (4 * f) s in
+      subst (λ (x : Fraction). Equals x oneDirection (scale w * scale w)) (sym (direction-two w near apart v l marks ok p f (eight-beyond v l ok f all) (4 * f) s u))
       (equals-interior w apart (tied-beyond (4 * f) s) (tied-side (4 * f) s) (tied-side (across (4 * f)) u) (tied-beyond (across (4 * f)) u))
 
   pub face-ordinary : Equals (facePoint w l marks p f) oneDirection (scale w * scale w)

@@ -11,6 +11,7 @@ use Rattle.search.specs.Search.{first, iterate}
 use Rattle.search.proofs.Iterate.{iterate-add}
 use Rattle.search.proofs.First.{first-holds, first-reach}
 use Rattle.rings.specs.Ring.{Periodic}
+use Rattle.rings.specs.Scales.{extrapolatedScale}
 use Rattle.topology.specs.Shape.{quads}
 use Rattle.topology.specs.HalfEdge.{from, to, mate}
 use Rattle.topology.specs.Boundary.{OnBoundary, boundaryFrom, along, back}
@@ -109,14 +110,14 @@ module _ (v : ℕ) (l : List ℕ) (ok : Manifold quads v l) where
     turns-lt i c = ring-of .walk .inside i c
 
 -- ---- a full ring comes round
-module _ (l : List ℕ) (p : ℕ → ℤ) (P h n : ℕ) (r : Ring quads l P h n) where
-  again : (i : ℕ) → turns quads l (i + n) h ≡ turns quads l i h
-  again i = iterate-add (turn quads l) i n h ∙ ap (turns quads l i) (r .back)
+pub comes-round : (l : List ℕ) (P h n : ℕ) → Ring quads l P h n → (i : ℕ) → turns quads l (i + n) h ≡ turns quads l i h
+comes-round l P h n r i = iterate-add (turn quads l) i n h ∙ ap (turns quads l i) (r .back)
 
+module _ (l : List ℕ) (p : ℕ → ℤ) (P h n : ℕ) (r : Ring quads l P h n) where
   pub neighbours-periodic : Periodic n (ringNeighbourZ l p h)
   unfolding ringNeighbourZ
-  neighbours-periodic = record { again = λ i. ap (λ (g : ℕ). pos 60 *ℤ p (to quads l g)) (again i) }
+  neighbours-periodic = record { again = λ i. ap (λ (g : ℕ). pos extrapolatedScale *ℤ p (to quads l g)) (comes-round l P h n r i) }
 
   pub corners-periodic : Periodic n (ringCornerZ l p h)
   unfolding ringCornerZ
-  corners-periodic = record { again = λ i. ap (λ (g : ℕ). pos 60 *ℤ p (oppositeCorner l g)) (again i) }
+  corners-periodic = record { again = λ i. ap (λ (g : ℕ). pos extrapolatedScale *ℤ p (oppositeCorner l g)) (comes-round l P h n r i) }

@@ -1,17 +1,17 @@
--- Vertices as in a grid, inside it or on its side, and the points on edges between such vertices: over the scale of the weights alone, which is 16 for paper 01's.
+-- Vertices as in a grid, inside it or on its side, and the points on edges between such vertices: over the scale of the weights alone.
 use mathlib.Core.Path.{_≡_}
 use mathlib.Core.Bool.{cond}
 use mathlib.Core.List.{List}
-use Prim.Native.Nat.{ℕ, _+_, _*_, _<_}
+use Prim.Native.Nat.{ℕ, _<_}
 use lib.Dec.{ltb}
-use lib.IntN.{ℤ, pos, _+ℤ_, _-ℤ_, _*ℤ_}
+use lib.IntN.{ℤ}
 use lib.ListN.{length}
-use Rattle.curve.specs.Weights.{Weights, interior, endEdge, singleEdge}
+use Rattle.curve.specs.Weights.{Weights, interior, endEdge, singleEdge, mirror}
 use Rattle.topology.specs.Shape.{quads}
 use Rattle.topology.specs.HalfEdge.{from, to, mate}
 use Rattle.topology.specs.Boundary.{boundaryFrom, along, back}
 use Rattle.topology.specs.Vertex.{valence, turns}
-use Rattle.scheme.specs.Points.{EdgeRule, insideSegment, startOfSegment, endOfSegment, wholeSegment, innerRule, edgeRule, directionBy, FaceRule, firstAlone, secondAlone, bothDirections}
+use Rattle.scheme.specs.Points.{EdgeRule, insideSegment, startOfSegment, endOfSegment, wholeSegment, innerRule, edgeRule}
 use Rattle.topology.specs.Quads.{beyond}
 
 -- a full ring of four, or a fan of two
@@ -19,10 +19,10 @@ pub data Ordinary (l : List ℕ) (q : ℕ) : Type 0 where
   ringOfFour : boundaryFrom quads l q ≡ length l → valence l q ≡ 4 → Ordinary l q
   fanOfTwo : boundaryFrom quads l q < length l → valence l q ≡ 2 → Ordinary l q
 
--- what the virtual point on an inner edge h is at an ordinary vertex P that h leaves for Q: the neighbour straight across, or 2P - Q where there is none
+-- what the virtual point on an inner edge h is at an ordinary vertex P that h leaves for Q: the neighbour straight across, or Q mirrored at P where there is none
 unfoldable pub straight : List ℕ → (ℕ → ℤ) → ℕ → ℤ
 straight l p h =
-    cond (ltb (boundaryFrom quads l (from l h)) (length l)) (pos 2 *ℤ p (from l h) -ℤ p (to quads l h))
+    cond (ltb (boundaryFrom quads l (from l h)) (length l)) (mirror (p (from l h)) (p (to quads l h)))
     (p (to quads l (turns quads l 2 h)))
 
 -- the point on the edge of h over the scale: a boundary edge always, an inner edge where both its ends are ordinary
@@ -35,15 +35,6 @@ ordinaryValue w l p h innerRule = interior w (straight l p h) (p (from l h)) (p 
 
 unfoldable pub ordinaryEdge : Weights → List ℕ → List ℕ → (ℕ → ℤ) → ℕ → ℤ
 ordinaryEdge w l marks p h = ordinaryValue w l p h (edgeRule l marks h)
-
--- ---- faces, from edge points E over one denominator: a direction over scale times it, a face over twice that. A direction that counts alone is doubled.
-unfoldable pub directionNumerator : Weights → List ℕ → (ℕ → ℤ) → ℕ → ℤ
-directionNumerator w l E h = directionBy (interior w) (endEdge w) (singleEdge w) l E h
-
-unfoldable pub faceNumerator : Weights → List ℕ → (ℕ → ℤ) → ℕ → FaceRule → ℤ
-faceNumerator w l E f firstAlone = pos 2 *ℤ directionNumerator w l E (4 * f)
-faceNumerator w l E f secondAlone = pos 2 *ℤ directionNumerator w l E (4 * f + 1)
-faceNumerator w l E f bothDirections = directionNumerator w l E (4 * f) +ℤ directionNumerator w l E (4 * f + 1)
 
 -- no edge of the two directions of f is inner with an end that is not ordinary; boundary edges may be among them
 pub record NoneIrregular (l : List ℕ) (f : ℕ) : Type 0 where
