@@ -21,6 +21,7 @@ use Rattle.search.specs.Search.{count}
 use Rattle.search.proofs.Count.{count-le}
 use Rattle.rounding.specs.Rounding.{round}
 use Rattle.curve.specs.Weights.{kobbelt}
+use Rattle.curve.proofs.Kobbelt.{tame}
 use Rattle.rings.specs.Scales.{virtualScale, edgeScale, coordinateRange, edgeRange}
 use Rattle.topology.specs.Shape.{quads}
 use Rattle.topology.specs.HalfEdge.{from, to, mate, firstMet, edge, edgeCount}
@@ -133,7 +134,7 @@ module _ (l marks : List ℕ) (p₀ : List ℤ) (w₀ : List ℕ) (at drawn : �
 
   pub edge-small : (a g : ℕ) → g < length l → natAbs (edgeAxis l marks p₀ a g) ≤ edgeRange kobbelt
   unfolding edgeAxis
-  edge-small a g k = edge-size (length marks) l (ok .net) (oldAxis marks p₀ a) coordinateRange (λ x b. old-small a x) marks g k
+  edge-small a g k = let s = edge-size kobbelt tame (length marks) l (ok .net) (oldAxis marks p₀ a) coordinateRange (λ x b. old-small a x) marks g k in omega arith
 
   edge-few : (g : ℕ) → g < length l → edge quads l g < wideFlag
   edge-few g k = let a = edge-lt quads (length marks) l (ok .net .oriented) g k in let b = edges-le quads l in let c = ok .table .sides .few in omega arith
@@ -263,9 +264,9 @@ module _ (l marks : List ℕ) (p₀ : List ℤ) (w₀ : List ℕ) (at drawn : �
         stored-last : (a : ℕ) → a < 3 → StoredAt (length l) w′ a (entryOf (length l) w′ h) (edgeAxis l marks p₀ a h)
         unfolding edgeAxis
         stored-last a k =
-            let s = edge-either (length marks) l marks (ok .net .oriented) (oldAxis marks p₀ a) h b (omega arith) in
-            subst (λ (t : ℕ). StoredAt (length l) w′ a t (edgeZ l marks (oldAxis marks p₀ a) h)) (sym entry-new)
-            (subst (StoredAt (length l) w′ a (entryOf (length l) w g)) s (kept-now a (entryOf (length l) w g) (edgeZ l marks (oldAxis marks p₀ a) g) (done .stored a g k m)))
+            let s = edge-either kobbelt (length marks) l marks (ok .net .oriented) (oldAxis marks p₀ a) h b (omega arith) in
+            subst (λ (t : ℕ). StoredAt (length l) w′ a t (edgeZ kobbelt l marks (oldAxis marks p₀ a) h)) (sym entry-new)
+            (subst (StoredAt (length l) w′ a (entryOf (length l) w g)) s (kept-now a (entryOf (length l) w g) (edgeZ kobbelt l marks (oldAxis marks p₀ a) g) (done .stored a g k m)))
 
         passed-edges : Edges l marks p₀ w₀ p w′ (h + 1) e
         passed-edges = record {
@@ -289,7 +290,7 @@ module _ (l marks : List ℕ) (p₀ : List ℤ) (w₀ : List ℕ) (at drawn : �
                 subst (λ (t : ℕ). StoredAt (length l) w′ a t (edgeAxis l marks p₀ a k)) (sym (entry-now k r)) (kept-now a (entryOf (length l) w k) (edgeAxis l marks p₀ a k) (done .stored a k j r))
 
       -- ---- an edge that is met now
-      module _ (m : h < mate quads l h) (flag : ℕ) (x y z : ℤ) (f : Flagged l h flag) (exact : ExactPoint flag (λ (a : ℕ). edgeZ l marks (axis (take (3 * length marks) p) a) h) x y z)
+      module _ (m : h < mate quads l h) (flag : ℕ) (x y z : ℤ) (f : Flagged l h flag) (exact : ExactPoint flag (λ (a : ℕ). edgeZ kobbelt l marks (axis (take (3 * length marks) p) a) h) x y z)
           (w′ : List ℕ) (ew : w′ ≡ set (putThree w (2 * length l + 6 * e) x y z) (length l + h) (e + flag)) where
         abbrev i : ℕ
         i = 2 * length l + 6 * e
@@ -321,9 +322,9 @@ module _ (l marks : List ℕ) (p₀ : List ℤ) (w₀ : List ℕ) (at drawn : �
             ap (λ (t : List ℕ). getD t (length l + h) 0) ew ∙ getD-set-same (putThree w i x y z) (length l + h) (e + flag) 0 (omega arith)
 
         -- the exact point
-        value : (a : ℕ) (u : ℤ) → ExactEdge flag (edgeZ l marks (axis (take (3 * length marks) p) a) h) u → ExactEdge flag (edgeAxis l marks p₀ a h) u
+        value : (a : ℕ) (u : ℤ) → ExactEdge flag (edgeZ kobbelt l marks (axis (take (3 * length marks) p) a) h) u → ExactEdge flag (edgeAxis l marks p₀ a h) u
         unfolding edgeAxis oldAxis
-        value a u k = subst (λ (q : List ℤ). ExactEdge flag (edgeZ l marks (axis q a) h) u) (done .old) k
+        value a u k = subst (λ (q : List ℤ). ExactEdge flag (edgeZ kobbelt l marks (axis q a) h) u) (done .old) k
 
         number-is : (a : ℕ) (u : ℤ) → ExactEdge flag (edgeAxis l marks p₀ a h) u → pos (unitOf (e + flag)) *ℤ u ≡ edgeAxis l marks p₀ a h
         number-is a u k = ap (λ (j : ℕ). pos j *ℤ u) (entry-unit l h flag e few f) ∙ k .value
@@ -362,11 +363,11 @@ module _ (l marks : List ℕ) (p₀ : List ℤ) (w₀ : List ℕ) (at drawn : �
             (far-now (placeOf (length l) (entryOf (length l) w k) + 2 * a + 1) (λ q. omega arith) (inl (omega arith))) (done .stored a k j r)
 
         -- the rounded point
-        rounded-is : (a : ℕ) (u : ℤ) → ExactEdge flag (edgeZ l marks (axis (take (3 * length marks) p) a) h) u → roundedBy flag u ≡ refinedAxis l marks p₀ a (length marks + e)
+        rounded-is : (a : ℕ) (u : ℤ) → ExactEdge flag (edgeZ kobbelt l marks (axis (take (3 * length marks) p) a) h) u → roundedBy flag u ≡ refinedAxis l marks p₀ a (length marks + e)
         unfolding roundedBy refinedAxis edgeAxis
         rounded-is a u k =
             ap (λ (t : ℤ). round t (edgeScale kobbelt)) (value a u k .value)
-            ∙ sym (refined-edge (length marks) l marks (ok .net) (oldAxis marks p₀ a) h b)
+            ∙ sym (refined-edge kobbelt (omega arith) (omega arith) (length marks) l marks (ok .net) (oldAxis marks p₀ a) h b)
             ∙ ap (λ (t : ℕ). refinedCoordinate kobbelt (length marks) l marks (oldAxis marks p₀ a) (length marks + t)) (number m)
 
         met-edges : (p′ : List ℤ) → p′ ≡ putPoint p (length marks + e) (roundedBy flag x) (roundedBy flag y) (roundedBy flag z) → Edges l marks p₀ w₀ p′ w′ (h + 1) (e + 1)

@@ -42,7 +42,7 @@ unfoldable pub refinedAxis : List ℕ → List ℕ → List ℤ → ℕ → ℕ 
 refinedAxis l marks p a i = refinedCoordinate kobbelt (length marks) l marks (oldAxis marks p a) i
 
 unfoldable pub edgeAxis : List ℕ → List ℕ → List ℤ → ℕ → ℕ → ℤ
-edgeAxis l marks p a h = edgeZ l marks (oldAxis marks p a) h
+edgeAxis l marks p a h = edgeZ kobbelt l marks (oldAxis marks p a) h
 
 -- what the pass assumes of the tables: mates in front of w, classes of the vertices from `at` on, and room
 pub record Round (l marks : List ℕ) (p : List ℤ) (w : List ℕ) (at drawn : ℕ) : Type 0 where
@@ -71,7 +71,7 @@ pub record Turn (l marks : List ℕ) (p : List ℤ) (w : List ℕ) (at drawn h e
 
 -- after it, with r edges met: the point of its edge went, rounded and exact, to the tables, and its entry; or the edge was met before, and has the entry of its mate
 pub data Turned (l marks : List ℕ) (h e r : ℕ) (p : List ℤ) (w : List ℕ) (p′ : List ℤ) (w′ : List ℕ) : Type 0 where
-  met : (flag : ℕ) (x y z : ℤ) → h < mate quads l h → r ≡ e + 1 → Flagged l h flag → ExactPoint flag (λ (a : ℕ). edgeZ l marks (axis (take (3 * length marks) p) a) h) x y z
+  met : (flag : ℕ) (x y z : ℤ) → h < mate quads l h → r ≡ e + 1 → Flagged l h flag → ExactPoint flag (λ (a : ℕ). edgeZ kobbelt l marks (axis (take (3 * length marks) p) a) h) x y z
       → p′ ≡ putPoint p (length marks + e) (roundedBy flag x) (roundedBy flag y) (roundedBy flag z) → w′ ≡ set (putThree w (2 * length l + 6 * e) x y z) (length l + h) (e + flag)
       → Turned l marks h e r p w p′ w′
   passed : mate quads l h < h → r ≡ e → p′ ≡ p → w′ ≡ set w (length l + h) (getD w (length l + mate quads l h) 0) → Turned l marks h e r p w p′ w′
