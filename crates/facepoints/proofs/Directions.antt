@@ -1,7 +1,7 @@
 -- Laws of directions and of the rules of faces. Assumes nothing.
 use mathlib.Core.Path.{_≡_, refl, sym, ap, ap₂, _∙_}
 use mathlib.Core.Logic.{_⊎_, inl, inr}
-use mathlib.Core.Bool.{Bool, true, false, cond, _&&_}
+use mathlib.Core.Bool.{Bool, true, false, cond}
 use mathlib.Core.List.{List}
 use Prim.Native.Nat.{ℕ, _+_, _*_, _≤_, _<_}
 use native.Mathlib.Decide.{decLt}
@@ -16,7 +16,7 @@ use Rattle.integers.proofs.AbsoluteValue.{abs-add}
 use Rattle.integers.proofs.Range.{fits-abs}
 use Rattle.rounding.specs.Rounding.{round}
 use Rattle.rounding.proofs.Laws.{round-size}
-use Rattle.curve.specs.Weights.{kobbelt, interior, endEdge, singleEdge, mirror}
+use Rattle.curve.specs.Weights.{kobbelt, interior, mirror}
 use Rattle.curve.proofs.Distance.{interior-size, end-size, single-size}
 use Rattle.curve.proofs.Kobbelt.{tame}
 use Rattle.curve.proofs.Mirror.{end-mirrored, single-mirrored, interior-turned, mirror-size}

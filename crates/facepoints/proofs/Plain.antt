@@ -2,12 +2,12 @@
 use mathlib.Core.Path.{_≡_, refl, sym, ap, ap₂, _∙_, subst}
 use mathlib.Core.Bool.{true}
 use mathlib.Core.List.{List, [], _∷_}
-use Prim.Native.Nat.{ℕ, _+_, _*_, _%_, _^_, _≤_, _<_}
+use Prim.Native.Nat.{ℕ, _+_, _*_, _%_, _^_, _<_}
 use native.Mathlib.Nat.{add-zero}
 use native.Mathlib.Omega.{arith}
 use borrow.Author.Tests.{lt-ltb}
-use lib.IntN.{ℤ, pos, natAbs, _+ℤ_, _-ℤ_, _*ℤ_}
-use lib.ListN.{length, getD}
+use lib.IntN.{ℤ, pos, natAbs, _+ℤ_, _*ℤ_}
+use lib.ListN.{getD}
 use mir.Syntax.{w32, w64}
 use mir.Val.{SFits}
 use Rattle.integers.proofs.AbsoluteValue.{abs-mul}
@@ -22,10 +22,9 @@ use Rattle.rings.specs.Scales.{virtualScale, faceScale}
 use Rattle.topology.specs.Quads.{across}
 use Rattle.coordinates.specs.Points.{putPoint}
 use Rattle.coordinates.specs.Packed.{packedAt}
-use Rattle.coordinates.specs.Entry.{wideFlag, boundaryFlag, entryOf, placeOf, unitOf, exactAt, exactOf}
+use Rattle.coordinates.specs.Entry.{wideFlag, boundaryFlag, entryOf, placeOf, exactAt, exactOf}
 use Rattle.facepoints.specs.declared.FaceRule.{FaceRule}
-use Rattle.facepoints.specs.declared.FaceRule.the-variants.{BothInner}
-use Rattle.facepoints.specs.Faces.{FaceTable, PlainTwice, beyondOf, farOf, directionOf, innerTwiceOf, fourInnerOf, faceRuleOf, faceValueOf, faceCoordinate}
+use Rattle.facepoints.specs.Faces.{FaceTable, PlainTwice, AllPlain, beyondOf, farOf, directionOf, innerTwiceOf, fourInnerOf, faceValueOf, faceCoordinate}
 use Rattle.facepoints.specs.Reading.{PlainAt, PlainEdge, plainDirection, plainCoordinate}
 use Rattle.facepoints.proofs.Reading.{unit-plain, across-lt, across-first, across-second}
 use Rattle.facepoints.proofs.Directions.{far-mated, direction-read, inner-mated, rule-is}
@@ -131,15 +130,15 @@ module _ (n : ℕ) (w : List ℕ) where
         ∙ same (lit (pos 9) ⊠ (var 0 ⊠ var 2 ⊞ var 0 ⊠ var 3) ⊟ lit (pos 1) ⊠ (var 0 ⊠ var 1 ⊞ var 0 ⊠ var 4)) (var 0 ⊠ (lit (pos 9) ⊠ (var 2 ⊞ var 3) ⊟ lit (pos 1) ⊠ (var 1 ⊞ var 4)))
         (unit ∷ stored (beyondOf w h) ∷ stored h ∷ stored g ∷ stored (beyondOf w g) ∷ []) refl
 
-    plain-coordinate : (f : ℕ) → FaceTable n w → a < 3 → 4 * f < n → PlainTwice n w (4 * f) → PlainTwice n w (4 * f + 1) → PlainTwice n w (4 * f + 2) → PlainTwice n w (4 * f + 3)
+    plain-coordinate : (f : ℕ) → FaceTable n w → a < 3 → 4 * f < n → AllPlain n w f
         → faceCoordinate n w a f ≡ plainCoordinate n w a (entryOf n w (beyondOf w (4 * f))) (entryOf n w (4 * f)) (entryOf n w (4 * f + 2)) (entryOf n w (beyondOf w (4 * f + 2)))
     unfolding faceCoordinate faceValueOf plainCoordinate plainDirection stored
-    plain-coordinate f ok on lt k₀ k₁ k₂ k₃ =
+    plain-coordinate f ok on lt all =
         let z = interior kobbelt (stored (beyondOf w (4 * f))) (stored (4 * f)) (stored (4 * f + 2)) (stored (beyondOf w (4 * f + 2))) in
         let unit = virtualScale kobbelt in
-        ap (λ (r : FaceRule). round (faceValueOf n w a f r) (faceScale kobbelt)) (rule-is n w f true true (four-plain (4 * f) (4 * f + 2) (across-first f) k₀ k₂) (four-plain (4 * f + 1) (4 * f + 3) (across-second f) k₁ k₃))
-        ∙ ap (λ (y : ℤ). round (directionOf n w a (4 * f) +ℤ y) (faceScale kobbelt)) (sym (ok .agree a f on lt k₀ k₁ k₂ k₃))
-        ∙ ap (λ (y : ℤ). round (y +ℤ y) (faceScale kobbelt)) (direction-plain (4 * f) (4 * f + 2) (across-first f) k₀ k₂)
+        ap (λ (r : FaceRule). round (faceValueOf n w a f r) (faceScale kobbelt)) (rule-is n w f true true (four-plain (4 * f) (4 * f + 2) (across-first f) (all .side₀) (all .side₂)) (four-plain (4 * f + 1) (4 * f + 3) (across-second f) (all .side₁) (all .side₃)))
+        ∙ ap (λ (y : ℤ). round (directionOf n w a (4 * f) +ℤ y) (faceScale kobbelt)) (sym (ok .agree a f on lt all))
+        ∙ ap (λ (y : ℤ). round (y +ℤ y) (faceScale kobbelt)) (direction-plain (4 * f) (4 * f + 2) (across-first f) (all .side₀) (all .side₂))
         ∙ ap (λ (y : ℤ). round y (faceScale kobbelt)) (same (lit (pos unit) ⊠ var 0 ⊞ lit (pos unit) ⊠ var 0) (lit (pos (2 * unit)) ⊠ var 0) (z ∷ []) refl)
         ∙ round-scale (2 * unit) z (scale kobbelt * scale kobbelt) (omega arith) (omega arith)
 
@@ -147,19 +146,13 @@ module _ (n : ℕ) (w : List ℕ) where
   pub plain-mated : (h p : ℕ) → FaceTable n w → h < n → p ≡ entryOf n w h → p < wideFlag → getD w h 0 < n
   plain-mated h p ok lt e k = ok .boundary h lt (omega arith)
 
-  pub record AllPlain (f : ℕ) : Type 0 where
-    pub side₀ : PlainTwice n w (4 * f)
-    pub side₁ : PlainTwice n w (4 * f + 1)
-    pub side₂ : PlainTwice n w (4 * f + 2)
-    pub side₃ : PlainTwice n w (4 * f + 3)
-
   plain-twice : (h p t : ℕ) → FaceTable n w → h < n → p ≡ entryOf n w h → p < wideFlag → t ≡ entryOf n w (beyondOf w h) → t < wideFlag → PlainTwice n w h
   plain-twice h p t ok lt e k i m = record { near = omega arith; mated = plain-mated h p ok lt e k; far = omega arith }
 
   -- as the sums of their entries tell
   pub all-plain : (f p q r s t u v x : ℕ) → FaceTable n w → 4 * f < n → p ≡ entryOf n w (4 * f) → q ≡ entryOf n w (4 * f + 1) → r ≡ entryOf n w (4 * f + 2) → s ≡ entryOf n w (4 * f + 3)
       → t ≡ entryOf n w (beyondOf w (4 * f)) → u ≡ entryOf n w (beyondOf w (4 * f + 1)) → v ≡ entryOf n w (beyondOf w (4 * f + 2)) → x ≡ entryOf n w (beyondOf w (4 * f + 3))
-      → p + q + r + s < wideFlag → t + u + v + x < wideFlag → AllPlain f
+      → p + q + r + s < wideFlag → t + u + v + x < wideFlag → AllPlain n w f
   all-plain f p q r s t u v x ok lt ep eq er es et eu ev ex k m =
       let d = ok .fours in
       record {
@@ -170,7 +163,7 @@ module _ (n : ℕ) (w : List ℕ) where
       }
 
   -- the four edges of one direction
-  module _ (f t p r v : ℕ) (ok : FaceTable n w) (lt : 4 * f < n) (all : AllPlain f) (et : t ≡ entryOf n w (beyondOf w (4 * f))) (ep : p ≡ entryOf n w (4 * f))
+  module _ (f t p r v : ℕ) (ok : FaceTable n w) (lt : 4 * f < n) (all : AllPlain n w f) (et : t ≡ entryOf n w (beyondOf w (4 * f))) (ep : p ≡ entryOf n w (4 * f))
       (er : r ≡ entryOf n w (4 * f + 2)) (ev : v ≡ entryOf n w (beyondOf w (4 * f + 2))) where
     pub regular-edges : PlainEdge n w t × PlainEdge n w p × PlainEdge n w r × PlainEdge n w v
     regular-edges =
@@ -188,7 +181,7 @@ module _ (n : ℕ) (w : List ℕ) where
     pub put-regular : (o o′ : List ℤ) → o′ ≡ putPoint o f (plainCoordinate n w 0 t p r v) (plainCoordinate n w 1 t p r v) (plainCoordinate n w 2 t p r v)
         → o′ ≡ putPoint o f (faceCoordinate n w 0 f) (faceCoordinate n w 1 f) (faceCoordinate n w 2 f)
     put-regular o o′ e =
-        let x = plain-coordinate 0 f ok (omega arith) lt (all .side₀) (all .side₁) (all .side₂) (all .side₃) in
-        let y = plain-coordinate 1 f ok (omega arith) lt (all .side₀) (all .side₁) (all .side₂) (all .side₃) in
-        let z = plain-coordinate 2 f ok (omega arith) lt (all .side₀) (all .side₁) (all .side₂) (all .side₃) in
+        let x = plain-coordinate 0 f ok (omega arith) lt all in
+        let y = plain-coordinate 1 f ok (omega arith) lt all in
+        let z = plain-coordinate 2 f ok (omega arith) lt all in
         cc

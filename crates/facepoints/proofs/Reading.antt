@@ -1,13 +1,10 @@
 -- Laws of entries and of the exact points that they lead to. Assumes nothing.
-use mathlib.Core.Path.{_≡_, refl, sym, ap, ap₂, _∙_}
-use mathlib.Core.Bool.{true, false, cond}
+use mathlib.Core.Path.{_≡_, refl, ap, ap₂, _∙_}
 use mathlib.Core.List.{List}
-use Prim.Native.Nat.{ℕ, _+_, _*_, _%_, _^_, _≤_, _<_}
+use Prim.Native.Nat.{ℕ, _+_, _*_, _%_, _≤_, _<_}
 use native.Mathlib.Omega.{arith}
 use borrow.Author.Tests.{lt-ltb, le-ltb}
-use lib.Dec.{ltb}
 use lib.IntN.{ℤ, pos, natAbs, _*ℤ_}
-use lib.ListN.{length, getD}
 use mir.Syntax.{w64}
 use mir.Val.{SFits}
 use Rattle.integers.proofs.Range.{fits-abs}
@@ -17,7 +14,7 @@ use Rattle.topology.specs.Shape.{quads}
 use Rattle.topology.specs.Quads.{across}
 use Rattle.coordinates.specs.Packed.{packedAt}
 use Rattle.coordinates.specs.Entry.{wideFlag, boundaryFlag, entryOf, placeOf, unitOf, exactAt, exactOf}
-use Rattle.facepoints.specs.Faces.{FaceTable, beyondOf}
+use Rattle.facepoints.specs.Faces.{FaceTable}
 use Rattle.facepoints.specs.Reading.{Readable}
 
 -- ---- units

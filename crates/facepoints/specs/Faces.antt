@@ -59,14 +59,21 @@ unfoldable pub faceCoordinates : (n : ℕ) → List ℕ → List ℤ
 faceCoordinates n w = tabulate (3 * (n / 4)) (λ (k : ℕ). faceCoordinate n w (k % 3) (k / 3))
 
 -- ---- what the functions ask of the table
--- the edges of h and beyond it are inner, and their points are kept over `scale`
+-- the edges of h and beyond it are plain: inner edges whose points are kept over `scale`
 pub record PlainTwice (n : ℕ) (w : List ℕ) (h : ℕ) : Type 0 where
   pub near : entryOf n w h < wideFlag
   pub mated : getD w h 0 < n
   pub far : entryOf n w (beyondOf w h) < wideFlag
 
--- n half-edges by fours with their mates; every entry leads to an exact point that can be read; the edges without a mate are flagged; where all eight edges of a
--- face are plain, its directions agree
+-- so on each side of face f: all eight edges of its directions are plain
+pub record AllPlain (n : ℕ) (w : List ℕ) (f : ℕ) : Type 0 where
+  pub side₀ : PlainTwice n w (4 * f)
+  pub side₁ : PlainTwice n w (4 * f + 1)
+  pub side₂ : PlainTwice n w (4 * f + 2)
+  pub side₃ : PlainTwice n w (4 * f + 3)
+
+-- n half-edges by fours with their mates; every entry leads to an exact point that can be read; an edge without a mate has the flag of the boundary; where all
+-- eight edges of a face are plain, its directions agree
 pub record FaceTable (n : ℕ) (w : List ℕ) : Type 0 where
   pub fours : n % 4 ≡ 0
   pub few : n ≤ 262144
@@ -76,5 +83,4 @@ pub record FaceTable (n : ℕ) (w : List ℕ) : Type 0 where
   pub boundary : (h : ℕ) → h < n → entryOf n w h < boundaryFlag → getD w h 0 < n
   pub high : (a h : ℕ) → a < 3 → h < n → getD w (placeOf n (entryOf n w h) + 2 * a + 1) 0 < 2 ^ 31
   pub small : (a h : ℕ) → a < 3 → h < n → natAbs (exactOf n w a h) ≤ edgeRange kobbelt
-  pub agree : (a f : ℕ) → a < 3 → 4 * f < n → PlainTwice n w (4 * f) → PlainTwice n w (4 * f + 1) → PlainTwice n w (4 * f + 2) → PlainTwice n w (4 * f + 3)
-      → directionOf n w a (4 * f) ≡ directionOf n w a (4 * f + 1)
+  pub agree : (a f : ℕ) → a < 3 → 4 * f < n → AllPlain n w f → directionOf n w a (4 * f) ≡ directionOf n w a (4 * f + 1)

@@ -15,7 +15,7 @@ ghost use Rattle.roundfaces.specs.Faces.{FacesIn};
 ghost use Rattle.facepoints.specs.Faces.{FaceTable, beyondOf, farOf, directionOf, innerTwiceOf, fourInnerOf, faceRuleOf, faceValueOf, faceCoordinate, faceCoordinates};
 ghost use Rattle.facepoints.specs.Reading.{Readable, PlainAt, PlainEdge, plainDirection, plainCoordinate};
 
-// The entries of inner edges whose points are kept over 16 are smaller, and so is every edge number.
+// The entries of plain edges are smaller: inner edges whose points are kept over 16. So is every edge number.
 const WIDE: usize = 536870912;
 
 // The entries of inner edges are smaller.

@@ -1,7 +1,7 @@
 -- `direction_on` meets its contract: no step leaves its range. Assumes nothing.
 use borrow.Author.Needs.{needs}
 use native.Mathlib.Omega.{arith}
-use mathlib.Core.Path.{_≡_, _∙_}
+use mathlib.Core.Path.{_≡_}
 use Prim.Native.Nat.{_≤_, _<_}
 use lib.IntN.{natAbs}
 use mir.Syntax.{w64}

@@ -4,12 +4,18 @@ use native.Mathlib.Omega.{arith}
 use mir.Syntax.{w64}
 use mir.Val.{SFits}
 use mir.Facts.{toZ-ofZ}
-use mathlib.Core.Path.{_≡_, sym}
+use mathlib.Core.Path.{_≡_}
 use lib.IntN.{_*ℤ_}
 use Rattle.coordinates.specs.Entry.{placeOf, exactAt}
 use Rattle.facepoints.proofs.Reading.{exact-fits, exact-read}
 use Rattle.facepoints.proofs.exact_on.Statement.{statement}
 use Rattle.facepoints.proofs.exact_on.Tie as tie
+
+product : (c : tie.After-unit) → let s = c .before .before .before in c .unit .result *ℤ c .before .load .result ≡ exactAt (s .args .n) (s .args .work .now) (s .args .a) (s .args .t)
+product c = exact-read _ _ _ _ (c .unit .result) (c .before .load .result) (c .unit .ensures) (c .before .load .ensures)
+
+product-fits : (c : tie.After-unit) → SFits w64 (c .unit .result *ℤ c .before .load .result)
+product-fits c = rw (product c) (exact-fits _ _ _ _ (c .before .before .before .pre))
 
 mul-load : tie.Need-mul-load
 mul-load c = search needs
@@ -34,26 +40,10 @@ unit-requires : tie.Need-unit-requires
 unit-requires c κs = search needs
 
 mul-result : tie.Need-mul-result
-mul-result c =
-    let s = c .before .before .before in
-    let u = c .unit .result in
-    let z = c .before .load .result in
-    let f : SFits w64 u = search needs in
-    let g : SFits w64 z = search needs in
-    let e : u *ℤ z ≡ exactAt (s .args .n) (s .args .work .now) (s .args .a) (s .args .t) = exact-read _ _ _ _ u z (c .unit .ensures) (c .before .load .ensures) in
-    let h : SFits w64 (u *ℤ z) = rw e (exact-fits _ _ _ _ (s .pre)) in
-    simp toZ-ofZ h
+mul-result c = let f : SFits w64 (c .unit .result) = search needs in let g : SFits w64 (c .before .load .result) = search needs in let h = product-fits c in simp toZ-ofZ h
 
 returns : tie.Need-returns
-returns c =
-    let s = c .before .before .before in
-    let u = c .unit .result in
-    let z = c .before .load .result in
-    let f : SFits w64 u = search needs in
-    let g : SFits w64 z = search needs in
-    let e : u *ℤ z ≡ exactAt (s .args .n) (s .args .work .now) (s .args .a) (s .args .t) = exact-read _ _ _ _ u z (c .unit .ensures) (c .before .load .ensures) in
-    let h : SFits w64 (u *ℤ z) = rw e (exact-fits _ _ _ _ (s .pre)) in
-    simp toZ-ofZ e
+returns c = let f : SFits w64 (c .unit .result) = search needs in let g : SFits w64 (c .before .load .result) = search needs in let h = product-fits c in simp toZ-ofZ (product c)
 
 pub exact-on-spec : {M : Type 1} → statement M
 exact-on-spec =

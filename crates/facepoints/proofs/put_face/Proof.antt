@@ -2,10 +2,12 @@
 use borrow.Author.Needs.{needs}
 use native.Mathlib.Omega.{arith}
 use Prim.Native.Nat.{_+_, _*_}
-use Rattle.facepoints.proofs.Plain.{AllPlain, all-plain, plain-mated, regular-edges, put-regular}
+use Rattle.facepoints.specs.Faces.{AllPlain}
+use Rattle.facepoints.proofs.Plain.{all-plain, plain-mated, regular-edges, put-regular}
 use Rattle.facepoints.proofs.put_face.Statement.{statement}
 use Rattle.facepoints.proofs.put_face.Tie as tie
 
+-- all eight edges are plain
 plain : (c : tie.Then2) → let s = c .before .before .before .before .before .before .before .before .before .before .before in AllPlain (s .args .n) (s .args .work .now) (s .args .f)
 plain c =
     let x = c .before in
@@ -55,11 +57,10 @@ add-if1-3 c = search needs
 
 beyond-requires : tie.Need-beyond-requires
 beyond-requires c κs =
-    let b = c in
-    let d = b .before in
+    let d = c .before in
     let s = d .before .before .before .before .before in
     let m = s .pre .0 .fours in
-    let k = b .if1 .taken in
+    let k = c .if1 .taken in
     (s .pre .0, omega arith, plain-mated _ _ (4 * s .args .f) _ (s .pre .0) (omega arith) (d .before .before .before .entry .ensures .0) (omega arith))
 
 add-beyond : tie.Need-add-beyond
