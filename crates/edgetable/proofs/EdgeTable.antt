@@ -136,7 +136,7 @@ module _ (l marks : List ℕ) (p₀ : List ℤ) (w₀ : List ℕ) (at drawn : �
   unfolding edgeAxis
   edge-small a g k = let s = edge-size kobbelt tame (length marks) l (ok .net) (oldAxis marks p₀ a) coordinateRange (λ x b. old-small a x) marks g k in omega arith
 
-  edge-few : (g : ℕ) → g < length l → edge quads l g < wideFlag
+  pub edge-few : (g : ℕ) → g < length l → edge quads l g < wideFlag
   edge-few g k = let a = edge-lt quads (length marks) l (ok .net .oriented) g k in let b = edges-le quads l in let c = ok .table .sides .few in omega arith
 
   -- the old coordinates are the first of the refined ones

@@ -1,2 +1,3 @@
 pub mod Rounded
 pub mod EdgeTable
+pub mod Faces
