@@ -12,6 +12,7 @@ use Rattle.integers.proofs.AbsoluteValue.{abs-add, abs-sub, abs-mul}
 use Rattle.integers.proofs.Polynomial.{Poly, var, lit, _⊞_, _⊟_, _⊠_, same}
 use Rattle.integers.proofs.Sum.{abs-sum, sum-const, sum-sub}
 use Rattle.curve.specs.Weights.{Weights, scale, interior, endEdge, singleEdge}
+use Rattle.curve.proofs.Mirror.{end-mirrored}
 use Rattle.curve.proofs.Distance.{Tame, products, product-size, interior-size, end-size, single-size}
 use Rattle.rings.specs.Scales.{extrapolatedScale, virtualScale, edgeScale}
 use Rattle.rules.specs.Numerators.{extrapolatedZ, extrapolatedCornerZ, innerEdgeZ}
@@ -60,12 +61,7 @@ module _ (w : Weights) (c : ℤ) where
 
   pub end-constant : 2 * w .far ≤ w .near → endEdge w c c c ≡ pos (scale w) *ℤ c
   end-constant h =
-      let d : ℕ = w .near - 2 * w .far in
-      let e : w .near ≡ d + 2 * w .far = omega arith in
-      let s : 2 * (d + w .far) ≡ scale w = omega arith in
-      ap (λ (n : ℕ). pos d *ℤ c +ℤ pos (n + w .far) *ℤ c -ℤ pos (w .far) *ℤ c) e
-      ∙ same (var 0 ⊠ var 2 ⊞ (var 0 ⊞ lit (pos 2) ⊠ var 1 ⊞ var 1) ⊠ var 2 ⊟ var 1 ⊠ var 2) (lit (pos 2) ⊠ (var 0 ⊞ var 1) ⊠ var 2) (pos d ∷ pos (w .far) ∷ c ∷ []) refl
-      ∙ ap (λ (n : ℕ). pos n *ℤ c) s
+      end-mirrored w h c c c ∙ ap (λ (x : ℤ). interior w x c c c) (same (lit (pos 2) ⊠ var 0 ⊟ var 0) (var 0) (c ∷ []) refl) ∙ interior-constant (omega arith)
 
   pub single-constant : singleEdge w c c ≡ pos (scale w) *ℤ c
   single-constant = same (var 0 ⊠ (var 1 ⊞ var 1)) (lit (pos 2) ⊠ var 0 ⊠ var 1) (pos (w .near - w .far) ∷ c ∷ []) refl

@@ -99,7 +99,7 @@ module _ (w : Weights) (end : 2 * w .far ≤ w .near) (v : ℕ) (l : List ℕ) (
   unfolding directionZ beyond
   direction-constant h k =
       let g : ℕ = across h in
-      let inside-w : w .far ≤ w .near = omega arith in
+      let less : w .far ≤ w .near = omega arith in
       let P : ℤ → Type 0 = λ z. z ≡ pos (scale w) *ℤ c in
       let eh = const h k in
       let eg = const g (across-lt v l ok h k) in
@@ -110,7 +110,7 @@ module _ (w : Weights) (end : 2 * w .far ≤ w .near) (v : ℕ) (l : List ℕ) (
       cond-elim P (ltb (mate quads l h) (length l)) (cond (ltb (mate quads l g) (length l)) (interior w x (e h) (e g) y) (endEdge w (e g) (e h) x))
       (cond (ltb (mate quads l g) (length l)) (endEdge w (e h) (e g) y) (singleEdge w (e h) (e g)))
       (λ s. cond-elim P (ltb (mate quads l g) (length l)) (interior w x (e h) (e g) y) (endEdge w (e g) (e h) x)
-      (λ t. rw (far h s, eh, eg, far g t) (interior-constant w c inside-w)) (λ t. rw (far h s, eh, eg) (end-constant w c end)))
+      (λ t. rw (far h s, eh, eg, far g t) (interior-constant w c less)) (λ t. rw (far h s, eh, eg) (end-constant w c end)))
       (λ s. cond-elim P (ltb (mate quads l g) (length l)) (endEdge w (e h) (e g) y) (singleEdge w (e h) (e g)) (λ t. rw (eh, eg, far g t) (end-constant w c end)) (λ t. rw (eh, eg) (single-constant w c)))
 
   twice : (x : ℤ) → x ≡ pos (scale w) *ℤ c → pos 2 *ℤ x ≡ pos (2 * scale w) *ℤ c

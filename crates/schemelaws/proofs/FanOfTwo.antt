@@ -3,12 +3,12 @@
 -- end rule that starts there, between two fans of two the midpoint. At any weights; assumes a manifold net.
 use mathlib.Core.Path.{_≡_, refl, sym, ap, ap₂, _∙_, subst}
 use mathlib.Core.List.{List, [], _∷_}
-use Prim.Native.Nat.{ℕ, _+_, _-_, _*_, _≤_, _<_}
+use Prim.Native.Nat.{ℕ, _+_, _*_, _≤_, _<_}
 use native.Mathlib.Nat.{mul-one}
 use native.Mathlib.Decide.{decLt}
 use native.Mathlib.Omega.{arith}
 use lib.Dec.{lit≤}
-use lib.IntN.{ℤ, pos, _+ℤ_, _-ℤ_, _*ℤ_}
+use lib.IntN.{ℤ, pos, _*ℤ_}
 use lib.ListN.{length}
 use borrow.Author.Tests.{lt-ltb, le-ltb}
 use Rattle.search.specs.Search.{iterate}
@@ -144,7 +144,7 @@ module _ (w : Weights) (near : 0 < w .near) (apart : 0 < scale w) (v : ℕ) (l m
   coordinate-ordinary =
       refined-edge w near apart v l marks ok p h k ∙ sym (toWhole-equals (edgeScale-some w near apart) (equals-edge w near apart v l marks ok p h k)) ∙ toWhole-equals apart edge-ordinary
 
--- ---- the stencil of an inner edge, by its ends
+-- ---- the stencil of an inner edge, by its ends; the fractions are those at paper 01's weights
 module _ (w : Weights) (l marks : List ℕ) (p : ℕ → ℤ) (h : ℕ) (m : mate quads l h < length l) where
   abbrev P : ℤ
   P = p (from l h)

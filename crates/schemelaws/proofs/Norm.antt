@@ -285,7 +285,7 @@ module _ (w : Weights) (tame : Tame w) (v : ℕ) (l : List ℕ) (ok : Manifold q
   unfolding faceZ
   faceZ-near f k = value-near f k (faceRule l f) .bound
 
--- 5/4 of 11/6: edge points within D 11/6 d, in sixths, give directions and face points within 55/24 d
+-- 5/4 of 11/6 is 55/24: from the bound of edge points, which is in sixths, to that of face points
 pub five-quarters : (w : Weights) (tame : Tame w) (d : ℕ) → 24 * (2 * ((5 * tame .quarter) * (edgeScale w * (11 * d) / 6))) ≤ faceScale w * (55 * d)
 five-quarters w tame d =
     let q : ℕ = tame .quarter in
