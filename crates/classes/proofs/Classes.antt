@@ -7,8 +7,8 @@ use native.Mathlib.Decide.{decLt, ℕ-discrete}
 use native.Mathlib.Numerals.{add-one}
 use native.Mathlib.Omega.{arith}
 use lib.Dec.{ltb, eqb, lit≤}
-use lib.ListN.{length, getD, set, take}
-use lib.Seq.{getD-set-same, getD-set-other, getD-take}
+use lib.ListN.{length, getD, set}
+use lib.Seq.{getD-set-same, getD-set-other}
 use borrow.Author.Tests.{lt-ltb, le-ltb, eq-eqb, eqb-true}
 use Rattle.search.specs.Search.{count}
 use Rattle.search.proofs.Tests.{cond-elim}
@@ -22,6 +22,7 @@ use Rattle.topology.specs.Manifold.{Manifold}
 use Rattle.topology.proofs.Mates.{mate-le}
 use Rattle.topology.proofs.Boundary.{from-on, from-none, from-at, boundaryFrom-le, boundaryFrom-is}
 use Rattle.tables.specs.Tables.{SameOutside}
+use Rattle.tables.proofs.Laws.{same-front}
 use Rattle.halfedges.proofs.Tables.{mates-cong}
 use Rattle.refinedfaces.specs.Refined.{refinedVertices, refined}
 use Rattle.schemelaws.specs.Ordinary.{Ordinary, ringOfFour, fanOfTwo}
@@ -39,10 +40,6 @@ leaves-on l p h e = eq-eqb (from l h) p e
 leaves-at : (l : List ℕ) (p h : ℕ) → leaves l p h ≡ true → from l h ≡ p
 unfolding leaves
 leaves-at l p h t = eqb-true (from l h) p t
-
--- equal before m: equal at each place there
-same-front : (m : ℕ) (w w′ : List ℕ) → take m w′ ≡ take m w → (i : ℕ) → i < m → getD w′ i 0 ≡ getD w i 0
-same-front m w w′ e i h = sym (getD-take m w′ i 0 h) ∙ ap (λ (t : List ℕ). getD t i 0) e ∙ getD-take m w i 0 h
 
 -- ---- ring sizes
 module _ (l : List ℕ) (p : ℕ) where

@@ -173,7 +173,7 @@ module _ (a : Request) (last : ℕ) (ok : AdmittedCall (callOf a) last (a .buffe
         (ap (take n) (x .faces) ∙ take-filled (m .faces) (o .faces) n d)
         (ap (take r) (x .marks) ∙ take-filled (m .marks) (o .marks) r c)
 
-    prepared : Prepared k r n t
+    prepared : Prepared k r n last t
     prepared =
         let w = limits in
         let b = w .roomVertices in
@@ -197,6 +197,7 @@ module _ (a : Request) (last : ℕ) (ok : AdmittedCall (callOf a) last (a .buffe
           within = rw (ap (λ (j : Net). j .vertices) front-is) (start-within (a .net) drawn 1048576 within);
           few = w .few;
           vertices = omega arith;
+          size = omega arith;
           final = omega arith;
           roomPoints = omega arith;
           roomFaces = omega arith;
@@ -227,7 +228,7 @@ module _ (a : Request) (last : ℕ) (ok : AdmittedCall (callOf a) last (a .buffe
             faces = b .newFaces ∙ ap₂ (λ (y : Net) (l : List ℕ). filled (steps kobbelt k y .faces) l) front-is (x .faces) ∙ filled-over _ _ (o .faces) (omega arith);
             marks = b .newMarks ∙ ap₂ (λ (y : Net) (l : List ℕ). filled (steps kobbelt k y .marks) l) front-is (x .marks) ∙ filled-over _ _ (o .marks) i;
             work = z ∙ cleared-over (16 * last) (o .work) (x₂ .before)
-                (drop-later (2 * (n * 4 ^ k)) (16 * last) (x₂ .before) (t .work) (omega arith) (b .rest) ∙ drop-later (4 * length (m .faces)) (16 * last) (t .work) (o .work) (omega arith) (x .rest));
+                (drop-later (3 * (n * 4 ^ k)) (16 * last) (x₂ .before) (t .work) (omega arith) (b .rest) ∙ drop-later (4 * length (m .faces)) (16 * last) (t .work) (o .work) (omega arith) (x .rest));
           }
 
 -- ---- the whole call

@@ -28,6 +28,6 @@ pub record Finished (k v n last r : ℕ) (t t′ : Buffers) : Type 0 where
 
 -- what that asks: the rounds can be made, and the work table is as long as what is cleared
 pub record Finishing (k v n last : ℕ) (t : Buffers) : Type 0 where
-  pub prepared : Prepared k v n t
+  pub prepared : Prepared k v n last t
   pub few : last ≤ 262144
   pub room : 16 * last ≤ length (t .work)

@@ -37,6 +37,7 @@ fn finish(
         v,
         n,
         rounds,
+        last,
     );
     tables::clear(&mut *work, 16 * last);
     count

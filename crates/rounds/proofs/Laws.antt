@@ -37,7 +37,7 @@ use Rattle.nets.specs.Buffers.{Buffers, buffers, front}
 drop-same : (k : ℕ) (u w : List ℕ) → length u ≡ length w → ((i : ℕ) → k ≤ i → getD u i 0 ≡ getD w i 0) → drop k u ≡ drop k w
 drop-same k u w e h = ext-getD 0 (drop k u) (drop k w) (length-drop k u ∙ ap (λ (x : ℕ). x - k) e ∙ sym (length-drop k w)) (λ i b. getD-drop k u i 0 ∙ h (k + i) (omega arith) ∙ sym (getD-drop k w i 0))
 
-module _ (v n : ℕ) (t : Buffers) (c : Current v n t) where
+module _ (v n at drawn : ℕ) (t : Buffers) (c : Current v n at drawn t) where
   abbrev points : List ℤ
   points = t .vertices
 

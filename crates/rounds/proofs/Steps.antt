@@ -1,5 +1,5 @@
 -- The tables from round to round. Assumes nothing.
-use mathlib.Core.Path.{_≡_, refl, sym, ap, _∙_}
+use mathlib.Core.Path.{_≡_, refl, sym, ap, _∙_, subst}
 use mathlib.Core.List.{List}
 use Prim.Native.Nat.{ℕ, suc, _+_, _*_, _^_, _≤_, _<_}
 use native.Mathlib.Nat.{pow-suc, pow-le-pow-right, mul-le-mul-left, one-le-pow, mul-assoc, mul-comm}
@@ -11,16 +11,21 @@ use lib.Dec.{lit≤}
 use Rattle.lists.proofs.Parts.{drop-later}
 use Rattle.curve.specs.Weights.{kobbelt}
 use Rattle.nets.specs.Net.{Net}
-use Rattle.tables.specs.Tables.{filled}
-use Rattle.tables.proofs.Laws.{length-filled, take-filled, filled-over}
+use Rattle.tables.specs.Tables.{filled, SameOutside}
+use Rattle.tables.proofs.Laws.{length-filled, take-filled, filled-over, same-front, same-rest}
 use Rattle.nets.proofs.Laws.{same-net}
 use Rattle.topology.specs.Shape.{quads}
+use Rattle.topology.specs.Manifold.{Manifold}
+use Rattle.refinedfaces.specs.Refined.{refinedVertices, refined}
 use Rattle.refinedfaces.proofs.Corners.{length-refined}
 use Rattle.scheme.specs.Step.{step, steps}
 use Rattle.schemelaws.specs.Nets.{Refinable}
-use Rattle.schemelaws.proofs.Steps.{step-faces, refinable-steps}
+use Rattle.schemelaws.proofs.Steps.{step-faces, step-count, refinable-steps, refinable-manifold}
 use Rattle.schemelaws.proofs.Growth.{steps-input}
 use Rattle.halfedges.specs.Tables.{MateTable}
+use Rattle.halfedges.proofs.Tables.{mates-cong}
+use Rattle.classes.specs.Classes.{RingSizes, Classes, Countable}
+use Rattle.classes.proofs.Classes.{classes-counted, classes-same, classes-refined}
 use Rattle.refinedfaces.specs.Mates.{refinedMates}
 use Rattle.roundmates.specs.Mates.{MatesIn}
 use Rattle.rounds.specs.Round.{Current, Refines}
@@ -45,7 +50,7 @@ again n i c e = let g = next-size n i in omega arith
 abbrev withWork : Buffers → List ℕ → Buffers
 withWork t u = buffers (t .vertices) (t .faces) (t .marks) u
 
-module _ (k v n : ℕ) (t : Buffers) (ok : Prepared k v n t) where
+module _ (k v n last : ℕ) (t : Buffers) (ok : Prepared k v n last t) where
   abbrev m : Net
   m = front v n t
 
@@ -61,6 +66,12 @@ module _ (k v n : ℕ) (t : Buffers) (ok : Prepared k v n t) where
   abbrev w : List ℕ
   w = t .work
 
+  once : n ≤ n * 4 ^ k
+  once = let p : 1 ≤ 4 ^ k = one-le-pow k 4 (lit≤ tt) in let g : n * 1 ≤ n * 4 ^ k = mul-le-mul-left n p in omega arith
+
+  classes-room : 8 * last + v ≤ length w
+  classes-room = let o = once in let z = ok .size in let r = ok .roomWork in let q = ok .vertices in omega arith
+
   sized : (i : ℕ) → i < k → 4 * (n * 4 ^ i) ≤ n * 4 ^ k
   sized i h =
       let p : 4 ^ (i + 1) ≤ 4 ^ k = pow-le-pow-right {n = 4} (omega arith) (omega arith) in
@@ -71,8 +82,7 @@ module _ (k v n : ℕ) (t : Buffers) (ok : Prepared k v n t) where
   pub after-none : After 0 v n v t t
   unfolding steps
   after-none =
-      let p : 1 ≤ 4 ^ k = one-le-pow k 4 (lit≤ tt) in
-      let g : n * 1 ≤ n * 4 ^ k = mul-le-mul-left n p in
+      let g = once in
       let a = ok .roomPoints in
       let b = ok .roomFaces in
       let c = ok .roomMarks in
@@ -87,6 +97,10 @@ module _ (k v n : ℕ) (t : Buffers) (ok : Prepared k v n t) where
         kept = refl;
         rest = refl;
       }
+
+  pub classes-none : RingSizes v (8 * last) (take n faces) w → Classes v (8 * last) v (steps kobbelt 0 m .faces) w
+  unfolding steps
+  classes-none r = classes-counted v (8 * last) (take n faces) w classes-room r
 
   pub mated-none : MateTable (steps kobbelt 0 m .faces) w
   unfolding steps
@@ -145,8 +159,8 @@ module _ (k v n : ℕ) (t : Buffers) (ok : Prepared k v n t) where
           let b = ok .roomMarks in
           ap length (a .newMarks) ∙ length-filled _ marks (omega arith)
 
-    module _ (g : MateTable (steps kobbelt i m .faces) w₁) (h : i < k) where
-      pub current : Current r (n * 4 ^ i) t₁
+    module _ (g : MateTable (steps kobbelt i m .faces) w₁) (p : Classes r (8 * last) v (steps kobbelt i m .faces) w₁) (h : i < k) where
+      pub current : Current r (n * 4 ^ i) (8 * last) v t₁
       current =
           let s = sized i h in
           let e = ok .final in
@@ -155,6 +169,7 @@ module _ (k v n : ℕ) (t : Buffers) (ok : Prepared k v n t) where
           let rm = ok .roomMarks in
           let rw′ = ok .roomWork in
           let q = ok .few in
+          let z = ok .size in
           let lp = kept-points (omega arith) in
           let lf = kept-faces (omega arith) in
           let lm = kept-marks (omega arith) in
@@ -169,6 +184,8 @@ module _ (k v n : ℕ) (t : Buffers) (ok : Prepared k v n t) where
             roomMarks = omega arith;
             roomWork = omega arith;
             mated = rw (ap (λ (x : Net). x .faces) front-is) g;
+            behind = omega arith;
+            classes = rw (ap (λ (x : Net). x .faces) front-is) p;
           }
 
       module _ (r₂ : ℕ) (t₂ : Buffers) (e : Refines r (n * 4 ^ i) r₂ t₁ t₂) (z : length (t₂ .work) ≡ length (t₁ .work)) where
@@ -188,8 +205,8 @@ module _ (k v n : ℕ) (t : Buffers) (ok : Prepared k v n t) where
             let nx = next in
             let c₁ = a .count in
             let c₂ : r₂ ≡ length (steps kobbelt (i + 1) m .marks) = e .count ∙ ap (λ (x : Net). length (x .marks)) nx in
-            let b = count-le r (n * 4 ^ i) t₁ current in
-            let b₂ = e .count ∙ sym (count-is r (n * 4 ^ i) t₁ current) in
+            let b = count-le r (n * 4 ^ i) (8 * last) v t₁ current in
+            let b₂ = e .count ∙ sym (count-is r (n * 4 ^ i) (8 * last) v t₁ current) in
             let d₁ = a .corners in
             let d₂ : length (steps kobbelt (i + 1) m .faces) ≡ 4 * length (steps kobbelt i m .faces) =
             ap (λ (x : Net). length (x .faces)) (sym nx) ∙ ap length (step-faces kobbelt _) ∙ length-refined quads _ _ ∙ ap (λ (x : Net). 4 * length (x .faces)) front-is in
@@ -201,20 +218,100 @@ module _ (k v n : ℕ) (t : Buffers) (ok : Prepared k v n t) where
               newFaces = e .newFaces ∙ ap (λ (x : Net). filled (x .faces) faces₁) nx ∙ ap (filled (steps kobbelt (i + 1) m .faces)) (a .newFaces) ∙ filled-over _ _ faces (omega arith);
               newMarks = e .newMarks ∙ ap (λ (x : Net). filled (x .marks) marks₁) nx ∙ ap (filled (steps kobbelt (i + 1) m .marks)) (a .newMarks) ∙ filled-over _ _ marks (omega arith);
               kept = y ∙ z ∙ a .kept;
-              rest = ap (λ (x : ℕ). drop x w₃) (let j : 2 * (n * 4 ^ (i + 1)) ≡ 8 * (n * 4 ^ i) = omega arith in j) ∙ d ∙ e .rest
-                  ∙ drop-later (2 * (n * 4 ^ i)) (8 * (n * 4 ^ i)) _ _ (omega arith) (a .rest)
-                  ∙ ap (λ (x : ℕ). drop x w) (let j : 8 * (n * 4 ^ i) ≡ 2 * (n * 4 ^ (i + 1)) = omega arith in j);
+              rest = drop-later (8 * (n * 4 ^ i)) (3 * (n * 4 ^ (i + 1))) _ _ (omega arith) (d ∙ e .rest) ∙ drop-later (3 * (n * 4 ^ i)) (3 * (n * 4 ^ (i + 1))) _ _ (omega arith) (a .rest);
             }
 
         pub after-next : After (i + 1) v n r₂ t t₂
         after-next = past w₂ refl refl
 
         pub ready-mates : MatesIn (n * 4 ^ i) w₂
-        ready-mates = mates-ready r (n * 4 ^ i) t₁ current w₂ z (e .mated)
+        ready-mates = mates-ready r (n * 4 ^ i) (8 * last) v t₁ current w₂ z (e .mated)
 
         module _ (w₃ : List ℕ) (y : length w₃ ≡ length w₂) (d : w₃ ≡ filled (refinedMates quads (take (n * 4 ^ i) w₂)) w₂) where
           pub after-mates : After (i + 1) v n r₂ t (withWork t₂ w₃)
-          after-mates = past w₃ y (mates-past r (n * 4 ^ i) t₁ current w₂ z (e .mated) w₃ d)
+          after-mates = past w₃ y (mates-past r (n * 4 ^ i) (8 * last) v t₁ current w₂ z (e .mated) w₃ d)
 
           pub mated-next : MateTable (steps kobbelt (i + 1) m .faces) w₃
-          mated-next = rw (ap (λ (x : Net). x .faces) (sym next)) (mates-next r (n * 4 ^ i) t₁ current w₂ z (e .mated) w₃ d)
+          mated-next = rw (ap (λ (x : Net). x .faces) (sym next)) (mates-next r (n * 4 ^ i) (8 * last) v t₁ current w₂ z (e .mated) w₃ d)
+
+          -- the old vertices keep their classes, and the new ones are ordinary
+          pub classes-next : Classes r₂ (8 * last) v (steps kobbelt (i + 1) m .faces) w₃
+          classes-next =
+              let old : Net = steps kobbelt i m in
+              let nx : step kobbelt old ≡ steps kobbelt (i + 1) m = ap (step kobbelt) (sym front-is) ∙ next in
+              let x : Classes (length (old .marks)) (8 * last) v (old .faces) w₁ = subst (λ (j : ℕ). Classes j (8 * last) v (old .faces) w₁) (a .count) p in
+              let f : refined quads (length (old .marks)) (old .faces) ≡ steps kobbelt (i + 1) m .faces = sym (step-faces kobbelt old) ∙ ap (λ (y : Net). y .faces) nx in
+              let c : refinedVertices quads (length (old .marks)) (old .faces) ≡ r₂ = sym (step-count kobbelt old) ∙ ap (λ (y : Net). length (y .marks)) nx ∙ sym (e .count ∙ ap (λ (y : Net). length (y .marks)) next) in
+              let s = sized i h in
+              let b = ok .size in
+              let k = x .room in
+              let same = same-rest (8 * (n * 4 ^ i)) w₁ w₃ (mates-past r (n * 4 ^ i) (8 * last) v t₁ current w₂ z (e .mated) w₃ d ∙ e .rest) in
+              subst (λ (j : ℕ). Classes j (8 * last) v (steps kobbelt (i + 1) m .faces) w₃) c
+              (subst (λ (l : List ℕ). Classes (refinedVertices quads (length (old .marks)) (old .faces)) (8 * last) v l w₃) f
+              (classes-same _ _ _ _ w₁ w₃ (omega arith) (λ q u. same (8 * last + q) (omega arith)) (classes-refined _ _ _ _ w₁ (refinable-manifold old refinable) x)))
+
+-- ---- the classes, made before the first round
+module _ (k v n last : ℕ) (t : Buffers) (ok : Prepared k v n last t) where
+  pub corners-room : n ≤ length (t .faces)
+  corners-room = let o = once k v n last t ok in let f = ok .roomFaces in omega arith
+
+  pub corners-length : length (take n (t .faces)) ≡ n
+  corners-length = length-take-le n (t .faces) corners-room
+
+  pub countable : 0 < k → Countable v (8 * last) (take n (t .faces)) (t .work)
+  unfolding steps
+  countable h =
+      let m : Net = front v n t in
+      let o = once k v n last t ok in
+      let s = sized k v n last t ok 0 h in
+      let g = ok .roomMarks in
+      let w = ok .roomWork in
+      let e = ok .final in
+      let z = ok .size in
+      let q = ok .vertices in
+      let l = corners-length in
+      record {
+        net = subst (λ (j : ℕ). Manifold quads j (take n (t .faces))) (length-take-le v (t .marks) (omega arith)) (refinable-manifold m (ok .refinable));
+        table = record { sides = record { fours = ok .refinable .fours; few = omega arith }; room = omega arith; mated = ok .mated };
+        behind = omega arith;
+        room = classes-room k v n last t ok;
+      }
+
+  -- the tables with the classes in them
+  module _ (u : List ℕ) (long : length u ≡ length (t .work)) (s : SameOutside (8 * last) (8 * last + v) (t .work) u) where
+    pub prepared-classes : Prepared k v n last (withWork t u)
+    prepared-classes =
+        let o = once k v n last t ok in
+        let z = ok .size in
+        let w = ok .roomWork in
+        let l = corners-length in
+        record {
+          refinable = ok .refinable;
+          within = ok .within;
+          few = ok .few;
+          vertices = ok .vertices;
+          size = ok .size;
+          final = ok .final;
+          roomPoints = ok .roomPoints;
+          roomFaces = ok .roomFaces;
+          roomMarks = ok .roomMarks;
+          roomWork = omega arith;
+          mated = mates-cong (take n (t .faces)) (t .work) u (λ i b. same-front (8 * last) (t .work) u (s .front) i (omega arith)) (ok .mated);
+        }
+
+    pub after-classes : (i r : ℕ) (t′ : Buffers) → i ≡ k → After i v n r (withWork t u) t′ → After k v n r t t′
+    after-classes i r t′ e b =
+        let a : After k v n r (withWork t u) t′ = subst (λ (j : ℕ). After j v n r (withWork t u) t′) e b in
+        let o = once k v n last t ok in
+        let z = ok .size in
+        let q = ok .vertices in
+        record {
+          count = a .count;
+          corners = a .corners;
+          fewer = a .fewer;
+          newPoints = a .newPoints;
+          newFaces = a .newFaces;
+          newMarks = a .newMarks;
+          kept = a .kept ∙ long;
+          rest = a .rest ∙ drop-later (8 * last + v) (3 * (n * 4 ^ k)) _ _ (omega arith) (s .rest);
+        }

@@ -9,9 +9,10 @@ use Rattle.scheme.specs.Step.{step}
 use Rattle.schemelaws.specs.Nets.{Refinable}
 use Rattle.integers.specs.Within.{Within}
 use Rattle.halfedges.specs.Tables.{MateTable}
+use Rattle.classes.specs.Classes.{Classes}
 
--- the net at the front can be refined, its mates stand in the work table, and all tables have room for the refined net
-pub record Current (v n : ℕ) (t : Buffers) : Type 0 where
+-- the net at the front can be refined, its mates stand in the work table, the classes of its vertices from `at` on, and all tables have room for the refined net
+pub record Current (v n at drawn : ℕ) (t : Buffers) : Type 0 where
   pub refinable : Refinable (front v n t)
   pub within : Within 66276137 (take (3 * v) (t .vertices))
   pub small : n ≤ 262144
@@ -21,6 +22,8 @@ pub record Current (v n : ℕ) (t : Buffers) : Type 0 where
   pub roomMarks : 4 * n ≤ length (t .marks)
   pub roomWork : 8 * n ≤ length (t .work)
   pub mated : MateTable (take n (t .faces)) (t .work)
+  pub behind : 8 * n ≤ at
+  pub classes : Classes v at drawn (take n (t .faces)) (t .work)
 
 -- the tables after the round: the refined net of r vertices at their front, the mates of the net before it in the work table; past that all is as found.
 -- Open, and may differ between correct programs: what stands between the mates and place 8n of the work table

@@ -10,12 +10,13 @@ use Rattle.integers.specs.Within.{Within}
 use Rattle.halfedges.specs.Tables.{MateTable}
 use Rattle.nets.specs.Buffers.{Buffers, front}
 
--- the net of v vertices and n corners at the front can be refined k times, its mates stand in the work table, and all tables have room for the refined net
-pub record Prepared (k v n : ℕ) (t : Buffers) : Type 0 where
+-- the net of v vertices and n corners at the front can be refined k times, to `last` faces, its mates stand in the work table, and all tables have room for the refined net
+pub record Prepared (k v n last : ℕ) (t : Buffers) : Type 0 where
   pub refinable : Refinable (front v n t)
   pub within : Within 1048576 (take (3 * v) (t .vertices))
   pub few : k ≤ 6
   pub vertices : v ≤ n
+  pub size : n * 4 ^ k ≡ 4 * last
   pub final : n * 4 ^ k ≤ 1048576
   pub roomPoints : 3 * (n * 4 ^ k) ≤ length (t .vertices)
   pub roomFaces : n * 4 ^ k ≤ length (t .faces)
@@ -24,7 +25,7 @@ pub record Prepared (k v n : ℕ) (t : Buffers) : Type 0 where
   pub mated : MateTable (take n (t .faces)) (t .work)
 
 -- the tables after i rounds: r vertices of the refined net at their front; past that all is as found.
--- Open, and may differ between correct programs: what stands before place 2n * 4^i of the work table
+-- Open, and may differ between correct programs: what stands before place 3n * 4^i of the work table
 pub record After (i v n r : ℕ) (t t′ : Buffers) : Type 0 where
   pub count : r ≡ length (steps kobbelt i (front v n t) .marks)
   pub corners : n * 4 ^ i ≡ length (steps kobbelt i (front v n t) .faces)
@@ -33,4 +34,4 @@ pub record After (i v n r : ℕ) (t t′ : Buffers) : Type 0 where
   pub newFaces : t′ .faces ≡ filled (steps kobbelt i (front v n t) .faces) (t .faces)
   pub newMarks : t′ .marks ≡ filled (steps kobbelt i (front v n t) .marks) (t .marks)
   pub kept : length (t′ .work) ≡ length (t .work)
-  pub rest : drop (2 * (n * 4 ^ i)) (t′ .work) ≡ drop (2 * (n * 4 ^ i)) (t .work)
+  pub rest : drop (3 * (n * 4 ^ i)) (t′ .work) ≡ drop (3 * (n * 4 ^ i)) (t .work)

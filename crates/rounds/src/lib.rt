@@ -3,7 +3,8 @@ ghost use Rattle.rounds.specs.Round.{Current, Refines};
 ghost use Rattle.nets.specs.Buffers.{buffers};
 ghost use Rattle.rounds.specs.Rounds.{Prepared, After};
 
-// One round on the net of v vertices and n corners at the front of the tables; the mates stay as they are. The answer is the new number of vertices.
+// One round on the net of v vertices and n corners at the front of the tables; the mates stay as they are, and the classes of the vertices, from `at` on.
+// The answer is the new number of vertices.
 fn round(
     points: &mut [i32],
     faces: &mut [u32],
@@ -11,8 +12,10 @@ fn round(
     work: &mut [u32],
     v: usize,
     n: usize,
+    at: usize,
+    drawn: usize,
 ) -> usize
-    requires { ⌜ Current v n (buffers (now points) (now faces) (now marks) (now work)) ⌝ }
+    requires { ⌜ Current v n at drawn (buffers (now points) (now faces) (now marks) (now work)) ⌝ }
     ensures { λ r. ⌜ Refines v n r (buffers (now (points .entry)) (now (faces .entry)) (now (marks .entry)) (now (work .entry)))
         (buffers (now (points .exit)) (now (faces .exit)) (now (marks .exit)) (now (work .exit))) ⌝ }
 {
@@ -24,7 +27,8 @@ fn round(
     count
 }
 
-// k rounds. The mates are refined only where another round follows. The answer is the final number of vertices.
+// k rounds, to `last` faces. The classes of the vertices are made once, past what rounds write; the mates are refined only where another round follows.
+// The answer is the final number of vertices.
 pub fn rounds(
     points: &mut [i32],
     faces: &mut [u32],
@@ -33,11 +37,17 @@ pub fn rounds(
     v: usize,
     n: usize,
     k: u32,
+    last: usize,
 ) -> usize
-    requires { ⌜ Prepared k v n (buffers (now points) (now faces) (now marks) (now work)) ⌝ }
+    requires { ⌜ Prepared k v n last (buffers (now points) (now faces) (now marks) (now work)) ⌝ }
     ensures { λ r. ⌜ After k v n r (buffers (now (points .entry)) (now (faces .entry)) (now (marks .entry)) (now (work .entry)))
         (buffers (now (points .exit)) (now (faces .exit)) (now (marks .exit)) (now (work .exit))) ⌝ }
 {
+    if k == 0 {
+        return v;
+    }
+    let at = 8 * last;
+    classes::count_ring_sizes(&faces[..n], &mut *work, at, v);
     let mut count = v;
     let mut corners = n;
     let mut i = 0;
@@ -49,6 +59,8 @@ pub fn rounds(
             &mut *work,
             count,
             corners,
+            at,
+            v,
         );
         i += 1;
         if i == k {

@@ -5,7 +5,7 @@ use Prim.Native.Nat.{ℕ, _+_, _-_, _≤_, _<_}
 use native.Mathlib.Omega.{arith}
 use borrow.Author.Fill.{fill-more}
 use lib.ListN.{length, getD, take, drop, set, replicate, length-append, length-drop, length-replicate, List·getD-append}
-use lib.Seq.{getD-drop, take-at, drop-at, drop-append-add, drop-drop, take-take, take-set-le, drop-set-lt}
+use lib.Seq.{getD-take, getD-drop, take-at, drop-at, drop-append-add, drop-drop, take-take, take-set-le, drop-set-lt}
 use Rattle.lists.proofs.Prefix.{copy-one}
 use Rattle.tables.specs.Tables.{filled, cleared, SameOutside}
 
@@ -69,6 +69,10 @@ outside-then a e a′ e′ w w₁ w₂ h k s t =
       front = s .front ∙ sym (take-take a a′ w₁ h) ∙ ap (take a) (t .front) ∙ take-take a a′ w h;
       rest = s .rest ∙ subst (λ (m : ℕ). drop m w₁ ≡ drop m w) d (sym (drop-drop (e - e′) e′ w₁) ∙ ap (drop (e - e′)) (t .rest) ∙ drop-drop (e - e′) e′ w);
     }
+
+-- equal before m: equal at each place there
+pub same-front : (m : ℕ) (w w′ : List ℕ) → take m w′ ≡ take m w → (i : ℕ) → i < m → getD w′ i 0 ≡ getD w i 0
+same-front m w w′ e i h = sym (getD-take m w′ i 0 h) ∙ ap (λ (t : List ℕ). getD t i 0) e ∙ getD-take m w i 0 h
 
 -- equal past m: equal at each place there
 pub same-rest : (m : ℕ) (w w′ : List ℕ) → drop m w′ ≡ drop m w → (i : ℕ) → m ≤ i → getD w′ i 0 ≡ getD w i 0

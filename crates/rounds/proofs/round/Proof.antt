@@ -22,34 +22,34 @@ abbrev numbered : tie.After-new-points → tie.After-number-edges
 numbered y = y .before .before .before .before .before .before .before
 
 edges : (x : tie.After-number-edges) → (let s = start x in x .number-edges .result ≡ edgeCount quads (take (s .args .n) (s .args .faces .now)))
-edges x = let s = start x in x .number-edges .ensures .0 ∙ counted (s .args .v) (s .args .n) (tables s) (s .pre)
+edges x = let s = start x in x .number-edges .ensures .0 ∙ counted (s .args .v) (s .args .n) (s .args .at) (s .args .drawn) (tables s) (s .pre)
 
 -- the new number of vertices
 few : (x : tie.After-number-edges) → (let s = start x in s .args .v + x .number-edges .result + s .args .n / 4 ≤ 4 * s .args .n)
 few x =
     let s = start x in
-    subst (λ (j : ℕ). s .args .v + j + s .args .n / 4 ≤ 4 * s .args .n) (sym (edges x)) (count-le (s .args .v) (s .args .n) (tables s) (s .pre))
+    subst (λ (j : ℕ). s .args .v + j + s .args .n / 4 ≤ 4 * s .args .n) (sym (edges x)) (count-le (s .args .v) (s .args .n) (s .args .at) (s .args .drawn) (tables s) (s .pre))
 
 number-edges-requires : tie.Need-number-edges-requires
-number-edges-requires c κs = let s = c .before .before .before .before in mated (s .args .v) (s .args .n) (tables s) (s .pre)
+number-edges-requires c κs = let s = c .before .before .before .before in mated (s .args .v) (s .args .n) (s .args .at) (s .args .drawn) (tables s) (s .pre)
 
 slice-reshare-prefix-new-points : tie.Need-slice-reshare-prefix-new-points
 slice-reshare-prefix-new-points c = search needs
 
 slice-aggregate-new-points : tie.Need-slice-aggregate-new-points
-slice-aggregate-new-points c = let s = start (c .before .before .before .before) in sym (corners (s .args .v) (s .args .n) (tables s) (s .pre))
+slice-aggregate-new-points c = let s = start (c .before .before .before .before) in sym (corners (s .args .v) (s .args .n) (s .args .at) (s .args .drawn) (tables s) (s .pre))
 
 slice-reshare-prefix-new-points-2 : tie.Need-slice-reshare-prefix-new-points-2
 slice-reshare-prefix-new-points-2 c = search needs
 
 slice-aggregate-new-points-2 : tie.Need-slice-aggregate-new-points-2
-slice-aggregate-new-points-2 c = let s = start (c .before .before .before .before .before) in sym (marked (s .args .v) (s .args .n) (tables s) (s .pre))
+slice-aggregate-new-points-2 c = let s = start (c .before .before .before .before .before) in sym (marked (s .args .v) (s .args .n) (s .args .at) (s .args .drawn) (tables s) (s .pre))
 
 new-points-requires : tie.Need-new-points-requires
 new-points-requires c κs =
     let x = c .before .before .before .before .before .before in
     let s = start x in
-    ready (s .args .v) (s .args .n) (tables s) (s .pre) _ (x .number-edges .ensures .1)
+    ready (s .args .v) (s .args .n) (s .args .at) (s .args .drawn) (tables s) (s .pre) _ (x .number-edges .ensures .1)
 
 add-count : tie.Need-add-count
 add-count c = let x = numbered (c .before .before .before) in let k = few x in let s = start x in let q = s .pre .small in omega arith
@@ -71,7 +71,7 @@ refine-faces-requires c κs =
     let y = c .before .before .before .before .before .before .before .before .before in
     let x = numbered y in
     let s = start x in
-    net-ready (s .args .v) (s .args .n) (tables s) (s .pre) _ (x .number-edges .ensures .1) _ (y .new-points .ensures .1) _ (edges x)
+    net-ready (s .args .v) (s .args .n) (s .args .at) (s .args .drawn) (tables s) (s .pre) _ (x .number-edges .ensures .1) _ (y .new-points .ensures .1) _ (edges x)
 
 same-length : tie.Need-same-length
 same-length c = search needs
@@ -91,7 +91,7 @@ returns c =
     let y = z .before .before .before .before .before in
     let x = numbered y in
     let s = start x in
-    refines (s .args .v) (s .args .n) (tables s) (s .pre) _ (x .number-edges .ensures .1) _ (y .new-points .ensures .1) _ _ _ _ (edges x)
+    refines (s .args .v) (s .args .n) (s .args .at) (s .args .drawn) (tables s) (s .pre) _ (x .number-edges .ensures .1) _ (y .new-points .ensures .1) _ _ _ _ (edges x)
     (y .new-points .ensures .0) (c .before .before .refine-faces .ensures) (z .extend-marks .ensures)
 
 pub round-spec : {M : Type 1} → statement M

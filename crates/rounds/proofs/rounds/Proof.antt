@@ -1,43 +1,67 @@
--- `rounds::rounds` meets its contract: before each round the mates are those of its net. Assumes nothing.
-use mathlib.Core.Path.{_≡_}
-use Prim.Native.Nat.{_+_, _-_, _*_, _^_, _≤_}
+-- `rounds::rounds` meets its contract: before each round the mates and the classes are those of its net. Assumes nothing.
+use mathlib.Core.Path.{_≡_, sym, _∙_}
+use Prim.Native.Nat.{ℕ, _+_, _-_, _*_, _^_, _≤_}
 use native.Mathlib.Omega.{arith}
 use Rattle.halfedges.specs.Tables.{MateTable}
+use Rattle.classes.specs.Classes.{Classes}
 use Rattle.curve.specs.Weights.{kobbelt}
 use Rattle.scheme.specs.Step.{steps}
 use Rattle.nets.specs.Net.{frontNet}
 use Rattle.rounds.specs.Round.{Current, Refines}
 use Rattle.nets.specs.Buffers.{Buffers, buffers}
-use Rattle.rounds.specs.Rounds.{After}
-use Rattle.rounds.proofs.Steps.{again, after-none, mated-none, kept-points, kept-faces, kept-marks, current, after-next, ready-mates, after-mates, mated-next}
+use Rattle.rounds.specs.Rounds.{Prepared, After}
+use Rattle.rounds.proofs.Steps.{again, after-none, mated-none, classes-none, corners-room, corners-length, countable, prepared-classes, after-classes, kept-points, kept-faces, kept-marks, current, after-next, ready-mates, after-mates, mated-next, classes-next}
 use Rattle.rounds.proofs.rounds.Statement.{statement}
 use Rattle.rounds.proofs.rounds.Tie as tie
 
 abbrev Inv-loop : tie.InvT-loop
-Inv-loop points₀ faces₀ marks₀ work₀ v n k count₀ corners₀ i₀ points faces marks work count corners i =
+Inv-loop points₀ faces₀ marks₀ work₀ v n k last at count₀ corners₀ i₀ points faces marks work count corners i =
     (i ≤ k) × (corners ≡ n * 4 ^ i) × After i v n count (buffers points₀ faces₀ marks₀ work₀) (buffers points faces marks work)
     × MateTable (steps kobbelt i (frontNet v n points₀ faces₀ marks₀) .faces) work
+    × Classes count (8 * last) v (steps kobbelt i (frontNet v n points₀ faces₀ marks₀) .faces) work
 
 abbrev μ-loop : tie.MeasureT-loop
-μ-loop points₀ faces₀ marks₀ work₀ v n k count₀ corners₀ i₀ points faces marks work count corners i = k - i
+μ-loop points₀ faces₀ marks₀ work₀ v n k last at count₀ corners₀ i₀ points faces marks work count corners i = k - i
 
-abbrev tables : tie.Start Inv-loop μ-loop → Buffers
-tables s = buffers (s .args .points .now) (s .args .faces .now) (s .args .marks .now) (s .args .work .now)
+abbrev lent : tie.Start Inv-loop μ-loop → Buffers
+lent s = buffers (s .args .points .now) (s .args .faces .now) (s .args .marks .now) (s .args .work .now)
+
+-- after the classes are made
+abbrev begun : tie.After-count-ring-sizes Inv-loop μ-loop → tie.Start Inv-loop μ-loop
+begun x = x .before .before .before .before .before .before .before
+
+abbrev tables : tie.After-count-ring-sizes Inv-loop μ-loop → Buffers
+tables x = let s = begun x in buffers (s .args .points .now) (s .args .faces .now) (s .args .marks .now) (x .count-ring-sizes .last .1 .0)
+
+ready : (x : tie.After-count-ring-sizes Inv-loop μ-loop) → (let s = begun x in Prepared (s .args .k) (s .args .v) (s .args .n) (s .args .last) (tables x))
+ready x =
+    let s = begun x in
+    prepared-classes (s .args .k) (s .args .v) (s .args .n) (s .args .last) (lent s) (s .pre) _ (x .count-ring-sizes .kept .1 .0) (x .count-ring-sizes .ensures .1)
+
+-- all rounds made since then are all rounds
+since : (x : tie.After-count-ring-sizes Inv-loop μ-loop) (i r : ℕ) (t : Buffers) → i ≡ begun x .args .k
+    → (let s = begun x in After i (s .args .v) (s .args .n) r (tables x) t → After (s .args .k) (s .args .v) (s .args .n) r (lent s) t)
+since x i r t e =
+    let s = begun x in
+    after-classes (s .args .k) (s .args .v) (s .args .n) (s .args .last) (lent s) (s .pre) _ (x .count-ring-sizes .kept .1 .0) (x .count-ring-sizes .ensures .1) i r t e
 
 -- before a round
+abbrev counted : tie.At-loop Inv-loop μ-loop → tie.After-count-ring-sizes Inv-loop μ-loop
+counted x = x .before .before .before
+
 abbrev start : tie.At-loop Inv-loop μ-loop → tie.Start Inv-loop μ-loop
-start x = x .before .before .before .before
+start x = begun (counted x)
 
 abbrev held : tie.At-loop Inv-loop μ-loop → Buffers
 held x = buffers (x .loop .points) (x .loop .faces) (x .loop .marks) (x .loop .work)
 
 open-round : (y : tie.In-loop Inv-loop μ-loop)
-    → (let x = y .before in Current (x .loop .count) (start x .args .n * 4 ^ x .loop .i) (held x))
+    → (let x = y .before in Current (x .loop .count) (start x .args .n * 4 ^ x .loop .i) (8 * start x .args .last) (start x .args .v) (held x))
 open-round y =
     let x = y .before in
     let s = start x in
     let h = x .loop in
-    current (s .args .k) (s .args .v) (s .args .n) (tables s) (s .pre) (h .i) (h .count) (held x) (h .inv .2) (h .inv .3) (y .loop-test .taken)
+    current (s .args .k) (s .args .v) (s .args .n) (s .args .last) (tables (counted x)) (ready (counted x)) (h .i) (h .count) (held x) (h .inv .2) (h .inv .3) (h .inv .4) (y .loop-test .taken)
 
 -- after it
 abbrev turn : tie.After-round Inv-loop μ-loop → tie.In-loop Inv-loop μ-loop
@@ -54,18 +78,46 @@ refined : (z : tie.After-round Inv-loop μ-loop)
 refined z = let x = top z in let e : x .loop .corners ≡ start x .args .n * 4 ^ x .loop .i = x .loop .inv .1 in rw e at (z .round .ensures)
 
 done : (z : tie.After-round Inv-loop μ-loop)
-    → (let x = top z in let s = start x in After (x .loop .i + 1) (s .args .v) (s .args .n) (z .round .result) (tables s) (made z))
+    → (let x = top z in let s = start x in After (x .loop .i + 1) (s .args .v) (s .args .n) (z .round .result) (tables (counted x)) (made z))
 done z =
     let x = top z in
     let s = start x in
     let h = x .loop in
-    after-next (s .args .k) (s .args .v) (s .args .n) (tables s) (s .pre) (h .i) (h .count) (held x) (h .inv .2) (h .inv .3) (turn z .loop-test .taken) _ (made z)
+    after-next (s .args .k) (s .args .v) (s .args .n) (s .args .last) (tables (counted x)) (ready (counted x)) (h .i) (h .count) (held x) (h .inv .2) (h .inv .3) (h .inv .4) (turn z .loop-test .taken) _ (made z)
     (refined z) (z .round .kept .1 .1 .1 .0)
+
+returns : tie.Need-returns Inv-loop μ-loop
+returns c =
+    let s = c .before .before .before .before in
+    let e : s .args .k ≡ 0 = c .if1 .taken in
+    rw e (after-none (s .args .k) (s .args .v) (s .args .n) (s .args .last) (lent s) (s .pre))
+
+mul-at : tie.Need-mul-at Inv-loop μ-loop
+mul-at c = let s = c .before .before .before .before in let z = s .pre .size in let e = s .pre .final in omega arith
+
+slice-reshare-prefix-count-ring-sizes : tie.Need-slice-reshare-prefix-count-ring-sizes Inv-loop μ-loop
+slice-reshare-prefix-count-ring-sizes c = let s = c .before .before .before .before in corners-room (s .args .k) (s .args .v) (s .args .n) (s .args .last) (lent s) (s .pre)
+
+slice-aggregate-count-ring-sizes : tie.Need-slice-aggregate-count-ring-sizes Inv-loop μ-loop
+slice-aggregate-count-ring-sizes c = let s = c .before .before .before .before .before in sym (corners-length (s .args .k) (s .args .v) (s .args .n) (s .args .last) (lent s) (s .pre))
+
+count-ring-sizes-requires : tie.Need-count-ring-sizes-requires Inv-loop μ-loop
+count-ring-sizes-requires c κs =
+    let y = c .before .before in
+    let s = y .before .before .before .before in
+    let e = y .if1 .left in
+    countable (s .args .k) (s .args .v) (s .args .n) (s .args .last) (lent s) (s .pre) (omega arith)
 
 loop-holds : tie.Need-loop-holds Inv-loop μ-loop
 loop-holds c =
-    let s = c .before .before .before in
-    (omega arith, omega arith, after-none (s .args .k) (s .args .v) (s .args .n) (tables s) (s .pre), mated-none (s .args .k) (s .args .v) (s .args .n) (tables s) (s .pre))
+    let x = c .before .before in
+    let s = begun x in (
+      omega arith,
+      omega arith,
+      after-none (s .args .k) (s .args .v) (s .args .n) (s .args .last) (tables x) (ready x),
+      mated-none (s .args .k) (s .args .v) (s .args .n) (s .args .last) (tables x) (ready x),
+      classes-none (s .args .k) (s .args .v) (s .args .n) (s .args .last) (tables x) (ready x) (x .count-ring-sizes .ensures .0),
+    )
 
 round-requires : tie.Need-round-requires Inv-loop μ-loop
 round-requires c κs =
@@ -80,32 +132,35 @@ add-i c = let y = turn (c .before .before .before .before .before .before .befor
 same-length : tie.Need-same-length Inv-loop μ-loop
 same-length c =
     let z = c .before .before .before .before .before .before .before .before in
-    let s = start (top z) in
+    let x = top z in
+    let s = start x in
     let b = turn z .loop-test .taken in
-    kept-points (s .args .k) (s .args .v) (s .args .n) (tables s) (s .pre) _ _ (made z) (done z) (omega arith)
+    kept-points (s .args .k) (s .args .v) (s .args .n) (s .args .last) (tables (counted x)) (ready (counted x)) _ _ (made z) (done z) (omega arith)
 
 same-length-2 : tie.Need-same-length-2 Inv-loop μ-loop
 same-length-2 c =
     let z = c .before .before .before .before .before .before .before .before in
-    let s = start (top z) in
+    let x = top z in
+    let s = start x in
     let b = turn z .loop-test .taken in
-    kept-faces (s .args .k) (s .args .v) (s .args .n) (tables s) (s .pre) _ _ (made z) (done z) (omega arith)
+    kept-faces (s .args .k) (s .args .v) (s .args .n) (s .args .last) (tables (counted x)) (ready (counted x)) _ _ (made z) (done z) (omega arith)
 
 same-length-3 : tie.Need-same-length-3 Inv-loop μ-loop
 same-length-3 c =
     let z = c .before .before .before .before .before .before .before .before in
-    let s = start (top z) in
+    let x = top z in
+    let s = start x in
     let b = turn z .loop-test .taken in
-    kept-marks (s .args .k) (s .args .v) (s .args .n) (tables s) (s .pre) _ _ (made z) (done z) (omega arith)
+    kept-marks (s .args .k) (s .args .v) (s .args .n) (s .args .last) (tables (counted x)) (ready (counted x)) _ _ (made z) (done z) (omega arith)
 
 same-length-4 : tie.Need-same-length-4 Inv-loop μ-loop
-same-length-4 c = done (c .before .before .before .before .before .before .before .before) .kept
+same-length-4 c = let z = c .before .before .before .before .before .before .before .before in done z .kept ∙ counted (top z) .count-ring-sizes .kept .1 .0
 
-returns : tie.Need-returns Inv-loop μ-loop
-returns c =
+returns-2 : tie.Need-returns-2 Inv-loop μ-loop
+returns-2 c =
     let z = c .before .before .before .before .before .before .before .before in
-    let q : start (top z) .args .k ≡ top z .loop .i + 1 = (let t = c .if1 .taken in omega arith) in
-    rw q (done z)
+    let x = top z in
+    since (counted x) (x .loop .i + 1) (z .round .result) (made z) (let t = c .if2 .taken in omega arith) (done z)
 
 refine-mates-requires : tie.Need-refine-mates-requires Inv-loop μ-loop
 refine-mates-requires c κs =
@@ -114,7 +169,7 @@ refine-mates-requires c κs =
     let s = start x in
     let h = x .loop in
     let e : h .corners ≡ s .args .n * 4 ^ h .i = h .inv .1 in
-    rw e (ready-mates (s .args .k) (s .args .v) (s .args .n) (tables s) (s .pre) (h .i) (h .count) (held x) (h .inv .2) (h .inv .3) (turn z .loop-test .taken) _ (made z)
+    rw e (ready-mates (s .args .k) (s .args .v) (s .args .n) (s .args .last) (tables (counted x)) (ready (counted x)) (h .i) (h .count) (held x) (h .inv .2) (h .inv .3) (h .inv .4) (turn z .loop-test .taken) _ (made z)
     (refined z) (z .round .kept .1 .1 .1 .0))
 
 -- after the mates are refined
@@ -146,8 +201,9 @@ loop-again c =
     let y = t .refine-mates .kept .0 in (
       omega arith,
       again (s .args .n) (h .i) _ e,
-      after-mates (s .args .k) (s .args .v) (s .args .n) (tables s) (s .pre) (h .i) (h .count) (held x) (h .inv .2) (h .inv .3) b _ (made z) (refined z) k _ y d,
-      mated-next (s .args .k) (s .args .v) (s .args .n) (tables s) (s .pre) (h .i) (h .count) (held x) (h .inv .2) (h .inv .3) b _ (made z) (refined z) k _ y d,
+      after-mates (s .args .k) (s .args .v) (s .args .n) (s .args .last) (tables (counted x)) (ready (counted x)) (h .i) (h .count) (held x) (h .inv .2) (h .inv .3) (h .inv .4) b _ (made z) (refined z) k _ y d,
+      mated-next (s .args .k) (s .args .v) (s .args .n) (s .args .last) (tables (counted x)) (ready (counted x)) (h .i) (h .count) (held x) (h .inv .2) (h .inv .3) (h .inv .4) b _ (made z) (refined z) k _ y d,
+      classes-next (s .args .k) (s .args .v) (s .args .n) (s .args .last) (tables (counted x)) (ready (counted x)) (h .i) (h .count) (held x) (h .inv .2) (h .inv .3) (h .inv .4) b _ (made z) (refined z) k _ y d,
     )
 
 -- after the last round
@@ -156,31 +212,30 @@ same-length-5 c =
     let x = c .before in
     let s = start x in
     let h = x .loop in
-    kept-points (s .args .k) (s .args .v) (s .args .n) (tables s) (s .pre) (h .i) (h .count) (held x) (h .inv .2) (h .inv .0)
+    kept-points (s .args .k) (s .args .v) (s .args .n) (s .args .last) (tables (counted x)) (ready (counted x)) (h .i) (h .count) (held x) (h .inv .2) (h .inv .0)
 
 same-length-6 : tie.Need-same-length-6 Inv-loop μ-loop
 same-length-6 c =
     let x = c .before in
     let s = start x in
     let h = x .loop in
-    kept-faces (s .args .k) (s .args .v) (s .args .n) (tables s) (s .pre) (h .i) (h .count) (held x) (h .inv .2) (h .inv .0)
+    kept-faces (s .args .k) (s .args .v) (s .args .n) (s .args .last) (tables (counted x)) (ready (counted x)) (h .i) (h .count) (held x) (h .inv .2) (h .inv .0)
 
 same-length-7 : tie.Need-same-length-7 Inv-loop μ-loop
 same-length-7 c =
     let x = c .before in
     let s = start x in
     let h = x .loop in
-    kept-marks (s .args .k) (s .args .v) (s .args .n) (tables s) (s .pre) (h .i) (h .count) (held x) (h .inv .2) (h .inv .0)
+    kept-marks (s .args .k) (s .args .v) (s .args .n) (s .args .last) (tables (counted x)) (ready (counted x)) (h .i) (h .count) (held x) (h .inv .2) (h .inv .0)
 
 same-length-8 : tie.Need-same-length-8 Inv-loop μ-loop
-same-length-8 c = c .before .loop .inv .2 .kept
+same-length-8 c = let x = c .before in x .loop .inv .2 .kept ∙ counted x .count-ring-sizes .kept .1 .0
 
-returns-2 : tie.Need-returns-2 Inv-loop μ-loop
-returns-2 c =
+returns-3 : tie.Need-returns-3 Inv-loop μ-loop
+returns-3 c =
     let x = c .before in
     let h = x .loop in
-    let e : start x .args .k ≡ h .i = (let a = h .inv .0 in let b = c .loop-test .left in omega arith) in
-    rw e (h .inv .2)
+    since (counted x) (h .i) (h .count) (held x) (let a = h .inv .0 in let b = c .loop-test .left in omega arith) (h .inv .2)
 
 pub rounds-spec : {M : Type 1} → statement M
 rounds-spec =
@@ -188,6 +243,11 @@ rounds-spec =
     (tie.spec
     Inv-loop
     μ-loop
+    returns
+    mul-at
+    slice-reshare-prefix-count-ring-sizes
+    slice-aggregate-count-ring-sizes
+    count-ring-sizes-requires
     loop-holds
     round-requires
     add-i
@@ -195,7 +255,7 @@ rounds-spec =
     same-length-2
     same-length-3
     same-length-4
-    returns
+    returns-2
     refine-mates-requires
     mul-corners
     loop-less
@@ -204,4 +264,4 @@ rounds-spec =
     same-length-6
     same-length-7
     same-length-8
-    returns-2)
+    returns-3)
