@@ -97,7 +97,7 @@ module _ (n : ℕ) (w : List ℕ) where
         on₂ = plain-at 2 h t ok (omega arith) lt i k;
       }
 
-  pub beyond-lt : (h : ℕ) → FaceTable n w → getD w h 0 < n → beyondOf w h < n
+  beyond-lt : (h : ℕ) → FaceTable n w → getD w h 0 < n → beyondOf w h < n
   unfolding beyondOf
   beyond-lt h ok k = across-lt n (getD w h 0) (ok .fours) k
 

@@ -72,12 +72,11 @@ pub record AllPlain (n : ℕ) (w : List ℕ) (f : ℕ) : Type 0 where
   pub side₂ : PlainTwice n w (4 * f + 2)
   pub side₃ : PlainTwice n w (4 * f + 3)
 
--- n half-edges by fours with their mates; every entry leads to an exact point that can be read; an edge without a mate has the flag of the boundary; where all
+-- n half-edges by fours; every entry leads to an exact point that can be read; an edge without a mate has the flag of the boundary; where all
 -- eight edges of a face are plain, its directions agree
 pub record FaceTable (n : ℕ) (w : List ℕ) : Type 0 where
   pub fours : n % 4 ≡ 0
   pub few : n ≤ 262144
-  pub mates : (h : ℕ) → h < n → getD w h 0 ≤ n
   pub room : 8 * n ≤ length w
   pub numbers : (h : ℕ) → h < n → edgeOf (entryOf n w h) < n
   pub boundary : (h : ℕ) → h < n → entryOf n w h < boundaryFlag → getD w h 0 < n
