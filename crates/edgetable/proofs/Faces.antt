@@ -17,7 +17,7 @@ use Rattle.rings.specs.Scales.{faceScale, edgeRange}
 use Rattle.topology.specs.Shape.{quads}
 use Rattle.topology.specs.HalfEdge.{from, to, mate, edge, edgeCount}
 use Rattle.topology.specs.Quads.{across, beyond}
-use Rattle.topology.proofs.Mates.{mate-le, edge-lt, edges-le}
+use Rattle.topology.proofs.Mates.{edge-lt, edges-le}
 use Rattle.scheme.specs.Points.{inner, fourInner, FaceRule, firstAlone, secondAlone, bothInner, neitherInner, faceRule}
 use Rattle.schemelaws.specs.Numerators.{edgeZ, directionZ, faceValueZ, faceZ}
 use Rattle.schemelaws.specs.Agreement.{SideOf, EightOrdinary}
@@ -207,7 +207,6 @@ module _ (l marks : List ℕ) (p₀ : List ℤ) (w₀ : List ℕ) (at drawn : �
       record {
         fours = ok .table .sides .fours;
         few = ok .table .sides .few;
-        mates = λ h b. let e = mate-now h b in let c = mate-le quads l h in omega arith;
         room = omega arith;
         numbers = λ h b. let e = number-is h b in let c = edge-lt quads (length marks) l (ok .net .oriented) h b in let d = edges-le quads l in omega arith;
         boundary = λ h b c.
