@@ -117,7 +117,7 @@ pub fn interior_exact(points: &[i32], o: usize, p: usize, q: usize, r: usize) ->
 }
 
 // Coordinate a of the far point o beyond p, which is x; y is that of the other near point.
-fn far_on(points: &[i32], o: Far, x: i64, y: i64, a: usize) -> i64
+pub fn far_on(points: &[i32], o: Far, x: i64, y: i64, a: usize) -> i64
     requires { ⌜ (a < 3) × FarIn (now points) o × (natAbs x < 2 ^ 56) × (natAbs y < 2 ^ 56) ⌝ }
     ensures { λ z. ⌜ z ≡ farValue (axis (now (points .entry)) a) o x y ⌝ }
 {

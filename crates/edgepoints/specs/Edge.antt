@@ -1,7 +1,8 @@
 -- The exact point of one edge on the caller's tables.
 use mathlib.Core.Path.{_≡_}
+use mathlib.Core.Bool.{true}
 use mathlib.Core.List.{List}
-use Prim.Native.Nat.{ℕ, _≤_, _<_}
+use Prim.Native.Nat.{ℕ, _+_, _≤_, _<_}
 use lib.IntN.{ℤ, pos, natAbs, _*ℤ_}
 use lib.ListN.{length}
 use Rattle.curve.specs.Weights.{kobbelt}
@@ -10,6 +11,7 @@ use Rattle.topology.specs.Shape.{quads}
 use Rattle.topology.specs.HalfEdge.{from, to, mate}
 use Rattle.scheme.specs.Points as points
 use Rattle.schemelaws.specs.Ordinary.{Ordinary, straight}
+use Rattle.classes.specs.Classes.{ordinaryBy}
 use Rattle.coordinates.specs.declared.Far.{Far}
 use Rattle.coordinates.specs.declared.Far.the-variants.{At}
 use Rattle.coordinates.specs.Entry.{wideFlag, boundaryFlag, unitOf}
@@ -42,6 +44,15 @@ pub record OrdinaryEnds (l : List ℕ) (h : ℕ) : Type 0 where
 pub record StraightFar (l : List ℕ) (h : ℕ) (f : Far) : Type 0 where
   pub value : (e : ℕ → ℤ) → farValue e f (e (from l h)) (e (to quads l h)) ≡ straight l e h
   pub corner : (o : ℕ) → f ≡ At o → CornerOf l o
+
+-- the value of the far point f beyond p, where q is the other near point
+abbrev pub farOn : (ℕ → ℤ) → Far → (p q : ℕ) → ℤ
+farOn e f p q = farValue e f (e p) (e q)
+
+-- the corners of l that the classes in w, from `at` on, call ordinary are
+pub record Told (at drawn : ℕ) (l w : List ℕ) : Type 0 where
+  pub room : at + drawn ≤ length w
+  pub ordinary : (h : ℕ) → h < length l → ordinaryBy w at drawn (from l h) ≡ true → Ordinary l (from l h)
 
 -- the flag that the edge of h has. Open, and may differ between correct programs: whether an inner edge between ordinary vertices is wide
 pub data Flagged (l : List ℕ) (h flag : ℕ) : Type 0 where

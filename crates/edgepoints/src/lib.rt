@@ -1,22 +1,25 @@
 // The exact point on any edge, on the caller's tables.
 ghost use mathlib.Core.Path.{_≡_};
-ghost use Prim.Native.Nat.{ℕ, _<_};
+ghost use Prim.Native.Nat.{ℕ, _≤_, _<_};
+ghost use lib.IntN.{pos, natAbs, _*ℤ_};
 ghost use lib.ListN.{length};
 ghost use Rattle.integers.specs.Within.{Within};
 ghost use Rattle.curve.specs.Weights.{kobbelt};
-ghost use Rattle.rings.specs.Scales.{coordinateRange};
+ghost use Rattle.rings.specs.Scales.{virtualScale, coordinateRange, virtualRange};
+ghost use Rattle.rules.specs.Numerators.{innerEdgeZ};
 ghost use Rattle.topology.specs.Shape.{quads};
 ghost use Rattle.topology.specs.HalfEdge.{from, to, mate};
 ghost use Rattle.topology.specs.Boundary.{OnBoundary, along, back};
 ghost use Rattle.scheme.specs.Points.{innerRule, edgeRule};
 ghost use Rattle.nets.specs.Net.{marked, axis};
 ghost use Rattle.schemelaws.specs.Ordinary.{Ordinary, ordinaryValue};
+ghost use Rattle.schemelaws.specs.Numerators.{virtualAtZ, edgeValueZ, edgeZ};
 ghost use Rattle.halfedges.specs.Tables.{Quadrilaterals};
 ghost use Rattle.walks.specs.Ready.{Ready};
-ghost use Rattle.coordinates.specs.Points.{InTable, Points, OnAxes};
-ghost use Rattle.coordinates.specs.Entry.{boundaryFlag};
+ghost use Rattle.coordinates.specs.Points.{InTable, Points, Marks, OnAxes};
+ghost use Rattle.coordinates.specs.Entry.{wideFlag, boundaryFlag};
 ghost use Rattle.coordinates.specs.Stencil.{FarIn, stencilValue};
-ghost use Rattle.edgepoints.specs.Edge.{ruleOf, StraightFar, OrdinaryEnds};
+ghost use Rattle.edgepoints.specs.Edge.{ruleOf, farOn, StraightFar, OrdinaryEnds, Told, Flagged, ExactPoint};
 use coordinates::Exact;
 use coordinates::Far;
 
@@ -24,6 +27,8 @@ use coordinates::Far;
 const WIDE: u32 = 536870912;
 
 const BOUNDARY: u32 = 1073741824;
+
+const VIRTUAL_SCALE: i64 = 453600;
 
 // Which rule makes the point on an edge.
 pub enum EdgeRule {
@@ -152,4 +157,138 @@ fn plain_exact(points: &[i32], faces: &[u32], work: &[u32], h: usize, m: usize) 
         }
     }
     sided_exact(points, faces, work, h, m)
+}
+
+// Coordinate a of vertex v, over the denominator of virtual points.
+fn scaled(points: &[i32], v: usize, a: usize) -> i64
+    requires { ⌜ (a < 3) × InTable (now points) v × Within coordinateRange (now points) ⌝ }
+    ensures { λ r. ⌜ r ≡ pos (virtualScale kobbelt) *ℤ axis (now (points .entry)) a v ⌝ }
+{
+    VIRTUAL_SCALE * coordinates::coordinate(points, v, a)
+}
+
+// The far point f beyond p, over the same denominator; q is the other near point.
+fn scaled_far(points: &[i32], f: Far, p: usize, q: usize, a: usize) -> i64
+    requires { ⌜ Within coordinateRange (now points) ⌝ }
+    requires { ⌜ (a < 3) × FarIn (now points) f × InTable (now points) p × InTable (now points) q ⌝ }
+    ensures { λ r. ⌜ r ≡ pos (virtualScale kobbelt) *ℤ farOn (axis (now (points .entry)) a) f p q ⌝ }
+{
+    let x = coordinates::coordinate(points, p, a);
+    let y = coordinates::coordinate(points, q, a);
+    VIRTUAL_SCALE * coordinates::far_on(points, f, x, y, a)
+}
+
+// The virtual point at the ordinary vertex that the inner half-edge h leaves, on its edge: what lies straight across.
+fn straight_virtual(points: &[i32], faces: &[u32], work: &[u32], h: usize) -> Exact
+    requires { ⌜ Ready (now faces) (now work) ⌝ }
+    requires { ⌜ Points (now faces) (now points) ⌝ }
+    requires { ⌜ (h < length (now faces)) × (mate quads (now faces) h < length (now faces)) × Ordinary (now faces) (from (now faces) h) ⌝ }
+    ensures { λ e. ⌜ OnAxes (λ (a : ℕ). virtualAtZ kobbelt (now (faces .entry)) (axis (now (points .entry)) a) h) (e .x) (e .y) (e .z) ⌝ }
+{
+    let p = halfedges::start_of(faces, h);
+    let q = halfedges::end_of(faces, h);
+    let f = straight_far(faces, work, h);
+    Exact {
+        x: scaled_far(points, f, p, q, 0),
+        y: scaled_far(points, f, p, q, 1),
+        z: scaled_far(points, f, p, q, 2),
+    }
+}
+
+// The virtual point at the vertex that the inner half-edge h leaves, on its edge.
+fn end_virtual(points: &[i32], faces: &[u32], work: &[u32], at: usize, drawn: usize, h: usize) -> Exact
+    requires { ⌜ Ready (now faces) (now work) ⌝ }
+    requires { ⌜ Points (now faces) (now points) × Told at drawn (now faces) (now work) ⌝ }
+    requires { ⌜ (h < length (now faces)) × (mate quads (now faces) h < length (now faces)) ⌝ }
+    ensures { λ e. ⌜ OnAxes (λ (a : ℕ). virtualAtZ kobbelt (now (faces .entry)) (axis (now (points .entry)) a) h) (e .x) (e .y) (e .z) ⌝ }
+{
+    if classes::is_ordinary(work, at, drawn, halfedges::start_of(faces, h)) {
+        return straight_virtual(points, faces, work, h);
+    }
+    virtualpoints::virtual_point(points, faces, work, h)
+}
+
+// Coordinate a of the point between p and q, from the virtual points u and w.
+fn wide_on(points: &[i32], p: usize, q: usize, u: i64, w: i64, a: usize) -> i64
+    requires { ⌜ (a < 3) × InTable (now points) p × InTable (now points) q × Within coordinateRange (now points) ⌝ }
+    requires { ⌜ (natAbs u ≤ virtualRange kobbelt) × (natAbs w ≤ virtualRange kobbelt) ⌝ }
+    ensures { λ r. ⌜ r ≡ innerEdgeZ kobbelt (axis (now (points .entry)) a p) (axis (now (points .entry)) a q) u w ⌝ }
+{
+    curve::four_point(u, scaled(points, p, a), scaled(points, q, a), w)
+}
+
+// The point on the inner edge of h, whose mate is m, from its two virtual points.
+fn wide_edge(points: &[i32], faces: &[u32], work: &[u32], at: usize, drawn: usize, h: usize, m: usize) -> Edge
+    requires { ⌜ Ready (now faces) (now work) ⌝ }
+    requires { ⌜ Points (now faces) (now points) × Told at drawn (now faces) (now work) ⌝ }
+    requires { ⌜ (h < length (now faces)) × (m ≡ mate quads (now faces) h) × (m < length (now faces)) ⌝ }
+    ensures { λ e. ⌜ (e .flag ≡ wideFlag) × OnAxes (λ (a : ℕ). edgeValueZ kobbelt (now (faces .entry)) (axis (now (points .entry)) a) h innerRule) (e .x) (e .y) (e .z) ⌝ }
+{
+    let p = halfedges::start_of(faces, h);
+    let q = halfedges::end_of(faces, h);
+    let u = end_virtual(points, faces, work, at, drawn, h);
+    let w = end_virtual(points, faces, work, at, drawn, m);
+    Edge {
+        x: wide_on(points, p, q, u.x, w.x, 0),
+        y: wide_on(points, p, q, u.y, w.y, 1),
+        z: wide_on(points, p, q, u.z, w.z, 2),
+        flag: WIDE,
+    }
+}
+
+// The point on the inner edge of h, whose mate is m.
+fn inner_edge(points: &[i32], faces: &[u32], work: &[u32], at: usize, drawn: usize, h: usize, m: usize) -> Edge
+    requires { ⌜ Ready (now faces) (now work) ⌝ }
+    requires { ⌜ Points (now faces) (now points) × Told at drawn (now faces) (now work) ⌝ }
+    requires { ⌜ (h < length (now faces)) × (m ≡ mate quads (now faces) h) × (m < length (now faces)) ⌝ }
+    ensures { λ e. ⌜ Flagged (now (faces .entry)) h (e .flag) × ExactPoint (e .flag) (λ (a : ℕ). edgeValueZ kobbelt (now (faces .entry)) (axis (now (points .entry)) a) h innerRule) (e .x) (e .y) (e .z) ⌝ }
+{
+    if classes::is_ordinary(work, at, drawn, halfedges::start_of(faces, h)) {
+        if classes::is_ordinary(work, at, drawn, halfedges::end_of(faces, h)) {
+            let e = plain_exact(points, faces, work, h, m);
+            return Edge {
+                x: e.x,
+                y: e.y,
+                z: e.z,
+                flag: 0,
+            };
+        }
+    }
+    wide_edge(points, faces, work, at, drawn, h, m)
+}
+
+// The point on the edge of h, whose mate is m or none.
+pub fn edge_exact(
+    points: &[i32],
+    faces: &[u32],
+    marks: &[u8],
+    work: &[u32],
+    at: usize,
+    drawn: usize,
+    h: usize,
+    m: usize,
+) -> Edge
+    requires { ⌜ Ready (now faces) (now work) ⌝ }
+    requires { ⌜ Points (now faces) (now points) × Marks (now faces) (now marks) × Told at drawn (now faces) (now work) ⌝ }
+    requires { ⌜ (h < length (now faces)) × (m ≡ mate quads (now faces) h) ⌝ }
+    ensures { λ e. ⌜ Flagged (now (faces .entry)) h (e .flag) × ExactPoint (e .flag) (λ (a : ℕ). edgeZ kobbelt (now (faces .entry)) (now (marks .entry)) (axis (now (points .entry)) a) h) (e .x) (e .y) (e .z) ⌝ }
+{
+    let rule = edge_rule(faces, marks, h, m);
+    match rule {
+        EdgeRule::InnerRule => inner_edge(points, faces, work, at, drawn, h, m),
+        EdgeRule::InsideSegment => {
+            let o = Far::At(vertex_before(faces, work, h));
+            let r = Far::At(vertex_after(faces, work, h));
+            boundary_edge(points, faces, h, o, r)
+        }
+        EdgeRule::StartOfSegment => {
+            let r = Far::At(vertex_after(faces, work, h));
+            boundary_edge(points, faces, h, Far::Nowhere, r)
+        }
+        EdgeRule::EndOfSegment => {
+            let o = Far::At(vertex_before(faces, work, h));
+            boundary_edge(points, faces, h, o, Far::Nowhere)
+        }
+        EdgeRule::WholeSegment => boundary_edge(points, faces, h, Far::Nowhere, Far::Nowhere),
+    }
 }

@@ -1,0 +1,39 @@
+-- `end_virtual` meets its contract. Assumes nothing.
+use mathlib.Core.Path.{_≡_, sym, ap, _∙_}
+use mathlib.Core.Bool.{true}
+use borrow.Author.Needs.{needs}
+use Rattle.classes.specs.Classes.{ordinaryBy}
+use Rattle.edgepoints.proofs.Wide.{virtual-is}
+use Rattle.edgepoints.proofs.end_virtual.Statement.{statement}
+use Rattle.edgepoints.proofs.end_virtual.Tie as tie
+
+start-of-requires : tie.Need-start-of-requires
+start-of-requires c κs = search needs
+
+is-ordinary-requires : tie.Need-is-ordinary-requires
+is-ordinary-requires c κs = search needs
+
+straight-virtual-requires : tie.Need-straight-virtual-requires
+straight-virtual-requires c κs =
+    let x = c .before in
+    let p = x .before in
+    let s = p .before .before .before in
+    let told = s .pre .1 .0 .1 in
+    let e = ap (ordinaryBy (s .args .work .now) (s .args .at) (s .args .drawn)) (sym (p .start-of .ensures)) ∙ sym (x .is-ordinary .ensures) ∙ c .if1 .taken in
+    (s .pre .0, (s .pre .1 .0 .0, (s .pre .1 .1 .0, s .pre .1 .1 .1, told .ordinary _ (s .pre .1 .1 .0) e)))
+
+returns : tie.Need-returns
+returns c = search needs
+
+virtual-point-requires : tie.Need-virtual-point-requires
+virtual-point-requires c κs = ?
+
+returns-2 : tie.Need-returns-2
+returns-2 c =
+    let s = c .before .before .before .before .before .before in
+    let r = c .virtual-point .result in
+    virtual-is (s .pre .0 .vertices) _ (s .pre .0 .net) (s .args .points .now) _ (s .pre .1 .1 .0) (r .x) (r .y) (r .z) (c .virtual-point .ensures)
+
+pub end-virtual-spec : {M : Type 1} → statement M
+end-virtual-spec =
+    tie.close (tie.spec start-of-requires is-ordinary-requires straight-virtual-requires returns virtual-point-requires returns-2)
