@@ -63,25 +63,25 @@ module _ (v : ℕ) (l : List ℕ) (ok : Manifold quads v l) (s : ℕ) (o : OnBou
       let s₂ = extrapolated-size t b 2 in
       record { on₀ = omega arith; on₁ = omega arith; on₂ = omega arith }
 
-  -- what the code makes of it
-  module _ (m : ℕ) (L K : List ℕ) (f : OpenFan l s m L K) (t : List ℤ) (a : ℕ) (P Q r : ℤ) (eP : P ≡ axis t a (from l s)) where
-    pub corner-made : m ≡ 1 → Q ≡ axis t a (getD K 0 0) → r ≡ pos (2 * extrapolatedScale) *ℤ P -ℤ pos extrapolatedScale *ℤ Q → r ≡ extrapolatedOn l t s a
-    unfolding extrapolatedAtZ iterate
-    corner-made c eQ er =
-        let d = starts in
-        let q = eq-eqb (valence l (from l s)) 1 (sym (f .count) ∙ c) in
-        let x = f .filled .corners 0 (f .some) in
-        rw (q, d) (er ∙ ap₂ (λ (y z : ℤ). pos (2 * extrapolatedScale) *ℤ y -ℤ pos extrapolatedScale *ℤ z) eP (eQ ∙ ap (axis t a) x))
+-- what the code makes of it
+module _ (l : List ℕ) (s m : ℕ) (L K : List ℕ) (f : OpenFan l s m L K) (t : List ℤ) (a : ℕ) (P Q r : ℤ) (eP : P ≡ axis t a (from l s)) where
+  pub corner-made : m ≡ 1 → Q ≡ axis t a (getD K 0 0) → r ≡ pos (2 * extrapolatedScale) *ℤ P -ℤ pos extrapolatedScale *ℤ Q → r ≡ extrapolatedOn l t s a
+  unfolding extrapolatedAtZ iterate
+  corner-made c eQ er =
+      let d = starts (f .vertices) l (f .net) s (f .start) in
+      let q = eq-eqb (valence l (from l s)) 1 (sym (f .count) ∙ c) in
+      let x = f .filled .corners 0 (f .some) in
+      rw (q, d) (er ∙ ap₂ (λ (y z : ℤ). pos (2 * extrapolatedScale) *ℤ y -ℤ pos extrapolatedScale *ℤ z) eP (eQ ∙ ap (axis t a) x))
 
-    pub mean-made : (m ≡ 1 → ⊥) → Q ≡ sum (m - 1) (farOf t a L) → r ≡ pos (2 * extrapolatedScale) *ℤ P -ℤ pos (extrapolatedScale / (m - 1)) *ℤ Q → r ≡ extrapolatedOn l t s a
-    unfolding extrapolatedAtZ
-    mean-made n eQ er =
-        let d = starts in
-        let c = f .count in
-        let q = ne-eqb (valence l (from l s)) 1 (λ x. n (c ∙ x)) in
-        let g : sum (m - 1) (farOf t a L) ≡ sum (m - 1) (λ (i : ℕ). axis t a (fanEnd l s (suc i))) =
-        sum-cong (m - 1) (farOf t a L) (λ (i : ℕ). axis t a (fanEnd l s (suc i)))
-        (λ i b. let k : suc i < m = omega arith in let j : i + 1 ≡ suc i = omega arith in ap (axis t a) (ap (λ (x : ℕ). getD L x 0) j ∙ f .filled .neighbours (suc i) k ∙ sym (end-inside (suc i) (omega arith)))) in
-        let y : r ≡ pos (2 * extrapolatedScale) *ℤ axis t a (from l s) -ℤ pos (extrapolatedScale / (m - 1)) *ℤ sum (m - 1) (λ (i : ℕ). axis t a (fanEnd l s (suc i))) =
-        er ∙ ap₂ (λ (y z : ℤ). pos (2 * extrapolatedScale) *ℤ y -ℤ pos (extrapolatedScale / (m - 1)) *ℤ z) eP (eQ ∙ g) in
-        rw (q, d) (rw c at y)
+  pub mean-made : (m ≡ 1 → ⊥) → Q ≡ sum (m - 1) (farOf t a L) → r ≡ pos (2 * extrapolatedScale) *ℤ P -ℤ pos (extrapolatedScale / (m - 1)) *ℤ Q → r ≡ extrapolatedOn l t s a
+  unfolding extrapolatedAtZ
+  mean-made n eQ er =
+      let d = starts (f .vertices) l (f .net) s (f .start) in
+      let c = f .count in
+      let q = ne-eqb (valence l (from l s)) 1 (λ x. n (c ∙ x)) in
+      let g : sum (m - 1) (farOf t a L) ≡ sum (m - 1) (λ (i : ℕ). axis t a (fanEnd l s (suc i))) =
+      sum-cong (m - 1) (farOf t a L) (λ (i : ℕ). axis t a (fanEnd l s (suc i)))
+      (λ i b. let k : suc i < m = omega arith in let j : i + 1 ≡ suc i = omega arith in ap (axis t a) (ap (λ (x : ℕ). getD L x 0) j ∙ f .filled .neighbours (suc i) k ∙ sym (end-inside (f .vertices) l (f .net) s (f .start) (suc i) (omega arith)))) in
+      let y : r ≡ pos (2 * extrapolatedScale) *ℤ axis t a (from l s) -ℤ pos (extrapolatedScale / (m - 1)) *ℤ sum (m - 1) (λ (i : ℕ). axis t a (fanEnd l s (suc i))) =
+      er ∙ ap₂ (λ (y z : ℤ). pos (2 * extrapolatedScale) *ℤ y -ℤ pos (extrapolatedScale / (m - 1)) *ℤ z) eP (eQ ∙ g) in
+      rw (q, d) (rw c at y)

@@ -1,3 +1,4 @@
 pub mod Turning
 pub mod Sums
 pub mod Extrapolated
+pub mod Rings

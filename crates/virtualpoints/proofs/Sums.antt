@@ -21,8 +21,9 @@ use Rattle.rings.proofs.Periodic.{wrap-periodic, sum-turned}
 use Rattle.rings.proofs.Virtual.{virtual-weighted}
 use Rattle.rings.proofs.Table.{row-l, row-k}
 use Rattle.nets.specs.Net.{axis}
+use Rattle.coordinates.specs.Points.{OnAxes}
 use Rattle.coordinates.proofs.Values.{axis-bound}
-use Rattle.virtualpoints.specs.Sums.{weighed, placeOn, weightedSum}
+use Rattle.virtualpoints.specs.Sums.{weighed, placeOn, weightedSum, ringSum, fanSum, fanOn}
 
 -- ---- places
 pub place-before : (n s : ℕ) → s < n → placeOn n s ≡ s
@@ -72,6 +73,34 @@ terms-small w n e m t a L K s b h k g =
     let x = abs-sum m (term w n e (axis t a) L K) (72 * coordinateRange)
     (λ i c. let q = place-lt n (e + i) (omega arith) in weighed-small w (placeOn n (e + i)) (axis t a (getD L i 0)) (axis t a (getD K i 0)) coordinateRange s (omega arith) (axis-bound t a (getD L i 0) b) (axis-bound t a (getD K i 0) b)) in
     omega arith
+
+-- on all axes
+pub record SmallSums (x y z : ℤ) : Type 0 where
+  pub on₀ : natAbs x ≤ 576 * coordinateRange
+  pub on₁ : natAbs y ≤ 576 * coordinateRange
+  pub on₂ : natAbs z ≤ 576 * coordinateRange
+
+pub sums-small : (w : List ℤ) (n e m : ℕ) (t : List ℤ) (L K : List ℕ) (x y z : ℤ) → OnAxes (λ (a : ℕ). weightedSum w n e m (axis t a) L K) x y z
+    → WithinFirst 16 36 w → Within coordinateRange t → m ≤ n → n ≤ 8 → e ≤ n → SmallSums x y z
+sums-small w n e m t L K x y z f s b h k g =
+    let on : (a : ℕ) → natAbs (weightedSum w n e m (axis t a) L K) ≤ 576 * coordinateRange = λ a. terms-small w n e m t a L K s b h k g in
+    let e₀ = f .on₀ in
+    let e₁ = f .on₁ in
+    let e₂ = f .on₂ in
+    record { on₀ = rw e₀ (on 0); on₁ = rw e₁ (on 1); on₂ = rw e₂ (on 2) }
+
+-- what the code makes of them, with the weights of the table
+pub ring-read : (w : List ℤ) (n : ℕ) (t : List ℤ) (L K : List ℕ) (x y z x′ y′ z′ : ℤ) → w ≡ row kobbelt n → OnAxes (λ (a : ℕ). weightedSum w n 0 n (axis t a) L K) x y z
+    → x′ ≡ ringSum n x → y′ ≡ ringSum n y → z′ ≡ ringSum n z → OnAxes (λ (a : ℕ). ringSum n (weightedSum (row kobbelt n) n 0 n (axis t a) L K)) x′ y′ z′
+ring-read w n t L K x y z x′ y′ z′ e f ex ey ez =
+    let on : (a : ℕ) → weightedSum w n 0 n (axis t a) L K ≡ weightedSum (row kobbelt n) n 0 n (axis t a) L K = λ a. ap (λ (u : List ℤ). weightedSum u n 0 n (axis t a) L K) e in
+    record { on₀ = ex ∙ ap (ringSum n) (f .on₀ ∙ on 0); on₁ = ey ∙ ap (ringSum n) (f .on₁ ∙ on 1); on₂ = ez ∙ ap (ringSum n) (f .on₂ ∙ on 2) }
+
+pub fan-read : (w : List ℤ) (m j c : ℕ) (p : ℕ → ℤ) (L K : List ℕ) (s A C B z : ℤ) → w ≡ row kobbelt (m + 2) → s ≡ weightedSum w (m + 2) (m + 2 - j) m p L K
+    → z ≡ fanSum w (m + 2) (m - j) s (pos extrapolatedScale *ℤ p c) C A B → z ≡ fanOn p L K m j c A C B
+fan-read w m j c p L K s A C B z e es ez =
+    ez ∙ ap (λ (y : ℤ). fanSum w (m + 2) (m - j) y (pos extrapolatedScale *ℤ p c) C A B) es
+    ∙ ap (λ (u : List ℤ). fanSum u (m + 2) (m - j) (weightedSum u (m + 2) (m + 2 - j) m p L K) (pos extrapolatedScale *ℤ p c) C A B) e
 
 -- ---- the weights of the row
 pub weighed-row : (n d : ℕ) (x y : ℤ) → d < n → n ≤ 8 → weighed (row kobbelt n) d x y ≡ weightL kobbelt n d *ℤ x +ℤ weightK kobbelt n d *ℤ y

@@ -165,7 +165,7 @@ module _ (v : ℕ) (l : List ℕ) (ok : Manifold quads v l) (h n g e : ℕ) (L K
   open-fan o =
       let c = w .circuit .whole o in
       let k = fan-from-le quads v l ok h o in
-      record { start = o; count = c; some = w .circuit .some; few = omega arith; filled = w .filled }
+      record { vertices = v; net = ok; start = o; count = c; some = w .circuit .some; few = omega arith; filled = w .filled }
 
   pub neighbours-in : (t : List ℤ) → Points l t → VerticesIn t n L
   unfolding to

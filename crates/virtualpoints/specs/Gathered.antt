@@ -1,14 +1,15 @@
 -- What is met in turning round a vertex, gathered in lists of eight vertices.
 use mathlib.Core.Path.{_≡_}
 use mathlib.Core.List.{List}
-use Prim.Native.Nat.{ℕ, suc, _-_, _≤_, _<_}
+use Prim.Native.Nat.{ℕ, _-_, _≤_, _<_}
 use lib.IntN.{ℤ}
 use lib.ListN.{length, getD}
 use Rattle.topology.specs.Shape.{quads}
 use Rattle.topology.specs.HalfEdge.{from, to}
 use Rattle.topology.specs.Boundary.{OnBoundary, boundaryFrom}
 use Rattle.topology.specs.Vertex.{valence, turns}
-use Rattle.topology.specs.Quads.{oppositeCorner, fanEnd}
+use Rattle.topology.specs.Manifold.{Manifold}
+use Rattle.topology.specs.Quads.{oppositeCorner}
 use Rattle.coordinates.specs.Points.{InTable}
 
 -- L and K begin with the neighbours and the opposite corners of n faces, from h on. Open, and may differ between correct programs: the places after them
@@ -35,8 +36,10 @@ pub record Gathered (l : List ℕ) (h n g e : ℕ) (L K : List ℕ) : Type 0 whe
   pub after : e ≡ turns quads l n h
   pub filled : Filled l h n L K
 
--- the open fan of m faces that starts with s, gathered
+-- the open fan of m faces that starts with s, in a manifold net, gathered
 pub record OpenFan (l : List ℕ) (s m : ℕ) (L K : List ℕ) : Type 0 where
+  pub vertices : ℕ
+  pub net : Manifold quads vertices l
   pub start : OnBoundary quads l s
   pub count : m ≡ valence l (from l s)
   pub some : 0 < m

@@ -1,20 +1,24 @@
+-- `extrapolated_point` meets its contract. Assumes nothing.
 use borrow.Author.Needs.{needs}
+use Rattle.virtualpoints.proofs.Turning.{open-fan, neighbours-in, corners-in}
 use Rattle.virtualpoints.proofs.extrapolated_point.Statement.{statement}
 use Rattle.virtualpoints.proofs.extrapolated_point.Tie as tie
-use Rattle.virtualpoints.proofs.extrapolated_point.Reads as reads
-use Rattle.virtualpoints.proofs.extrapolated_point.Lts as lts
-use Rattle.virtualpoints.proofs.extrapolated_from.Reads as extrapolated-from-reads
-use Rattle.virtualpoints.proofs.gather.Reads as gather-reads
 
--- src/lib.rt:234:9
 gather-requires : tie.Need-gather-requires
 gather-requires c κs = search needs
 
--- src/lib.rt:235:5
 extrapolated-from-requires : tie.Need-extrapolated-from-requires
-extrapolated-from-requires c κs = ?
+extrapolated-from-requires c κs =
+    let g = c .before .before .gather in
+    let s = c .before .before .before .before .before .before .before in
+    let r = s .pre .0 in
+    let l = s .args .faces .now in
+    let t = s .args .points .now in
+    let o = s .pre .1 .1 in
+    ((s .pre .1 .0, open-fan (r .vertices) l (r .net) (s .args .s) (g .result .count) (g .result .last) (g .result .after) _ _ (g .ensures) o),
+    (neighbours-in (r .vertices) l (r .net) (s .args .s) (g .result .count) (g .result .last) (g .result .after) _ _ (g .ensures) t (s .pre .1 .0),
+    corners-in (r .vertices) l (r .net) (s .args .s) (g .result .count) (g .result .last) (g .result .after) _ _ (g .ensures) t (s .pre .1 .0)))
 
--- src/lib.rt:227:1
 returns : tie.Need-returns
 returns c = search needs
 
