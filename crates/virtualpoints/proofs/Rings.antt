@@ -121,18 +121,21 @@ module _ (v : ℕ) (l : List ℕ) (ok : Manifold quads v l) (h : ℕ) (b : h < l
           rw c (ap (λ (z : ℤ). pos (valenceScale / n) *ℤ z)
           (ap₂ _+ℤ_ (ap₂ _+ℤ_ faces last ∙ sum-more m g) own ∙ sum-more (m + 1) g ∙ all ∙ virtual-turned n j X Y (omega arith) (omega arith) (k .0) (omega arith)))
 
+    pub count-is : (s′ m′ : ℕ) → s′ ≡ s → m′ ≡ valence l (from l s′) → m′ ≡ m
+    count-is s′ m′ es em = em ∙ ap (λ (x : ℕ). valence l (from l x)) es ∙ ap (valence l) (boundaryFrom-at quads l P o)
+
     -- with the numbers that the code finds
     module _ (s′ m′ j′ g e c d : ℕ) (es : s′ ≡ s) (ej : j′ ≡ j) (em : m′ ≡ valence l (from l s′)) (eg : g ≡ turns quads l (m′ - 1) s′) (ee : e ≡ quads .prev g) (ec : c ≡ from l e) (ed : d ≡ along quads l s′)
         (L K : List ℕ) (f : Filled l s′ m′ L K) where
-      pub count-is : m′ ≡ m
-      count-is = em ∙ ap (λ (x : ℕ). valence l (from l x)) es ∙ ap (valence l) (boundaryFrom-at quads l P o)
+      count : m′ ≡ m
+      count = count-is s′ m′ es em
 
       last-is : from l e ≡ fanEnd l s m
       unfolding fanEnd
       last-is =
           let k = fan-sizes in
           let q : suc (m - 1) ≡ m = omega arith in
-          let x : g ≡ turns quads l (m - 1) s = eg ∙ ap₂ (λ (i y : ℕ). turns quads l (i - 1) y) count-is es in
+          let x : g ≡ turns quads l (m - 1) s = eg ∙ ap₂ (λ (i y : ℕ). turns quads l (i - 1) y) count es in
           ap (from l) (ee ∙ ap (quads .prev) x) ∙ ap (fanEnd l s) q
 
       first-is : from l d ≡ fanEnd l s 0
@@ -142,12 +145,12 @@ module _ (v : ℕ) (l : List ℕ) (ok : Manifold quads v l) (h : ℕ) (b : h < l
       pub fan-made : (t : List ℤ) (a : ℕ) (x A C B : ℤ) → A ≡ extrapolatedOn l t s′ a → C ≡ extrapolatedOn l t e a → B ≡ extrapolatedOn l t d a → x ≡ fanOn (axis t a) L K m′ j′ c A C B → x ≡ virtualOn l t h a
       fan-made t a x A C B eA eC eB ex =
           let p : ℕ → ℤ = axis t a in
-          let q : Filled l s m L K = subst (λ (i : ℕ). Filled l s i L K) count-is (subst (λ (y : ℕ). Filled l y m′ L K) es f) in
+          let q : Filled l s m L K = subst (λ (i : ℕ). Filled l s i L K) count (subst (λ (y : ℕ). Filled l y m′ L K) es f) in
           let xA : A ≡ extrapolatedAtZ l p P = eA ∙ ap (extrapolatedAtZ l p) (ap (from l) es ∙ boundaryFrom-at quads l P o) in
           let xC : C ≡ extrapolatedAtZ l p (fanEnd l s m) = eC ∙ ap (extrapolatedAtZ l p) last-is in
           let xB : B ≡ extrapolatedAtZ l p (fanEnd l s 0) = eB ∙ ap (extrapolatedAtZ l p) first-is in
           let xc : c ≡ fanEnd l s m = ec ∙ last-is in
-          ex ∙ ap₂ (λ (i y : ℕ). fanOn p L K i y c A C B) count-is ej ∙ ap (λ (y : ℕ). fanOn p L K m j y A C B) xc
+          ex ∙ ap₂ (λ (i y : ℕ). fanOn p L K i y c A C B) count ej ∙ ap (λ (y : ℕ). fanOn p L K m j y A C B) xc
           ∙ ap (λ (y : ℤ). fanOn p L K m j (fanEnd l s m) y C B) xA ∙ ap₂ (λ (y z : ℤ). fanOn p L K m j (fanEnd l s m) (extrapolatedAtZ l p P) y z) xC xB ∙ fan-value p L K q
 
   -- ---- the fraction and its size

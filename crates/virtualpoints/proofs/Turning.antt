@@ -12,12 +12,12 @@ use Rattle.search.specs.Search.{iterate}
 use Rattle.search.proofs.Iterate.{iterate-add}
 use Rattle.topology.specs.Shape.{quads}
 use Rattle.topology.specs.HalfEdge.{from, to}
-use Rattle.topology.specs.Boundary.{OnBoundary, boundaryFrom}
+use Rattle.topology.specs.Boundary.{OnBoundary, boundaryFrom, back}
 use Rattle.topology.specs.Vertex.{valence, turn, turns}
 use Rattle.topology.specs.Manifold.{Manifold}
 use Rattle.topology.specs.Quads.{oppositeCorner}
 use Rattle.topology.proofs.Boundary.{boundaryFrom-le, boundaryFrom-is}
-use Rattle.topology.proofs.Walks.{fan-from-le}
+use Rattle.topology.proofs.Walks.{fan-from-le, back-turns}
 use Rattle.walks.proofs.Around.{ring-here, ring-here-range, fan-here, fan-here-range, fan-differ}
 use Rattle.coordinates.specs.Points.{Points}
 use Rattle.virtualpoints.specs.Gathered.{Filled, Circuit, Gathered, OpenFan, VerticesIn}
@@ -161,11 +161,29 @@ module _ (l : List ℕ) (h : ℕ) where
 
 -- ---- what is gathered
 module _ (v : ℕ) (l : List ℕ) (ok : Manifold quads v l) (h n g e : ℕ) (L K : List ℕ) (w : Gathered l h n g e L K) where
+  -- whether h comes again tells a full ring from an open fan
+  pub gathered-ring : h < length l → e ≡ h → boundaryFrom quads l (from l h) ≡ length l
+  gathered-ring b x = go (decLt (boundaryFrom quads l (from l h)) (length l))
+    where
+      go : Dec (boundaryFrom quads l (from l h) < length l) → boundaryFrom quads l (from l h) ≡ length l
+      go (yes o) = let y = w .circuit .fan o in let z = w .after in let q : ⊥ = omega arith in absurd q
+      go (no o) = omega (arith, boundaryFrom-le quads l (from l h))
+
+  pub gathered-fan : (e ≡ h → ⊥) → boundaryFrom quads l (from l h) < length l
+  gathered-fan x = go (decLt (boundaryFrom quads l (from l h)) (length l))
+    where
+      go : Dec (boundaryFrom quads l (from l h) < length l) → boundaryFrom quads l (from l h) < length l
+      go (yes o) = o
+      go (no o) = let y : boundaryFrom quads l (from l h) ≡ length l = omega (arith, boundaryFrom-le quads l (from l h)) in absurd (x (w .after ∙ w .circuit .ring y .1))
+
   pub open-fan : OnBoundary quads l h → OpenFan l h n L K
   open-fan o =
       let c = w .circuit .whole o in
       let k = fan-from-le quads v l ok h o in
       record { vertices = v; net = ok; start = o; count = c; some = w .circuit .some; few = omega arith; filled = w .filled }
+
+  pub gathered-back : OnBoundary quads l h → quads .prev g ≡ back quads l h
+  gathered-back o = ap (quads .prev) (w .last ∙ ap (λ (i : ℕ). turns quads l (i - 1) h) (w .circuit .whole o)) ∙ sym (back-turns quads v l ok h o)
 
   pub neighbours-in : (t : List ℤ) → Points l t → VerticesIn t n L
   unfolding to
