@@ -3,6 +3,7 @@ use mathlib.Core.Path.{_≡_, refl, sym, ap, ap₂, _∙_, subst}
 use mathlib.Core.Bool.{Bool, true, false, cond}
 use mathlib.Core.List.{List}
 use Prim.Native.Nat.{ℕ, _+_, _*_, _≤_, _<_}
+use native.Mathlib.Decide.{decLt}
 use native.Mathlib.Omega.{arith}
 use lib.Dec.{ltb}
 use borrow.Author.Tests.{lt-ltb, le-ltb}
@@ -14,15 +15,15 @@ use Rattle.topology.specs.HalfEdge.{from, to, mate}
 use Rattle.topology.specs.Boundary.{OnBoundary, along, back}
 use Rattle.topology.specs.Vertex.{turn}
 use Rattle.topology.specs.Manifold.{Manifold}
-use Rattle.topology.proofs.Mates.{mate-is, mate-back}
+use Rattle.topology.proofs.Mates.{mate-le, mate-is, mate-back}
 use Rattle.topology.proofs.Boundary.{along-on, back-on}
 use Rattle.nets.specs.Net.{axis, marked}
-use Rattle.scheme.specs.Points.{insideSegment, startOfSegment, endOfSegment, wholeSegment, innerRule, edgeRule}
+use Rattle.scheme.specs.Points.{EdgeRule, insideSegment, startOfSegment, endOfSegment, wholeSegment, innerRule, edgeRule}
 use Rattle.schemelaws.specs.Ordinary.{Ordinary, straight, ordinaryValue}
 use Rattle.schemelaws.proofs.Made.{straight-read}
 use Rattle.coordinates.specs.declared.Far.{Far}
 use Rattle.coordinates.specs.declared.Far.the-variants.{At, Nowhere}
-use Rattle.coordinates.specs.Points.{InTable, Points, Marks, OnAxes}
+use Rattle.coordinates.specs.Points.{InTable, Points, OnAxes}
 use Rattle.coordinates.specs.Stencil.{FarIn, farValue, stencilValue, interiorValue}
 use Rattle.edgepoints.specs.Edge.{CornerOf, StraightFar, OrdinaryEnds}
 
@@ -42,11 +43,14 @@ module _ (v : ℕ) (l : List ℕ) (ok : Manifold quads v l) where
   pub before-corner : (h p : ℕ) → h < length l → p ≡ from l (quads .prev h) → CornerOf l p
   before-corner h p b e = start-corner (quads .prev h) p (ok .oriented .shape .prev-lt h b) e
 
+  pub after-corner : (h q : ℕ) → OnBoundary quads l h → q ≡ to quads l (along quads l h) → CornerOf l q
+  after-corner h q o e = end-corner (along quads l h) q (along-on quads v l ok h o .lt) e
+
+  pub back-corner : (h p : ℕ) → OnBoundary quads l h → p ≡ from l (back quads l h) → CornerOf l p
+  back-corner h p o e = start-corner (back quads l h) p (back-on quads v l ok h o .lt) e
+
 pub corner-room : (l : List ℕ) (t : List ℤ) → Points l t → (o : ℕ) → CornerOf l o → InTable t o
 corner-room l t room o c = subst (InTable t) (c .is) (room .room (c .at) (c .lt))
-
-pub corner-marked : (l marks : List ℕ) → Marks l marks → (o : ℕ) → CornerOf l o → o < length marks
-corner-marked l marks room o c = subst (λ (q : ℕ). q < length marks) (c .is) (room .room (c .at) (c .lt))
 
 -- ---- far points
 index : Far → ℕ → ℕ
@@ -140,3 +144,36 @@ module _ (l marks : List ℕ) (h : ℕ) where
       → edgeRule l marks h ≡ cond b (cond c wholeSegment startOfSegment) (cond c endOfSegment insideSegment)
   unfolding edgeRule
   rule-boundary b c n mp mq = let k = le-ltb (mate quads l h) (length l) n in simp (k, mp, mq)
+
+  -- and back: the inner rule is that of an inner edge alone
+  rule-is-inner : EdgeRule → Bool
+  rule-is-inner innerRule = true
+  rule-is-inner insideSegment = false
+  rule-is-inner startOfSegment = false
+  rule-is-inner endOfSegment = false
+  rule-is-inner wholeSegment = false
+
+  pub rule-inner-only : edgeRule l marks h ≡ innerRule → mate quads l h < length l
+  unfolding rule-is-inner
+  rule-inner-only e = go (decLt (mate quads l h) (length l))
+    where
+      outer : (b c : Bool) → rule-is-inner (cond b (cond c wholeSegment startOfSegment) (cond c endOfSegment insideSegment)) ≡ false
+      outer true true = refl
+      outer true false = refl
+      outer false true = refl
+      outer false false = refl
+
+      go : Dec (mate quads l h < length l) → mate quads l h < length l
+      go (yes m) = m
+      go (no m) =
+          let q = rule-boundary (marked marks (from l h)) (marked marks (to quads l h)) (omega arith) refl refl in
+          let z : _≡_ {A = Bool} true false = sym (ap rule-is-inner e) ∙ ap rule-is-inner q ∙ outer (marked marks (from l h)) (marked marks (to quads l h)) in
+          let y : _≡_ {A = ℕ} 0 1 = ap (λ (b : Bool). cond b 0 1) z in
+          absurd (omega arith)
+
+  pub rule-boundary-only : h < length l → (edgeRule l marks h ≡ innerRule → ⊥) → OnBoundary quads l h
+  rule-boundary-only k n = go (decLt (mate quads l h) (length l))
+    where
+      go : Dec (mate quads l h < length l) → OnBoundary quads l h
+      go (yes m) = absurd (n (rule-inner m))
+      go (no m) = let c = mate-le quads l h in record { lt = k; none = omega arith }

@@ -26,7 +26,6 @@ use Rattle.topology.specs.Boundary.{along, back}
 use Rattle.topology.specs.Manifold.{Manifold}
 use Rattle.nets.specs.Net.{axis}
 use Rattle.scheme.specs.Points.{EdgeRule, insideSegment, startOfSegment, endOfSegment, wholeSegment, innerRule, edgeRule}
-use Rattle.scheme.specs.Rings.{virtualAt}
 use Rattle.schemelaws.specs.Ordinary.{Ordinary, straight, ordinaryValue, ordinaryEdge}
 use Rattle.schemelaws.specs.Numerators.{virtualAtZ, edgeValueZ, edgeZ}
 use Rattle.schemelaws.proofs.FanOfTwo.{virtual-ordinary}
@@ -40,7 +39,6 @@ use Rattle.coordinates.specs.Points.{Points, OnAxes}
 use Rattle.coordinates.specs.Entry.{wideFlag, boundaryFlag, unitOf}
 use Rattle.coordinates.specs.Stencil.{farValue, stencilValue}
 use Rattle.coordinates.proofs.Values.{axis-bound}
-use Rattle.virtualpoints.specs.Exact.{ExactVirtual, VirtualPoint}
 use Rattle.edgepoints.specs.Edge.{farOn, StraightFar, OrdinaryEnds, Told, Flagged, plain, wide, boundary, ExactEdge, ExactPoint}
 use Rattle.edgepoints.proofs.Plain.{rule-inner}
 
@@ -57,17 +55,6 @@ module _ (v : ℕ) (l : List ℕ) (ok : Manifold quads v l) (e : ℕ → ℤ) (h
   straight-virtual m o =
       equals-one (pos (virtualScale kobbelt) *ℤ straight l e h) (virtualAtZ kobbelt l e h)
       (equals-scaled (virtualScale kobbelt) (virtual-ordinary kobbelt (omega arith) v l ok e h k m o)) (equals-virtualAt kobbelt (omega arith) v l ok e h k)
-
-  virtual-one : (z : ℤ) → ExactVirtual (virtualAt kobbelt l e h) z → z ≡ virtualAtZ kobbelt l e h
-  virtual-one z x = equals-one z (virtualAtZ kobbelt l e h) (x .value) (equals-virtualAt kobbelt (omega arith) v l ok e h k)
-
-pub virtual-is : (v : ℕ) (l : List ℕ) → Manifold quads v l → (t : List ℤ) (h : ℕ) → h < length l → (x y z : ℤ)
-    → VirtualPoint (λ (a : ℕ). virtualAt kobbelt l (axis t a) h) x y z → OnAxes (λ (a : ℕ). virtualAtZ kobbelt l (axis t a) h) x y z
-virtual-is v l ok t h k x y z p = record {
-  on₀ = virtual-one v l ok (axis t 0) h k x (p .on₀);
-  on₁ = virtual-one v l ok (axis t 1) h k y (p .on₁);
-  on₂ = virtual-one v l ok (axis t 2) h k z (p .on₂);
-}
 
 pub far-virtual : (v : ℕ) (l : List ℕ) → Manifold quads v l → (h : ℕ) → h < length l → mate quads l h < length l → Ordinary l (from l h) → (f : Far) → StraightFar l h f
     → (p q : ℕ) → p ≡ from l h → q ≡ to quads l h → (e : ℕ → ℤ) (z : ℤ) → z ≡ pos (virtualScale kobbelt) *ℤ farOn e f p q → z ≡ virtualAtZ kobbelt l e h

@@ -10,7 +10,7 @@ use Rattle.rounding.specs.Rounding.{round}
 use Rattle.curve.specs.Weights.{kobbelt}
 use Rattle.fractions.specs.Fraction.{Fraction, whole, sumᶠ, toWhole}
 use Rattle.rings.specs.Ring.{wrap, virtual}
-use Rattle.rings.specs.RingWeights.{virtualZ, virtualNumerator, weightL, weightK, ringOf}
+use Rattle.rings.specs.RingWeights.{virtualZ, virtualNumerator, weightL, weightK}
 use Rattle.rings.specs.Scales.{extrapolatedScale, virtualScale, edgeScale, directionScale, faceScale}
 
 -- paper 01's cube with corners at ±540: the ring of the corner (-540, -540, -540), second coordinates, from the edge to (540, -540, -540)
@@ -28,7 +28,10 @@ unfolding virtual sumᶠ round
 cube-virtual = refl
 
 -- times 27
-cube-virtual-whole : virtualZ kobbelt 3 (ringOf 3 cubeL) (ringOf 3 cubeK) 0 ≡ negsuc 3779
+abbrev ringZ : ℕ → List ℤ → ℕ → ℤ
+ringZ n l = wrap n (λ (i : ℕ). getD l i (pos 0))
+
+cube-virtual-whole : virtualZ kobbelt 3 (ringZ 3 cubeL) (ringZ 3 cubeK) 0 ≡ negsuc 3779
 unfolding virtualZ sum
 cube-virtual-whole = refl
 
@@ -54,6 +57,6 @@ scales : (extrapolatedScale ≡ 60) × (virtualScale kobbelt ≡ 453600) × (edg
 scales = (refl, refl, refl, refl, refl)
 
 -- the virtual point of the cube times 453,600 = 9 · 840 · 60
-cube-virtual-numerator : virtualNumerator kobbelt 3 (λ (i : ℕ). pos 60 *ℤ ringOf 3 cubeL i) (λ (i : ℕ). pos 60 *ℤ ringOf 3 cubeK i) 0 ≡ pos 453600 *ℤ negsuc 139
+cube-virtual-numerator : virtualNumerator kobbelt 3 (λ (i : ℕ). pos 60 *ℤ ringZ 3 cubeL i) (λ (i : ℕ). pos 60 *ℤ ringZ 3 cubeK i) 0 ≡ pos 453600 *ℤ negsuc 139
 unfolding virtualZ sum
 cube-virtual-numerator = refl

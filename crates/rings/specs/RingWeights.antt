@@ -1,13 +1,12 @@
--- The virtual point in whole numbers: over near · n, as a formula and as a sum of weights, and over one denominator for all valences; and a ring held in a list.
+-- The virtual point in whole numbers: over near · n, as a formula and as a sum of weights, and over one denominator for all valences.
 use mathlib.Core.Bool.{cond}
 use mathlib.Core.List.{List}
 use Prim.Native.Nat.{ℕ, _+_, _-_, _/_}
 use lib.Dec.{eqb, ltb}
 use lib.IntN.{ℤ, pos, _+ℤ_, _-ℤ_, _*ℤ_}
-use lib.ListN.{getD}
+use Rattle.lists.specs.Tabulate.{tabulate}
 use Rattle.integers.specs.Sum.{sum}
 use Rattle.curve.specs.Weights.{Weights}
-use Rattle.rings.specs.Ring.{wrap}
 use Rattle.rings.specs.Scales.{valenceScale}
 
 -- the formula of `virtual`, times near · n
@@ -37,6 +36,5 @@ weightK w n d = pos (w .far) *ℤ (pos n *ℤ (oneAt (n - 2) d +ℤ oneAt (n - 1
 abbrev pub entry : Weights → ℕ → ℕ → ℤ
 entry w n o = cond (ltb o 8) (cond (ltb o n) (weightL w n o) (pos 0)) (cond (ltb (o - 8) n) (weightK w n (o - 8)) (pos 0))
 
--- the ring of the first n values of a list
-abbrev pub ringOf : ℕ → List ℤ → ℕ → ℤ
-ringOf n l = wrap n (λ (i : ℕ). getD l i (pos 0))
+abbrev pub row : Weights → ℕ → List ℤ
+row w n = tabulate 16 (entry w n)

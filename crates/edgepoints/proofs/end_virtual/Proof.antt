@@ -3,7 +3,6 @@ use mathlib.Core.Path.{_≡_, sym, ap, _∙_}
 use mathlib.Core.Bool.{true}
 use borrow.Author.Needs.{needs}
 use Rattle.classes.specs.Classes.{ordinaryBy}
-use Rattle.edgepoints.proofs.Wide.{virtual-is}
 use Rattle.edgepoints.proofs.end_virtual.Statement.{statement}
 use Rattle.edgepoints.proofs.end_virtual.Tie as tie
 
@@ -26,13 +25,10 @@ returns : tie.Need-returns
 returns c = search needs
 
 virtual-point-requires : tie.Need-virtual-point-requires
-virtual-point-requires c κs = ?
+virtual-point-requires c κs = search needs
 
 returns-2 : tie.Need-returns-2
-returns-2 c =
-    let s = c .before .before .before .before .before .before in
-    let r = c .virtual-point .result in
-    virtual-is (s .pre .0 .vertices) _ (s .pre .0 .net) (s .args .points .now) _ (s .pre .1 .1 .0) (r .x) (r .y) (r .z) (c .virtual-point .ensures)
+returns-2 c = c .virtual-point .ensures
 
 pub end-virtual-spec : {M : Type 1} → statement M
 end-virtual-spec =

@@ -38,6 +38,9 @@ ends c =
       end = told-end (s .pre .0 .vertices) _ (s .pre .0 .net) _ _ _ told _ (s .pre .1 .1 .0) f;
     }
 
+fits : (e : tie.After-plain-exact) → SFits w64 (e .plain-exact .result .x) × SFits w64 (e .plain-exact .result .y) × SFits w64 (e .plain-exact .result .z)
+fits e = let k = e .plain-exact .ok in (search (needs, k), search (needs, k), search (needs, k .1 .1))
+
 start-of-requires : tie.Need-start-of-requires
 start-of-requires c κs = search needs
 
@@ -61,9 +64,9 @@ returns c =
     let i = e .before in
     let s = i .before .before .before .before .before .before .before .before in
     let r = e .plain-exact .result in
-    let f₁ : SFits w64 (r .x) = search needs in
-    let f₂ : SFits w64 (r .y) = search needs in
-    let f₃ : SFits w64 (r .z) = search needs in
+    let f₁ : SFits w64 (r .x) = fits e .0 in
+    let f₂ : SFits w64 (r .y) = fits e .1 in
+    let f₃ : SFits w64 (r .z) = fits e .2 in
     simp toZ-ofZ (plain-point (s .pre .0 .vertices) _ (s .pre .0 .net) (s .args .points .now) (s .pre .1 .0 .0) _ (ends i) (r .x) (r .y) (r .z) (e .plain-exact .ensures))
 
 wide-edge-requires : tie.Need-wide-edge-requires

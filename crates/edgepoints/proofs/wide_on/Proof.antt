@@ -7,6 +7,7 @@ use mir.Syntax.{w64}
 use mir.Val.{SFits}
 use mir.Facts.{toZ-ofZ}
 use Rattle.curve.specs.Weights.{kobbelt, interior}
+use Rattle.nets.specs.Net.{axis}
 use Rattle.coordinates.proofs.Values.{axis-bound}
 use Rattle.edgepoints.proofs.Wide.{scaled-size}
 use Rattle.edgepoints.proofs.wide_on.Statement.{statement}
@@ -26,8 +27,8 @@ four-point-requires c κs =
     let fw : SFits w64 (s .args .w) = s .fits .w in
     let fp : SFits w64 (x .scaled .result) = search needs in
     let fq : SFits w64 (c .scaled2 .result) = search needs in
-    let bp = scaled-size _ (x .scaled .result) (axis-bound (s .args .points .now) (s .args .a) (s .args .p) (s .pre .0 .3)) (x .scaled .ensures) in
-    let bq = scaled-size _ (c .scaled2 .result) (axis-bound (s .args .points .now) (s .args .a) (s .args .q) (s .pre .0 .3)) (c .scaled2 .ensures) in
+    let bp = scaled-size (axis (s .args .points .now) (s .args .a) (s .args .p)) (x .scaled .result) (axis-bound (s .args .points .now) (s .args .a) (s .args .p) (s .pre .0 .3)) (x .scaled .ensures) in
+    let bq = scaled-size (axis (s .args .points .now) (s .args .a) (s .args .q)) (c .scaled2 .result) (axis-bound (s .args .points .now) (s .args .a) (s .args .q) (s .pre .0 .3)) (c .scaled2 .ensures) in
     let bu = s .pre .1 .0 in
     let bw = s .pre .1 .1 in
     simp toZ-ofZ (omega arith, omega arith, omega arith, omega arith)

@@ -1,0 +1,4 @@
+pub mod Turning
+pub mod Sums
+pub mod Extrapolated
+pub mod Rings
