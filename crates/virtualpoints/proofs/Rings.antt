@@ -1,19 +1,19 @@
 -- The sums that the code makes are the numerators of virtual points.
 use mathlib.Core.Path.{_≡_, refl, sym, ap, ap₂, _∙_, subst}
 use mathlib.Core.List.{List}
-use Prim.Native.Nat.{ℕ, zero, suc, _+_, _-_, _*_, _/_, _≤_, _<_}
+use Prim.Native.Nat.{ℕ, suc, _+_, _-_, _/_, _≤_, _<_}
 use native.Mathlib.Omega.{arith}
 use lib.IntN.{ℤ, pos, natAbs, _+ℤ_, _*ℤ_}
-use lib.ListN.{length, getD}
+use lib.ListN.{length}
 use borrow.Author.Tests.{eq-eqb, ne-eqb, lt-ltb}
 use Rattle.integers.specs.Sum.{sum}
 use Rattle.integers.specs.Within.{Within}
 use Rattle.integers.proofs.Sum.{sum-more}
 use Rattle.curve.specs.Weights.{kobbelt}
-use Rattle.fractions.specs.Fraction.{Fraction, Equals}
+use Rattle.fractions.specs.Fraction.{Equals}
 use Rattle.rings.specs.Scales.{extrapolatedScale, valenceScale, virtualScale, coordinateRange}
 use Rattle.rings.specs.RingWeights.{virtualZ, row}
-use Rattle.rings.specs.Ring.{Periodic, wrap}
+use Rattle.rings.specs.Ring.{Periodic}
 use Rattle.topology.specs.Shape.{quads}
 use Rattle.topology.specs.HalfEdge.{from, to, mate}
 use Rattle.topology.specs.Boundary.{boundaryFrom, along}

@@ -1,7 +1,7 @@
 // Virtual points and extrapolated points on the caller's tables, on all axes.
 ghost use mathlib.Core.Path.{_≡_};
 ghost use Prim.Native.Nat.{ℕ, _+_, _-_, _*_, _/_, _^_, _≤_, _<_};
-ghost use lib.IntN.{pos, natAbs, _+ℤ_, _-ℤ_, _*ℤ_};
+ghost use lib.IntN.{pos, natAbs, _-ℤ_, _*ℤ_};
 ghost use lib.ListN.{length, getD};
 ghost use Rattle.integers.specs.Sum.{sum};
 ghost use Rattle.integers.specs.Within.{Within, WithinFirst};
@@ -16,17 +16,21 @@ ghost use Rattle.nets.specs.Net.{axis};
 ghost use Rattle.walks.specs.Ready.{Ready};
 ghost use Rattle.coordinates.specs.Points.{InTable, Points, OnAxes};
 ghost use Rattle.virtualpoints.specs.Gathered.{Gathered, OpenFan, VerticesIn};
-ghost use Rattle.virtualpoints.specs.Sums.{weighed, placeOn, weightedSum, ringSum, fanSum, fanOn};
+ghost use Rattle.virtualpoints.specs.Sums.{weightRange, sumRange, weighed, placeOn, weightedSum, ringSum, fanSum, fanOn};
 ghost use Rattle.virtualpoints.specs.Exact.{Extrapolated, extrapolatedOn, virtualOn, VirtualPoint};
 
+// The denominator of extrapolated points, as a factor and as a number of shares, and the number of shares in a ring.
 const EXTRAPOLATED_SCALE: i64 = 60;
-const VALENCE_SCALE: usize = 840;
+
+const EXTRAPOLATED_SHARES: usize = 60;
+
+const VALENCE_SHARES: usize = 840;
 
 // The faces met in turning from a half-edge: how many, the half-edge in the last, and the one after it, which is the first again or none.
-pub struct Met {
-    pub count: usize,
-    pub last: usize,
-    pub after: usize,
+struct Met {
+    count: usize,
+    last: usize,
+    after: usize,
 }
 
 // Gathers the neighbours and the opposite corners of the faces met in turning from h.
@@ -73,7 +77,7 @@ fn place_on(n: usize, s: usize) -> usize
 
 // The neighbour x and the opposite corner y by the weights at place d.
 fn weigh(w: &[i64; 16], d: usize, x: i64, y: i64) -> i64
-    requires { ⌜ WithinFirst 16 36 (now w) × (d < 8) × (natAbs x ≤ extrapolatedRange) × (natAbs y ≤ extrapolatedRange) ⌝ }
+    requires { ⌜ WithinFirst 16 weightRange (now w) × (d < 8) × (natAbs x ≤ extrapolatedRange) × (natAbs y ≤ extrapolatedRange) ⌝ }
     ensures { λ r. ⌜ r ≡ weighed (now (w .entry)) d x y ⌝ }
 {
     let u = w[d];
@@ -83,7 +87,7 @@ fn weigh(w: &[i64; 16], d: usize, x: i64, y: i64) -> i64
 
 // The vertices p and q by them, on axis a.
 fn weigh_on(points: &[i32], w: &[i64; 16], d: usize, p: usize, q: usize, a: usize) -> i64
-    requires { ⌜ Within coordinateRange (now points) × WithinFirst 16 36 (now w) ⌝ }
+    requires { ⌜ Within coordinateRange (now points) × WithinFirst 16 weightRange (now w) ⌝ }
     requires { ⌜ (d < 8) × (a < 3) × InTable (now points) p × InTable (now points) q ⌝ }
     ensures { λ r. ⌜ r ≡ weighed (now (w .entry)) d (axis (now (points .entry)) a p) (axis (now (points .entry)) a q) ⌝ }
 {
@@ -105,7 +109,7 @@ fn weighted_sum(
     n: usize,
     e: usize,
 ) -> coordinates::Exact
-    requires { ⌜ Within coordinateRange (now points) × WithinFirst 16 36 (now w) ⌝ }
+    requires { ⌜ Within coordinateRange (now points) × WithinFirst 16 weightRange (now w) ⌝ }
     requires { ⌜ (m ≤ n) × (n ≤ 8) × (e ≤ n) × VerticesIn (now points) m (now l) × VerticesIn (now points) m (now k) ⌝ }
     ensures { λ r. ⌜ OnAxes (λ (a : ℕ). weightedSum (now (w .entry)) n e m (axis (now (points .entry)) a) (now (l .entry)) (now (k .entry))) (r .x) (r .y) (r .z) ⌝ }
 {
@@ -125,18 +129,18 @@ fn weighted_sum(
     coordinates::Exact { x: x, y: y, z: z }
 }
 
-// v times the share of one place in a ring of n.
+// v times what one place has in a ring of n.
 fn times_share(n: usize, v: i64) -> i64
     requires { ⌜ (3 ≤ n) × (n ≤ 8) × (natAbs v ≤ 2 ^ 50) ⌝ }
     ensures { λ r. ⌜ r ≡ pos (valenceScale / n) *ℤ v ⌝ }
 {
-    let c = VALENCE_SCALE / n;
+    let c = VALENCE_SHARES / n;
     c as i64 * v
 }
 
 // The same where s is a sum over vertices.
 fn scaled_share(n: usize, s: i64) -> i64
-    requires { ⌜ (3 ≤ n) × (n ≤ 8) × (natAbs s ≤ 576 * coordinateRange) ⌝ }
+    requires { ⌜ (3 ≤ n) × (n ≤ 8) × (natAbs s ≤ sumRange) ⌝ }
     ensures { λ r. ⌜ r ≡ ringSum n s ⌝ }
 {
     times_share(n, EXTRAPOLATED_SCALE * s)
@@ -197,10 +201,14 @@ fn extrapolated_on(
     let p = coordinates::coordinate(points, halfedges::start_of(faces, s), a);
     if m == 1 {
         let v = k[0];
-        return reflected(p, coordinates::coordinate(points, v, a), 60);
+        return reflected(
+            p,
+            coordinates::coordinate(points, v, a),
+            EXTRAPOLATED_SHARES,
+        );
     }
     let r = m - 1;
-    reflected(p, far_sum(points, l, r, a), 60 / r)
+    reflected(p, far_sum(points, l, r, a), EXTRAPOLATED_SHARES / r)
 }
 
 // The same on all axes.
@@ -248,8 +256,8 @@ fn closed_on(
     r: i64,
     a: usize,
 ) -> i64
-    requires { ⌜ Within coordinateRange (now points) × WithinFirst 16 36 (now w) × (a < 3) × InTable (now points) c ⌝ }
-    requires { ⌜ (3 ≤ n) × (n ≤ 8) × (t + 2 ≤ n) × (natAbs s ≤ 576 * coordinateRange) ⌝ }
+    requires { ⌜ Within coordinateRange (now points) × WithinFirst 16 weightRange (now w) × (a < 3) × InTable (now points) c ⌝ }
+    requires { ⌜ (3 ≤ n) × (n ≤ 8) × (t + 2 ≤ n) × (natAbs s ≤ sumRange) ⌝ }
     requires { ⌜ (natAbs p ≤ extrapolatedRange) × (natAbs q ≤ extrapolatedRange) × (natAbs r ≤ extrapolatedRange) ⌝ }
     ensures { λ z. ⌜ z ≡ fanSum (now (w .entry)) n t s (pos extrapolatedScale *ℤ axis (now (points .entry)) a c) q p r ⌝ }
 {
