@@ -1,3 +1,0 @@
-pub mod Circuit
-pub mod Bounds
-pub mod Values
