@@ -21,7 +21,7 @@ sumRange = 16 * weightRange * coordinateRange
 abbrev pub weighed : List ℤ → ℕ → ℤ → ℤ → ℤ
 weighed w d x y = getD w d (pos 0) *ℤ x +ℤ getD w (8 + d) (pos 0) *ℤ y
 
--- the place s of a ring of n places, where s may go once round
+-- the place s of a ring of n places, where s is less than twice round
 unfoldable pub placeOn : ℕ → ℕ → ℕ
 placeOn n s = cond (ltb s n) s (s - n)
 

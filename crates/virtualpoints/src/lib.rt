@@ -19,12 +19,14 @@ ghost use Rattle.virtualpoints.specs.Gathered.{Gathered, OpenFan, Vertic
 ghost use Rattle.virtualpoints.specs.Sums.{weightRange, sumRange, weighed, placeOn, weightedSum, ringSum, fanSum, fanOn};
 ghost use Rattle.virtualpoints.specs.Exact.{Extrapolated, extrapolatedOn, virtualOn, VirtualPoint};
 
-// The denominator of extrapolated points, as a factor and as a number of shares, and the number of shares in a ring.
+// The denominator of extrapolated points.
 const EXTRAPOLATED_SCALE: i64 = 60;
 
+// The same, where it is divided by the number of inner edges of a fan.
 const EXTRAPOLATED_SHARES: usize = 60;
 
-const VALENCE_SHARES: usize = 840;
+// What the valences of rings divide.
+const VALENCE_SCALE: usize = 840;
 
 // The faces met in turning from a half-edge: how many, the half-edge in the last, and the one after it, which is the first again or none.
 struct Met {
@@ -65,7 +67,7 @@ fn gather(faces: &[u32], work: &[u32], h: usize, l: &mut [usize; 8], k: &mut [us
     }
 }
 
-// The place s of a ring of n places, where s may go once round.
+// The place s of a ring of n places, where s is less than twice round.
 fn place_on(n: usize, s: usize) -> usize
     ensures { λ r. ⌜ r ≡ placeOn n s ⌝ }
 {
@@ -99,7 +101,7 @@ fn weigh_on(points: &[i32], w: &[i64; 16], d: usize, p: usize, q: usize, a: usiz
     )
 }
 
-// The first m neighbours and opposite corners by the weights of a ring of n, of which they take the places from e on.
+// The sums of the first m neighbours and opposite corners by the weights w of a ring of n, of which they take the places from e on.
 fn weighted_sum(
     points: &[i32],
     w: &[i64; 16],
@@ -129,16 +131,16 @@ fn weighted_sum(
     coordinates::Exact { x: x, y: y, z: z }
 }
 
-// v times what one place has in a ring of n.
+// v, which is over 9n times the extrapolated scale, over one denominator for all valences n.
 fn times_share(n: usize, v: i64) -> i64
     requires { ⌜ (3 ≤ n) × (n ≤ 8) × (natAbs v ≤ 2 ^ 50) ⌝ }
     ensures { λ r. ⌜ r ≡ pos (valenceScale / n) *ℤ v ⌝ }
 {
-    let c = VALENCE_SHARES / n;
+    let c = VALENCE_SCALE / n;
     c as i64 * v
 }
 
-// The same where s is a sum over vertices.
+// The same for a sum s over vertices, which is over 9n alone.
 fn scaled_share(n: usize, s: i64) -> i64
     requires { ⌜ (3 ≤ n) × (n ≤ 8) × (natAbs s ≤ sumRange) ⌝ }
     ensures { λ r. ⌜ r ≡ ringSum n s ⌝ }
@@ -161,7 +163,7 @@ fn ring_point(points: &[i32], l: &[usize; 8], k: &[usize; 8], n: usize) -> coord
     }
 }
 
-// Twice p over the scale, less c times q.
+// Twice p, over the scale, less c times q.
 fn reflected(p: i64, q: i64, c: usize) -> i64
     requires { ⌜ (natAbs p ≤ coordinateRange) × (natAbs q ≤ 5 * coordinateRange) × (c ≤ extrapolatedScale) ⌝ }
     ensures { λ r. ⌜ r ≡ pos (2 * extrapolatedScale) *ℤ p -ℤ pos c *ℤ q ⌝ }
