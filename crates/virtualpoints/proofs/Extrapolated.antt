@@ -16,7 +16,7 @@ use Rattle.topology.specs.HalfEdge.{from, to}
 use Rattle.topology.specs.Boundary.{OnBoundary, boundaryFrom}
 use Rattle.topology.specs.Vertex.{valence, turns}
 use Rattle.topology.specs.Manifold.{Manifold}
-use Rattle.topology.specs.Quads.{oppositeCorner, fanEnd}
+use Rattle.topology.specs.Quads.{fanEnd}
 use Rattle.topology.proofs.Boundary.{boundaryFrom-is}
 use Rattle.topology.proofs.Turn.{turn-to}
 use Rattle.topology.proofs.Walks.{fan-from}
@@ -25,7 +25,7 @@ use Rattle.schemelaws.proofs.Sizes.{extrapolatedAt-size}
 use Rattle.nets.specs.Net.{axis}
 use Rattle.coordinates.specs.Points.{OnAxes}
 use Rattle.coordinates.proofs.Values.{axis-bound}
-use Rattle.virtualpoints.specs.Gathered.{Filled, OpenFan}
+use Rattle.virtualpoints.specs.Gathered.{OpenFan}
 use Rattle.virtualpoints.specs.Exact.{Extrapolated, extrapolatedOn}
 
 -- the vertices of a list after the first

@@ -1,7 +1,7 @@
 -- Sums of a ring by weights: places, sizes, and the virtual point that they make.
 use mathlib.Core.Path.{_≡_, refl, sym, ap, ap₂, _∙_}
 use mathlib.Core.List.{List, [], _∷_}
-use Prim.Native.Nat.{ℕ, zero, suc, _+_, _-_, _*_, _/_, _%_, _≤_, _<_}
+use Prim.Native.Nat.{ℕ, _+_, _-_, _*_, _%_, _≤_, _<_}
 use native.Mathlib.Nat.{zero-add, add-mod-right, mod-eq-of-lt, mul-le-mul}
 use native.Mathlib.Decide.{decLt}
 use native.Mathlib.Omega.{arith}
@@ -11,8 +11,8 @@ use borrow.Author.Tests.{lt-ltb, le-ltb}
 use Rattle.integers.specs.Sum.{sum}
 use Rattle.integers.specs.Within.{Within, WithinFirst}
 use Rattle.integers.proofs.AbsoluteValue.{abs-add, abs-mul}
-use Rattle.integers.proofs.Polynomial.{var, lit, _⊞_, _⊠_, same}
-use Rattle.integers.proofs.Sum.{abs-sum, sum-cong, sum-times, sum-more}
+use Rattle.integers.proofs.Polynomial.{var, _⊞_, _⊠_, same}
+use Rattle.integers.proofs.Sum.{abs-sum, sum-cong, sum-times}
 use Rattle.curve.specs.Weights.{kobbelt}
 use Rattle.rings.specs.Scales.{coordinateRange, extrapolatedScale}
 use Rattle.rings.specs.Ring.{Periodic, wrap}
@@ -23,7 +23,7 @@ use Rattle.rings.proofs.Table.{row-l, row-k}
 use Rattle.nets.specs.Net.{axis}
 use Rattle.coordinates.specs.Points.{OnAxes}
 use Rattle.coordinates.proofs.Values.{axis-bound}
-use Rattle.virtualpoints.specs.Sums.{weighed, placeOn, weightedSum, ringSum, fanSum, fanOn}
+use Rattle.virtualpoints.specs.Sums.{weightRange, sumRange, weighed, placeOn, weightedSum, ringSum, fanSum, fanOn}
 
 -- ---- places
 pub place-before : (n s : ℕ) → s < n → placeOn n s ≡ s
@@ -52,7 +52,7 @@ place-mod n s b = go (decLt s n)
         place-after n s (omega arith) ∙ sym (mod-eq-of-lt x) ∙ sym (add-mod-right (s - n) n) ∙ ap (λ (i : ℕ). i % n) e
 
 -- ---- sizes
-pub weighed-small : (w : List ℤ) (d : ℕ) (x y : ℤ) (B : ℕ) → WithinFirst 16 36 w → d < 8 → natAbs x ≤ B → natAbs y ≤ B → natAbs (weighed w d x y) ≤ 72 * B
+pub weighed-small : (w : List ℤ) (d : ℕ) (x y : ℤ) (B : ℕ) → WithinFirst 16 weightRange w → d < 8 → natAbs x ≤ B → natAbs y ≤ B → natAbs (weighed w d x y) ≤ 2 * weightRange * B
 weighed-small w d x y B s b hx hy =
     let u : ℤ = getD w d (pos 0) in
     let v : ℤ = getD w (8 + d) (pos 0) in
@@ -67,23 +67,23 @@ weighed-small w d x y B s b hx hy =
 abbrev pub term : List ℤ → (n e : ℕ) → (ℕ → ℤ) → List ℕ → List ℕ → ℕ → ℤ
 term w n e p L K i = weighed w (placeOn n (e + i)) (p (getD L i 0)) (p (getD K i 0))
 
-pub terms-small : (w : List ℤ) (n e m : ℕ) (t : List ℤ) (a : ℕ) (L K : List ℕ) → WithinFirst 16 36 w → Within coordinateRange t → m ≤ n → n ≤ 8 → e ≤ n
-    → natAbs (sum m (term w n e (axis t a) L K)) ≤ 576 * coordinateRange
+pub terms-small : (w : List ℤ) (n e m : ℕ) (t : List ℤ) (a : ℕ) (L K : List ℕ) → WithinFirst 16 weightRange w → Within coordinateRange t → m ≤ n → n ≤ 8 → e ≤ n
+    → natAbs (sum m (term w n e (axis t a) L K)) ≤ sumRange
 terms-small w n e m t a L K s b h k g =
-    let x = abs-sum m (term w n e (axis t a) L K) (72 * coordinateRange)
+    let x = abs-sum m (term w n e (axis t a) L K) (2 * weightRange * coordinateRange)
     (λ i c. let q = place-lt n (e + i) (omega arith) in weighed-small w (placeOn n (e + i)) (axis t a (getD L i 0)) (axis t a (getD K i 0)) coordinateRange s (omega arith) (axis-bound t a (getD L i 0) b) (axis-bound t a (getD K i 0) b)) in
     omega arith
 
 -- on all axes
 pub record SmallSums (x y z : ℤ) : Type 0 where
-  pub on₀ : natAbs x ≤ 576 * coordinateRange
-  pub on₁ : natAbs y ≤ 576 * coordinateRange
-  pub on₂ : natAbs z ≤ 576 * coordinateRange
+  pub on₀ : natAbs x ≤ sumRange
+  pub on₁ : natAbs y ≤ sumRange
+  pub on₂ : natAbs z ≤ sumRange
 
 pub sums-small : (w : List ℤ) (n e m : ℕ) (t : List ℤ) (L K : List ℕ) (x y z : ℤ) → OnAxes (λ (a : ℕ). weightedSum w n e m (axis t a) L K) x y z
-    → WithinFirst 16 36 w → Within coordinateRange t → m ≤ n → n ≤ 8 → e ≤ n → SmallSums x y z
+    → WithinFirst 16 weightRange w → Within coordinateRange t → m ≤ n → n ≤ 8 → e ≤ n → SmallSums x y z
 sums-small w n e m t L K x y z f s b h k g =
-    let on : (a : ℕ) → natAbs (weightedSum w n e m (axis t a) L K) ≤ 576 * coordinateRange = λ a. terms-small w n e m t a L K s b h k g in
+    let on : (a : ℕ) → natAbs (weightedSum w n e m (axis t a) L K) ≤ sumRange = λ a. terms-small w n e m t a L K s b h k g in
     let e₀ = f .on₀ in
     let e₁ = f .on₁ in
     let e₂ = f .on₂ in
@@ -150,7 +150,9 @@ virtual-turned n j X Y h k some below =
     f i = weightL kobbelt n ((n - j + i) % n) *ℤ wrap n X i +ℤ weightK kobbelt n ((n - j + i) % n) *ℤ wrap n Y i
 
     periodic : Periodic n f
-    periodic = record { again = λ i.
-      let e : (n - j + (i + n)) % n ≡ (n - j + i) % n = (let s : n - j + (i + n) ≡ n - j + i + n = omega arith in ap (λ (d : ℕ). d % n) s ∙ add-mod-right (n - j + i) n) in
-      let q = add-mod-right i n in
-      rw (e, q) }
+    periodic = record {
+      again = λ i.
+          let e : (n - j + (i + n)) % n ≡ (n - j + i) % n = (let s : n - j + (i + n) ≡ n - j + i + n = omega arith in ap (λ (d : ℕ). d % n) s ∙ add-mod-right (n - j + i) n) in
+          let q = add-mod-right i n in
+          rw (e, q);
+    }

@@ -2,7 +2,7 @@
 use mathlib.Core.Path.{_≡_, refl, sym, ap, _∙_, subst}
 use mathlib.Core.Logic.{_⊎_, inl, inr, ⊎-elim}
 use mathlib.Core.List.{List}
-use Prim.Native.Nat.{ℕ, zero, suc, _+_, _-_, _≤_, _<_}
+use Prim.Native.Nat.{ℕ, suc, _+_, _-_, _≤_, _<_}
 use native.Mathlib.Decide.{decLt}
 use native.Mathlib.Omega.{arith}
 use lib.IntN.{ℤ}
@@ -191,7 +191,9 @@ module _ (v : ℕ) (l : List ℕ) (ok : Manifold quads v l) (h n g e : ℕ) (L K
 
   pub corners-in : (t : List ℤ) → Points l t → VerticesIn t n K
   unfolding oppositeCorner to
-  corners-in t p = record { room = λ i b.
-    let s = ok .oriented .shape in
-    let x = w .filled .corners i b in
-    rw x (p .room (quads .next (quads .next (turns quads l i h))) (s .next-lt (quads .next (turns quads l i h)) (s .next-lt (turns quads l i h) (w .circuit .inside i b)))) }
+  corners-in t p = record {
+    room = λ i b.
+        let s = ok .oriented .shape in
+        let x = w .filled .corners i b in
+        rw x (p .room (quads .next (quads .next (turns quads l i h))) (s .next-lt (quads .next (turns quads l i h)) (s .next-lt (turns quads l i h) (w .circuit .inside i b))));
+  }

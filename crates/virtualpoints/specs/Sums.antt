@@ -1,20 +1,27 @@
 -- Sums of a ring by weights: w is a row of the table, p a coordinate of the vertices, L and K begin with neighbours and opposite corners.
 use mathlib.Core.Bool.{cond}
 use mathlib.Core.List.{List}
-use Prim.Native.Nat.{ℕ, _+_, _-_, _/_}
+use Prim.Native.Nat.{ℕ, _+_, _-_, _*_, _/_}
 use lib.Dec.{ltb}
 use lib.IntN.{ℤ, pos, _+ℤ_, _*ℤ_}
 use lib.ListN.{getD}
 use Rattle.integers.specs.Sum.{sum}
 use Rattle.curve.specs.Weights.{kobbelt}
 use Rattle.rings.specs.RingWeights.{row}
-use Rattle.rings.specs.Scales.{extrapolatedScale, valenceScale}
+use Rattle.rings.specs.Scales.{extrapolatedScale, valenceScale, coordinateRange}
+
+-- no weight of the table exceeds 36, and the sixteen of a ring make of coordinates no more than this
+abbrev pub weightRange : ℕ
+weightRange = 36
+
+abbrev pub sumRange : ℕ
+sumRange = 16 * weightRange * coordinateRange
 
 -- the neighbour x and the opposite corner y by the weights at place d
 abbrev pub weighed : List ℤ → ℕ → ℤ → ℤ → ℤ
 weighed w d x y = getD w d (pos 0) *ℤ x +ℤ getD w (8 + d) (pos 0) *ℤ y
 
--- the place s of a ring of n places, where s may go once round
+-- the place s of a ring of n places, where s is less than twice round
 unfoldable pub placeOn : ℕ → ℕ → ℕ
 placeOn n s = cond (ltb s n) s (s - n)
 

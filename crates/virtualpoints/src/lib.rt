@@ -1,7 +1,7 @@
 // Virtual points and extrapolated points on the caller's tables, on all axes.
 ghost use mathlib.Core.Path.{_≡_};
 ghost use Prim.Native.Nat.{ℕ, _+_, _-_, _*_, _/_, _^_, _≤_, _<_};
-ghost use lib.IntN.{pos, natAbs, _+ℤ_, _-ℤ_, _*ℤ_};
+ghost use lib.IntN.{pos, natAbs, _-ℤ_, _*ℤ_};
 ghost use lib.ListN.{length, getD};
 ghost use Rattle.integers.specs.Sum.{sum};
 ghost use Rattle.integers.specs.Within.{Within, WithinFirst};
@@ -15,17 +15,23 @@ ghost use Rattle.nets.specs.Net.{axis};
 ghost use Rattle.walks.specs.Ready.{Ready};
 ghost use Rattle.coordinates.specs.Points.{InTable, Points, OnAxes};
 ghost use Rattle.virtualpoints.specs.Gathered.{Gathered, OpenFan, VerticesIn};
-ghost use Rattle.virtualpoints.specs.Sums.{weighed, placeOn, weightedSum, ringSum, fanSum, fanOn};
+ghost use Rattle.virtualpoints.specs.Sums.{weightRange, sumRange, weighed, placeOn, weightedSum, ringSum, fanSum, fanOn};
 ghost use Rattle.virtualpoints.specs.Exact.{Extrapolated, extrapolatedOn, virtualOn};
 
+// The denominator of extrapolated points.
 const EXTRAPOLATED_SCALE: i64 = 60;
+
+// The same, where it is divided by the number of inner edges of a fan.
+const EXTRAPOLATED_SHARES: usize = 60;
+
+// What the valences of rings divide.
 const VALENCE_SCALE: usize = 840;
 
 // The faces met in turning from a half-edge: how many, the half-edge in the last, and the one after it, which is the first again or none.
-pub struct Met {
-    pub count: usize,
-    pub last: usize,
-    pub after: usize,
+struct Met {
+    count: usize,
+    last: usize,
+    after: usize,
 }
 
 // Gathers the neighbours and the opposite corners of the faces met in turning from h.
@@ -60,7 +66,7 @@ fn gather(faces: &[u32], work: &[u32], h: usize, l: &mut [usize; 8], k: &mut [us
     }
 }
 
-// The place s of a ring of n places, where s may go once round.
+// The place s of a ring of n places, where s is less than twice round.
 fn place_on(n: usize, s: usize) -> usize
     ensures { λ r. ⌜ r ≡ placeOn n s ⌝ }
 {
@@ -72,7 +78,7 @@ fn place_on(n: usize, s: usize) -> usize
 
 // The neighbour x and the opposite corner y by the weights at place d.
 fn weigh(w: &[i64; 16], d: usize, x: i64, y: i64) -> i64
-    requires { ⌜ WithinFirst 16 36 (now w) × (d < 8) × (natAbs x ≤ extrapolatedRange) × (natAbs y ≤ extrapolatedRange) ⌝ }
+    requires { ⌜ WithinFirst 16 weightRange (now w) × (d < 8) × (natAbs x ≤ extrapolatedRange) × (natAbs y ≤ extrapolatedRange) ⌝ }
     ensures { λ r. ⌜ r ≡ weighed (now (w .entry)) d x y ⌝ }
 {
     let u = w[d];
@@ -82,7 +88,7 @@ fn weigh(w: &[i64; 16], d: usize, x: i64, y: i64) -> i64
 
 // The vertices p and q by them, on axis a.
 fn weigh_on(points: &[i32], w: &[i64; 16], d: usize, p: usize, q: usize, a: usize) -> i64
-    requires { ⌜ Within coordinateRange (now points) × WithinFirst 16 36 (now w) ⌝ }
+    requires { ⌜ Within coordinateRange (now points) × WithinFirst 16 weightRange (now w) ⌝ }
     requires { ⌜ (d < 8) × (a < 3) × InTable (now points) p × InTable (now points) q ⌝ }
     ensures { λ r. ⌜ r ≡ weighed (now (w .entry)) d (axis (now (points .entry)) a p) (axis (now (points .entry)) a q) ⌝ }
 {
@@ -94,7 +100,7 @@ fn weigh_on(points: &[i32], w: &[i64; 16], d: usize, p: usize, q: usize, a: usiz
     )
 }
 
-// The first m neighbours and opposite corners by the weights of a ring of n, of which they take the places from e on.
+// The sums of the first m neighbours and opposite corners by the weights w of a ring of n, of which they take the places from e on.
 fn weighted_sum(
     points: &[i32],
     w: &[i64; 16],
@@ -104,7 +110,7 @@ fn weighted_sum(
     n: usize,
     e: usize,
 ) -> coordinates::Exact
-    requires { ⌜ Within coordinateRange (now points) × WithinFirst 16 36 (now w) ⌝ }
+    requires { ⌜ Within coordinateRange (now points) × WithinFirst 16 weightRange (now w) ⌝ }
     requires { ⌜ (m ≤ n) × (n ≤ 8) × (e ≤ n) × VerticesIn (now points) m (now l) × VerticesIn (now points) m (now k) ⌝ }
     ensures { λ r. ⌜ OnAxes (λ (a : ℕ). weightedSum (now (w .entry)) n e m (axis (now (points .entry)) a) (now (l .entry)) (now (k .entry))) (r .x) (r .y) (r .z) ⌝ }
 {
@@ -124,7 +130,7 @@ fn weighted_sum(
     coordinates::Exact { x: x, y: y, z: z }
 }
 
-// v times the share of one place in a ring of n.
+// v, which is over 9n times the extrapolated scale, over one denominator for all valences n.
 fn times_share(n: usize, v: i64) -> i64
     requires { ⌜ (3 ≤ n) × (n ≤ 8) × (natAbs v ≤ 2 ^ 50) ⌝ }
     ensures { λ r. ⌜ r ≡ pos (valenceScale / n) *ℤ v ⌝ }
@@ -133,9 +139,9 @@ fn times_share(n: usize, v: i64) -> i64
     c as i64 * v
 }
 
-// The same where s is a sum over vertices.
+// The same for a sum s over vertices, which is over 9n alone.
 fn scaled_share(n: usize, s: i64) -> i64
-    requires { ⌜ (3 ≤ n) × (n ≤ 8) × (natAbs s ≤ 576 * coordinateRange) ⌝ }
+    requires { ⌜ (3 ≤ n) × (n ≤ 8) × (natAbs s ≤ sumRange) ⌝ }
     ensures { λ r. ⌜ r ≡ ringSum n s ⌝ }
 {
     times_share(n, EXTRAPOLATED_SCALE * s)
@@ -156,7 +162,7 @@ fn ring_point(points: &[i32], l: &[usize; 8], k: &[usize; 8], n: usize) -> coord
     }
 }
 
-// Twice p over the scale, less c times q.
+// Twice p, over the scale, less c times q.
 fn reflected(p: i64, q: i64, c: usize) -> i64
     requires { ⌜ (natAbs p ≤ coordinateRange) × (natAbs q ≤ 5 * coordinateRange) × (c ≤ extrapolatedScale) ⌝ }
     ensures { λ r. ⌜ r ≡ pos (2 * extrapolatedScale) *ℤ p -ℤ pos c *ℤ q ⌝ }
@@ -196,10 +202,14 @@ fn extrapolated_on(
     let p = coordinates::coordinate(points, halfedges::start_of(faces, s), a);
     if m == 1 {
         let v = k[0];
-        return reflected(p, coordinates::coordinate(points, v, a), 60);
+        return reflected(
+            p,
+            coordinates::coordinate(points, v, a),
+            EXTRAPOLATED_SHARES,
+        );
     }
     let r = m - 1;
-    reflected(p, far_sum(points, l, r, a), 60 / r)
+    reflected(p, far_sum(points, l, r, a), EXTRAPOLATED_SHARES / r)
 }
 
 // The same on all axes.
@@ -247,8 +257,8 @@ fn closed_on(
     r: i64,
     a: usize,
 ) -> i64
-    requires { ⌜ Within coordinateRange (now points) × WithinFirst 16 36 (now w) × (a < 3) × InTable (now points) c ⌝ }
-    requires { ⌜ (3 ≤ n) × (n ≤ 8) × (t + 2 ≤ n) × (natAbs s ≤ 576 * coordinateRange) ⌝ }
+    requires { ⌜ Within coordinateRange (now points) × WithinFirst 16 weightRange (now w) × (a < 3) × InTable (now points) c ⌝ }
+    requires { ⌜ (3 ≤ n) × (n ≤ 8) × (t + 2 ≤ n) × (natAbs s ≤ sumRange) ⌝ }
     requires { ⌜ (natAbs p ≤ extrapolatedRange) × (natAbs q ≤ extrapolatedRange) × (natAbs r ≤ extrapolatedRange) ⌝ }
     ensures { λ z. ⌜ z ≡ fanSum (now (w .entry)) n t s (pos extrapolatedScale *ℤ axis (now (points .entry)) a c) q p r ⌝ }
 {

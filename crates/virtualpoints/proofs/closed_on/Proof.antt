@@ -1,7 +1,7 @@
 -- `closed_on` meets its contract: no step leaves its range. Assumes nothing.
 use mathlib.Core.Path.{_≡_, ap, ap₂, _∙_}
 use mathlib.Core.List.{List}
-use Prim.Native.Nat.{ℕ, _+_, _*_, _/_, _^_, _≤_, _<_}
+use Prim.Native.Nat.{ℕ, _+_, _*_, _/_, _^_, _≤_}
 use native.Mathlib.Omega.{arith}
 use borrow.Author.Needs.{needs}
 use lib.IntN.{ℤ, pos, natAbs, _+ℤ_, _*ℤ_}
@@ -10,9 +10,9 @@ use mir.Val.{SFits}
 use mir.Facts.{toZ-ofZ}
 use Rattle.integers.proofs.AbsoluteValue.{abs-add, abs-mul}
 use Rattle.integers.proofs.Range.{fits-abs}
-use Rattle.rings.specs.Scales.{extrapolatedScale, valenceScale, coordinateRange, extrapolatedRange}
+use Rattle.rings.specs.Scales.{extrapolatedScale, valenceScale, extrapolatedRange}
 use Rattle.coordinates.proofs.Values.{read-small}
-use Rattle.virtualpoints.specs.Sums.{weighed}
+use Rattle.virtualpoints.specs.Sums.{weightRange, sumRange, weighed}
 use Rattle.virtualpoints.proofs.Sums.{weighed-small}
 use Rattle.virtualpoints.proofs.closed_on.Statement.{statement}
 use Rattle.virtualpoints.proofs.closed_on.Tie as tie
@@ -56,7 +56,7 @@ record Sizes (s u v : ℤ) : Type 0 where
   all : SFits w64 (pos extrapolatedScale *ℤ s +ℤ u +ℤ v)
   small : natAbs (pos extrapolatedScale *ℤ s +ℤ u +ℤ v) ≤ 2 ^ 50
 
-sizes : (s u v : ℤ) → natAbs s ≤ 576 * coordinateRange → natAbs u ≤ 72 * extrapolatedRange → natAbs v ≤ 72 * extrapolatedRange → Sizes s u v
+sizes : (s u v : ℤ) → natAbs s ≤ sumRange → natAbs u ≤ 2 * weightRange * extrapolatedRange → natAbs v ≤ 2 * weightRange * extrapolatedRange → Sizes s u v
 sizes s u v hs hu hv =
     let m = abs-mul (pos extrapolatedScale) s in
     let a = abs-add (pos extrapolatedScale *ℤ s) u in

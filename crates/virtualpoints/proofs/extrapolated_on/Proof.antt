@@ -1,10 +1,10 @@
 -- `extrapolated_on` meets its contract. Assumes nothing.
 use mathlib.Core.Path.{_≡_, ap, _∙_}
-use Prim.Native.Nat.{ℕ, _+_, _-_, _≤_}
+use Prim.Native.Nat.{_-_}
 use native.Mathlib.Nat.{div-le-self}
 use native.Mathlib.Omega.{arith}
 use borrow.Author.Needs.{needs}
-use lib.IntN.{ℤ, natAbs}
+use lib.IntN.{natAbs}
 use mir.Syntax.{w64}
 use mir.Val.{SFits}
 use mir.Facts.{toZ-ofZ}
@@ -12,7 +12,6 @@ use Rattle.rings.specs.Scales.{extrapolatedScale}
 use Rattle.topology.specs.HalfEdge.{from}
 use Rattle.nets.specs.Net.{axis}
 use Rattle.coordinates.proofs.Values.{read-small}
-use Rattle.virtualpoints.specs.Gathered.{VerticesIn}
 use Rattle.virtualpoints.proofs.Extrapolated.{far-small, corner-made, mean-made}
 use Rattle.virtualpoints.proofs.extrapolated_on.Statement.{statement}
 use Rattle.virtualpoints.proofs.extrapolated_on.Tie as tie

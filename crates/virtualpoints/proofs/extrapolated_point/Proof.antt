@@ -14,10 +14,13 @@ extrapolated-from-requires c κs =
     let r = s .pre .0 in
     let l = s .args .faces .now in
     let t = s .args .points .now in
-    let o = s .pre .1 .1 in
-    ((s .pre .1 .0, open-fan (r .vertices) l (r .net) (s .args .s) (g .result .count) (g .result .last) (g .result .after) _ _ (g .ensures) o),
-    (neighbours-in (r .vertices) l (r .net) (s .args .s) (g .result .count) (g .result .last) (g .result .after) _ _ (g .ensures) t (s .pre .1 .0),
-    corners-in (r .vertices) l (r .net) (s .args .s) (g .result .count) (g .result .last) (g .result .after) _ _ (g .ensures) t (s .pre .1 .0)))
+    let o = s .pre .1 .1 in (
+      (s .pre .1 .0, open-fan (r .vertices) l (r .net) (s .args .s) (g .result .count) (g .result .last) (g .result .after) _ _ (g .ensures) o),
+      (
+        neighbours-in (r .vertices) l (r .net) (s .args .s) (g .result .count) (g .result .last) (g .result .after) _ _ (g .ensures) t (s .pre .1 .0),
+        corners-in (r .vertices) l (r .net) (s .args .s) (g .result .count) (g .result .last) (g .result .after) _ _ (g .ensures) t (s .pre .1 .0),
+      ),
+    )
 
 returns : tie.Need-returns
 returns c = search needs

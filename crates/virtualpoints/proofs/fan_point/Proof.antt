@@ -1,15 +1,12 @@
 -- `fan_point` meets its contract. Assumes nothing.
-use mathlib.Core.Path.{_≡_, sym, ap, _∙_}
-use Prim.Native.Nat.{ℕ, _-_, _≤_, _<_}
+use mathlib.Core.Path.{_≡_, _∙_}
+use Prim.Native.Nat.{_-_}
 use native.Mathlib.Omega.{arith}
 use borrow.Author.Needs.{needs}
-use lib.ListN.{length}
 use Rattle.topology.specs.Shape.{quads}
 use Rattle.topology.specs.HalfEdge.{from}
-use Rattle.topology.specs.Boundary.{OnBoundary, boundaryFrom, along, back}
-use Rattle.topology.specs.Vertex.{turns}
+use Rattle.topology.specs.Boundary.{OnBoundary, back}
 use Rattle.topology.proofs.Boundary.{boundaryFrom-on, along-on, back-on}
-use Rattle.topology.proofs.Walks.{back-turns}
 use Rattle.virtualpoints.proofs.Turning.{open-fan, gathered-back, neighbours-in, corners-in}
 use Rattle.virtualpoints.proofs.Extrapolated.{extrapolated-small}
 use Rattle.virtualpoints.proofs.Rings.{fan-sizes, count-is, fan-made}
@@ -70,9 +67,10 @@ extrapolated-from-requires c κs =
     let t = s .args .points .now in
     let h = f .fan-start .result .side in
     let m = g .gather .result in
-    let w = g .gather .ensures in
-    ((s .pre .1 .0 .0, open-fan (r .vertices) l (r .net) h (m .count) (m .last) (m .after) _ _ w (on-s f)),
-    (neighbours-in (r .vertices) l (r .net) h (m .count) (m .last) (m .after) _ _ w t (s .pre .1 .0 .0), corners-in (r .vertices) l (r .net) h (m .count) (m .last) (m .after) _ _ w t (s .pre .1 .0 .0)))
+    let w = g .gather .ensures in (
+      (s .pre .1 .0 .0, open-fan (r .vertices) l (r .net) h (m .count) (m .last) (m .after) _ _ w (on-s f)),
+      (neighbours-in (r .vertices) l (r .net) h (m .count) (m .last) (m .after) _ _ w t (s .pre .1 .0 .0), corners-in (r .vertices) l (r .net) h (m .count) (m .last) (m .after) _ _ w t (s .pre .1 .0 .0)),
+    )
 
 extrapolated-point-requires : tie.Need-extrapolated-point-requires
 extrapolated-point-requires c κs = let e = c .before .before .before .before .before in let s = e .before .before .before .before .before .before .before in (s .pre .0, (s .pre .1 .0 .0, on-e e))
@@ -102,12 +100,17 @@ fan-sum-requires c κs =
     let ej = f .fan-start .ensures .place (s .pre .1 .1) in
     let k = fan-sizes v l (r .net) (s .args .h) (s .pre .1 .0 .1) (s .pre .1 .0 .2) (s .pre .1 .1) in
     let n = count-is v l (r .net) (s .args .h) (s .pre .1 .0 .1) (s .pre .1 .0 .2) (s .pre .1 .1) h (m .count) es (w .circuit .whole (on-s f)) in
-    let ec = c .before .before .before .before .before .before .before .start-of .ensures in
-    ((b, omega arith, omega arith, omega arith, rw ec (s .pre .1 .0 .0 .room (e .prev-side .result) (on-e e .lt))),
-    ((neighbours-in v l (r .net) h (m .count) (m .last) (m .after) _ _ w t (s .pre .1 .0 .0), corners-in v l (r .net) h (m .count) (m .last) (m .after) _ _ w t (s .pre .1 .0 .0)),
-    (extrapolated-small v l (r .net) h (on-s f) t b (x₁ .result .x) (x₁ .result .y) (x₁ .result .z) (x₁ .ensures),
-    extrapolated-small v l (r .net) (e .prev-side .result) (on-e e) t b (x₂ .result .x) (x₂ .result .y) (x₂ .result .z) (x₂ .ensures),
-    extrapolated-small v l (r .net) (d .along-side .result) (on-d d) t b (x₃ .result .x) (x₃ .result .y) (x₃ .result .z) (x₃ .ensures))))
+    let ec = c .before .before .before .before .before .before .before .start-of .ensures in (
+      (b, omega arith, omega arith, omega arith, rw ec (s .pre .1 .0 .0 .room (e .prev-side .result) (on-e e .lt))),
+      (
+        (neighbours-in v l (r .net) h (m .count) (m .last) (m .after) _ _ w t (s .pre .1 .0 .0), corners-in v l (r .net) h (m .count) (m .last) (m .after) _ _ w t (s .pre .1 .0 .0)),
+        (
+          extrapolated-small v l (r .net) h (on-s f) t b (x₁ .result .x) (x₁ .result .y) (x₁ .result .z) (x₁ .ensures),
+          extrapolated-small v l (r .net) (e .prev-side .result) (on-e e) t b (x₂ .result .x) (x₂ .result .y) (x₂ .result .z) (x₂ .ensures),
+          extrapolated-small v l (r .net) (d .along-side .result) (on-d d) t b (x₃ .result .x) (x₃ .result .y) (x₃ .result .z) (x₃ .ensures),
+        ),
+      ),
+    )
 
 returns : tie.Need-returns
 returns c =

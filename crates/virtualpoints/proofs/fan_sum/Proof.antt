@@ -1,5 +1,4 @@
 -- `fan_sum` meets its contract. Assumes nothing.
-use mathlib.Core.Path.{_≡_}
 use Prim.Native.Nat.{ℕ, _+_, _-_, _≤_}
 use native.Mathlib.Omega.{arith}
 use borrow.Author.Needs.{needs}
@@ -12,6 +11,7 @@ use Rattle.integers.proofs.Range.{fits-abs}
 use Rattle.rings.specs.Scales.{extrapolatedRange}
 use Rattle.rings.proofs.Table.{row-small}
 use Rattle.nets.specs.Net.{axis}
+use Rattle.virtualpoints.specs.Sums.{weightRange}
 use Rattle.virtualpoints.proofs.Sums.{SmallSums, sums-small, fan-read}
 use Rattle.virtualpoints.proofs.fan_sum.Statement.{statement}
 use Rattle.virtualpoints.proofs.fan_sum.Tie as tie
@@ -25,7 +25,7 @@ sub-t c = search needs
 weights-requires : tie.Need-weights-requires
 weights-requires c κs = search needs
 
-weights-small : (c : tie.After-weights) → WithinFirst 16 36 (c .weights .result)
+weights-small : (c : tie.After-weights) → WithinFirst 16 weightRange (c .weights .result)
 weights-small c = let p = c .before .pre .0 in let e = c .weights .ensures in rw e (row-small (c .before .args .m + 2) (omega arith) (omega arith))
 
 sub-weighted-sum : tie.Need-sub-weighted-sum
@@ -112,8 +112,10 @@ returns c =
     let w = q .before .before .weights in
     simp toZ-ofZ (
       fan-read (w .result) (s .args .m) (s .args .j) (s .args .c) (axis (s .args .points .now) 0) (s .args .l .now) (s .args .k .now) (e .x) (s .args .p .x) (s .args .q .x) (s .args .r .x) (r₁ .closed-on .result) (w .ensures) (q .weighted-sum .ensures .on₀) (simp toZ-ofZ at (r₁ .closed-on .ensures)),
-      (fan-read (w .result) (s .args .m) (s .args .j) (s .args .c) (axis (s .args .points .now) 1) (s .args .l .now) (s .args .k .now) (e .y) (s .args .p .y) (s .args .q .y) (s .args .r .y) (r₂ .closed-on2 .result) (w .ensures) (q .weighted-sum .ensures .on₁) (simp toZ-ofZ at (r₂ .closed-on2 .ensures)),
-      fan-read (w .result) (s .args .m) (s .args .j) (s .args .c) (axis (s .args .points .now) 2) (s .args .l .now) (s .args .k .now) (e .z) (s .args .p .z) (s .args .q .z) (s .args .r .z) (c .closed-on3 .result) (w .ensures) (q .weighted-sum .ensures .on₂) (simp toZ-ofZ at (c .closed-on3 .ensures))),
+      (
+        fan-read (w .result) (s .args .m) (s .args .j) (s .args .c) (axis (s .args .points .now) 1) (s .args .l .now) (s .args .k .now) (e .y) (s .args .p .y) (s .args .q .y) (s .args .r .y) (r₂ .closed-on2 .result) (w .ensures) (q .weighted-sum .ensures .on₁) (simp toZ-ofZ at (r₂ .closed-on2 .ensures)),
+        fan-read (w .result) (s .args .m) (s .args .j) (s .args .c) (axis (s .args .points .now) 2) (s .args .l .now) (s .args .k .now) (e .z) (s .args .p .z) (s .args .q .z) (s .args .r .z) (c .closed-on3 .result) (w .ensures) (q .weighted-sum .ensures .on₂) (simp toZ-ofZ at (c .closed-on3 .ensures)),
+      ),
     )
 
 pub fan-sum-spec : {M : Type 1} → statement M

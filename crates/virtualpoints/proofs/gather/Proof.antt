@@ -1,7 +1,6 @@
 -- `gather` meets its contract: after i turns the first i places of both lists are filled. Assumes nothing.
-use mathlib.Core.Path.{_≡_, refl}
 use mathlib.Core.Logic.{inl, inr}
-use Prim.Native.Nat.{ℕ, _+_, _-_, _≤_, _<_}
+use Prim.Native.Nat.{_+_, _-_, _≤_, _<_}
 use native.Mathlib.Omega.{arith}
 use lib.ListN.{length, set}
 use Rattle.virtualpoints.specs.Gathered.{Filled}

@@ -7,6 +7,7 @@ use mir.Facts.{toZ-ofZ}
 use Rattle.integers.specs.Within.{WithinFirst}
 use Rattle.integers.proofs.Range.{fits-abs}
 use Rattle.rings.proofs.Table.{row-small}
+use Rattle.virtualpoints.specs.Sums.{weightRange}
 use Rattle.virtualpoints.proofs.Sums.{SmallSums, sums-small, ring-read}
 use Rattle.virtualpoints.proofs.ring_point.Statement.{statement}
 use Rattle.virtualpoints.proofs.ring_point.Tie as tie
@@ -14,7 +15,7 @@ use Rattle.virtualpoints.proofs.ring_point.Tie as tie
 weights-requires : tie.Need-weights-requires
 weights-requires c κs = search needs
 
-weights-small : (c : tie.After-weights) → WithinFirst 16 36 (c .weights .result)
+weights-small : (c : tie.After-weights) → WithinFirst 16 weightRange (c .weights .result)
 weights-small c = let p = c .before .pre .0 in let e = c .weights .ensures in rw e (row-small (c .before .args .n) (p .1) (p .2))
 
 weighted-sum-requires : tie.Need-weighted-sum-requires

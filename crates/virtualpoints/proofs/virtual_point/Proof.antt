@@ -1,7 +1,5 @@
 -- `virtual_point` meets its contract: the walk that gathers the ring tells a full ring from an open fan. Assumes nothing.
-use mathlib.Core.Path.{_≡_, sym, ap, _∙_}
-use Prim.Native.Nat.{ℕ, _≤_, _<_}
-use native.Mathlib.Decide.{decLt}
+use mathlib.Core.Path.{_≡_}
 use native.Mathlib.Omega.{arith}
 use borrow.Author.Needs.{needs}
 use lib.ListN.{length}
@@ -34,10 +32,13 @@ ring-point-requires c κs =
     let l = s .args .faces .now in
     let g = t .before .before .gather in
     let e = g .ensures .circuit .ring (inner t) .0 in
-    let k = ring-here-range (r .vertices) l (r .net) (s .args .h) (s .pre .1 .1 .0) (inner t) in
-    ((s .pre .1 .0 .bounded, omega arith, omega arith),
-    (neighbours-in (r .vertices) l (r .net) (s .args .h) (g .result .count) (g .result .last) (g .result .after) _ _ (g .ensures) (s .args .points .now) (s .pre .1 .0),
-    corners-in (r .vertices) l (r .net) (s .args .h) (g .result .count) (g .result .last) (g .result .after) _ _ (g .ensures) (s .args .points .now) (s .pre .1 .0)))
+    let k = ring-here-range (r .vertices) l (r .net) (s .args .h) (s .pre .1 .1 .0) (inner t) in (
+      (s .pre .1 .0 .bounded, omega arith, omega arith),
+      (
+        neighbours-in (r .vertices) l (r .net) (s .args .h) (g .result .count) (g .result .last) (g .result .after) _ _ (g .ensures) (s .args .points .now) (s .pre .1 .0),
+        corners-in (r .vertices) l (r .net) (s .args .h) (g .result .count) (g .result .last) (g .result .after) _ _ (g .ensures) (s .args .points .now) (s .pre .1 .0),
+      ),
+    )
 
 returns : tie.Need-returns
 returns c =
@@ -54,9 +55,13 @@ fan-point-requires : tie.Need-fan-point-requires
 fan-point-requires c κs =
     let s = c .before .before .before .before .before .before .before in
     let r = s .pre .0 in
-    let g = c .before .before .gather in
-    (r, ((s .pre .1 .0, s .pre .1 .1 .0, s .pre .1 .1 .1),
-    gathered-fan (r .vertices) (s .args .faces .now) (r .net) (s .args .h) (g .result .count) (g .result .last) (g .result .after) _ _ (g .ensures) (c .if1 .left)))
+    let g = c .before .before .gather in (
+      r,
+      (
+        (s .pre .1 .0, s .pre .1 .1 .0, s .pre .1 .1 .1),
+        gathered-fan (r .vertices) (s .args .faces .now) (r .net) (s .args .h) (g .result .count) (g .result .last) (g .result .after) _ _ (g .ensures) (c .if1 .left),
+      ),
+    )
 
 returns-2 : tie.Need-returns-2
 returns-2 c = c .fan-point .ensures

@@ -1,19 +1,17 @@
 -- `weigh` meets its contract: no step leaves its range. Assumes nothing.
-use Prim.Native.Nat.{ℕ, _+_, _≤_, _<_}
+use Prim.Native.Nat.{_+_, _≤_}
 use native.Mathlib.Nat.{mul-le-mul}
 use native.Mathlib.Omega.{arith}
 use borrow.Author.Needs.{needs}
-use mathlib.Core.List.{List}
-use mathlib.Core.Path.{refl}
 use lib.IntN.{ℤ, pos, natAbs, _+ℤ_, _*ℤ_}
 use lib.ListN.{getD}
 use mir.Syntax.{w64}
 use mir.Val.{SFits}
 use mir.Facts.{toZ-ofZ}
-use Rattle.integers.specs.Within.{WithinFirst}
 use Rattle.integers.proofs.AbsoluteValue.{abs-add, abs-mul}
 use Rattle.integers.proofs.Range.{fits-abs}
 use Rattle.rings.specs.Scales.{extrapolatedRange}
+use Rattle.virtualpoints.specs.Sums.{weightRange}
 use Rattle.virtualpoints.proofs.weigh.Statement.{statement}
 use Rattle.virtualpoints.proofs.weigh.Tie as tie
 
@@ -25,7 +23,7 @@ record Sizes (u v x y : ℤ) : Type 0 where
   vy : SFits w64 (v *ℤ y)
   all : SFits w64 (u *ℤ x +ℤ v *ℤ y)
 
-sizes : (u v x y : ℤ) → natAbs u ≤ 36 → natAbs v ≤ 36 → natAbs x ≤ extrapolatedRange → natAbs y ≤ extrapolatedRange → Sizes u v x y
+sizes : (u v x y : ℤ) → natAbs u ≤ weightRange → natAbs v ≤ weightRange → natAbs x ≤ extrapolatedRange → natAbs y ≤ extrapolatedRange → Sizes u v x y
 sizes u v x y hu hv hx hy =
     let a = abs-mul u x in
     let a′ = mul-le-mul hu hx in
