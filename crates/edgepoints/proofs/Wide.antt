@@ -115,12 +115,14 @@ module _ (v : ℕ) (l : List ℕ) (ok : Manifold quads v l) (t : List ℤ) (room
       → Flagged l h flag × ExactPoint flag (λ (a : ℕ). edgeValueZ kobbelt l (axis t a) h innerRule) x y z
       → Flagged l h flag × ExactPoint flag (λ (a : ℕ). edgeZ kobbelt l marks (axis t a) h) x y z
   inner-point marks h m flag x y z (f, p) =
-      let at : (a : ℕ) → edgeValueZ kobbelt l (axis t a) h innerRule ≡ edgeZ kobbelt l marks (axis t a) h = λ a. sym (inner-value marks (axis t a) h m) in
-      (f, record {
-        on₀ = subst (λ (X : ℤ). ExactEdge flag X x) (at 0) (p .on₀);
-        on₁ = subst (λ (X : ℤ). ExactEdge flag X y) (at 1) (p .on₁);
-        on₂ = subst (λ (X : ℤ). ExactEdge flag X z) (at 2) (p .on₂);
-      })
+      let at : (a : ℕ) → edgeValueZ kobbelt l (axis t a) h innerRule ≡ edgeZ kobbelt l marks (axis t a) h = λ a. sym (inner-value marks (axis t a) h m) in (
+        f,
+        record {
+          on₀ = subst (λ (X : ℤ). ExactEdge flag X x) (at 0) (p .on₀);
+          on₁ = subst (λ (X : ℤ). ExactEdge flag X y) (at 1) (p .on₁);
+          on₂ = subst (λ (X : ℤ). ExactEdge flag X z) (at 2) (p .on₂);
+        },
+      )
 
   -- ---- a boundary edge, by its rule and its far points
   module _ (marks : List ℕ) (h : ℕ) (k : h < length l) (none : mate quads l h ≡ length l) (r : EdgeRule) (er : r ≡ edgeRule l marks h) (f g : Far)

@@ -196,7 +196,14 @@ fn straight_virtual(points: &[i32], faces: &[u32], work: &[u32], h: usize) -> Ex
 }
 
 // The virtual point at the vertex that the inner half-edge h leaves, on its edge.
-fn end_virtual(points: &[i32], faces: &[u32], work: &[u32], at: usize, drawn: usize, h: usize) -> Exact
+fn end_virtual(
+    points: &[i32],
+    faces: &[u32],
+    work: &[u32],
+    at: usize,
+    drawn: usize,
+    h: usize,
+) -> Exact
     requires { ⌜ Ready (now faces) (now work) ⌝ }
     requires { ⌜ Points (now faces) (now points) × Told at drawn (now faces) (now work) ⌝ }
     requires { ⌜ (h < length (now faces)) × (mate quads (now faces) h < length (now faces)) ⌝ }
@@ -218,7 +225,15 @@ fn wide_on(points: &[i32], p: usize, q: usize, u: i64, w: i64, a: usize) -> i64
 }
 
 // The point on the inner edge of h, whose mate is m, from its two virtual points.
-fn wide_edge(points: &[i32], faces: &[u32], work: &[u32], at: usize, drawn: usize, h: usize, m: usize) -> Edge
+fn wide_edge(
+    points: &[i32],
+    faces: &[u32],
+    work: &[u32],
+    at: usize,
+    drawn: usize,
+    h: usize,
+    m: usize,
+) -> Edge
     requires { ⌜ Ready (now faces) (now work) ⌝ }
     requires { ⌜ Points (now faces) (now points) × Told at drawn (now faces) (now work) ⌝ }
     requires { ⌜ (h < length (now faces)) × (m ≡ mate quads (now faces) h) × (m < length (now faces)) ⌝ }
@@ -237,7 +252,15 @@ fn wide_edge(points: &[i32], faces: &[u32], work: &[u32], at: usize, drawn: usiz
 }
 
 // The point on the inner edge of h, whose mate is m.
-fn inner_edge(points: &[i32], faces: &[u32], work: &[u32], at: usize, drawn: usize, h: usize, m: usize) -> Edge
+fn inner_edge(
+    points: &[i32],
+    faces: &[u32],
+    work: &[u32],
+    at: usize,
+    drawn: usize,
+    h: usize,
+    m: usize,
+) -> Edge
     requires { ⌜ Ready (now faces) (now work) ⌝ }
     requires { ⌜ Points (now faces) (now points) × Told at drawn (now faces) (now work) ⌝ }
     requires { ⌜ (h < length (now faces)) × (m ≡ mate quads (now faces) h) × (m < length (now faces)) ⌝ }

@@ -41,7 +41,7 @@ use Rattle.coordinates.specs.Packed.{putThree, Holds}
 use Rattle.coordinates.specs.Entry.{wideFlag, boundaryFlag, entryOf, edgeOf, placeOf, unitOf}
 use Rattle.coordinates.proofs.Points.{take-point, written-next}
 use Rattle.coordinates.proofs.Packed.{holds-kept, length-put-three, put-three-other, put-three-kept, put-three-first, put-three-second, put-three-third}
-use Rattle.edgepoints.specs.Edge.{Flagged, plain, wide, boundary, ExactEdge, ExactPoint}
+use Rattle.edgepoints.specs.Edge.{Told, Flagged, plain, wide, boundary, ExactEdge, ExactPoint}
 use Rattle.edgetable.specs.EdgeTable.{roundedBy, Small, oldAxis, refinedAxis, edgeAxis, Round, Turn, Turned, met, passed, Entry, StoredAt, Edges}
 
 -- ---- flags
@@ -109,6 +109,17 @@ number-small l h flag X x f k = ⊎-elim (go 1 (omega arith)) (go (virtualScale 
         let d = mul-le-mul-right (natAbs x) b in
         let s = k .small in
         omega arith
+
+pub exact-small : (l : List ℕ) (h flag : ℕ) (E : ℕ → ℤ) (x y z : ℤ) → Flagged l h flag → ExactPoint flag E x y z → (natAbs x < 2 ^ 61) × (natAbs y < 2 ^ 61) × (natAbs z < 2 ^ 61)
+exact-small l h flag E x y z f k =
+    let a = number-small l h flag (E 0) x f (k .on₀) in
+    let b = number-small l h flag (E 1) y f (k .on₁) in
+    let c = number-small l h flag (E 2) z f (k .on₂) in
+    (omega arith, omega arith, omega arith)
+
+-- ---- classes of corners
+pub told-of : (l marks w : List ℕ) (at drawn : ℕ) → Marks l marks → Classes (length marks) at drawn l w → Told at drawn l w
+told-of l marks w at drawn m c = record { room = c .room; ordinary = λ h b e. c .ordinary (from l h) (m .room h b) e }
 
 -- ---- what stays stored
 stored-kept : (n : ℕ) (w w′ : List ℕ) (a t : ℕ) (X : ℤ) → getD w′ (placeOf n t + 2 * a) 0 ≡ getD w (placeOf n t + 2 * a) 0 → getD w′ (placeOf n t + 2 * a + 1) 0 ≡ getD w (placeOf n t + 2 * a + 1) 0

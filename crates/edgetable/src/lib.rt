@@ -6,8 +6,11 @@ ghost use lib.ListN.{length};
 ghost use Rattle.rounding.specs.Rounding.{round};
 ghost use Rattle.curve.specs.Weights.{kobbelt};
 ghost use Rattle.rings.specs.Scales.{virtualScale, edgeScale, edgeRange};
+ghost use Rattle.topology.specs.Shape.{quads};
+ghost use Rattle.topology.specs.HalfEdge.{edgeCount};
 ghost use Rattle.coordinates.specs.Points.{putPoint};
-ghost use Rattle.edgetable.specs.EdgeTable.{roundedBy, Small};
+ghost use Rattle.edgetable.specs.EdgeTable.{roundedBy, Small, Turn, Turned, Round, Edges};
+use coordinates::Exact;
 use edgepoints::Edge;
 
 const WIDE: u32 = 536870912;
@@ -46,4 +49,62 @@ fn put_rounded(points: &mut [i32], i: usize, e: Edge)
     let y = rounded_plain(e.y);
     let z = rounded_plain(e.z);
     coordinates::put_point(&mut *points, i, x, y, z);
+}
+
+// Makes the point of the edge of half-edge h if the edge is first met there, where `edges` are met before; the answer is how many are met then.
+fn edge_side(
+    points: &mut [i32],
+    faces: &[u32],
+    marks: &[u8],
+    work: &mut [u32],
+    at: usize,
+    drawn: usize,
+    h: usize,
+    edges: usize,
+) -> usize
+    requires { ⌜ Turn (now faces) (now marks) (now points) (now work) at drawn h edges ⌝ }
+    ensures { λ r. ⌜ Turned (now (faces .entry)) (now (marks .entry)) h edges r (now (points .entry)) (now (work .entry)) (now (points .exit)) (now (work .exit)) ⌝ }
+{
+    let n = faces.len();
+    let v = marks.len();
+    let m = halfedges::mate_side(faces, &*work, h);
+    if m < h {
+        let t = work[n + m];
+        work[n + h] = t;
+        return edges;
+    }
+    let end = 3 * v;
+    let e = edgepoints::edge_exact(&points[..end], faces, marks, &*work, at, drawn, h, m);
+    put_rounded(&mut *points, v + edges, e);
+    let x = Exact {
+        x: e.x,
+        y: e.y,
+        z: e.z,
+    };
+    coordinates::store_exact(&mut *work, 2 * n + 6 * edges, x);
+    work[n + h] = edges as u32 + e.flag;
+    edges + 1
+}
+
+// Makes the points of all edges; the answer is their number.
+pub fn edge_points(
+    points: &mut [i32],
+    faces: &[u32],
+    marks: &[u8],
+    work: &mut [u32],
+    at: usize,
+    drawn: usize,
+) -> usize
+    requires { ⌜ Round (now faces) (now marks) (now points) (now work) at drawn ⌝ }
+    ensures { λ r. ⌜ r ≡ edgeCount quads (now (faces .entry)) ⌝ }
+    ensures { λ r. ⌜ Edges (now (faces .entry)) (now (marks .entry)) (now (points .entry)) (now (work .entry)) (now (points .exit)) (now (work .exit)) (length (now (faces .entry))) (edgeCount quads (now (faces .entry))) ⌝ }
+{
+    let n = faces.len();
+    let mut edges = 0;
+    let mut h = 0;
+    while h < n {
+        edges = edge_side(&mut *points, faces, marks, &mut *work, at, drawn, h, edges);
+        h += 1;
+    }
+    edges
 }

@@ -10,7 +10,6 @@ use Rattle.integers.specs.Sum.{sum}
 use Rattle.integers.specs.Within.{Within}
 use Rattle.integers.proofs.Sum.{sum-more}
 use Rattle.curve.specs.Weights.{kobbelt}
-use Rattle.fractions.specs.Fraction.{Fraction, Equals}
 use Rattle.rings.specs.Scales.{extrapolatedScale, valenceScale, virtualScale, coordinateRange}
 use Rattle.rings.specs.RingWeights.{virtualZ, row}
 use Rattle.rings.specs.Ring.{Periodic, wrap}
@@ -21,7 +20,6 @@ use Rattle.topology.specs.Vertex.{valence, turns}
 use Rattle.topology.specs.Manifold.{Manifold}
 use Rattle.topology.specs.Quads.{oppositeCorner, fanEnd, fanPlace}
 use Rattle.topology.proofs.Boundary.{boundaryFrom-on, boundaryFrom-at, along-from}
-use Rattle.scheme.specs.Rings.{virtualAt}
 use Rattle.schemelaws.specs.Numerators.{extrapolatedAtZ, fanNeighbourZ, fanCornerZ, ringNeighbourZ, ringCornerZ, ringVirtualZ, fanVirtualZ, virtualAtZ}
 use Rattle.schemelaws.proofs.Vertices.{fan-le, place-at, place-inner, ring-of, ring-ge, ring-le, neighbours-periodic, corners-periodic}
 use Rattle.nets.specs.Net.{axis}

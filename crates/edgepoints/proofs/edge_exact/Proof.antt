@@ -107,9 +107,10 @@ boundary-edge-requires : tie.Need-boundary-edge-requires
 boundary-edge-requires c κs =
     let p = c .before in
     let t = p .before in
-    let s = start (t .before .before) in
-    ((s .pre .0 .table .sides, s .pre .1 .1 .0, s .pre .1 .0 .0 .bounded),
-    (far-at _ _ (before-in s (inside-on t) _ (p .vertex-before .ensures)), start-in s, end-in s, far-at _ _ (after-in s (inside-on t) _ (c .vertex-after .ensures))))
+    let s = start (t .before .before) in (
+      (s .pre .0 .table .sides, s .pre .1 .1 .0, s .pre .1 .0 .0 .bounded),
+      (far-at _ _ (before-in s (inside-on t) _ (p .vertex-before .ensures)), start-in s, end-in s, far-at _ _ (after-in s (inside-on t) _ (c .vertex-after .ensures))),
+    )
 
 enum-told-3 : tie.Need-enum-told-3
 enum-told-3 c = search needs

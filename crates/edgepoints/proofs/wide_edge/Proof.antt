@@ -105,12 +105,14 @@ returns c =
     let q₁ : SFits w64 (Q .x) = fits-second u .0 in
     let q₂ : SFits w64 (Q .y) = fits-second u .1 in
     let q₃ : SFits w64 (Q .z) = fits-second u .2 in
-    let made = wide-made (s .args .faces .now) (s .args .h) (s .args .m) (s .pre .1 .1 .1) _ _ (u .before .before .before .start-of .ensures) (u .before .before .end-of .ensures) in
-    (refl, simp toZ-ofZ (record {
-      on₀ = made (axis (s .args .points .now) 0) (P .x) (Q .x) (x .wide-on .result) (u .before .end-virtual .ensures .on₀) (u .end-virtual2 .ensures .on₀) (simp toZ-ofZ at (x .wide-on .ensures));
-      on₁ = made (axis (s .args .points .now) 1) (P .y) (Q .y) (y .wide-on2 .result) (u .before .end-virtual .ensures .on₁) (u .end-virtual2 .ensures .on₁) (simp toZ-ofZ at (y .wide-on2 .ensures));
-      on₂ = made (axis (s .args .points .now) 2) (P .z) (Q .z) (c .wide-on3 .result) (u .before .end-virtual .ensures .on₂) (u .end-virtual2 .ensures .on₂) (simp toZ-ofZ at (c .wide-on3 .ensures));
-    }))
+    let made = wide-made (s .args .faces .now) (s .args .h) (s .args .m) (s .pre .1 .1 .1) _ _ (u .before .before .before .start-of .ensures) (u .before .before .end-of .ensures) in (
+      refl,
+      simp toZ-ofZ (record {
+        on₀ = made (axis (s .args .points .now) 0) (P .x) (Q .x) (x .wide-on .result) (u .before .end-virtual .ensures .on₀) (u .end-virtual2 .ensures .on₀) (simp toZ-ofZ at (x .wide-on .ensures));
+        on₁ = made (axis (s .args .points .now) 1) (P .y) (Q .y) (y .wide-on2 .result) (u .before .end-virtual .ensures .on₁) (u .end-virtual2 .ensures .on₁) (simp toZ-ofZ at (y .wide-on2 .ensures));
+        on₂ = made (axis (s .args .points .now) 2) (P .z) (Q .z) (c .wide-on3 .result) (u .before .end-virtual .ensures .on₂) (u .end-virtual2 .ensures .on₂) (simp toZ-ofZ at (c .wide-on3 .ensures));
+      }),
+    )
 
 pub wide-edge-spec : {M : Type 1} → statement M
 wide-edge-spec =
