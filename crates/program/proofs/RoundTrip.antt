@@ -12,6 +12,7 @@ use Rattle.lists.specs.Tabulate.{tabulate}
 use Rattle.lists.proofs.Tabulate.{length-tabulate, tabulate-cong, tabulate-getD}
 use Rattle.search.proofs.First.{first-before}
 use Rattle.curve.specs.Weights.{kobbelt}
+use Rattle.curve.proofs.Kobbelt.{tame}
 use Rattle.nets.specs.Net as nets
 use Rattle.tables.specs.Tables.{filled}
 use Rattle.topology.specs.HalfEdge.{from}
@@ -161,7 +162,7 @@ module _ (c : Call) (e : verdict c ≡ accepted) (j : ℕ) (h : j ≤ c .rounds)
   accepted-back k few =
       let d = accepted-drawn c e in
       let ok = accepted-refinable c e in
-      let near = steps-within m ok (start-within (c .net) d 1048576 (record { at = accepted-coordinate c e })) j (let w = accepted-limits c e .few in omega arith) in
+      let near = steps-within kobbelt tame m ok (start-within (c .net) d 1048576 (record { at = accepted-coordinate c e })) j (let w = accepted-limits c e .few in omega arith) in
       let l = few-vertices m (start-vertices-le (c .net) d) j in
       let n = corners-few in
       reads-back k few (steps kobbelt j m) (refinable-steps kobbelt m ok j) near (omega arith) (omega arith)

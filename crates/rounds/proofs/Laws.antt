@@ -3,14 +3,13 @@ use mathlib.Core.Path.{_≡_, sym, ap, _∙_, subst}
 use mathlib.Core.List.{List}
 use Prim.Native.Nat.{ℕ, _+_, _-_, _*_, _/_, _≤_}
 use native.Mathlib.Omega.{arith}
-use lib.Dec.{lit≤}
+use borrow.Rule.Slice.PartMut.{putMid}
 use lib.IntN.{ℤ}
 use lib.ListN.{length, getD, take, drop, length-drop}
 use lib.Seq.{take-all, length-take-le, getD-take, getD-drop, ext-getD}
 use Rattle.lists.proofs.Parts.{drop-later}
 use Rattle.curve.specs.Weights.{kobbelt}
 use Rattle.nets.specs.Net.{Net, frontNet}
-use Rattle.integers.proofs.Within.{within-le}
 use Rattle.tables.specs.Tables.{filled}
 use Rattle.nets.proofs.Laws.{same-net}
 use Rattle.topology.specs.Shape.{quads}
@@ -22,14 +21,16 @@ use Rattle.scheme.specs.Step.{step}
 use Rattle.halfedges.specs.Tables.{Quadrilaterals, MateTable}
 use Rattle.halfedges.proofs.Tables.{mates-cong}
 use Rattle.schemelaws.proofs.Steps.{refinable-manifold, step-faces, step-marks, step-count}
-use Rattle.edgenumbers.specs.Edges.{edgeCountBy, withEdges, PairedIn, Numbered}
-use Rattle.edgenumbers.proofs.Net.{mates-paired, edges-counted, edges-mates, edges-numbered, edges-rest, edges-kept, numbered-cong}
 use Rattle.roundfaces.specs.Faces.{extended, FacesIn}
 use Rattle.roundfaces.proofs.Round.{vertices-refined, marks-refined, marks-cong}
 use Rattle.roundmates.specs.Mates.{MatesIn}
 use Rattle.roundmates.proofs.Round.{mates-in, mated-refined, mates-rest}
-use Rattle.edgetable.specs.EdgeTable.{Round}
-use Rattle.roundpoints.specs.Passes.{Scratch}
+use Rattle.classes.specs.Classes.{Classes}
+use Rattle.coordinates.specs.Entry.{entryOf, edgeOf}
+use Rattle.facepoints.specs.Faces.{faceCoordinates, FaceTable}
+use Rattle.edgetable.specs.EdgeTable.{Round, Edges}
+use Rattle.edgetable.proofs.Faces.{face-table, number-is}
+use Rattle.rounds.proofs.Points.{face-room, points-made}
 use Rattle.rounds.specs.Round.{Current, Refines}
 use Rattle.nets.specs.Buffers.{Buffers, buffers, front}
 
@@ -75,12 +76,6 @@ module _ (v n at drawn : ℕ) (t : Buffers) (c : Current v n at drawn t) where
   room : 2 * length l ≤ length w
   room = let e = corners in let r = c .roomWork in omega arith
 
-  pub mated : PairedIn n w
-  mated = subst (λ (k : ℕ). PairedIn k w) corners (mates-paired quads l w room (c .mated .mates) v oriented (sides .few))
-
-  pub counted : edgeCountBy (take n w) ≡ edgeCount quads l
-  counted = ap (λ (k : ℕ). edgeCountBy (take k w)) (sym corners) ∙ edges-counted quads l w room (c .mated .mates)
-
   -- the new number of vertices
   pub count-le : v + edgeCount quads l + n / 4 ≤ 4 * n
   unfolding quads
@@ -114,92 +109,99 @@ module _ (v n at drawn : ℕ) (t : Buffers) (c : Current v n at drawn t) where
       pub mates-past : drop (8 * n) w″ ≡ drop (8 * n) w′
       mates-past = let r = c .roomWork in ap (drop (8 * n)) h ∙ drop-later (4 * n) (8 * n) _ _ (omega arith) (mates-rest n w′ (omega arith))
 
-  module _ (w₁ : List ℕ) (e₁ : w₁ ≡ filled (withEdges (take n w)) w) where
-    all : w₁ ≡ filled (withEdges (take (length l) w)) w
-    all = e₁ ∙ ap (λ (k : ℕ). filled (withEdges (take k w)) w) (sym corners)
+  pub ready : Round l mk points w at drawn
+  ready =
+      let e = corners in
+      let r = c .roomWork in
+      let p = c .roomPoints in
+      let m = marked in
+      let q = c .vertices in
+      let b = c .behind in
+      let d = vertices-refined (length mk) l (omega arith) in
+      record {
+        net = refinable-manifold old (c .refinable);
+        table = record { sides = sides; room = omega arith; mated = c .mated };
+        classes = subst (λ (k : ℕ). Classes k at drawn l w) (sym m) (c .classes);
+        vertices = omega arith;
+        room = omega arith;
+        behind = omega arith;
+        bounded = rw m (c .within);
+      }
 
-    length₁ : length w₁ ≡ length w
-    length₁ = edges-kept quads l w room (c .mated .mates) w₁ all
+  -- the net that the new points are made from
+  made : frontNet (length mk) (length l) points l mk ≡ old
+  made = same-net (ap (λ (k : ℕ). take (3 * k) points) marked) (take-all (length l) l (omega arith)) (take-all (length mk) mk (omega arith))
 
+  -- ---- after the pass over the edges
+  module _ (p₁ : List ℤ) (w₁ : List ℕ) (done : Edges l mk points w p₁ w₁ (length l) (edgeCount quads l)) where
     mated₁ : MateTable l w₁
-    mated₁ = record { mates = edges-mates quads l w room (c .mated .mates) w₁ all }
+    mated₁ = mates-cong l w w₁ (λ i h. done .mates i h) (c .mated)
 
-    numbered₁ : Numbered quads l w₁
-    numbered₁ = edges-numbered quads l w room (c .mated .mates) w₁ all
+    rest₁ : drop (8 * n) w₁ ≡ drop (8 * n) w
+    rest₁ = let e = corners in drop-same (8 * n) w₁ w (done .kept) (λ i h. done .behind i (omega arith))
 
-    pub ready : Round l mk points w₁
-    ready =
+    pub face-ready : FaceTable n w₁
+    face-ready = subst (λ (k : ℕ). FaceTable k w₁) corners (face-table l mk points w at drawn ready p₁ w₁ done)
+
+    pub net-ready : (count : ℕ) → count ≡ edgeCount quads l → FacesIn n v count faces w₁
+    net-ready count h =
         let e = corners in
         let r = c .roomWork in
-        let p = c .roomPoints in
-        let k = length₁ in
-        let m = marked in
-        let q = c .vertices in
-        let d = vertices-refined (length mk) l (omega arith) in
-        let net = refinable-manifold old (c .refinable) in
+        let k = done .kept in
         record {
-          indexed = record {
-            ready = record {
-              vertices = length mk;
-              net = net;
-              table = record { sides = sides; room = omega arith; mated = mated₁ };
-            };
-            numbered = numbered₁;
-            room = omega arith;
-          };
-          net = net;
-          vertices = omega arith;
-          room = omega arith;
-          bounded = rw m (within-le 66276137 67108864 (take (3 * v) points) (lit≤ tt) (c .within));
+          sides = subst Quadrilaterals e sides;
+          vertices = c .vertices;
+          room = c .roomFaces;
+          behind = omega arith;
+          numbered = λ g b. ap (λ (j : ℕ). edgeOf (entryOf j w₁ g)) (sym e) ∙ number-is l mk points w at drawn ready p₁ w₁ done g (omega arith);
+          counted = h;
         }
 
-    -- the net that the new points are made from
-    made : frontNet (length mk) (length l) points l mk ≡ old
-    made = same-net (ap (λ (k : ℕ). take (3 * k) points) marked) (take-all (length l) l (omega arith)) (take-all (length mk) mk (omega arith))
+    -- with `edge` edges, the part from the first face point on
+    module _ (edge : ℕ) (he : edge ≡ edgeCount quads l) where
+      abbrev first : ℕ
+      first = 3 * (v + edge)
 
-    module _ (w₂ : List ℕ) (e₂ : Scratch l w₁ w₂) where
-      mated₂ : MateTable l w₂
-      mated₂ = mates-cong l w₁ w₂ (λ i h. e₂ .front i (omega arith)) mated₁
+      pub part-start : first ≤ length p₁
+      part-start = let k = done .points .kept in let p = c .roomPoints in let q = count-le in omega arith
 
-      numbered₂ : Numbered quads l w₂
-      numbered₂ = numbered-cong quads l w₁ w₂ (λ i h g. e₂ .front i g) numbered₁
-
-      length₂ : length w₂ ≡ length w
-      length₂ = e₂ .kept ∙ length₁
-
-      rest₂ : drop (8 * length l) w₂ ≡ drop (8 * length l) w₁
-      rest₂ = drop-same (8 * length l) w₂ w₁ (e₂ .kept) (e₂ .behind)
-
-      pub net-ready : (count : ℕ) → count ≡ edgeCount quads l → FacesIn n v count faces w₂
-      net-ready count h =
+      pub part-room : 3 * (n / 4) ≤ length (take (length p₁ - first) (drop first p₁))
+      part-room =
           let e = corners in
-          let r = c .roomWork in
-          let k = length₂ in
-          record { sides = subst Quadrilaterals e sides; vertices = c .vertices; room = c .roomFaces; behind = omega arith; numbered = numbered₂; counted = h }
+          let m = marked in
+          let r = face-room l mk points w at drawn ready p₁ w₁ done edge he in
+          subst (λ (j : ℕ). 3 * (n / 4) ≤ length (take (length p₁ - 3 * (j + edge)) (drop (3 * (j + edge)) p₁))) m (subst (λ (j : ℕ). 3 * (j / 4) ≤ length (take (length p₁ - 3 * (length mk + edge)) (drop (3 * (length mk + edge)) p₁))) e r)
+
+      part-made : (y : List ℤ) → y ≡ filled (faceCoordinates n w₁) (take (length p₁ - first) (drop first p₁)) → putMid first (length p₁ - first) p₁ y ≡ filled (step kobbelt old .vertices) points
+      part-made y ey =
+          let m = marked in
+          let x : y ≡ filled (faceCoordinates (length l) w₁) (take (length p₁ - 3 * (length mk + edge)) (drop (3 * (length mk + edge)) p₁)) =
+          ey
+          ∙ ap (λ (j : ℕ). filled (faceCoordinates j w₁) (take (length p₁ - first) (drop first p₁))) (sym corners)
+          ∙ ap (λ (j : ℕ). filled (faceCoordinates (length l) w₁) (take (length p₁ - 3 * (j + edge)) (drop (3 * (j + edge)) p₁))) (sym m) in
+          ap (λ (j : ℕ). putMid (3 * (j + edge)) (length p₁ - 3 * (j + edge)) p₁ y) (sym m)
+          ∙ points-made l mk points w at drawn ready p₁ w₁ done edge he y x
+          ∙ ap (λ (x : Net). filled (step kobbelt x .vertices) points) made
+
+      count : v + edge + n / 4 ≡ v + edgeCount quads l + n / 4
+      count = ap (λ (j : ℕ). v + j + n / 4) he
 
       same-marks : refinedMarks quads v l mk ≡ refinedMarks quads v l marks
       same-marks = marks-cong quads v l mk marks (λ p h. getD-take v marks p 0 h)
 
-      module _ (edge : ℕ) (points′ : List ℤ) (faces′ marks′ : List ℕ) (he : edge ≡ edgeCount quads l) where
-        count : v + edge + n / 4 ≡ v + edgeCount quads l + n / 4
-        count = ap (λ (j : ℕ). v + j + n / 4) he
+      new-marks : extended v (v + edge + n / 4) marks ≡ step kobbelt old .marks
+      unfolding quads
+      new-marks =
+          ap (λ (j : ℕ). extended v j marks) (count ∙ ap (λ (j : ℕ). v + edgeCount quads l + j / 4) (sym corners)) ∙ marks-refined quads v l marks ∙ sym same-marks
+          ∙ sym (step-marks kobbelt old ∙ ap (λ (j : ℕ). refinedMarks quads j l mk) marked)
 
-        new-marks : extended v (v + edge + n / 4) marks ≡ step kobbelt old .marks
-        unfolding quads
-        new-marks =
-            ap (λ (j : ℕ). extended v j marks) (count ∙ ap (λ (j : ℕ). v + edgeCount quads l + j / 4) (sym corners)) ∙ marks-refined quads v l marks ∙ sym same-marks
-            ∙ sym (step-marks kobbelt old ∙ ap (λ (j : ℕ). refinedMarks quads j l mk) marked)
-
-        pub refines : points′ ≡ filled (step kobbelt (frontNet (length mk) (length l) points l mk) .vertices) points → faces′ ≡ filled (refined quads v l) faces
-            → marks′ ≡ filled (extended v (v + edge + n / 4) marks) marks → Refines v n (v + edge + n / 4) t (buffers points′ faces′ marks′ w₂)
-        refines hp hf hm =
-            let e = corners in
-            record {
-              count = count ∙ count-is;
-              newPoints = hp ∙ ap (λ (x : Net). filled (step kobbelt x .vertices) points) made;
-              newFaces = hf ∙ ap (λ (x : List ℕ). filled x faces) (sym faces-are);
-              newMarks = hm ∙ ap (λ (x : List ℕ). filled x marks) new-marks;
-              mated = mated₂;
-              rest = ap (λ (j : ℕ). drop (8 * j) w₂) (sym e) ∙ rest₂ ∙ ap (λ (j : ℕ). drop (8 * j) w₁) e
-                  ∙ drop-later (2 * length l) (8 * n) _ _ (omega arith) (edges-rest quads l w room (c .mated .mates) w₁ all);
-            }
+      pub refines : (y : List ℤ) (faces′ marks′ : List ℕ) → y ≡ filled (faceCoordinates n w₁) (take (length p₁ - first) (drop first p₁)) → faces′ ≡ filled (refined quads v l) faces
+          → marks′ ≡ filled (extended v (v + edge + n / 4) marks) marks → Refines v n (v + edge + n / 4) t (buffers (putMid first (length p₁ - first) p₁ y) faces′ marks′ w₁)
+      refines y faces′ marks′ hy hf hm = record {
+        count = count ∙ count-is;
+        newPoints = part-made y hy;
+        newFaces = hf ∙ ap (λ (x : List ℕ). filled x faces) (sym faces-are);
+        newMarks = hm ∙ ap (λ (x : List ℕ). filled x marks) new-marks;
+        mated = mated₁;
+        rest = rest₁;
+      }

@@ -1,2 +1,3 @@
+mod Points
 pub mod Laws
 mod Steps

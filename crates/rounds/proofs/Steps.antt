@@ -10,6 +10,7 @@ use lib.Seq.{length-take-le}
 use lib.Dec.{lit≤}
 use Rattle.lists.proofs.Parts.{drop-later}
 use Rattle.curve.specs.Weights.{kobbelt}
+use Rattle.curve.proofs.Kobbelt.{tame}
 use Rattle.nets.specs.Net.{Net}
 use Rattle.tables.specs.Tables.{filled, SameOutside}
 use Rattle.tables.proofs.Laws.{length-filled, take-filled, filled-over, same-front, same-rest}
@@ -176,7 +177,7 @@ module _ (k v n last : ℕ) (t : Buffers) (ok : Prepared k v n last t) where
           let lw = a .kept in
           record {
             refinable = rw front-is refinable;
-            within = rw (ap (λ (x : Net). x .vertices) front-is) (steps-input m (ok .refinable) (ok .within) i (omega arith));
+            within = rw (ap (λ (x : Net). x .vertices) front-is) (steps-input kobbelt tame m (ok .refinable) (ok .within) i (omega arith));
             small = omega arith;
             vertices = a .fewer;
             roomPoints = omega arith;

@@ -3,6 +3,7 @@ use mathlib.Core.Path.{_≡_}
 use Prim.Native.Nat.{ℕ, _*_, _≤_}
 use lib.ListN.{length, take, drop}
 use Rattle.curve.specs.Weights.{kobbelt}
+use Rattle.rings.specs.Scales.{coordinateRange}
 use Rattle.nets.specs.Buffers.{Buffers, front}
 use Rattle.tables.specs.Tables.{filled}
 use Rattle.scheme.specs.Step.{step}
@@ -14,7 +15,7 @@ use Rattle.classes.specs.Classes.{Classes}
 -- the net at the front can be refined, its mates stand in the work table, the classes of its vertices from `at` on, and all tables have room for the refined net
 pub record Current (v n at drawn : ℕ) (t : Buffers) : Type 0 where
   pub refinable : Refinable (front v n t)
-  pub within : Within 66276137 (take (3 * v) (t .vertices))
+  pub within : Within coordinateRange (take (3 * v) (t .vertices))
   pub small : n ≤ 262144
   pub vertices : v ≤ n
   pub roomPoints : 12 * n ≤ length (t .vertices)

@@ -19,11 +19,18 @@ fn round(
     ensures { λ r. ⌜ Refines v n r (buffers (now (points .entry)) (now (faces .entry)) (now (marks .entry)) (now (work .entry)))
         (buffers (now (points .exit)) (now (faces .exit)) (now (marks .exit)) (now (work .exit))) ⌝ }
 {
-    let edges = edgenumbers::number_edges(n, &mut *work);
-    roundpoints::new_points(&mut *points, &faces[..n], &marks[..v], &mut *work);
+    let edges = edgetable::edge_points(
+        &mut *points,
+        &faces[..n],
+        &marks[..v],
+        &mut *work,
+        at,
+        drawn,
+    );
     let count = v + edges + n / 4;
     roundfaces::extend_marks(&mut *marks, v, count);
-    roundfaces::refine_faces(&mut *faces, &*work, n, v, edges);
+    let first = 3 * (v + edges);
+    facepoints::face_points(&mut points[first..], &mut *faces, &*work, n, v, edges);
     count
 }
 

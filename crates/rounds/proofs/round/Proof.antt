@@ -1,12 +1,12 @@
 -- `rounds::round` meets its contract. Assumes nothing.
 use mathlib.Core.Path.{_≡_, sym, subst, _∙_}
-use Prim.Native.Nat.{ℕ, _+_, _*_, _/_, _≤_}
+use Prim.Native.Nat.{ℕ, _+_, _-_, _*_, _/_, _≤_}
 use native.Mathlib.Omega.{arith}
-use lib.ListN.{take}
+use lib.ListN.{take, drop, length}
 use Rattle.topology.specs.Shape.{quads}
 use Rattle.topology.specs.HalfEdge.{edgeCount}
 use Rattle.nets.specs.Buffers.{Buffers, buffers}
-use Rattle.rounds.proofs.Laws.{corners, marked, mated, counted, count-le, ready, net-ready, refines}
+use Rattle.rounds.proofs.Laws.{corners, marked, count-le, ready, face-ready, net-ready, part-start, part-room, refines}
 use borrow.Author.Needs.{needs}
 use Rattle.rounds.proofs.round.Statement.{statement}
 use Rattle.rounds.proofs.round.Tie as tie
@@ -14,64 +14,73 @@ use Rattle.rounds.proofs.round.Tie as tie
 abbrev tables : tie.Start → Buffers
 tables s = buffers (s .args .points .now) (s .args .faces .now) (s .args .marks .now) (s .args .work .now)
 
--- after the edges are numbered, and after the new points
-abbrev start : tie.After-number-edges → tie.Start
-start x = x .before .before .before .before .before
-
-abbrev numbered : tie.After-new-points → tie.After-number-edges
-numbered y = y .before .before .before .before .before .before .before
-
-edges : (x : tie.After-number-edges) → (let s = start x in x .number-edges .result ≡ edgeCount quads (take (s .args .n) (s .args .faces .now)))
-edges x = let s = start x in x .number-edges .ensures .0 ∙ counted (s .args .v) (s .args .n) (s .args .at) (s .args .drawn) (tables s) (s .pre)
+-- after the pass over the edges
+abbrev start : tie.After-edge-points → tie.Start
+start x = x .before .before .before .before .before .before .before .before
 
 -- the new number of vertices
-few : (x : tie.After-number-edges) → (let s = start x in s .args .v + x .number-edges .result + s .args .n / 4 ≤ 4 * s .args .n)
+few : (x : tie.After-edge-points) → (let s = start x in s .args .v + x .edge-points .result + s .args .n / 4 ≤ 4 * s .args .n)
 few x =
     let s = start x in
-    subst (λ (j : ℕ). s .args .v + j + s .args .n / 4 ≤ 4 * s .args .n) (sym (edges x)) (count-le (s .args .v) (s .args .n) (s .args .at) (s .args .drawn) (tables s) (s .pre))
+    subst (λ (j : ℕ). s .args .v + j + s .args .n / 4 ≤ 4 * s .args .n) (sym (x .edge-points .ensures .0)) (count-le (s .args .v) (s .args .n) (s .args .at) (s .args .drawn) (tables s) (s .pre))
 
-number-edges-requires : tie.Need-number-edges-requires
-number-edges-requires c κs = let s = c .before .before .before .before in mated (s .args .v) (s .args .n) (s .args .at) (s .args .drawn) (tables s) (s .pre)
+slice-reshare-prefix-edge-points : tie.Need-slice-reshare-prefix-edge-points
+slice-reshare-prefix-edge-points c = search needs
 
-slice-reshare-prefix-new-points : tie.Need-slice-reshare-prefix-new-points
-slice-reshare-prefix-new-points c = search needs
+slice-aggregate-edge-points : tie.Need-slice-aggregate-edge-points
+slice-aggregate-edge-points c = let s = c .before .before .before .before .before in sym (corners (s .args .v) (s .args .n) (s .args .at) (s .args .drawn) (tables s) (s .pre))
 
-slice-aggregate-new-points : tie.Need-slice-aggregate-new-points
-slice-aggregate-new-points c = let s = start (c .before .before .before .before) in sym (corners (s .args .v) (s .args .n) (s .args .at) (s .args .drawn) (tables s) (s .pre))
+slice-reshare-prefix-edge-points-2 : tie.Need-slice-reshare-prefix-edge-points-2
+slice-reshare-prefix-edge-points-2 c = search needs
 
-slice-reshare-prefix-new-points-2 : tie.Need-slice-reshare-prefix-new-points-2
-slice-reshare-prefix-new-points-2 c = search needs
+slice-aggregate-edge-points-2 : tie.Need-slice-aggregate-edge-points-2
+slice-aggregate-edge-points-2 c = let s = c .before .before .before .before .before .before in sym (marked (s .args .v) (s .args .n) (s .args .at) (s .args .drawn) (tables s) (s .pre))
 
-slice-aggregate-new-points-2 : tie.Need-slice-aggregate-new-points-2
-slice-aggregate-new-points-2 c = let s = start (c .before .before .before .before .before) in sym (marked (s .args .v) (s .args .n) (s .args .at) (s .args .drawn) (tables s) (s .pre))
-
-new-points-requires : tie.Need-new-points-requires
-new-points-requires c κs =
-    let x = c .before .before .before .before .before .before in
-    let s = start x in
-    ready (s .args .v) (s .args .n) (s .args .at) (s .args .drawn) (tables s) (s .pre) _ (x .number-edges .ensures .1)
+edge-points-requires : tie.Need-edge-points-requires
+edge-points-requires c κs = let s = c .before .before .before .before .before .before .before in ready (s .args .v) (s .args .n) (s .args .at) (s .args .drawn) (tables s) (s .pre)
 
 add-count : tie.Need-add-count
-add-count c = let x = numbered (c .before .before .before) in let k = few x in let s = start x in let q = s .pre .small in omega arith
+add-count c = let x = c .before .before .before in let k = few x in let s = start x in let q = s .pre .small in omega arith
 
 add-count-2 : tie.Need-add-count-2
-add-count-2 c = let x = numbered (c .before .before .before) in let k = few x in let s = start x in let q = s .pre .small in omega arith
+add-count-2 c = let x = c .before .before .before in let k = few x in let s = start x in let q = s .pre .small in omega arith
 
 extend-marks-requires : tie.Need-extend-marks-requires
 extend-marks-requires c κs =
-    let x = numbered (c .before .before .before .before) in
+    let x = c .before .before .before .before in
     let k = few x in
     let s = start x in
     let r = s .pre .roomMarks in
     let q = s .pre .small in
     (omega arith, omega arith)
 
-refine-faces-requires : tie.Need-refine-faces-requires
-refine-faces-requires c κs =
-    let y = c .before .before .before .before .before .before .before .before .before in
-    let x = numbered y in
+add-first : tie.Need-add-first
+add-first c = let x = c .before .before .before .before .before .before .before in let k = few x in let s = start x in let q = s .pre .small in omega arith
+
+mul-first : tie.Need-mul-first
+mul-first c = let x = c .before .before .before .before .before .before .before in let k = few x in let s = start x in let q = s .pre .small in omega arith
+
+mul-face-points : tie.Need-mul-face-points
+mul-face-points c = let x = c .before .before .before .before .before .before .before in let k = few x in let s = start x in let q = s .pre .small in omega arith
+
+sub-face-points : tie.Need-sub-face-points
+sub-face-points c = let x = c .before .before .before .before .before .before .before in let s = start x in part-start (s .args .v) (s .args .n) (s .args .at) (s .args .drawn) (tables s) (s .pre) _ _ (x .edge-points .ensures .1) _ (x .edge-points .ensures .0)
+
+part-face-points-start : tie.Need-part-face-points-start
+part-face-points-start c = let x = c .before .before .before .before .before .before .before in let s = start x in part-start (s .args .v) (s .args .n) (s .args .at) (s .args .drawn) (tables s) (s .pre) _ _ (x .edge-points .ensures .1) _ (x .edge-points .ensures .0)
+
+part-face-points-end : tie.Need-part-face-points-end
+part-face-points-end c = search needs
+
+face-points-requires : tie.Need-face-points-requires
+face-points-requires c κs =
+    let x = c .before .before .before .before .before .before .before .before .before .before in
     let s = start x in
-    net-ready (s .args .v) (s .args .n) (s .args .at) (s .args .drawn) (tables s) (s .pre) _ (x .number-edges .ensures .1) _ (y .new-points .ensures .1) _ (edges x)
+    let d = x .edge-points .ensures .1 in (
+      face-ready (s .args .v) (s .args .n) (s .args .at) (s .args .drawn) (tables s) (s .pre) _ _ d,
+      net-ready (s .args .v) (s .args .n) (s .args .at) (s .args .drawn) (tables s) (s .pre) _ _ d _ (x .edge-points .ensures .0),
+      part-room (s .args .v) (s .args .n) (s .args .at) (s .args .drawn) (tables s) (s .pre) _ _ d _ (x .edge-points .ensures .0),
+    )
 
 same-length : tie.Need-same-length
 same-length c = search needs
@@ -87,27 +96,32 @@ same-length-4 c = search needs
 
 returns : tie.Need-returns
 returns c =
-    let z = c .before .before .before .before .before .before .before in
-    let y = z .before .before .before .before .before in
-    let x = numbered y in
+    let f = c .before .before .before in
+    let m = f .before .before .before .before .before .before in
+    let x = m .before .before .before .before .before in
     let s = start x in
-    refines (s .args .v) (s .args .n) (s .args .at) (s .args .drawn) (tables s) (s .pre) _ (x .number-edges .ensures .1) _ (y .new-points .ensures .1) _ _ _ _ (edges x)
-    (y .new-points .ensures .0) (c .before .before .refine-faces .ensures) (z .extend-marks .ensures)
+    refines (s .args .v) (s .args .n) (s .args .at) (s .args .drawn) (tables s) (s .pre) _ _ (x .edge-points .ensures .1) _ (x .edge-points .ensures .0) _ _ _
+    (f .face-points .ensures .0) (f .face-points .ensures .1) (m .extend-marks .ensures)
 
 pub round-spec : {M : Type 1} → statement M
 round-spec =
     tie.close
     (tie.spec
-    number-edges-requires
-    slice-reshare-prefix-new-points
-    slice-aggregate-new-points
-    slice-reshare-prefix-new-points-2
-    slice-aggregate-new-points-2
-    new-points-requires
+    slice-reshare-prefix-edge-points
+    slice-aggregate-edge-points
+    slice-reshare-prefix-edge-points-2
+    slice-aggregate-edge-points-2
+    edge-points-requires
     add-count
     add-count-2
     extend-marks-requires
-    refine-faces-requires
+    add-first
+    mul-first
+    mul-face-points
+    sub-face-points
+    part-face-points-start
+    part-face-points-end
+    face-points-requires
     same-length
     same-length-2
     same-length-3
