@@ -20,12 +20,12 @@ native="-O3 -march=native"
 build() {
     local objects=$out/$1 flags=$2 source
     mkdir -p "$objects"
-    for source in straight straight_check samples agree refine; do
+    for source in straight straight_check straight_split samples agree refine; do
         # shellcheck disable=SC2086
         g++ -std=c++17 $warnings $flags -c -o "$objects/$source.o" "bench/$source.cpp"
     done
-    g++ -o "$objects/agree" "$objects"/{agree,samples,straight,straight_check}.o "$archive"
-    g++ -o "$objects/refine" "$objects"/{refine,straight,straight_check}.o "$archive"
+    g++ -o "$objects/agree" "$objects"/{agree,samples,straight,straight_check,straight_split}.o "$archive"
+    g++ -o "$objects/refine" "$objects"/{refine,straight,straight_check,straight_split}.o "$archive"
 }
 
 # count PROGRAM NET CALL: the instructions of one call. Without string instructions, for callgrind would count each byte that they write as one.
