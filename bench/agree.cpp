@@ -10,6 +10,7 @@
 namespace {
 
 constexpr int SAMPLES = 1000;
+constexpr uint32_t MOST_ROUNDS = 6;
 
 // The reason that all implementations give; ends the program if they differ.
 uint32_t agreed(Implementations &implementations, const Net &net, uint32_t rounds, const std::string &name)
@@ -26,6 +27,17 @@ uint32_t agreed(Implementations &implementations, const Net &net, uint32_t round
         std::exit(1);
     }
     return expected.reason;
+}
+
+// All numbers of rounds that the limit on refined faces allows; ends the program if the net is refused.
+void compare(Implementations &implementations, bench_kind kind)
+{
+    BenchmarkNet made(kind);
+    for (uint32_t k = 0; k <= MOST_ROUNDS && made.refined_faces(k) <= MOST_REFINED; k++)
+        if (agreed(implementations, made.net, k, made.name) != 0) {
+            std::fprintf(stderr, "%s: refused\n", made.name);
+            std::exit(1);
+        }
 }
 
 // What the samples have shown.
@@ -69,12 +81,8 @@ private:
 int main()
 {
     Implementations implementations;
-    for (int which = 0; which < NET_COUNT; which++) {
-        BenchmarkNet made(which);
-        for (uint32_t k = 0; k <= made.rounds; k++)
-            if (agreed(implementations, made.net, k, "net " + std::to_string(which)) != 0)
-                return std::fprintf(stderr, "net %d is refused\n", which), 1;
-    }
+    for (int kind = 0; kind < KIND_COUNT; kind++)
+        compare(implementations, static_cast<bench_kind>(kind));
     Coverage coverage;
     samples::Generator generator(1);
     for (int i = 0; i < SAMPLES; i++) {
@@ -83,6 +91,6 @@ int main()
     }
     if (!coverage.is_whole())
         return std::fprintf(stderr, "the samples do not show every refusal, ring, fan and side count\n"), 1;
-    std::printf("the three nets after every round, and %d small nets: %d refined (rings of 3 to 8, fans of 1 to 6, faces of 3 to 8 sides), %d refused (5 to 12)\n",
-                SAMPLES, coverage.reasons[0], SAMPLES - coverage.reasons[0]);
+    std::printf("%d nets after every round, and %d small nets: %d refined (rings of 3 to 8, fans of 1 to 6, faces of 3 to 8 sides), %d refused (5 to 12)\n",
+                KIND_COUNT, SAMPLES, coverage.reasons[0], SAMPLES - coverage.reasons[0]);
 }

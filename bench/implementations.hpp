@@ -75,23 +75,26 @@ struct Implementations {
     std::array<Implementation *, 3> all = {&product, &rebuilt, &carried};
 };
 
-// One of the three nets whose refinement is measured.
+// One of the nets whose refinement is measured.
 struct BenchmarkNet {
-    explicit BenchmarkNet(int which)
+    explicit BenchmarkNet(bench_kind kind)
     {
         static bench_net made;
-        make_net(&made, which);
+        make_net(&made, kind);
         name = made.name;
-        rounds = made.rounds;
+        faces = face_count(&made);
         for (size_t v = 0; v < made.vertex_count; v++)
             net.points.push_back({made.vertices[3 * v], made.vertices[3 * v + 1], made.vertices[3 * v + 2]});
-        net.corners.assign(made.faces, made.faces + 4 * made.face_count);
+        net.corners.assign(made.corners, made.corners + made.corner_count);
+        net.sides.assign(made.sides, made.sides + made.side_count);
         net.marks.assign(made.marks, made.marks + made.vertex_count);
     }
 
-    size_t refined_faces() const { return net.corners.size() / 4 << 2 * rounds; }
+    size_t refined_faces(uint32_t rounds) const { return faces << 2 * rounds; }
 
     const char *name;
-    uint32_t rounds;
     Net net;
+
+private:
+    size_t faces;
 };
