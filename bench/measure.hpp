@@ -1,6 +1,6 @@
-// The command line of the measuring programs.
-//   PROGRAM time     prints for each row and call: nanoseconds for each refined face, row, call, refined faces, rounds, name of the net
-//   PROGRAM count    makes each call on each row once to touch its tables, then once inside `counted_call`, and prints the same without nanoseconds
+// The command line of the measuring programs. Each line that they print ends with: row, call, refined faces, rounds, name of the net.
+//   PROGRAM time     prints for each row and call `time` with nanoseconds for each refined face, and `ratio` with the time of the first call divided by its own
+//   PROGRAM count    makes each call on each row once to touch its tables, then once inside `counted_call`
 #pragma once
 
 #include "clock.h"
@@ -9,6 +9,7 @@
 #include <algorithm>
 #include <cstdio>
 #include <functional>
+#include <iterator>
 #include <string>
 #include <vector>
 
@@ -32,22 +33,33 @@ struct Calls {
 
 extern "C" __attribute__((noinline)) inline void counted_call(const Call &call) { call.make(); }
 
-// Makes the calls in turn, once to touch their tables, then 100 times; the best time counts. Calls on small nets are timed many at once.
+inline double median(std::vector<double> values)
+{
+    auto middle = values.begin() + std::ptrdiff_t(values.size() / 2);
+    std::nth_element(values.begin(), middle, values.end());
+    return *middle;
+}
+
+// Makes the calls in turn, once to touch their tables, then 100 times: the best time, and the median of the ratios within a turn, for other work on the machine
+// slows a whole turn. Calls on small nets are timed many at once.
 inline void print_times(int row, const Calls &calls)
 {
     const size_t many = 1 + 16384 / calls.refined_faces;
-    std::vector<double> best(calls.each.size(), 1e9);
-    for (int run = 0; run <= 100; run++)
-        for (size_t i = 0; i < best.size(); i++) {
+    std::vector<std::vector<double>> taken(calls.each.size());
+    for (int turn = 0; turn <= 100; turn++)
+        for (size_t i = 0; i < taken.size(); i++) {
             double before = seconds();
             for (size_t k = 0; k < many; k++)
                 calls.each[i].make();
-            double taken = seconds() - before;
-            if (run > 0)
-                best[i] = std::min(best[i], taken);
+            if (turn > 0)
+                taken[i].push_back(seconds() - before);
         }
-    for (size_t i = 0; i < best.size(); i++) {
-        std::printf("%.3f ", 1e9 * best[i] / double(many * calls.refined_faces));
+    for (size_t i = 0; i < taken.size(); i++) {
+        std::vector<double> ratios;
+        std::transform(taken[0].begin(), taken[0].end(), taken[i].begin(), std::back_inserter(ratios), std::divides<>());
+        std::printf("time %.3f ", 1e9 * *std::min_element(taken[i].begin(), taken[i].end()) / double(many * calls.refined_faces));
+        calls.print(row, calls.each[i]);
+        std::printf("ratio %.4f ", median(ratios));
         calls.print(row, calls.each[i]);
     }
 }

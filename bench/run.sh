@@ -54,7 +54,7 @@ build_clang() {
 
 # times COMPILER PROGRAM: lines for the tables
 times() {
-    "$out/$2" time | sed "s/^/time $1 /"
+    "$out/$2" time | sed "s/^[a-z]*/& $1/"
 }
 
 # counts COMPILER PROGRAM: the same, of instructions; callgrind writes a file for each counted call. Without string instructions, for callgrind would count
@@ -109,10 +109,10 @@ thread. Gedrovit also checks the table lengths, allocates nothing and clears the
 Nets: rings of eight has 4,096 faces, every vertex in eight; strip is one row of 4,095 faces; fans of six has 4,080 faces, every vertex on the boundary and
 in six; triangles are 1,365 with side counts, which become 4,095 quadrilaterals.
 C++: "anew" builds the adjacency anew in each round, "carried" carries it over from the round before.
-Tables: touched by a call before, not cleared between calls. Times: processor time, the best of 100 calls, the implementations taking turns in one process
-for each compiler; calls on small nets are timed many at once.
+Tables: touched by a call before, not cleared between calls. Times: processor time, the best of 100 turns of all implementations in one process for each
+compiler; calls on small nets are timed many at once.
 Instructions: $counted.
-Ratio: Gedrovit divided by the value before it, in the same process; above 1 Gedrovit takes more.
+Ratio: Gedrovit divided by the C++ before it, above 1 Gedrovit takes more; of times the median over 100 turns, each in the same turn.
 
 TEXT
 {

@@ -1,8 +1,8 @@
 #!/usr/bin/env python3
 """Prints the tables of the benchmark from measured rows on standard input.
 
-A line is: MEASURE COMPILER VALUE ROW CALL REFINED-FACES ROUNDS NAME-OF-THE-NET. The value of a time is in nanoseconds for each refined face, that of a count
-is the instructions of the whole call.
+A line is: MEASURE COMPILER VALUE ROW CALL REFINED-FACES ROUNDS NAME-OF-THE-NET. The value of a `time` is in nanoseconds for each refined face, that of a
+`count` is the instructions of the whole call, that of a `ratio` is the product's time divided by that of the call.
 """
 import sys
 
@@ -21,16 +21,20 @@ def read(lines):
     return values, rows
 
 
+def ratio(values, measure, compiler, row, call):
+    """The product's value divided by that of a call, or none."""
+    if measure == "time":
+        return values.get(("ratio", compiler, row, call))
+    value, product = (values.get((measure, compiler, row, one)) for one in (call, PRODUCT))
+    return product / value if value and product else None
+
+
 def cell(value, digits=1):
     return "-" if value is None else f"{value:.{digits}f}"
 
 
-def ratio(value, product):
-    return cell(product / value if value and product else None, 2)
-
-
 def print_table(measure, calls, compilers, values, rows):
-    """A line for each row; with the product among the calls, beside each other value the product's divided by it, both of one process."""
+    """A line for each row; with the product among the calls, its ratio beside each other value."""
     others = [(compiler, call) for compiler in compilers for call in calls if call != PRODUCT]
     ratios = PRODUCT in calls
     head = f"{MEASURES[measure]} for each refined face".ljust(40) + ("Gedrovit".rjust(11) if ratios else "")
@@ -42,10 +46,9 @@ def print_table(measure, calls, compilers, values, rows):
         if ratios:
             line += cell(values.get((measure, compilers[0], row, PRODUCT))).rjust(11)
         for compiler, call in others:
-            value = values.get((measure, compiler, row, call))
-            line += cell(value).rjust(16)
+            line += cell(values.get((measure, compiler, row, call))).rjust(16)
             if ratios:
-                line += ratio(value, values.get((measure, compiler, row, PRODUCT))).rjust(7)
+                line += cell(ratio(values, measure, compiler, row, call), 2).rjust(7)
         print(line)
 
 
