@@ -1,5 +1,5 @@
-// Compares the proved call with both forms of the straightforward one: the three nets of the benchmark and small nets of every kind. The exit status is 1
-// on the first difference.
+// Compares the proved call with both forms of the straightforward one: the nets of the benchmark and small nets of every kind. The exit status is 1 on the
+// first difference.
 #include "implementations.hpp"
 #include "samples.hpp"
 
@@ -10,6 +10,7 @@
 namespace {
 
 constexpr int SAMPLES = 1000;
+constexpr uint32_t MOST_ROUNDS = 6;
 
 // The reason that all implementations give; ends the program if they differ.
 uint32_t agreed(Implementations &implementations, const Net &net, uint32_t rounds, const std::string &name)
@@ -28,10 +29,21 @@ uint32_t agreed(Implementations &implementations, const Net &net, uint32_t round
     return expected.reason;
 }
 
+// All numbers of rounds that the limit on refined faces allows; ends the program if the net is refused.
+void compare(Implementations &implementations, bench_kind kind)
+{
+    BenchmarkNet made(kind);
+    for (uint32_t k = 0; k <= MOST_ROUNDS && made.refined_faces(k) <= MOST_REFINED; k++)
+        if (agreed(implementations, made.net, k, made.name) != 0) {
+            std::fprintf(stderr, "%s: refused\n", made.name);
+            std::exit(1);
+        }
+}
+
 // What the samples have shown.
 struct Coverage {
     using Counts = std::array<int, 13>;
-    Counts reasons = {}, rings = {}, fans = {};
+    Counts reasons = {}, rings = {}, fans = {}, sides = {};
     int marked = 0;
 
     void add(const Net &net, uint32_t reason)
@@ -39,10 +51,10 @@ struct Coverage {
         reasons[reason]++;
         if (reason != 0)
             return;
-        straight::Adjacency adjacency;
-        adjacency.build(net);
-        for (uint32_t v = 0; v < net.points.size(); v++)
-            (adjacency.is_boundary(v) ? fans : rings)[adjacency.face_count(v)]++;
+        if (net.sides.empty())
+            add_vertices(net);
+        for (uint8_t n : net.sides)
+            sides[n]++;
         marked += std::count(net.marks.begin(), net.marks.end(), 1) > 0;
     }
 
@@ -51,7 +63,16 @@ struct Coverage {
         auto seen = [](const Counts &counts, int low, int high) {
             return std::all_of(counts.begin() + low, counts.begin() + high + 1, [](int count) { return count > 0; });
         };
-        return seen(reasons, 5, 12) && seen(rings, 3, 8) && seen(fans, 1, 6) && marked > 0;
+        return seen(reasons, 5, 12) && seen(rings, 3, 8) && seen(fans, 1, 6) && seen(sides, 3, 8) && marked > 0;
+    }
+
+private:
+    void add_vertices(const Net &net)
+    {
+        straight::QuadAdjacency adjacency;
+        adjacency.build(net);
+        for (uint32_t v = 0; v < net.points.size(); v++)
+            (adjacency.is_boundary(v) ? fans : rings)[adjacency.face_count(v)]++;
     }
 };
 
@@ -60,12 +81,8 @@ struct Coverage {
 int main()
 {
     Implementations implementations;
-    for (int which = 0; which < NET_COUNT; which++) {
-        BenchmarkNet made(which);
-        for (uint32_t k = 0; k <= made.rounds; k++)
-            if (agreed(implementations, made.net, k, "net " + std::to_string(which)) != 0)
-                return std::fprintf(stderr, "net %d is refused\n", which), 1;
-    }
+    for (int kind = 0; kind < KIND_COUNT; kind++)
+        compare(implementations, static_cast<bench_kind>(kind));
     Coverage coverage;
     samples::Generator generator(1);
     for (int i = 0; i < SAMPLES; i++) {
@@ -73,7 +90,7 @@ int main()
         coverage.add(sample.net, agreed(implementations, sample.net, sample.rounds, "sample " + std::to_string(i)));
     }
     if (!coverage.is_whole())
-        return std::fprintf(stderr, "the samples do not show every refusal, ring and fan\n"), 1;
-    std::printf("the three nets after every round, and %d small nets: %d refined (%d with marks; rings of 3 to 8, fans of 1 to 6), %d refused (5 to 12)\n",
-                SAMPLES, coverage.reasons[0], coverage.marked, SAMPLES - coverage.reasons[0]);
+        return std::fprintf(stderr, "the samples do not show every refusal, ring, fan and side count\n"), 1;
+    std::printf("%d nets after every round, and %d small nets: %d refined (rings of 3 to 8, fans of 1 to 6, faces of 3 to 8 sides), %d refused (5 to 12)\n",
+                KIND_COUNT, SAMPLES, coverage.reasons[0], SAMPLES - coverage.reasons[0]);
 }

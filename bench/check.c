@@ -12,7 +12,7 @@ static uint32_t work[WORK];
 /* one vertex in 4,095 faces, as an open fan */
 static void make_fan(void)
 {
-    start_net(&net, "fan of 4,095 at one vertex", 0);
+    start_net(&net, "fan of 4,095 at one vertex");
     for (uint32_t i = 0; i < MOST_FACES - 1; i++)
         add_face(&net, 0, 2 * i + 1, 2 * i + 2, 2 * i + 3);
     net.vertex_count = 2 * (MOST_FACES - 1) + 2;
@@ -21,7 +21,7 @@ static void make_fan(void)
 /* two vertices in all of 4,090 faces */
 static void make_hubs(void)
 {
-    start_net(&net, "two vertices in all faces", 0);
+    start_net(&net, "two vertices in all faces");
     for (uint32_t i = 0; i < 4090; i++)
         add_face(&net, 0, 2 * i + 2, 1, 2 * i + 3);
     net.vertex_count = 2 * 4090 + 2;
@@ -31,44 +31,37 @@ static void make_hubs(void)
 static void make_noise(void)
 {
     uint32_t s = 1;
-    start_net(&net, "random corners", 0);
-    net.face_count = MOST_FACES, net.vertex_count = 64;
+    start_net(&net, "random corners");
+    net.corner_count = 4 * MOST_FACES, net.vertex_count = 64;
     for (uint32_t i = 0; i < 4 * MOST_FACES; i++)
-        s = s * 1664525u + 1013904223u, net.faces[i] = (s >> 16) % 16 + 16 * (i % 4);
+        s = s * 1664525u + 1013904223u, net.corners[i] = (s >> 16) % 16 + 16 * (i % 4);
 }
 
-static void make_grid(uint32_t rounds)
+static void measure(uint32_t rounds)
 {
-    start_net(&net, "64 x 64 open grid", rounds);
-    add_grid(&net, 64);
-}
-
-static void measure(void)
-{
-    size_t refined = net.face_count << 2 * net.rounds;
+    size_t faces = face_count(&net), refined = faces << 2 * rounds;
     gedrovit_finding found = {0, 0};
     double best = 1e9;
     for (int run = 0; run <= RUNS; run++) {
         double taken = seconds();
-        found = gedrovit_check(net.rounds, net.vertices, 3 * net.vertex_count, net.faces, 4 * net.face_count, net.marks, 0, net.marks,
+        found = gedrovit_check(rounds, net.vertices, 3 * net.vertex_count, net.corners, net.corner_count, net.sides, net.side_count, net.marks,
                                net.vertex_count, 12 * refined, 4 * refined, 4 * refined, work, WORK);
         taken = seconds() - taken;
         if (run > 0 && taken < best)
             best = taken;
     }
-    printf("%-30s %7u %7zu %8u %8llu %10.3f %10.1f\n", net.name, net.rounds, net.face_count, found.reason, (unsigned long long)found.place, 1e3 * best,
-           1e9 * best / (double)net.face_count);
+    printf("%-30s %7u %7zu %8u %8llu %10.3f %10.1f\n", net.name, rounds, faces, found.reason, (unsigned long long)found.place, 1e3 * best,
+           1e9 * best / (double)faces);
 }
 
 int main(void)
 {
     memset(work, 1, sizeof work);
     printf("%-30s %7s %7s %8s %8s %10s %10s\n", "net", "rounds", "faces", "refusal", "place", "ms", "ns/face");
-    make_grid(0), measure();
-    make_net(&net, 1), measure();
-    make_net(&net, 0), measure();
-    make_fan(), measure();
-    make_hubs(), measure();
-    make_noise(), measure();
+    make_net(&net, GRID_64), measure(0), measure(3);
+    make_net(&net, GRID_8), measure(6);
+    make_fan(), measure(0);
+    make_hubs(), measure(0);
+    make_noise(), measure(0);
     return 0;
 }

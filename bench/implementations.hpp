@@ -27,18 +27,19 @@ public:
 
     Verdict refine(const Net &net, uint32_t rounds) override
     {
-        last = gedrovit_refine(rounds, &net.points.data()->x, 3 * net.points.size(), net.faces.data()->data(), 4 * net.faces.size(), net.marks.data(), 0,
-                               net.marks.data(), net.marks.size(), vertices.data(), vertices.size(), faces.data(), faces.size(), marks.data(), marks.size(),
-                               work.data(), work.size());
+        const bool splits = !net.sides.empty();
+        last = gedrovit_refine(rounds, &net.points.data()->x, 3 * net.points.size(), net.corners.data(), net.corners.size(),
+                               splits ? net.sides.data() : net.marks.data(), net.sides.size(), net.marks.data(), net.marks.size(), vertices.data(),
+                               vertices.size(), faces.data(), faces.size(), marks.data(), marks.size(), work.data(), work.size());
         return {last.reason, last.place};
     }
 
     bool gave(const Net &net) const override
     {
-        return last.vertices == net.points.size() && last.faces == net.faces.size() &&
+        return last.vertices == net.points.size() && 4 * last.faces == net.corners.size() &&
                std::equal(net.marks.begin(), net.marks.end(), marks.begin()) &&
                std::equal(vertices.data(), vertices.data() + 3 * last.vertices, &net.points.data()->x) &&
-               std::equal(faces.data(), faces.data() + 4 * last.faces, net.faces.data()->data());
+               std::equal(net.corners.begin(), net.corners.end(), faces.begin());
     }
 
 private:
@@ -58,7 +59,7 @@ public:
     bool gave(const Net &net) const override
     {
         auto same = [](const straight::Point &a, const straight::Point &b) { return a.x == b.x && a.y == b.y && a.z == b.z; };
-        return refined.faces == net.faces && refined.marks == net.marks &&
+        return refined.corners == net.corners && refined.marks == net.marks &&
                std::equal(refined.points.begin(), refined.points.end(), net.points.begin(), net.points.end(), same);
     }
 
@@ -74,24 +75,26 @@ struct Implementations {
     std::array<Implementation *, 3> all = {&product, &rebuilt, &carried};
 };
 
-// One of the three nets whose refinement is measured.
+// One of the nets whose refinement is measured.
 struct BenchmarkNet {
-    explicit BenchmarkNet(int which)
+    explicit BenchmarkNet(bench_kind kind)
     {
         static bench_net made;
-        make_net(&made, which);
+        make_net(&made, kind);
         name = made.name;
-        rounds = made.rounds;
+        faces = face_count(&made);
         for (size_t v = 0; v < made.vertex_count; v++)
             net.points.push_back({made.vertices[3 * v], made.vertices[3 * v + 1], made.vertices[3 * v + 2]});
-        for (size_t f = 0; f < made.face_count; f++)
-            net.faces.push_back({made.faces[4 * f], made.faces[4 * f + 1], made.faces[4 * f + 2], made.faces[4 * f + 3]});
+        net.corners.assign(made.corners, made.corners + made.corner_count);
+        net.sides.assign(made.sides, made.sides + made.side_count);
         net.marks.assign(made.marks, made.marks + made.vertex_count);
     }
 
-    size_t refined_faces() const { return net.faces.size() << 2 * rounds; }
+    size_t refined_faces(uint32_t rounds) const { return faces << 2 * rounds; }
 
     const char *name;
-    uint32_t rounds;
     Net net;
+
+private:
+    size_t faces;
 };

@@ -1,6 +1,6 @@
-// The command line of the measuring programs.
-//   PROGRAM time              prints for each net and call: net, call, refined faces, nanoseconds for each of them, the net's name
-//   PROGRAM count NET CALL    makes the call once to touch its tables, then once inside `counted_call`
+// The command line of the measuring programs. Each line that they print ends with: row, call, refined faces, rounds, name of the net.
+//   PROGRAM time     prints for each row and call `time` with nanoseconds for each refined face, and `ratio` with the time of the first call divided by its own
+//   PROGRAM count    makes each call on each row once to touch its tables, then once inside `counted_call`
 #pragma once
 
 #include "clock.h"
@@ -8,8 +8,8 @@
 
 #include <algorithm>
 #include <cstdio>
-#include <cstdlib>
 #include <functional>
+#include <iterator>
 #include <string>
 #include <vector>
 
@@ -18,52 +18,71 @@ struct Call {
     std::function<void()> make;
 };
 
-// The calls to measure on one net.
+// The calls to measure on one row.
 struct Calls {
     std::string net;
     uint32_t rounds;
     size_t refined_faces;
     std::vector<Call> each;
+
+    void print(int row, const Call &call) const
+    {
+        std::printf("%d %s %zu %u %s\n", row, call.name, refined_faces, rounds, net.c_str());
+    }
 };
 
 extern "C" __attribute__((noinline)) inline void counted_call(const Call &call) { call.make(); }
 
-// Makes the calls in turn, once to touch their tables, then 40 times; the best time counts.
-inline void print_times(int which, const Calls &calls)
+inline double median(std::vector<double> values)
 {
-    std::vector<double> best(calls.each.size(), 1e9);
-    for (int run = 0; run <= 40; run++)
-        for (size_t i = 0; i < best.size(); i++) {
+    auto middle = values.begin() + std::ptrdiff_t(values.size() / 2);
+    std::nth_element(values.begin(), middle, values.end());
+    return *middle;
+}
+
+// Makes the calls in turn, once to touch their tables, then 100 times: the best time, and the median of the ratios within a turn, for other work on the machine
+// slows a whole turn. Calls on small nets are timed many at once.
+inline void print_times(int row, const Calls &calls)
+{
+    const size_t many = 1 + 16384 / calls.refined_faces;
+    std::vector<std::vector<double>> taken(calls.each.size());
+    for (int turn = 0; turn <= 100; turn++)
+        for (size_t i = 0; i < taken.size(); i++) {
             double before = seconds();
-            calls.each[i].make();
-            double taken = seconds() - before;
-            if (run > 0)
-                best[i] = std::min(best[i], taken);
+            for (size_t k = 0; k < many; k++)
+                calls.each[i].make();
+            if (turn > 0)
+                taken[i].push_back(seconds() - before);
         }
-    for (size_t i = 0; i < best.size(); i++)
-        std::printf("%d %s %zu %.3f %s, %u rounds\n", which, calls.each[i].name, calls.refined_faces, 1e9 * best[i] / double(calls.refined_faces),
-                    calls.net.c_str(), calls.rounds);
+    for (size_t i = 0; i < taken.size(); i++) {
+        std::vector<double> ratios;
+        std::transform(taken[0].begin(), taken[0].end(), taken[i].begin(), std::back_inserter(ratios), std::divides<>());
+        std::printf("time %.3f ", 1e9 * *std::min_element(taken[i].begin(), taken[i].end()) / double(many * calls.refined_faces));
+        calls.print(row, calls.each[i]);
+        std::printf("ratio %.4f ", median(ratios));
+        calls.print(row, calls.each[i]);
+    }
 }
 
-inline int count(const Calls &calls, const std::string &name)
+inline void count(int row, const Calls &calls)
 {
-    for (const Call &call : calls.each)
-        if (call.name == name) {
-            call.make();
-            counted_call(call);
-            return 0;
-        }
-    return std::fprintf(stderr, "no call %s\n", name.c_str()), 2;
+    for (const Call &call : calls.each) {
+        call.make();
+        counted_call(call);
+        calls.print(row, call);
+    }
 }
 
-inline int measure(int argc, char **argv, int nets, const std::function<Calls(int)> &prepare)
+// `prepare` gives no calls for a row that is not to be measured.
+inline int measure(int argc, char **argv, const std::function<Calls(bench_row)> &prepare)
 {
-    std::string mode = argc > 1 ? argv[1] : "";
-    if (mode == "count" && argc == 4)
-        return count(prepare(std::atoi(argv[2])), argv[3]);
-    if (mode != "time" || argc != 2)
-        return std::fprintf(stderr, "usage: %s time | count NET CALL\n", argv[0]), 2;
-    for (int which = 0; which < nets; which++)
-        print_times(which, prepare(which));
+    const std::string mode = argc == 2 ? argv[1] : "";
+    if (mode != "time" && mode != "count")
+        return std::fprintf(stderr, "usage: %s time | count\n", argv[0]), 2;
+    for (int i = 0; i < ROW_COUNT; i++) {
+        const Calls calls = prepare(row(i));
+        if (!calls.each.empty())
+            (mode == "time" ? print_times : count)(i, calls);
+    }
     return 0;
 }

@@ -1,4 +1,4 @@
-/* The nets of the benchmark, for C and C++. */
+/* The nets of the benchmark and the rows that are measured, for C and C++. */
 #ifndef BENCH_NETS_H
 #define BENCH_NETS_H
 
@@ -6,15 +6,15 @@
 #include <stdint.h>
 #include <string.h>
 
-enum { MOST_VERTICES = 8192, MOST_FACES = 4096, MOST_REFINED = 262144, NET_COUNT = 3 };
+enum { MOST_VERTICES = 8192, MOST_FACES = 4096, MOST_REFINED = 262144 };
 
+/* With side counts, the corners of the faces follow each other; without them, each face has four. */
 struct bench_net {
     const char *name;
-    uint32_t rounds;
-    size_t vertex_count, face_count;
+    size_t vertex_count, corner_count, side_count;
     int32_t vertices[3 * MOST_VERTICES];
-    uint32_t faces[4 * MOST_FACES];
-    uint8_t marks[MOST_VERTICES];
+    uint32_t corners[4 * MOST_FACES];
+    uint8_t marks[MOST_VERTICES], sides[MOST_FACES];
 };
 
 static inline void add_vertex(struct bench_net *net, int32_t x, int32_t y, int32_t z)
@@ -25,29 +25,46 @@ static inline void add_vertex(struct bench_net *net, int32_t x, int32_t y, int32
 
 static inline void add_face(struct bench_net *net, uint32_t a, uint32_t b, uint32_t c, uint32_t d)
 {
-    uint32_t *f = net->faces + 4 * net->face_count++;
+    uint32_t *f = net->corners + net->corner_count;
     f[0] = a, f[1] = b, f[2] = c, f[3] = d;
+    net->corner_count += 4;
 }
 
-static inline void start_net(struct bench_net *net, const char *name, uint32_t rounds)
+static inline void add_triangle(struct bench_net *net, uint32_t a, uint32_t b, uint32_t c)
+{
+    uint32_t *f = net->corners + net->corner_count;
+    f[0] = a, f[1] = b, f[2] = c;
+    net->corner_count += 3;
+    net->sides[net->side_count++] = 3;
+}
+
+static inline void start_net(struct bench_net *net, const char *name)
 {
     memset(net, 0, sizeof *net);
-    net->name = name, net->rounds = rounds;
+    net->name = name;
 }
 
-/* An open grid with a little height, its four corners marked. */
-static inline void add_grid(struct bench_net *net, uint32_t side)
+/* The quadrilaterals where refining begins. */
+static inline size_t face_count(const struct bench_net *net)
 {
-    for (uint32_t y = 0; y <= side; y++)
-        for (uint32_t x = 0; x <= side; x++)
-            add_vertex(net, (int32_t)(1000 * x), (int32_t)(1000 * y), (int32_t)((x * 7919 + y * 104729) % 977));
-    for (uint32_t y = 0; y < side; y++)
-        for (uint32_t x = 0; x < side; x++) {
-            uint32_t i = y * (side + 1) + x;
-            add_face(net, i, i + 1, i + side + 2, i + side + 1);
+    return net->side_count > 0 ? net->corner_count : net->corner_count / 4;
+}
+
+static inline int32_t little_height(uint32_t x, uint32_t y) { return (int32_t)((x * 7919 + y * 104729) % 977); }
+
+/* An open grid with a little height, its four corners marked. */
+static inline void add_grid(struct bench_net *net, uint32_t columns, uint32_t rows, uint32_t spacing)
+{
+    for (uint32_t y = 0; y <= rows; y++)
+        for (uint32_t x = 0; x <= columns; x++)
+            add_vertex(net, (int32_t)(spacing * x), (int32_t)(spacing * y), little_height(x, y));
+    for (uint32_t y = 0; y < rows; y++)
+        for (uint32_t x = 0; x < columns; x++) {
+            uint32_t i = y * (columns + 1) + x;
+            add_face(net, i, i + 1, i + columns + 2, i + columns + 1);
         }
     size_t last = net->vertex_count - 1;
-    net->marks[0] = net->marks[side] = net->marks[last - side] = net->marks[last] = 1;
+    net->marks[0] = net->marks[columns] = net->marks[last - columns] = net->marks[last] = 1;
 }
 
 static inline void add_cube(struct bench_net *net)
@@ -58,15 +75,69 @@ static inline void add_cube(struct bench_net *net)
     add_face(net, 2, 6, 7, 3), add_face(net, 0, 4, 6, 2), add_face(net, 1, 3, 7, 5);
 }
 
-/* One of the three nets whose refinement is measured. */
-static inline void make_net(struct bench_net *net, int which)
+/*
+ * Pieces of 16 vertices u_0 to u_7, w_0 to w_7, each vertex in a ring of eight of the 32 faces. Open, a piece lacks a closed row of eight faces that passes
+ * every vertex once: each vertex is on the boundary, in a fan of six of the 24 faces.
+ */
+static inline void add_pieces(struct bench_net *net, uint32_t pieces, int open)
 {
-    if (which == 0)
-        start_net(net, "8 x 8 open grid", 6), add_grid(net, 8);
-    else if (which == 1)
-        start_net(net, "64 x 64 open grid", 3), add_grid(net, 64);
-    else
-        start_net(net, "cube", 6), add_cube(net);
+    for (uint32_t v = 0; v < 16 * pieces; v++)
+        add_vertex(net, (int32_t)(v * 7919 % 20011), (int32_t)(v * 104729 % 20021), (int32_t)(v * 48271 % 19997));
+    for (uint32_t u = 0; u < 16 * pieces; u += 16)
+        for (uint32_t i = 0; i < 8; i += 2)
+            for (uint32_t j = 0, w = u + 8; j < 8; j++)
+                if (!open || i != (j + 1) / 2 * 2 % 8)
+                    add_face(net, u + i, w + j, u + (j % 2 == 0 ? i + 1 : i + 7) % 8, w + (j + 7) % 8);
+}
+
+/* A trapezoid of a triangular lattice with a little height: rows of 5, 7, .. 73 triangles between rows of 3, 4, .. 38 vertices. */
+static inline void add_trapezoid(struct bench_net *net)
+{
+    enum { FIRST = 3, ROWS = 35 };
+    for (uint32_t r = 0; r <= ROWS; r++)
+        for (uint32_t i = 0; i < FIRST + r; i++)
+            add_vertex(net, (int32_t)(1000 * i) - (int32_t)(500 * r), (int32_t)(866 * r), little_height(i, r));
+    for (uint32_t r = 0, row = 0; r < ROWS; r++) {
+        uint32_t below = row + FIRST + r;
+        for (uint32_t i = 0; row + i < below; i++) {
+            add_triangle(net, row + i, below + i, below + i + 1);
+            if (row + i + 1 < below)
+                add_triangle(net, row + i, below + i + 1, row + i + 1);
+        }
+        row = below;
+    }
+}
+
+enum bench_kind { GRID_8, GRID_64, CUBE, RINGS, STRIP, FANS, TRIANGLES, KIND_COUNT };
+
+static inline void make_net(struct bench_net *net, enum bench_kind kind)
+{
+    switch (kind) {
+    case GRID_8: start_net(net, "8 x 8 open grid"), add_grid(net, 8, 8, 1000); break;
+    case GRID_64: start_net(net, "64 x 64 open grid"), add_grid(net, 64, 64, 1000); break;
+    case CUBE: start_net(net, "cube"), add_cube(net); break;
+    case RINGS: start_net(net, "rings of eight"), add_pieces(net, 128, 0); break;
+    case STRIP: start_net(net, "strip"), add_grid(net, 4095, 1, 250); break;
+    case FANS: start_net(net, "fans of six"), add_pieces(net, 170, 1); break;
+    case TRIANGLES: start_net(net, "triangles"), add_trapezoid(net); break;
+    case KIND_COUNT: break;
+    }
+}
+
+/* What is measured. */
+struct bench_row {
+    enum bench_kind kind;
+    uint32_t rounds;
+};
+
+enum { ROW_COUNT = 17 };
+
+static inline struct bench_row row(int which)
+{
+    static const struct bench_row rows[ROW_COUNT] = {{GRID_8, 0}, {GRID_8, 1}, {GRID_8, 6}, {GRID_64, 1}, {GRID_64, 3}, {CUBE, 0},
+                                                     {CUBE, 1}, {CUBE, 6}, {RINGS, 1}, {RINGS, 3}, {STRIP, 1}, {STRIP, 3},
+                                                     {FANS, 1}, {FANS, 3}, {TRIANGLES, 0}, {TRIANGLES, 1}, {TRIANGLES, 3}};
+    return rows[which];
 }
 
 #endif

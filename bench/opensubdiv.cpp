@@ -1,4 +1,4 @@
-// Measures OpenSubdiv on the three nets at the same level: uniform Catmull-Clark refinement, positions in single precision.
+// Measures OpenSubdiv on the nets of quadrilaterals at level 3 or 6: uniform Catmull-Clark refinement, positions in single precision.
 #include "measure.hpp"
 
 #include <opensubdiv/far/primvarRefiner.h>
@@ -18,15 +18,15 @@ struct Position {
 
 // A net in the form that OpenSubdiv takes; an open boundary is interpolated with sharp corners.
 struct Input {
-    explicit Input(int which)
+    explicit Input(bench_kind kind)
     {
-        make_net(&net, which);
-        sizes.assign(net.face_count, 4);
-        corners.assign(net.faces, net.faces + 4 * net.face_count);
+        make_net(&net, kind);
+        sizes.assign(face_count(&net), 4);
+        corners.assign(net.corners, net.corners + net.corner_count);
         for (size_t v = 0; v < net.vertex_count; v++)
             positions.push_back({float(net.vertices[3 * v]), float(net.vertices[3 * v + 1]), float(net.vertices[3 * v + 2])});
         descriptor.numVertices = int(net.vertex_count);
-        descriptor.numFaces = int(net.face_count);
+        descriptor.numFaces = int(sizes.size());
         descriptor.numVertsPerFace = sizes.data();
         descriptor.vertIndicesPerFace = corners.data();
     }
@@ -37,13 +37,13 @@ struct Input {
     Far::TopologyDescriptor descriptor;
 };
 
-std::unique_ptr<Far::TopologyRefiner> refine_topology(const Input &input)
+std::unique_ptr<Far::TopologyRefiner> refine_topology(const Input &input, uint32_t rounds)
 {
     using Factory = Far::TopologyRefinerFactory<Far::TopologyDescriptor>;
     Sdc::Options options;
     options.SetVtxBoundaryInterpolation(Sdc::Options::VTX_BOUNDARY_EDGE_AND_CORNER);
     std::unique_ptr<Far::TopologyRefiner> refiner(Factory::Create(input.descriptor, Factory::Options(Sdc::SCHEME_CATMARK, options)));
-    refiner->RefineUniform(Far::TopologyRefiner::UniformOptions(int(input.net.rounds)));
+    refiner->RefineUniform(Far::TopologyRefiner::UniformOptions(int(rounds)));
     return refiner;
 }
 
@@ -61,19 +61,21 @@ void interpolate(const Far::TopologyRefiner &refiner, const Input &input, std::v
     }
 }
 
-Calls prepare(int which)
+Calls prepare(bench_row row)
 {
     static std::vector<Position> positions;
-    auto input = std::make_shared<Input>(which);
-    std::shared_ptr<Far::TopologyRefiner> refiner = refine_topology(*input);
+    if (row.rounds < 3 || row.kind == TRIANGLES)
+        return {};
+    auto input = std::make_shared<Input>(row.kind);
+    std::shared_ptr<Far::TopologyRefiner> refiner = refine_topology(*input, row.rounds);
     size_t faces = size_t(refiner->GetLevel(refiner->GetMaxLevel()).GetNumFaces());
     return {input->net.name,
-            input->net.rounds,
+            row.rounds,
             faces,
-            {{"whole", [=] { interpolate(*refine_topology(*input), *input, positions); }},
+            {{"whole", [=] { interpolate(*refine_topology(*input, row.rounds), *input, positions); }},
              {"positions", [=] { interpolate(*refiner, *input, positions); }}}};
 }
 
 }
 
-int main(int argc, char **argv) { return measure(argc, argv, NET_COUNT, prepare); }
+int main(int argc, char **argv) { return measure(argc, argv, prepare); }

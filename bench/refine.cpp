@@ -1,16 +1,16 @@
-// Measures the proved call and straightforward C++ on the three nets.
+// Measures the proved call and straightforward C++ on all rows.
 #include "implementations.hpp"
 #include "measure.hpp"
 
 int main(int argc, char **argv)
 {
     Implementations implementations;
-    auto prepare = [&](int which) {
-        BenchmarkNet made(which);
-        Calls calls = {made.name, made.rounds, made.refined_faces(), {}};
+    auto prepare = [&](bench_row row) {
+        BenchmarkNet made(row.kind);
+        Calls calls = {made.name, row.rounds, made.refined_faces(row.rounds), {}};
         for (Implementation *one : implementations.all)
-            calls.each.push_back({one->name, [=] { one->refine(made.net, made.rounds); }});
+            calls.each.push_back({one->name, [=] { one->refine(made.net, row.rounds); }});
         return calls;
     };
-    return measure(argc, argv, NET_COUNT, prepare);
+    return measure(argc, argv, prepare);
 }

@@ -1,6 +1,6 @@
 #!/usr/bin/env bash
-# The benchmark. Compares the refining call with straightforward C++ result by result, then measures both, the check alone on hard nets, the split
-# of a net of triangles, and OpenSubdiv where it is installed.
+# The benchmark. Compares the refining call with straightforward C++ result by result, then measures both, the check alone on hard nets, and OpenSubdiv where
+# it is installed.
 #   bench/run.sh [ARCHIVE]    ARCHIVE is one that `rt staticlib capi` made; without it, it is made first
 set -euo pipefail
 load=$(cut -d' ' -f1 /proc/loadavg)
@@ -14,88 +14,122 @@ out=target/bench
 mkdir -p "$out"
 warnings="-Wall -Wextra -Werror -pedantic"
 plain="-O2"
-native="-O3 -march=native"
+# The flags with the fewest instructions and with the least time; callgrind takes no AVX-512, which `native` may have.
+gcc_count="-O3 -march=x86-64-v3"
+gcc_time="-O3 -march=native"
+clang_count="-O3 -march=x86-64-v3"
+clang_time="-O2 -march=native"
+grep -qw avx2 /proc/cpuinfo || gcc_count=-O3 clang_count=-O3
 
-# build FOLDER FLAGS: the programs that compare and measure, with straightforward C++ built with these flags
+# compile OBJECT SOURCE COMPILER FLAG ..
+compile() {
+    local object=$1 source=$2
+    shift 2
+    # shellcheck disable=SC2086
+    "$@" -std=c++17 $warnings -c -o "$object" "bench/$source.cpp"
+}
+
+# build FOLDER COMPILER FLAG ..: the programs that compare and measure, with straightforward C++ built so
 build() {
-    local objects=$out/$1 flags=$2 source
-    mkdir -p "$objects"
-    for source in straight straight_check samples agree refine; do
-        # shellcheck disable=SC2086
-        g++ -std=c++17 $warnings $flags -c -o "$objects/$source.o" "bench/$source.cpp"
+    local folder=$out/$1 source
+    shift
+    mkdir -p "$folder"
+    for source in straight straight_check straight_split; do
+        compile "$folder/$source.o" "$source" "$@" || return 1
     done
-    g++ -o "$objects/agree" "$objects"/{agree,samples,straight,straight_check}.o "$archive"
-    g++ -o "$objects/refine" "$objects"/{refine,straight,straight_check}.o "$archive"
+    g++ -o "$folder/agree" "$folder"/straight*.o "$out"/{agree,samples}.o "$archive" &&
+        g++ -o "$folder/refine" "$folder"/straight*.o "$out/refine.o" "$archive"
 }
 
-# count PROGRAM NET CALL: the instructions of one call. Without string instructions, for callgrind would count each byte that they write as one.
-count() {
-    GLIBC_TUNABLES=glibc.cpu.x86_rep_stosb_threshold=0x7fffffff:glibc.cpu.x86_rep_movsb_threshold=0x7fffffff \
-        valgrind --tool=callgrind --callgrind-out-file=/dev/null --toggle-collect=counted_call "$out/$1" count "$2" "$3" 2>&1 | sed -n 's/.*Collected : //p'
+# build_clang: the same with the clang of the Rattle kit, which has no header files of its own; fails where there is none or it does not take the C++
+build_clang() {
+    local kit clang
+    kit=$(realpath "$(command -v rt)")
+    clang=${kit%/bin/rt}/on/$(uname -m)/toolchain/bin/clang
+    [ -x "$clang" ] || return 1
+    set -- "$clang" -x c++ -isystem "$(g++ -print-file-name=include)"
+    # shellcheck disable=SC2086
+    build clang-count "$@" $clang_count && build clang-time "$@" $clang_time && "$clang" --version | sed -n '1s/.*version //p'
 }
 
-# measure PROGRAM PREFIX NETS CALL ..: rows of times, and of instructions where valgrind is installed
-measure() {
-    local program=$1 prefix=$2 nets=$3 net call collected
-    shift 3
-    "$out/$program" time | sed "s/^/${prefix}time /"
+# times COMPILER PROGRAM: lines for the tables
+times() {
+    "$out/$2" time | sed "s/^[a-z]*/& $1/"
+}
+
+# counts COMPILER PROGRAM: the same, of instructions; callgrind writes a file for each counted call. Without string instructions, for callgrind would count
+# each byte that they write as one.
+counts() {
+    local i calls
     command -v valgrind >/dev/null || return 0
-    for net in $nets; do
-        for call in "$@"; do
-            collected=$(count "$program" "$net" "$call")
-            echo "${prefix}count $net $call $collected"
-        done
-    done
+    rm -f "$out"/calls.*
+    GLIBC_TUNABLES=glibc.cpu.x86_rep_stosb_threshold=0x7fffffff:glibc.cpu.x86_rep_movsb_threshold=0x7fffffff LD_BIND_NOW=1 \
+        valgrind -q --tool=callgrind --callgrind-out-file="$out/calls" --toggle-collect=counted_call --dump-after=counted_call "$out/$2" count >"$out/rows"
+    calls=$(wc -l <"$out/rows")
+    for ((i = 1; i <= calls; i++)); do
+        sed -n "s/^totals:/count $1/p" "$out/calls.$i"
+    done | paste -d' ' - "$out/rows"
 }
 
-build plain "$plain"
-build native "$native"
+for source in agree samples refine; do
+    compile "$out/$source.o" "$source" g++ $plain
+done
+# shellcheck disable=SC2086
+build gcc-count g++ $gcc_count
+# shellcheck disable=SC2086
+build gcc-time g++ $gcc_time
+builds="gcc-count gcc-time"
+clang_text="is not there or does not take it: its columns are missing"
+if clang_version=$(build_clang 2>"$out/clang.log"); then
+    builds+=" clang-count clang-time"
+    clang_text="$clang_version: $clang_count for instructions, $clang_time for times"
+fi
 # shellcheck disable=SC2086
 cc -std=gnu11 $warnings $plain -o "$out/check" bench/check.c "$archive"
-# shellcheck disable=SC2086
-g++ -std=c++17 $warnings $plain -o "$out/split" bench/split.cpp "$archive"
 
-counted="of one call after another one, by callgrind --toggle-collect, C++ with $plain; memory cleared and copied by vector instructions"
+counted="of one call after another one, by callgrind; memory cleared and copied by vector instructions"
 command -v valgrind >/dev/null || counted="not counted, for valgrind is not installed"
 machine="$(sed -n 's/^model name[^:]*: //p' /proc/cpuinfo | head -n 1), $(nproc) cores, $(uname -sm); load before: $load"
-agreement=$("$out/plain/agree")
-"$out/native/agree" >/dev/null
+for build in $builds; do
+    agreement=$("$out/$build/agree")
+done
 
 cat <<TEXT
 Gedrovit benchmark, $(date +%F)
 machine:   $machine
-compilers: archive by rt staticlib; $(g++ --version | head -n 1), $plain; "native" is $native
-agreement: all results are equal, count for count, in both builds of C++:
+archive:   by rt staticlib, for every x86-64 processor
+C++:       $(g++ --version | head -n 1): $gcc_count for instructions, $gcc_time for times
+           the kit's clang $clang_text
+agreement: all results are equal, count for count, in every build of C++:
            $agreement
 
 REFINEMENT
-Both sides check refusals 5 to 12, then make all rounds with exact arithmetic and one rounding for each coordinate, in one thread. Gedrovit also checks the
-table lengths, allocates nothing and clears the work table at the end; C++ keeps its vectors from call to call.
-Tables: touched by a call before, not cleared between calls. Times: processor time, the best of 40 calls, the implementations taking turns in one process.
+Both sides check refusals 5 to 12, split faces with side counts, then make all rounds with exact arithmetic and one rounding for each coordinate, in one
+thread. Gedrovit also checks the table lengths, allocates nothing and clears the work table at the end; C++ keeps its vectors from call to call.
+Nets: rings of eight has 4,096 faces, every vertex in eight; strip is one row of 4,095 faces; fans of six has 4,080 faces, every vertex on the boundary and
+in six; triangles are 1,365 with side counts, which become 4,095 quadrilaterals.
+C++: "anew" builds the adjacency anew in each round, "carried" carries it over from the round before.
+Tables: touched by a call before, not cleared between calls. Times: processor time, the best of 100 turns of all implementations in one process for each
+compiler; calls on small nets are timed many at once.
 Instructions: $counted.
-Ratio: Gedrovit divided by that row; above 1 it takes more.
+Ratio: Gedrovit divided by the C++ before it, above 1 Gedrovit takes more; of times the median over 100 turns, each in the same turn.
 
 TEXT
 {
-    measure plain/refine "" "0 1 2" gedrovit rebuilt carried
-    "$out/native/refine" time | sed 's/^/native-time /'
+    counts g++ gcc-count/refine
+    times g++ gcc-time/refine
+    if [[ $builds == *clang* ]]; then
+        counts clang clang-count/refine
+        times clang clang-time/refine
+    fi
 } | python3 bench/table.py refine
 
 cat <<TEXT
-
 THE CHECK ALONE, on nets that are hard for it
 Tables: touched before; the call itself clears 16 work numbers for each refined face. Times: processor time, the best of 20 calls.
 
 TEXT
 "$out/check"
-
-cat <<TEXT
-
-THE SPLIT, zero rounds on 4,095 corners of triangles
-The net is checked and its 1,365 faces are split into 4,095 quadrilaterals. Tables, times and instructions as for the refinement.
-
-TEXT
-measure split split- 0 split | python3 bench/table.py split
 
 echo
 echo "OPENSUBDIV"
@@ -108,11 +142,16 @@ g++ -std=c++17 $warnings $plain -o "$out/opensubdiv" bench/opensubdiv.cpp -losdC
 version=$(echo 'OPENSUBDIV_VERSION_MAJOR.OPENSUBDIV_VERSION_MINOR.OPENSUBDIV_VERSION_PATCH' |
     g++ -E -P -x c++ -include opensubdiv/version.h - | tail -n 1 | tr -d ' ')
 cat <<TEXT
-OpenSubdiv $version, Far::TopologyRefiner (uniform) and Far::PrimvarRefiner, scheme Catmark, the same nets and levels, one thread, the library as installed.
+OpenSubdiv $version, Far::TopologyRefiner (uniform) and Far::PrimvarRefiner, scheme Catmark, one thread, the library as installed, its templates by g++ with
+$plain; nets of quadrilaterals at levels 3 and 6. "whole" makes and refines the topology, then the positions; "positions" makes positions alone, with the
+topology kept.
 It computes something else: Catmull-Clark subdivision, which is approximating (old vertices move), with positions in single precision. It serves many more
 purposes (three schemes, creases, other data at vertices, adaptive refinement) and keeps the topology of all levels. Stencil tables, its quicker way to
 refine one topology many times, are not measured. The results differ, so no ratio is given.
 Tables: positions touched before; OpenSubdiv allocates the topology anew where it is made. Times and instructions as above.
 
 TEXT
-measure opensubdiv osd- "0 1 2" whole positions | python3 bench/table.py opensubdiv
+{
+    counts g++ opensubdiv
+    times g++ opensubdiv
+} | python3 bench/table.py opensubdiv

@@ -34,7 +34,7 @@ template <int64_t Denominator> Point rounded(Exact e)
 // The rules on one net.
 class Rules {
 public:
-    Rules(const Net &n, const Adjacency &a) : net(n), adjacency(a) {}
+    Rules(const Net &n, const QuadAdjacency &a) : net(n), adjacency(a) {}
 
     Exact edge_point(uint32_t h) const;
     Exact face_point(const std::vector<Exact> &edge_points, uint32_t f) const;
@@ -69,7 +69,7 @@ private:
     uint32_t beyond(uint32_t h) const;
 
     const Net &net;
-    const Adjacency &adjacency;
+    const QuadAdjacency &adjacency;
 };
 
 Exact Rules::edge_point(uint32_t h) const
@@ -85,7 +85,7 @@ Exact Rules::boundary_point(uint32_t h) const
         uint32_t g = h;
         while (adjacency.turn(g) != NONE)
             g = adjacency.turn(g);
-        return at(adjacency.start(Adjacency::prev(g)));
+        return at(adjacency.start(Quads::prev(g)));
     };
     auto after = [&] { return at(adjacency.end(adjacency.fan_start(w))); };
     if (net.marks[v])
@@ -135,7 +135,7 @@ int Rules::close_fan(uint32_t v, Ring &ring) const
     uint32_t first = adjacency.fan_start(v), last = first;
     while (adjacency.turn(last) != NONE)
         last = adjacency.turn(last);
-    uint32_t b = adjacency.end(first), c = adjacency.start(Adjacency::prev(last));
+    uint32_t b = adjacency.end(first), c = adjacency.start(Quads::prev(last));
     int m = ring.size;
     ring.neighbours[m] = EXTRAPOLATED * at(c);
     ring.opposites[m] = extrapolated(c);
@@ -178,13 +178,13 @@ Exact Rules::virtual_point(uint32_t h) const
 uint32_t Rules::beyond(uint32_t h) const
 {
     uint32_t g = adjacency.mate(h);
-    return g == NONE ? NONE : Adjacency::across(g);
+    return g == NONE ? NONE : Quads::across(g);
 }
 
 // The direction of side h of a face, over 16 times the denominator of edge points.
 Rules::Direction Rules::direction(const std::vector<Exact> &edge_points, uint32_t h) const
 {
-    uint32_t g = Adjacency::across(h);
+    uint32_t g = Quads::across(h);
     uint32_t before = beyond(h), after = beyond(g);
     auto on = [&](uint32_t side) { return edge_points[adjacency.edge(side)]; };
     if (before != NONE && after != NONE) {
@@ -207,16 +207,17 @@ Exact Rules::face_point(const std::vector<Exact> &edge_points, uint32_t f) const
 }
 
 // From the last face to the first, so that the table serves both.
-void split_faces(std::vector<Face> &faces, const Adjacency &adjacency, uint32_t vertices)
+void split_faces(std::vector<uint32_t> &corners, const QuadAdjacency &adjacency, uint32_t vertices)
 {
-    uint32_t count = static_cast<uint32_t>(faces.size());
-    faces.resize(4 * faces.size());
+    uint32_t count = static_cast<uint32_t>(corners.size() / 4);
+    corners.resize(4 * corners.size());
     for (uint32_t f = count; f-- > 0;) {
-        Face face = faces[f];
+        std::array<uint32_t, 4> old = {corners[4 * f], corners[4 * f + 1], corners[4 * f + 2], corners[4 * f + 3]};
         uint32_t centre = vertices + adjacency.edge_count() + f;
         for (uint32_t i = 0; i < 4; i++) {
-            uint32_t side = vertices + adjacency.edge(4 * f + i), before = vertices + adjacency.edge(4 * f + (i + 3) % 4);
-            faces[4 * f + i] = {face[i], side, centre, before};
+            uint32_t h = 4 * f + i, *face = &corners[4 * h];
+            face[0] = old[i], face[1] = vertices + adjacency.edge(h);
+            face[2] = centre, face[3] = vertices + adjacency.edge(Quads::prev(h));
         }
     }
 }
@@ -225,7 +226,7 @@ void split_faces(std::vector<Face> &faces, const Adjacency &adjacency, uint32_t 
 
 void Refiner::step(Net &net)
 {
-    uint32_t vertices = static_cast<uint32_t>(net.points.size()), faces = static_cast<uint32_t>(net.faces.size());
+    uint32_t vertices = static_cast<uint32_t>(net.points.size()), faces = static_cast<uint32_t>(net.corners.size() / 4);
     Rules rules(net, adjacency);
     net.points.resize(vertices + adjacency.edge_count() + faces);
     if (edge_points.size() < adjacency.edge_count())
@@ -239,21 +240,27 @@ void Refiner::step(Net &net)
         }
     for (uint32_t f = 0; f < faces; f++)
         net.points[vertices + edge + f] = rounded<FACE>(rules.face_point(edge_points, f));
-    split_faces(net.faces, adjacency, vertices);
+    split_faces(net.corners, adjacency, vertices);
     net.marks.resize(net.points.size());
 }
 
-// The check builds the adjacency for the first round.
+// The check leaves the adjacency for the first round, unless the net is split.
 Verdict Refiner::refine(const Net &net, uint32_t rounds, Net &refined)
 {
-    Verdict verdict = check(net);
+    bool splits = !net.sides.empty();
+    Verdict verdict = splits ? drawn.check(net) : adjacency.check(net);
     if (verdict.reason != 0)
         return verdict;
-    refined = net;
+    if (splits)
+        split(net, refined);
+    else
+        refined = net;
     for (uint32_t k = 0; k < rounds; k++) {
+        if (k > 0 && carries)
+            adjacency.carry(refined);
+        else if (k > 0 || splits)
+            adjacency.build(refined);
         step(refined);
-        if (k + 1 < rounds)
-            carries ? adjacency.carry(refined) : adjacency.build(refined);
     }
     return verdict;
 }

@@ -5,17 +5,17 @@
 
 namespace straight {
 
-void Adjacency::build(const Net &net)
+template <class Shape> void Adjacency<Shape>::build(const Net &net)
 {
-    faces = &net.faces;
+    corners = &net.corners;
     sort_by_start(static_cast<uint32_t>(net.points.size()));
     find_mates();
     number_edges();
 }
 
-void Adjacency::sort_by_start(uint32_t vertices)
+template <class Shape> void Adjacency<Shape>::sort_by_start(uint32_t vertices)
 {
-    uint32_t n = 4 * static_cast<uint32_t>(faces->size());
+    uint32_t n = static_cast<uint32_t>(corners->size());
     first.assign(vertices + 1, 0);
     outgoing.resize(n);
     for (uint32_t h = 0; h < n; h++)
@@ -27,7 +27,7 @@ void Adjacency::sort_by_start(uint32_t vertices)
 }
 
 // The half-edge between two vertices, or NONE.
-uint32_t Adjacency::find(uint32_t from, uint32_t to) const
+template <class Shape> uint32_t Adjacency<Shape>::find(uint32_t from, uint32_t to) const
 {
     for (uint32_t i = first[from]; i < first[from + 1]; i++)
         if (outgoing[i].end == to)
@@ -35,7 +35,7 @@ uint32_t Adjacency::find(uint32_t from, uint32_t to) const
     return NONE;
 }
 
-void Adjacency::find_mates()
+template <class Shape> void Adjacency<Shape>::find_mates()
 {
     mates.assign(outgoing.size(), NONE);
     fan_starts.assign(first.size() - 1, NONE);
@@ -51,7 +51,7 @@ void Adjacency::find_mates()
     }
 }
 
-void Adjacency::number_edges()
+template <class Shape> void Adjacency<Shape>::number_edges()
 {
     numbers.resize(mates.size());
     edges = 0;
@@ -60,43 +60,35 @@ void Adjacency::number_edges()
 }
 
 // Refined face 4f + i stands at corner i of face f: its number is that of the half-edge that leaves there.
-void Adjacency::split_mates(uint32_t f)
+void QuadAdjacency::split_mates(uint32_t f)
 {
-    const Face old = {mates[4 * f], mates[4 * f + 1], mates[4 * f + 2], mates[4 * f + 3]};
+    const std::array<uint32_t, 4> old = {mates[4 * f], mates[4 * f + 1], mates[4 * f + 2], mates[4 * f + 3]};
     for (uint32_t i = 0; i < 4; i++) {
         uint32_t h = 4 * f + i, mate = old[i], before = old[(i + 3) % 4];
-        mates[4 * h] = mate == NONE ? NONE : 4 * next(mate) + 3;
-        mates[4 * h + 1] = 4 * next(h) + 2;
-        mates[4 * h + 2] = 4 * prev(h) + 1;
+        mates[4 * h] = mate == NONE ? NONE : 4 * Quads::next(mate) + 3;
+        mates[4 * h + 1] = 4 * Quads::next(h) + 2;
+        mates[4 * h + 2] = 4 * Quads::prev(h) + 1;
         mates[4 * h + 3] = before == NONE ? NONE : 4 * before;
     }
 }
 
-void Adjacency::carry(const Net &refined)
+void QuadAdjacency::carry(const Net &refined)
 {
     uint32_t n = size();
     face_counts.resize(refined.points.size(), 4);
     fan_starts.resize(refined.points.size(), NONE);
     for (uint32_t h = 0; h < n; h++)
         if (mates[h] == NONE) {
-            const Face &face = refined.faces[h];
-            fan_starts[face[0]] = 4 * h;
-            fan_starts[face[1]] = 4 * next(h) + 3;
-            face_counts[face[1]] = 2;
+            uint32_t from = refined.corners[4 * h], middle = refined.corners[4 * h + 1];
+            fan_starts[from] = 4 * h;
+            fan_starts[middle] = 4 * Quads::next(h) + 3;
+            face_counts[middle] = 2;
         }
     mates.resize(4 * n);
     for (uint32_t f = n / 4; f-- > 0;)
         split_mates(f);
-    faces = &refined.faces;
+    corners = &refined.corners;
     number_edges();
-}
-
-uint32_t Adjacency::repeated_side() const
-{
-    for (uint32_t h = 0; h < mates.size(); h++)
-        if (find(start(h), end(h)) < h)
-            return h / 4;
-    return NONE;
 }
 
 namespace {
@@ -116,45 +108,53 @@ bool is_outside(const Point &p)
     return outside(p.x) || outside(p.y) || outside(p.z);
 }
 
-bool has_bad_corner(const Face &face, size_t vertices)
+bool has_bad_corner(const uint32_t *corners, uint32_t count, size_t vertices)
 {
-    for (int i = 0; i < 4; i++)
-        if (face[i] >= vertices || std::count(face.begin(), face.end(), face[i]) > 1)
+    for (uint32_t i = 0; i < count; i++) {
+        if (corners[i] >= vertices)
             return true;
+        for (uint32_t j = 0; j < i; j++)
+            if (corners[j] == corners[i])
+                return true;
+    }
     return false;
 }
 
 std::vector<uint8_t> used_vertices(const Net &net)
 {
     std::vector<uint8_t> used(net.points.size());
-    for (const Face &face : net.faces)
-        for (uint32_t v : face)
-            used[v] = 1;
+    for (uint32_t v : net.corners)
+        used[v] = 1;
     return used;
 }
 
 }
 
-Verdict Refiner::check(const Net &net)
+// Refusals 5 to 8.
+template <class Shape> Verdict Adjacency<Shape>::check_tables(const Net &net) const
 {
     Verdict verdict = first_bad(5, net.points, is_outside);
     if (verdict.reason == 0)
         verdict = first_bad(6, net.marks, [](uint8_t mark) { return mark > 1; });
-    if (verdict.reason == 0)
-        verdict = first_bad(7, net.faces, [&](const Face &face) { return has_bad_corner(face, net.points.size()); });
+    for (uint32_t f = 0, h = 0; verdict.reason == 0 && h < net.corners.size(); h += Shape::sides(net, f++))
+        if (has_bad_corner(&net.corners[h], Shape::sides(net, f), net.points.size()))
+            verdict = {7, f};
     if (verdict.reason == 0)
         verdict = first_bad(8, used_vertices(net), [](uint8_t used) { return !used; });
-    if (verdict.reason != 0)
-        return verdict;
-    adjacency.build(net);
-    uint32_t face = adjacency.repeated_side();
-    if (face != NONE)
-        return {9, face};
-    return check_vertices(net);
+    return verdict;
+}
+
+// Refusal 9: the first face with a side that runs as a side of an earlier face does.
+template <class Shape> Verdict Adjacency<Shape>::check_sides() const
+{
+    for (uint32_t h = 0; h < mates.size(); h++)
+        if (find(start(h), end(h)) < h)
+            return {9, face(h)};
+    return {0, 0};
 }
 
 // Refusals 10 to 12: the lowest reason, and its lowest vertex.
-Verdict Refiner::check_vertices(const Net &net) const
+template <class Shape> Verdict Adjacency<Shape>::check_vertices(const Net &net) const
 {
     Verdict verdict = {0, 0};
     auto refuse = [&](uint32_t reason, uint32_t v) {
@@ -162,13 +162,13 @@ Verdict Refiner::check_vertices(const Net &net) const
             verdict = {reason, v};
     };
     for (uint32_t v = 0; v < net.points.size(); v++) {
-        bool boundary = adjacency.is_boundary(v);
-        uint32_t h = boundary ? adjacency.fan_start(v) : adjacency.leaving(v), g = h, met = 0;
+        bool boundary = is_boundary(v);
+        uint32_t h = boundary ? fan_start(v) : outgoing[first[v]].half_edge, g = h, met = 0;
         do {
             met++;
-            g = adjacency.turn(g);
+            g = turn(g);
         } while (g != NONE && g != h);
-        if (met != adjacency.face_count(v))
+        if (met != face_count(v))
             refuse(10, v);
         else if (boundary ? met > 6 : met < 3 || met > 8)
             refuse(11, v);
@@ -177,5 +177,20 @@ Verdict Refiner::check_vertices(const Net &net) const
     }
     return verdict;
 }
+
+template <class Shape> Verdict Adjacency<Shape>::check(const Net &net)
+{
+    corners = &net.corners;
+    shape.set(net);
+    Verdict verdict = check_tables(net);
+    if (verdict.reason != 0)
+        return verdict;
+    build(net);
+    verdict = check_sides();
+    return verdict.reason != 0 ? verdict : check_vertices(net);
+}
+
+template class Adjacency<Quads>;
+template class Adjacency<Polygons>;
 
 }

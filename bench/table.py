@@ -1,63 +1,65 @@
 #!/usr/bin/env python3
 """Prints the tables of the benchmark from measured rows on standard input.
 
-A row is: MEASURE NET CALL, then for a time REFINED-FACES NANOSECONDS NAME-OF-THE-NET, for a count of instructions the number.
+A line is: MEASURE COMPILER VALUE ROW CALL REFINED-FACES ROUNDS NAME-OF-THE-NET. The value of a `time` is in nanoseconds for each refined face, that of a
+`count` is the instructions of the whole call, that of a `ratio` is the product's time divided by that of the call.
 """
 import sys
 
 PRODUCT = "gedrovit"
-LABELS = {
-    PRODUCT: "Gedrovit",
-    "rebuilt": "C++, adjacency built anew in each round",
-    "carried": "C++, adjacency carried on to the next round",
-    "split": "Gedrovit, zero rounds",
-    "whole": "topology made and refined, positions",
-    "positions": "positions alone, topology kept",
-}
+MEASURES = {"count": "instructions", "time": "nanoseconds"}
+HEADS = {"rebuilt": "anew", "carried": "carried", "whole": "whole", "positions": "positions"}
 
 
 def read(lines):
-    """Values by measure, net and call; faces and names by net."""
-    values, nets = {}, {}
+    """Values by measure, compiler, row and call; faces, rounds and name by row."""
+    values, rows = {}, {}
     for line in lines:
-        measure, net, call, *rest = line.split(maxsplit=5)
-        if measure.endswith("count"):
-            values[measure, net, call] = float(rest[0]) / nets[net][0]
-        else:
-            nets[net] = (int(rest[0]), rest[2].strip())
-            values[measure, net, call] = float(rest[1])
-    return values, nets
+        measure, compiler, value, row, call, faces, rounds, name = line.split(maxsplit=7)
+        rows[int(row)] = (int(faces), int(rounds), name.strip())
+        values[measure, compiler, int(row), call] = float(value) / (int(faces) if measure == "count" else 1)
+    return values, rows
 
 
-def cell(value, digits):
+def ratio(values, measure, compiler, row, call):
+    """The product's value divided by that of a call, or none."""
+    if measure == "time":
+        return values.get(("ratio", compiler, row, call))
+    value, product = (values.get((measure, compiler, row, one)) for one in (call, PRODUCT))
+    return product / value if value and product else None
+
+
+def cell(value, digits=1):
     return "-" if value is None else f"{value:.{digits}f}"
 
 
-def print_table(title, heads, measures, calls, values, nets):
-    """A row for each net and call; after each measure the product's value divided by the row's, if the product is one of the calls."""
+def print_table(measure, calls, compilers, values, rows):
+    """A line for each row; with the product among the calls, its ratio beside each other value."""
+    others = [(compiler, call) for compiler in compilers for call in calls if call != PRODUCT]
     ratios = PRODUCT in calls
-    print(title.ljust(46) + "".join(head.rjust(15) + ("ratio".rjust(7) if ratios else "") for head in heads))
-    for net, (faces, name) in sorted(nets.items()):
-        print(f"{name}, {faces:,} refined faces")
-        for call in calls:
-            row = "  " + LABELS[call].ljust(44)
-            for measure in measures:
-                value, product = (values.get((measure, net, one)) for one in (call, PRODUCT))
-                row += cell(value, 1).rjust(15)
-                if ratios:
-                    row += cell(product / value if value and product and call != PRODUCT else None, 2).rjust(7)
-            print(row)
+    head = f"{MEASURES[measure]} for each refined face".ljust(40) + ("Gedrovit".rjust(11) if ratios else "")
+    for compiler, call in others:
+        head += f"{compiler} {HEADS[call]}".rjust(16) + ("ratio".rjust(7) if ratios else "")
+    print(head)
+    for row, (faces, rounds, name) in sorted(rows.items()):
+        line = f"{name:<18}{rounds:>2} round{'s' if rounds != 1 else ' '}{faces:>12,}".ljust(40)
+        if ratios:
+            line += cell(values.get((measure, compilers[0], row, PRODUCT))).rjust(11)
+        for compiler, call in others:
+            line += cell(values.get((measure, compiler, row, call))).rjust(16)
+            if ratios:
+                line += cell(ratio(values, measure, compiler, row, call), 2).rjust(7)
+        print(line)
 
 
 def main():
-    values, nets = read(sys.stdin)
-    if sys.argv[1] == "refine":
-        heads = ["instructions", "ns, C++ -O2", "ns, C++ native"]
-        print_table("for each refined face", heads, ["count", "time", "native-time"], [PRODUCT, "rebuilt", "carried"], values, nets)
-    elif sys.argv[1] == "split":
-        print_table("for each quadrilateral", ["instructions", "ns"], ["split-count", "split-time"], ["split"], values, nets)
-    else:
-        print_table("for each refined face", ["instructions", "ns"], ["osd-count", "osd-time"], ["whole", "positions"], values, nets)
+    values, rows = read(sys.stdin)
+    calls = ["whole", "positions"] if sys.argv[1] == "opensubdiv" else [PRODUCT, "rebuilt", "carried"]
+    compilers = list(dict.fromkeys(compiler for _, compiler, _, _ in values))
+    for measure in MEASURES:
+        if any(key[0] == measure for key in values):
+            print_table(measure, calls, compilers, values, rows)
+            print()
 
 
 main()
