@@ -1,7 +1,7 @@
 -- Sizes of coordinates, and of the four-point rule on them. Assumes nothing.
 use mathlib.Core.Path.{_≡_, ap}
 use mathlib.Core.List.{List}
-use Prim.Native.Nat.{ℕ, _+_, _*_, _^_, _≤_, _<_}
+use Prim.Native.Nat.{ℕ, _+_, _*_, _≤_}
 use native.Mathlib.Omega.{arith}
 use lib.IntN.{ℤ, natAbs}
 use mir.Syntax.{w32, w64}
@@ -9,7 +9,7 @@ use mir.Val.{SFits}
 use Rattle.integers.specs.Within.{Within}
 use Rattle.integers.proofs.Within.{within-any}
 use Rattle.integers.proofs.Range.{abs-fits, fits-abs}
-use Rattle.curve.specs.Weights.{kobbelt, interior, mirror}
+use Rattle.curve.specs.Weights.{kobbelt, interior}
 use Rattle.curve.proofs.Mirror.{mirror-size}
 use Rattle.rings.specs.Scales.{coordinateRange}
 use Rattle.nets.specs.Net.{axis}

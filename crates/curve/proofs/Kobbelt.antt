@@ -29,12 +29,6 @@ tame = record { quarter = 4; some = omega arith; apart = refl; small = omega ari
 pub distance : (c : Kind) (k : ℕ) (l : List Point) → CloseToExact c k l
 distance c k l = distance-tame kobbelt tame c k l
 
--- ---- a rule on equal numbers
+-- ---- the rule on equal numbers
 pub interior-read : (n x y z u x′ y′ z′ u′ : ℤ) → n ≡ interior kobbelt x y z u → x ≡ x′ → y ≡ y′ → z ≡ z′ → u ≡ u′ → n ≡ interior kobbelt x′ y′ z′ u′
 interior-read n x y z u x′ y′ z′ u′ e a b c d = cc
-
-pub end-read : (n x y z x′ y′ z′ : ℤ) → n ≡ endEdge kobbelt x y z → x ≡ x′ → y ≡ y′ → z ≡ z′ → n ≡ endEdge kobbelt x′ y′ z′
-end-read n x y z x′ y′ z′ e a b c = cc
-
-pub single-read : (n x y x′ y′ : ℤ) → n ≡ singleEdge kobbelt x y → x ≡ x′ → y ≡ y′ → n ≡ singleEdge kobbelt x′ y′
-single-read n x y x′ y′ e a b = cc

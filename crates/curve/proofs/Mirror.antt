@@ -1,11 +1,11 @@
 -- Where a segment ends, the interior rule with a mirrored point is the end rule, and with two of them the single rule. Assumes nothing.
-use mathlib.Core.Path.{_≡_, refl, sym, ap, ap₂, _∙_}
+use mathlib.Core.Path.{_≡_, refl, ap, _∙_}
 use mathlib.Core.List.{[], _∷_}
-use Prim.Native.Nat.{ℕ, _+_, _-_, _*_, _≤_, _<_}
+use Prim.Native.Nat.{ℕ, _+_, _-_, _*_, _≤_}
 use native.Mathlib.Omega.{arith}
 use lib.IntN.{ℤ, pos, natAbs, _+ℤ_, _-ℤ_, _*ℤ_}
 use Rattle.integers.proofs.Polynomial.{var, lit, _⊞_, _⊟_, _⊠_, same}
-use Rattle.integers.proofs.Linear.{at, whole, _⊕_, _⊖_}
+use Rattle.integers.proofs.Linear.{whole, _⊖_}
 use Rattle.integers.proofs.AbsoluteValue.{abs-sub, abs-mul}
 use Rattle.integers.proofs.Order.{eq-by}
 use Rattle.curve.specs.Weights.{Weights, interior, endEdge, singleEdge, mirror}

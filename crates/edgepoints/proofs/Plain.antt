@@ -2,14 +2,14 @@
 use mathlib.Core.Path.{_≡_, refl, sym, ap, ap₂, _∙_, subst}
 use mathlib.Core.Bool.{Bool, true, false, cond}
 use mathlib.Core.List.{List}
-use Prim.Native.Nat.{ℕ, _+_, _*_, _≤_, _<_}
+use Prim.Native.Nat.{ℕ, _+_, _≤_, _<_}
 use native.Mathlib.Decide.{decLt}
 use native.Mathlib.Omega.{arith}
 use lib.Dec.{ltb}
 use borrow.Author.Tests.{lt-ltb, le-ltb}
-use lib.IntN.{ℤ, pos, _-ℤ_, _*ℤ_}
+use lib.IntN.{ℤ}
 use lib.ListN.{length}
-use Rattle.curve.specs.Weights.{kobbelt, interior, mirror}
+use Rattle.curve.specs.Weights.{kobbelt, mirror}
 use Rattle.topology.specs.Shape.{quads}
 use Rattle.topology.specs.HalfEdge.{from, to, mate}
 use Rattle.topology.specs.Boundary.{OnBoundary, along, back}
@@ -17,7 +17,7 @@ use Rattle.topology.specs.Vertex.{turn}
 use Rattle.topology.specs.Manifold.{Manifold}
 use Rattle.topology.proofs.Mates.{mate-le, mate-is, mate-back}
 use Rattle.topology.proofs.Boundary.{along-on, back-on}
-use Rattle.nets.specs.Net.{axis, marked}
+use Rattle.nets.specs.Net.{marked}
 use Rattle.scheme.specs.Points.{EdgeRule, insideSegment, startOfSegment, endOfSegment, wholeSegment, innerRule, edgeRule}
 use Rattle.schemelaws.specs.Ordinary.{Ordinary, straight, ordinaryValue}
 use Rattle.schemelaws.proofs.Made.{straight-read}

@@ -1,22 +1,20 @@
 -- Exact points over the common denominators: virtual points, inner edges, and any edge with its flag.
 use mathlib.Core.Path.{_≡_, refl, sym, ap, ap₂, _∙_, subst}
 use mathlib.Core.Bool.{true}
-use mathlib.Core.Logic.{inl, inr}
+use mathlib.Core.Logic.{inr}
 use mathlib.Core.List.{List, []}
-use Prim.Native.Nat.{ℕ, _+_, _*_, _≤_, _<_}
+use Prim.Native.Nat.{ℕ, _*_, _≤_, _<_}
 use native.Mathlib.Omega.{arith}
 use lib.IntN.{ℤ, pos, natAbs, _*ℤ_}
 use lib.ListN.{length}
 use mir.Syntax.{w64}
 use mir.Val.{SFits}
-use Rattle.integers.specs.Within.{Within}
 use Rattle.integers.proofs.AbsoluteValue.{abs-mul}
 use Rattle.integers.proofs.Range.{fits-abs}
 use Rattle.integers.proofs.Ring.{one-*ℤ}
 use Rattle.curve.specs.Weights.{kobbelt, interior, mirror}
 use Rattle.curve.proofs.Kobbelt.{tame}
 use Rattle.curve.proofs.Mirror.{end-mirrored, single-mirrored, interior-turned}
-use Rattle.fractions.specs.Fraction.{Equals}
 use Rattle.fractions.proofs.Laws.{equals-one, equals-scaled}
 use Rattle.rings.specs.Scales.{virtualScale, coordinateRange, virtualRange, edgeRange}
 use Rattle.rules.specs.Numerators.{innerEdgeZ}

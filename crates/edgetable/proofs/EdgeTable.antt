@@ -1,5 +1,5 @@
 -- Laws of the pass over the edges.
-use mathlib.Core.Path.{_≡_, refl, sym, ap, ap₂, _∙_, subst}
+use mathlib.Core.Path.{_≡_, refl, sym, ap, _∙_, subst}
 use mathlib.Core.Logic.{_⊎_, inl, inr, ⊎-elim}
 use mathlib.Core.List.{List, _++_}
 use Prim.Native.Nat.{ℕ, zero, suc, _+_, _*_, _/_, _%_, _^_, _≤_, _<_}
@@ -24,7 +24,7 @@ use Rattle.curve.specs.Weights.{kobbelt}
 use Rattle.curve.proofs.Kobbelt.{tame}
 use Rattle.rings.specs.Scales.{virtualScale, edgeScale, coordinateRange, edgeRange}
 use Rattle.topology.specs.Shape.{quads}
-use Rattle.topology.specs.HalfEdge.{from, to, mate, firstMet, edge, edgeCount}
+use Rattle.topology.specs.HalfEdge.{from, mate, firstMet, edge, edgeCount}
 use Rattle.topology.proofs.Mates.{mate-is, mate-back, mate-not, edge-lt, edge-below, edge-new, edge-old, count-new, count-old, edges-le}
 use Rattle.halfedges.proofs.Tables.{mates-cong}
 use Rattle.nets.specs.Net.{axis}
@@ -40,7 +40,7 @@ use Rattle.coordinates.specs.Points.{Points, Marks, putPoint, Written}
 use Rattle.coordinates.specs.Packed.{putThree, Holds}
 use Rattle.coordinates.specs.Entry.{wideFlag, boundaryFlag, entryOf, edgeOf, placeOf, unitOf}
 use Rattle.coordinates.proofs.Points.{take-point, written-next}
-use Rattle.coordinates.proofs.Packed.{holds-kept, length-put-three, put-three-other, put-three-kept, put-three-first, put-three-second, put-three-third}
+use Rattle.coordinates.proofs.Packed.{holds-kept, length-put-three, put-three-other, put-three-first, put-three-second, put-three-third}
 use Rattle.edgepoints.specs.Edge.{Told, Flagged, plain, wide, boundary, ExactEdge, ExactPoint}
 use Rattle.edgetable.specs.EdgeTable.{roundedBy, Small, oldAxis, refinedAxis, edgeAxis, Round, Turn, Turned, met, passed, Entry, StoredAt, Edges}
 

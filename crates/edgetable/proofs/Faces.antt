@@ -2,7 +2,7 @@
 use mathlib.Core.Path.{_≡_, refl, sym, ap, ap₂, _∙_, subst}
 use mathlib.Core.Bool.{Bool, true, false, cond, _&&_}
 use mathlib.Core.List.{List, [], _∷_}
-use Prim.Native.Nat.{ℕ, _+_, _*_, _/_, _%_, _^_, _≤_, _<_}
+use Prim.Native.Nat.{ℕ, _+_, _*_, _<_}
 use native.Mathlib.Decide.{decLt}
 use native.Mathlib.Omega.{arith}
 use borrow.Author.Tests.{lt-ltb, le-ltb, ltb-true}
@@ -13,25 +13,24 @@ use Rattle.integers.proofs.Polynomial.{var, lit, _⊞_, _⊠_, same}
 use Rattle.rounding.specs.Rounding.{round}
 use Rattle.curve.specs.Weights.{kobbelt, interior, endEdge, singleEdge, mirror}
 use Rattle.curve.proofs.Mirror.{end-mirrored, single-mirrored, interior-turned}
-use Rattle.rings.specs.Scales.{faceScale, edgeRange}
+use Rattle.rings.specs.Scales.{faceScale}
 use Rattle.topology.specs.Shape.{quads}
 use Rattle.topology.specs.HalfEdge.{from, to, mate, edge, edgeCount}
 use Rattle.topology.specs.Quads.{across, beyond}
 use Rattle.topology.proofs.Mates.{edge-lt, edges-le}
-use Rattle.scheme.specs.Points.{inner, fourInner, FaceRule, firstAlone, secondAlone, bothInner, neitherInner, faceRule}
-use Rattle.schemelaws.specs.Numerators.{edgeZ, directionZ, faceValueZ, faceZ}
+use Rattle.scheme.specs.Points.{inner, fourInner, firstAlone, secondAlone, bothInner, neitherInner, faceRule}
+use Rattle.schemelaws.specs.Numerators.{directionZ, faceValueZ, faceZ}
 use Rattle.schemelaws.specs.Agreement.{SideOf, EightOrdinary}
 use Rattle.schemelaws.specs.Ordinary.{Ordinary}
 use Rattle.schemelaws.proofs.Ties.{across-lt, side₀-lt, side₁-lt}
 use Rattle.schemelaws.proofs.OneDirection.{by-sides}
 use Rattle.schemelaws.proofs.Plain.{directions-equal}
-use Rattle.coordinates.specs.Packed.{packedAt}
 use Rattle.coordinates.specs.Entry.{wideFlag, boundaryFlag, entryOf, edgeOf, placeOf, unitOf, exactAt, exactOf}
 use Rattle.coordinates.proofs.Packed.{holds-value, holds-high}
 use Rattle.facepoints.specs.declared.FaceRule.the-variants.{FirstAlone, SecondAlone, BothInner, NeitherInner}
 use Rattle.facepoints.specs.Faces.{beyondOf, farOf, directionOf, innerTwiceOf, fourInnerOf, faceRuleOf, faceValueOf, faceCoordinate, PlainTwice, AllPlain, FaceTable}
 use Rattle.edgepoints.specs.Edge.{Flagged, plain, wide, boundary}
-use Rattle.edgetable.specs.EdgeTable.{oldAxis, edgeAxis, Round, Entry, StoredAt, Edges}
+use Rattle.edgetable.specs.EdgeTable.{oldAxis, edgeAxis, Round, Entry, Edges}
 use Rattle.edgetable.proofs.EdgeTable.{entry-edge, edge-few, edge-small, ready-now}
 
 -- ---- an entry tells what its edge is

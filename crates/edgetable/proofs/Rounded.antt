@@ -1,6 +1,6 @@
 -- Stored numerators, rounded. Assumes nothing.
-use mathlib.Core.Path.{_≡_, refl, sym, ap, _∙_}
-use Prim.Native.Nat.{ℕ, _+_, _*_, _^_, _≤_, _<_}
+use mathlib.Core.Path.{_≡_, sym, ap, _∙_}
+use Prim.Native.Nat.{ℕ, _*_, _^_, _≤_}
 use native.Mathlib.Omega.{arith}
 use lib.IntN.{ℤ, pos, natAbs, _*ℤ_}
 use mir.Syntax.{w32}
@@ -13,7 +13,7 @@ use Rattle.rounding.proofs.Laws.{round-size, round-scale}
 use Rattle.curve.specs.Weights.{kobbelt, scale}
 use Rattle.rings.specs.Scales.{virtualScale, edgeScale, edgeRange}
 use Rattle.coordinates.specs.Entry.{wideFlag, unitOf}
-use Rattle.edgetable.specs.EdgeTable.{roundedBy, Small}
+use Rattle.edgetable.specs.EdgeTable.{roundedBy}
 
 pub rounded-fits : (z : ℤ) → natAbs z ≤ edgeRange kobbelt → SFits w32 (round z (edgeScale kobbelt))
 rounded-fits z h = let r = round-size z (edgeScale kobbelt) (omega arith) in fits-abs w32 (round z (edgeScale kobbelt)) (omega arith)

@@ -12,7 +12,7 @@ use Rattle.lists.proofs.Parts.{drop-later}
 use Rattle.curve.specs.Weights.{kobbelt}
 use Rattle.integers.specs.Within.{Within}
 use Rattle.nets.specs.Net.{Net, ControlNet}
-use Rattle.tables.specs.Tables.{filled, cleared}
+use Rattle.tables.specs.Tables.{filled}
 use Rattle.tables.proofs.Laws.{length-filled, take-filled, filled-over, cleared-over}
 use Rattle.nets.proofs.Laws.{same-net}
 use Rattle.topology.specs.Shape.{quads}
@@ -37,7 +37,7 @@ use Rattle.splitting.proofs.Growth.{start-within}
 use Rattle.splitting.proofs.Room.{start-vertices-le}
 use Rattle.outcome.proofs.Accepted.{accepted-drawn, accepted-refinable}
 use Rattle.loading.specs.Loading.{Loadable, Loaded}
-use Rattle.rounds.specs.Rounds.{Prepared, After}
+use Rattle.rounds.specs.Rounds.{Prepared}
 use Rattle.refine.specs.Run.{Ran, Finished, Finishing}
 
 -- corners are four to a face

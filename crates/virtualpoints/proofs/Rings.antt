@@ -1,18 +1,17 @@
 -- The sums that the code makes are the numerators of virtual points.
 use mathlib.Core.Path.{_≡_, refl, sym, ap, ap₂, _∙_, subst}
 use mathlib.Core.List.{List}
-use Prim.Native.Nat.{ℕ, zero, suc, _+_, _-_, _*_, _/_, _≤_, _<_}
+use Prim.Native.Nat.{ℕ, suc, _+_, _-_, _*_, _/_, _≤_, _<_}
 use native.Mathlib.Omega.{arith}
-use lib.IntN.{ℤ, pos, natAbs, _+ℤ_, _*ℤ_}
-use lib.ListN.{length, getD}
+use lib.IntN.{ℤ, pos, _+ℤ_, _*ℤ_}
+use lib.ListN.{length}
 use borrow.Author.Tests.{eq-eqb, ne-eqb, lt-ltb, le-ltb}
 use Rattle.integers.specs.Sum.{sum}
-use Rattle.integers.specs.Within.{Within}
 use Rattle.integers.proofs.Sum.{sum-more}
 use Rattle.curve.specs.Weights.{kobbelt}
-use Rattle.rings.specs.Scales.{extrapolatedScale, valenceScale, virtualScale, coordinateRange}
+use Rattle.rings.specs.Scales.{extrapolatedScale, valenceScale}
 use Rattle.rings.specs.RingWeights.{virtualZ, row}
-use Rattle.rings.specs.Ring.{Periodic, wrap}
+use Rattle.rings.specs.Ring.{Periodic}
 use Rattle.topology.specs.Shape.{quads}
 use Rattle.topology.specs.HalfEdge.{from, to, mate}
 use Rattle.topology.specs.Boundary.{boundaryFrom, along}
@@ -24,7 +23,6 @@ use Rattle.schemelaws.specs.Numerators.{extrapolatedAtZ, fanNeighbourZ, fanCorn
 use Rattle.schemelaws.proofs.Vertices.{fan-le, place-at, place-inner, ring-of, ring-ge, ring-le, neighbours-periodic, corners-periodic}
 use Rattle.nets.specs.Net.{axis}
 use Rattle.coordinates.specs.Points.{OnAxes}
-use Rattle.coordinates.proofs.Values.{axis-bound}
 use Rattle.virtualpoints.specs.Gathered.{Filled}
 use Rattle.virtualpoints.specs.Sums.{weighed, placeOn, weightedSum, ringSum, fanOn}
 use Rattle.virtualpoints.specs.Exact.{extrapolatedOn, virtualOn}

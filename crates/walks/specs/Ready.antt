@@ -4,9 +4,8 @@ use mathlib.Core.List.{List}
 use Prim.Native.Nat.{ℕ, _<_}
 use lib.ListN.{length}
 use Rattle.topology.specs.Shape.{quads}
-use Rattle.topology.specs.HalfEdge.{from, to}
+use Rattle.topology.specs.HalfEdge.{from}
 use Rattle.topology.specs.Boundary.{boundaryFrom}
-use Rattle.topology.specs.Vertex.{valence, turns}
 use Rattle.topology.specs.Manifold.{Manifold}
 use Rattle.halfedges.specs.Tables.{Connectivity}
 use Rattle.topology.specs.Quads.{fanPlace}
@@ -22,10 +21,3 @@ pub record Ready (l w : List ℕ) : Type 0 where
 pub record FanStart (l : List ℕ) (h s i : ℕ) : Type 0 where
   pub side : s ≡ boundaryFrom quads l (from l h)
   pub place : boundaryFrom quads l (from l h) < length l → i ≡ fanPlace l (from l h) h
-
--- r is none; or the vertex of h has a full ring of four, and r is the vertex straight across it from the end of h.
--- Open, and may differ between correct programs: whether r is none at such a vertex; the point of an edge is the same either way
-pub record Across (l : List ℕ) (h r : ℕ) : Type 0 where
-  pub inner : r < length l → boundaryFrom quads l (from l h) ≡ length l
-  pub four : r < length l → valence l (from l h) ≡ 4
-  pub across : r < length l → r ≡ to quads l (turns quads l 2 h)

@@ -3,9 +3,8 @@ ghost use mathlib.Core.Path.{_≡_};
 ghost use Prim.Native.Nat.{_<_};
 ghost use lib.ListN.{length};
 ghost use Rattle.topology.specs.Shape.{quads};
-ghost use Rattle.topology.specs.HalfEdge.{mate};
 ghost use Rattle.topology.specs.Boundary.{along, back};
-ghost use Rattle.walks.specs.Ready.{Ready, FanStart, Across};
+ghost use Rattle.walks.specs.Ready.{Ready, FanStart};
 
 // A boundary half-edge, or none, and a place in its fan.
 pub struct Start {
@@ -61,26 +60,4 @@ pub fn back_side(faces: &[u32], work: &[u32], h: usize) -> usize
         i += 1;
     }
     n
-}
-
-// The vertex straight across the vertex of h, whose mate is g, where that has a full ring of four faces: three turns from h lead to the side after g.
-pub fn regular_across(faces: &[u32], work: &[u32], h: usize, g: usize) -> usize
-    requires { ⌜ Ready (now faces) (now work) ⌝ }
-    requires { ⌜ (h < length (now faces)) × (g ≡ mate quads (now faces) h) × (g < length (now faces)) ⌝ }
-    ensures { λ r. ⌜ Across (now (faces .entry)) h r ⌝ }
-{
-    let n = faces.len();
-    let a = halfedges::turn_side(faces, work, h);
-    if a == n {
-        return n;
-    }
-    let b = halfedges::turn_side(faces, work, a);
-    if b == n {
-        return n;
-    }
-    let c = halfedges::turn_side(faces, work, b);
-    if c != halfedges::next_side(g) {
-        return n;
-    }
-    halfedges::end_of(faces, b)
 }

@@ -1,7 +1,6 @@
 -- `boundary_edge` meets its contract. Assumes nothing.
-use mathlib.Core.Path.{_≡_, refl, ap₂, _∙_}
+use mathlib.Core.Path.{_≡_, refl, ap₂}
 use Prim.Native.Nat.{ℕ}
-use lib.IntN.{ℤ}
 use borrow.Author.Needs.{needs}
 use mir.Syntax.{w64}
 use mir.Val.{SFits}
@@ -9,7 +8,6 @@ use mir.Facts.{toZ-ofZ}
 use Rattle.topology.specs.Shape.{quads}
 use Rattle.topology.specs.HalfEdge.{from, to}
 use Rattle.nets.specs.Net.{axis}
-use Rattle.coordinates.specs.Points.{OnAxes}
 use Rattle.coordinates.specs.Stencil.{stencilValue}
 use Rattle.edgepoints.proofs.Plain.{on-axes-as}
 use Rattle.edgepoints.proofs.boundary_edge.Statement.{statement}

@@ -1,6 +1,5 @@
 -- `end_virtual` meets its contract. Assumes nothing.
-use mathlib.Core.Path.{_≡_, sym, ap, _∙_}
-use mathlib.Core.Bool.{true}
+use mathlib.Core.Path.{sym, ap, _∙_}
 use borrow.Author.Needs.{needs}
 use Rattle.classes.specs.Classes.{ordinaryBy}
 use Rattle.edgepoints.proofs.end_virtual.Statement.{statement}

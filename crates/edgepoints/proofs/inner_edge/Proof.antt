@@ -1,6 +1,5 @@
 -- `inner_edge` meets its contract. Assumes nothing.
-use mathlib.Core.Path.{_≡_, sym, ap, _∙_}
-use mathlib.Core.Bool.{true}
+use mathlib.Core.Path.{sym, ap, _∙_}
 use Prim.Native.Nat.{_<_}
 use native.Mathlib.Omega.{arith}
 use borrow.Author.Needs.{needs}
@@ -9,7 +8,7 @@ use mir.Syntax.{w64}
 use mir.Val.{SFits}
 use mir.Facts.{toZ-ofZ}
 use Rattle.topology.specs.Shape.{quads}
-use Rattle.topology.specs.HalfEdge.{to, mate}
+use Rattle.topology.specs.HalfEdge.{mate}
 use Rattle.classes.specs.Classes.{ordinaryBy}
 use Rattle.edgepoints.specs.Edge.{OrdinaryEnds}
 use Rattle.edgepoints.proofs.Wide.{plain-point, wide-point, told-end}

@@ -12,7 +12,6 @@ use Rattle.rings.specs.Scales.{virtualScale, coordinateRange}
 use Rattle.nets.specs.Net.{axis}
 use Rattle.coordinates.specs.Stencil.{farValue}
 use Rattle.coordinates.proofs.Values.{read-small, far-small}
-use Rattle.edgepoints.specs.Edge.{farOn}
 use Rattle.edgepoints.proofs.Wide.{scaled-fits}
 use Rattle.edgepoints.proofs.scaled_far.Statement.{statement}
 use Rattle.edgepoints.proofs.scaled_far.Tie as tie

@@ -1,5 +1,4 @@
 -- `straight_far` meets its contract. Assumes nothing.
-use native.Mathlib.Omega.{arith}
 use borrow.Author.Needs.{needs}
 use Rattle.edgepoints.proofs.Plain.{far-vertex, far-mirror}
 use Rattle.edgepoints.proofs.straight_far.Statement.{statement}

@@ -1,5 +1,5 @@
 -- `wide_edge` meets its contract. Assumes nothing.
-use mathlib.Core.Path.{_≡_, refl, sym, ap, ap₂, _∙_, subst}
+use mathlib.Core.Path.{_≡_, refl, ap, _∙_}
 use Prim.Native.Nat.{ℕ, _≤_, _<_}
 use native.Mathlib.Omega.{arith}
 use borrow.Author.Needs.{needs}
@@ -10,14 +10,12 @@ use mir.Val.{SFits}
 use mir.Facts.{toZ-ofZ}
 use Rattle.curve.specs.Weights.{kobbelt}
 use Rattle.rings.specs.Scales.{virtualRange}
-use Rattle.rules.specs.Numerators.{innerEdgeZ}
 use Rattle.topology.specs.Shape.{quads}
-use Rattle.topology.specs.HalfEdge.{from, to, mate}
+use Rattle.topology.specs.HalfEdge.{mate}
 use Rattle.topology.proofs.Mates.{mate-back}
 use Rattle.nets.specs.Net.{axis}
-use Rattle.schemelaws.specs.Numerators.{virtualAtZ, edgeValueZ}
-use Rattle.scheme.specs.Points.{innerRule}
-use Rattle.coordinates.specs.Points.{InTable, OnAxes}
+use Rattle.schemelaws.specs.Numerators.{virtualAtZ}
+use Rattle.coordinates.specs.Points.{InTable}
 use Rattle.edgepoints.proofs.Plain.{start-corner, end-corner, corner-room}
 use Rattle.edgepoints.proofs.Wide.{virtual-small, wide-made}
 use Rattle.edgepoints.proofs.wide_edge.Statement.{statement}

@@ -1,18 +1,16 @@
 -- `edge_side` meets its contract. Assumes nothing.
 use mathlib.Core.Path.{_≡_, refl, sym, ap, _∙_}
 use mathlib.Core.List.{List}
-use Prim.Native.Nat.{ℕ, _+_, _*_, _^_, _≤_, _<_}
+use Prim.Native.Nat.{ℕ, _+_, _*_, _<_}
 use native.Mathlib.Omega.{arith}
 use borrow.Author.Needs.{needs}
-use lib.IntN.{natAbs}
-use lib.ListN.{length, getD, set, length-set}
+use lib.ListN.{length, getD, set}
 use lib.Seq.{length-take-le}
 use mir.Syntax.{w64}
 use mir.Val.{SFits}
 use mir.Facts.{toZ-ofZ}
 use Rattle.topology.specs.Shape.{quads}
 use Rattle.topology.specs.HalfEdge.{mate}
-use Rattle.coordinates.specs.Entry.{boundaryFlag}
 use Rattle.coordinates.proofs.Packed.{length-put-three}
 use Rattle.coordinates.specs.Points.{putPoint}
 use Rattle.coordinates.specs.Packed.{putThree}

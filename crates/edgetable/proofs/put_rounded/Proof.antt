@@ -1,13 +1,12 @@
 -- `put_rounded` meets its contract, in both cases. Assumes nothing.
 use mathlib.Core.Path.{_≡_, _∙_}
-use Prim.Native.Nat.{ℕ}
 use borrow.Author.Needs.{needs}
 use mir.Syntax.{w32, w64}
 use mir.Val.{SFits}
 use mir.Facts.{toZ-ofZ}
 use Rattle.curve.specs.Weights.{kobbelt}
 use Rattle.rings.specs.Scales.{virtualScale}
-use Rattle.coordinates.specs.Entry.{wideFlag, unitOf}
+use Rattle.coordinates.specs.Entry.{unitOf}
 use Rattle.coordinates.proofs.Points.{put-point-is}
 use Rattle.edgetable.proofs.Rounded.{wide-is, wide-range, plain-is, plain-range}
 use Rattle.edgetable.proofs.put_rounded.Statement.{statement}

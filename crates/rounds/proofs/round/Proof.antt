@@ -1,10 +1,7 @@
 -- `rounds::round` meets its contract. Assumes nothing.
-use mathlib.Core.Path.{_≡_, sym, subst, _∙_}
+use mathlib.Core.Path.{sym, subst}
 use Prim.Native.Nat.{ℕ, _+_, _-_, _*_, _/_, _≤_}
 use native.Mathlib.Omega.{arith}
-use lib.ListN.{take, drop, length}
-use Rattle.topology.specs.Shape.{quads}
-use Rattle.topology.specs.HalfEdge.{edgeCount}
 use Rattle.nets.specs.Buffers.{Buffers, buffers}
 use Rattle.rounds.proofs.Laws.{corners, marked, count-le, ready, face-ready, net-ready, part-start, part-room, refines}
 use borrow.Author.Needs.{needs}
