@@ -2,9 +2,9 @@
 
 use std::collections::BTreeSet;
 
-use nets::case::{Case, Expected, TextCase};
+use nets::case::{Case, Drawn, Expected, TextCase};
 use nets::kind::{Kind, call, polygon_call, small_nets};
-use nets::pairs::{Drawn, SharedPair, shared_pair, shared_polygon_pair};
+use nets::pairs::{SharedPair, shared_pair, shared_polygon_pair};
 use nets::refused::{POLYGON_REASONS, refused_call, refused_polygons};
 use nets::rng::Rng;
 use reference::call::{Outcome, Tables, refine_times};
