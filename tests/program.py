@@ -3,8 +3,8 @@
 
 usage: program.py [--count N] [--seed S]
 
-The stored texts of tests/nets/cases and N seeded ones (2,000) go through ./refine's program and through the reference; then come inputs that
-no file can give: in small pieces, without end, unreadable. The exit status is 1 if an answer differs.
+The stored texts of tests/nets/cases, N seeded ones (2,000) and those of the named nets go through ./refine's program and through the reference;
+then come inputs that no file can give: in small pieces, without end, unreadable. The exit status is 1 if an answer differs.
 """
 import argparse
 import os
@@ -34,9 +34,11 @@ def different(folder):
     return [path.name for path in sorted(folder.glob('*.txt')) if answer(path.read_bytes()) != path.with_suffix('.out').read_bytes()]
 
 
-def seeded(folder, seed, count):
-    subprocess.run([*CARGO, 'nets', '--', 'batch', '--seed', str(seed), '--count', str(count), '--dir', str(folder)], check=True)
+def answered(folder, *texts):
+    """Texts of the generator with the reference's answers; returns how many."""
+    subprocess.run([*CARGO, 'nets', '--', *texts, '--dir', str(folder)], check=True)
     subprocess.run([*CARGO, 'reference', '--', '--batch', str(folder / 'list')], check=True)
+    return len((folder / 'list').read_text().splitlines())
 
 
 def in_pieces():
@@ -91,16 +93,17 @@ def main():
     options.add_argument('--seed', type=int, default=1)
     options = options.parse_args()
     failures = [f'stored text {name}' for name in different(CASES)]
-    with tempfile.TemporaryDirectory() as name:
-        folder = pathlib.Path(name)
-        seeded(folder, options.seed, options.count)
-        failures += [f'seed {options.seed}, text {name}' for name in different(folder)]
+    seed, made = str(options.seed), []
+    for texts in (['batch', '--seed', seed, '--count', str(options.count)], ['named', '--seed', seed]):
+        with tempfile.TemporaryDirectory() as name:
+            made.append(answered(pathlib.Path(name), *texts))
+            failures += [f'nets {" ".join(texts)}, text {name}' for name in different(pathlib.Path(name))]
     checks = [in_pieces, endless, long_texts, unreadable, unwritable, command]
     failures += [check.__doc__.split('\n')[0] for check in checks if not check()]
     for failure in failures[:20]:
         print(f'program: NOT as it must be: {failure}')
     stored = len(list(CASES.glob('*.txt')))
-    print(f'program: {stored} stored and {options.count} seeded texts, {len(checks)} ways of input and output: {len(failures)} failures')
+    print(f'program: {stored} stored and {made[0]} seeded texts, {made[1]} of named nets, {len(checks)} ways of input and output: {len(failures)} failures')
     return 1 if failures else 0
 
 

@@ -2,8 +2,8 @@
 # Makes dumped calls of the archive from C, with every table a heap block of its exact size. Built with the sanitizers for addresses and
 # undefined behaviour, which see the harness and what the archive hands to libc (the archive itself is not instrumented), and under
 # valgrind, which sees every access of the archive to the heap, and results that depend on what was in a table before.
-#   sanitize.sh [NETS]     so many nets of the series of tests/differential, and a third as many with side counts; those with long work
-#                          tables are left out
+#   sanitize.sh [NETS]     so many nets of the series of tests/differential, a third as many with side counts and a tenth as many named
+#                          nets; those with long work tables are left out
 set -eu
 cd "$(dirname "$0")/.."
 archive=target/staticlib/libcapi.a
@@ -16,7 +16,7 @@ trap 'rm -rf "$folder"' EXIT
 differential() { cargo run --release --offline --quiet --manifest-path tests/differential/Cargo.toml -- "$@"; }
 harness() { cc -std=c11 -g -O1 -Wall -Wextra -Werror -pedantic "$@" tests/sanitize/calls.c "$archive"; }
 
-differential --nets "${1:-4000}" --dump "$folder/calls"
+differential --nets "${1:-5000}" --dump "$folder/calls"
 harness -fsanitize=address,undefined -fno-sanitize-recover=all -o "$folder/sanitized"
 echo "with -fsanitize=address,undefined:"
 "$folder/sanitized" "$folder/calls"

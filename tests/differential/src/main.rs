@@ -3,6 +3,7 @@
 
 mod capi;
 mod compare;
+mod coverage;
 mod draw;
 mod dump;
 mod guards;
@@ -10,6 +11,7 @@ mod huge;
 mod lengths;
 mod lent;
 mod moves;
+mod named;
 mod options;
 mod polygons;
 mod run;
@@ -64,8 +66,8 @@ fn answer(options: &Options, arguments: &[String]) -> Result<String, String> {
 fn dump(options: &Options, path: &Path) -> Result<String, String> {
     let mut dump = Dump::new(path).map_err(|error| error.to_string())?;
     let mut dumped = 0;
-    for (what, count) in [What::Net, What::Polygons].map(|what| (what, what.count(options.nets))) {
-        for number in 0..count {
+    for what in [What::Net, What::Polygons, What::Named] {
+        for number in 0..what.count(options.nets) {
             let rng = &mut rng(options.seed, number);
             let case = drawn(what, number, rng).1;
             if case.capacity.workspace <= DUMPED_WORK {

@@ -5,13 +5,14 @@ use std::path::PathBuf;
 use nets::stored::stored_calls;
 
 use crate::huge;
+use crate::named::CROWD_COUNT;
 
 pub const USAGE: &str = "usage: differential [--nets N] [--seed S] [--here] [MODE]
 
 Compares N seeded nets (20000), one with side counts for every 3 of them,
-moved nets, pairs with seams, the stored calls, and calls with huge lengths. A
-second process does it, so that the call is known if that dies; with --here
-this one.
+moved nets, pairs with seams, named nets with every number of rounds, crowds of
+them, the stored calls, and calls with huge lengths. A second process does it, so
+that the call is known if that dies; with --here this one.
 MODE is one of
   --net I          compares only net I of the series
   --polygons I     compares only net I with side counts
@@ -20,6 +21,8 @@ MODE is one of
                    the same with side counts
   --pair I         compares only pair I
   --polygon-pair I compares only pair I with side counts in one net or both
+  --named I        compares only net I of the named ones
+  --crowd I        compares only net I of those made of many named ones
   --stored I       compares only stored call I
   --huge I         compares only call I with a huge length
   --prove-guards   only shows that stray accesses are seen
@@ -50,18 +53,22 @@ pub enum What {
     MovedPolygons,
     Pair,
     PolygonPair,
+    Named,
+    Crowd,
     Stored,
     Huge,
 }
 
 impl What {
-    pub const ALL: [Self; 8] = [
+    pub const ALL: [Self; 10] = [
         Self::Net,
         Self::Polygons,
         Self::Moved,
         Self::MovedPolygons,
         Self::Pair,
         Self::PolygonPair,
+        Self::Named,
+        Self::Crowd,
         Self::Stored,
         Self::Huge,
     ];
@@ -74,6 +81,8 @@ impl What {
             What::MovedPolygons => "moved-polygons",
             What::Pair => "pair",
             What::PolygonPair => "polygon-pair",
+            What::Named => "named",
+            What::Crowd => "crowd",
             What::Stored => "stored",
             What::Huge => "huge",
         }
@@ -90,9 +99,10 @@ impl What {
         match self {
             What::Net => nets,
             What::Polygons => nets.div_ceil(3),
-            What::Moved => nets.div_ceil(10),
+            What::Moved | What::Named => nets.div_ceil(10),
             What::MovedPolygons | What::Pair => nets.div_ceil(20),
             What::PolygonPair => nets.div_ceil(60),
+            What::Crowd => CROWD_COUNT,
             What::Stored => stored_calls().len() as u64,
             What::Huge => huge::COUNT,
         }

@@ -7,10 +7,12 @@ use nets::rng::Rng;
 use nets::stored::{from_text, stored_calls};
 
 use crate::compare::Known;
+use crate::coverage::Coverage;
 use crate::draw::Kind;
 use crate::guards::announce;
 use crate::huge;
 use crate::moves::Moves;
+use crate::named::{NamedNets, crowd_call, named_call};
 use crate::options::What;
 use crate::polygons::PolygonKind;
 use crate::seams::Seams;
@@ -32,12 +34,17 @@ pub fn drawn(what: What, number: u64, rng: &mut Rng) -> (String, Case) {
         What::Moved | What::MovedPolygons => number + 1,
         _ => number,
     };
-    if let What::Polygons | What::MovedPolygons = what {
-        let kind = PolygonKind::of(at);
-        (format!("{kind:?}"), kind.draw(rng))
-    } else {
-        let kind = Kind::of(at);
-        (format!("{kind:?}"), kind.draw(rng))
+    match what {
+        What::Polygons | What::MovedPolygons => {
+            let kind = PolygonKind::of(at);
+            (format!("{kind:?}"), kind.draw(rng))
+        }
+        What::Named => named_call(number, rng),
+        What::Crowd => crowd_call(number, rng),
+        _ => {
+            let kind = Kind::of(at);
+            (format!("{kind:?}"), kind.draw(rng))
+        }
     }
 }
 
@@ -59,6 +66,8 @@ pub struct Run {
     polygon_moves: Moves,
     seams: Seams,
     polygon_seams: Seams,
+    named: NamedNets,
+    coverage: Coverage,
 }
 
 impl Run {
@@ -71,6 +80,8 @@ impl Run {
             polygon_moves: Moves::with_sides(),
             seams: Seams::without_sides(),
             polygon_seams: Seams::with_sides(),
+            named: NamedNets::new(),
+            coverage: Coverage::new(),
         }
     }
 
@@ -80,27 +91,37 @@ impl Run {
             let count = what.count(nets);
             (0..count).try_for_each(|number| self.one(what, number).map(drop))?;
         }
-        let (calls, polygons) = (&self.calls, &self.polygons);
-        let (moves, polygon_moves) = (&self.moves, &self.polygon_moves);
-        let (seams, polygon_seams) = (&self.seams, &self.polygon_seams);
-        let [stored, huge] = [What::Stored, What::Huge].map(|what| what.count(nets));
+        let [crowds, stored, huge] =
+            [What::Crowd, What::Stored, What::Huge].map(|what| what.count(nets));
         let counts = format!(
-            "{calls}\nwith side counts: {polygons}\n\
-             {moves}\nwith side counts: {polygon_moves}\n\
-             {seams}\nwith side counts: {polygon_seams}\n\
-             {stored} stored calls agree\n{huge} calls with lengths beyond 32 bits agree"
+            "{}\nwith side counts: {}\n{}\nwith side counts: {}\n{}\nwith side counts: {}\n{}\n\
+             {crowds} nets of many named ones agree\n{}\n\
+             {stored} stored calls agree\n{huge} calls with lengths beyond 32 bits agree",
+            self.calls,
+            self.polygons,
+            self.moves,
+            self.polygon_moves,
+            self.seams,
+            self.polygon_seams,
+            self.named,
+            self.coverage,
         );
-        let is_complete = calls.is_complete()
-            && polygons.is_complete()
-            && moves.is_complete()
-            && polygon_moves.is_complete()
-            && seams.is_complete()
-            && polygon_seams.is_complete();
-        if is_complete {
+        if self.is_complete() {
             Ok(counts)
         } else {
             Err(format!("{counts}\na sort that must occur is missing"))
         }
+    }
+
+    fn is_complete(&self) -> bool {
+        self.calls.is_complete()
+            && self.polygons.is_complete()
+            && self.moves.is_complete()
+            && self.polygon_moves.is_complete()
+            && self.seams.is_complete()
+            && self.polygon_seams.is_complete()
+            && self.named.is_complete()
+            && self.coverage.is_complete()
     }
 
     /// One comparison.
@@ -108,13 +129,14 @@ impl Run {
         announce(self.seed, what, number);
         let rng = &mut rng(self.seed, number);
         let compared = match what {
-            What::Net | What::Polygons | What::Moved | What::MovedPolygons => {
+            What::Net | What::Polygons | What::Moved | What::MovedPolygons | What::Crowd => {
                 let drawn = drawn(what, number, rng);
                 self.net(what, drawn, rng)
             }
             What::Stored => self.net(what, stored(number), rng),
             What::Pair => self.seams.compare_pair(rng),
             What::PolygonPair => self.polygon_seams.compare_pair(rng),
+            What::Named => self.named.compare(number, &mut self.coverage, rng),
             What::Huge => huge::compare(number, rng),
         };
         let name = format!("{} {number} of seed {}", what.name(), self.seed);
@@ -146,12 +168,13 @@ impl Run {
             What::Polygons => self.polygons.add(&known),
             _ => {}
         }
+        self.coverage.add(&known);
         known.compare(rng).map(drop)
     }
 }
 
 /// A small call as it is, of a large one the rounds and lengths.
-fn shown(case: &Case) -> String {
+pub fn shown(case: &Case) -> String {
     if case.vertices.len() <= PRINTED {
         return format!("{case:?}");
     }

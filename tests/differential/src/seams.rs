@@ -2,7 +2,8 @@
 
 use std::fmt::{self, Display, Formatter};
 
-use nets::pairs::{Drawn, SharedPair, shared_pair, shared_polygon_pair};
+use nets::case::Drawn;
+use nets::pairs::{SharedPair, shared_pair, shared_polygon_pair};
 use nets::rng::Rng;
 use reference::curve::{Form, exact_curve, rounded_curve};
 use reference::net::Net;

@@ -38,6 +38,22 @@ impl<K: Ord + Display> Tally<K> {
         format!("{name}: {}", parts.collect::<Vec<_>>().join(", "))
     }
 
+    /// The same with a line for each sort.
+    pub fn lines(&self, name: &str) -> String {
+        let parts = self
+            .counts
+            .iter()
+            .map(|(sort, n)| format!("\n  {sort}: {n}"));
+        format!("{name}:{}", parts.collect::<String>())
+    }
+
+    /// How many sorts occurred, and how often the rarest of all.
+    pub fn summary(&self, name: &str) -> String {
+        let (all, met) = (self.counts.len(), self.counts.values().filter(|&&n| n > 0));
+        let (met, least) = (met.count(), self.counts.values().min().unwrap_or(&0));
+        format!("{name}: {met} of {all} sorts, each {least} times or more")
+    }
+
     /// Whether every sort that must occur did.
     pub fn is_complete(&self) -> bool {
         self.counts.values().all(|&count| count > 0)

@@ -2,7 +2,9 @@
 
 use reference::call::{Call, Outcome, Tables, refine, refine_into};
 use reference::net::{Mesh, Net, PolygonNet};
+use reference::point::Point;
 use reference::refusal::{Capacity, MAX_ROUNDS, Refusal, quadrilaterals};
+use reference::step::split;
 use reference::text::Document;
 
 use crate::rng::Rng;
@@ -125,6 +127,56 @@ impl Case {
 
 fn filled<T>(length: usize, entry: impl Fn(u64) -> T, rng: &mut Rng) -> Vec<T> {
     (0..length).map(|_| entry(rng.next_u64())).collect()
+}
+
+/// A net as a caller draws it.
+#[derive(Clone, Debug)]
+pub enum Drawn {
+    Plain(Net),
+    WithSides(PolygonNet),
+}
+
+impl Drawn {
+    /// The net where refining begins.
+    pub fn start(&self) -> Net {
+        match self {
+            Drawn::Plain(net) => net.clone(),
+            Drawn::WithSides(net) => split(net),
+        }
+    }
+
+    pub fn has_sides(&self) -> bool {
+        matches!(self, Drawn::WithSides(_))
+    }
+
+    pub fn points(&self) -> &[Point] {
+        match self {
+            Drawn::Plain(net) => &net.points,
+            Drawn::WithSides(net) => &net.points,
+        }
+    }
+
+    pub fn points_mut(&mut self) -> &mut [Point] {
+        match self {
+            Drawn::Plain(net) => &mut net.points,
+            Drawn::WithSides(net) => &mut net.points,
+        }
+    }
+
+    /// Faces where refining begins.
+    pub fn quadrilaterals(&self) -> usize {
+        match self {
+            Drawn::Plain(net) => net.faces.len(),
+            Drawn::WithSides(net) => net.corners().count(),
+        }
+    }
+
+    pub fn accepted_case(&self, rounds: u32) -> Case {
+        match self {
+            Drawn::Plain(net) => Case::new(net, rounds, Expected::Accepted),
+            Drawn::WithSides(net) => Case::with_sides(net, rounds, Expected::Accepted),
+        }
+    }
 }
 
 /// A text for the program.

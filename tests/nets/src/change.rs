@@ -9,7 +9,7 @@ use reference::topology::Topology;
 use crate::build::to_u32;
 use crate::rng::Rng;
 
-const LIMIT: i32 = 1_048_576;
+pub(crate) const LIMIT: i32 = 1_048_576;
 
 /// The corners of a face: four of them, or a list.
 pub trait Face: Clone + AsRef<[u32]> + AsMut<[u32]> {}

@@ -17,11 +17,13 @@ use reference::topology::Topology;
 
 use crate::accepted::{Shape, Size, accepted};
 use crate::build::to_u32;
-use crate::case::{Case, Expected};
+use crate::case::{Case, Drawn, Expected};
 use crate::change::{Placing, boundary_loops, mark, place, renumber};
 use crate::damaged::{damaged_polygons, damaged_tables, random_polygons, random_tables};
+use crate::features::{Feature, Met};
 use crate::kind::CallKind;
 use crate::moved::MovedPair;
+use crate::named::{Dressing, Family, NAMED, Named};
 use crate::polygons::{PolygonShape, accepted_polygons};
 use crate::refused::{POLYGON_REASONS, refused_call, refused_polygons};
 use crate::rng::Rng;
@@ -30,6 +32,8 @@ use crate::stored::{from_text, stored_calls};
 
 /// Faces of the nets that are preferred, since the definitions are slow.
 const FEW_FACES: usize = 6;
+/// Most faces of the named nets, but for a few that are there in any case.
+const NAMED_FACES: usize = 12;
 /// Most faces of a net whose second round is told.
 const TWO_ROUNDS: usize = 2;
 /// Most corners and vertices of a net whose tables are told; of others only the
@@ -49,7 +53,8 @@ const ALONE: usize = 4;
 const CURVE_STEPS: u32 = 2;
 
 /// All facts: `count` accepted nets; every refusal alone and in pairs; calls
-/// that are damaged, random or near the limits, a quarter of `count` each.
+/// that are damaged, random or near the limits, a quarter of `count` each;
+/// calls with side counts; named nets.
 pub fn lines(seed: u64, count: usize) -> Vec<String> {
     let rng = &mut Rng::new(seed);
     let mut lines: Vec<String> = accepted_nets(count, rng)
@@ -69,6 +74,7 @@ pub fn lines(seed: u64, count: usize) -> Vec<String> {
         lines.push(call_line("limits", &near_limits(rng), &[]));
     }
     lines.extend(polygon_lines(count, rng));
+    lines.extend(named_lines(seed));
     lines
 }
 
@@ -82,7 +88,7 @@ fn polygon_lines(count: usize, rng: &mut Rng) -> Vec<String> {
         .map(|(at, shape)| {
             let tries = if at % 8 == 7 { 2 } else { 40 };
             let net = drawn_polygons(shape, tries, rng);
-            accepted_polygon_line(shape, &net, rng)
+            accepted_polygon_line(&format!("polygons-{}", shape.name()), &net, rng)
         })
         .collect();
     for reason in POLYGON_REASONS {
@@ -98,6 +104,42 @@ fn polygon_lines(count: usize, rng: &mut Rng) -> Vec<String> {
     }
     lines.extend(stored_lines());
     lines
+}
+
+/// The facts of some named nets, in all dressings by turns.
+fn named_lines(seed: u64) -> Vec<String> {
+    let rng = &mut Rng::new(seed);
+    let dressed = chosen_named()
+        .into_iter()
+        .zip(Dressing::ALL.into_iter().cycle());
+    let told = dressed.map(|(named, dressing)| {
+        let kind = format!("named-{}", named.family.name());
+        match named.dressed(dressing, rng) {
+            Drawn::Plain(net) => accepted_line(&kind, &net, rng),
+            Drawn::WithSides(net) => accepted_polygon_line(&kind, &net, rng),
+        }
+    });
+    told.collect()
+}
+
+/// Of the named nets with few faces every second, or every fifth where they
+/// differ in their marks alone; those with 6 and with 8 faces at every vertex;
+/// the smallest that meets each feature.
+fn chosen_named() -> Vec<&'static Named> {
+    let of = |family: fn(Family) -> bool| NAMED.iter().filter(move |named| family(named.family));
+    let few = |named: &&Named| named.drawn.quadrilaterals() <= NAMED_FACES;
+    let marked = of(Family::has_marks).filter(few).step_by(5);
+    let others = of(|family| !family.has_marks()).filter(few).step_by(2);
+    let regular = of(|family| family == Family::Bipartite).filter(|named| !few(named));
+    let mut chosen: Vec<&Named> = marked.chain(others).chain(regular).collect();
+    for feature in Feature::ALL {
+        let has_it = |named: &&Named| Met::of(&named.drawn.start()).features.contains(&feature);
+        if !chosen.iter().any(has_it) {
+            let nets = NAMED.iter().filter(has_it);
+            chosen.extend(nets.min_by_key(|named| named.drawn.quadrilaterals()));
+        }
+    }
+    chosen
 }
 
 /// The stored calls that are of no seeded kind.
@@ -128,14 +170,14 @@ fn drawn_polygons(shape: PolygonShape, tries: usize, rng: &mut Rng) -> PolygonNe
 }
 
 /// An accepted net with side counts: its split, and the net after one round.
-fn accepted_polygon_line(shape: PolygonShape, net: &PolygonNet, rng: &mut Rng) -> String {
+fn accepted_polygon_line(kind: &str, net: &PolygonNet, rng: &mut Rng) -> String {
     let case = Case::with_sides(net, to_u32(rng.below(2)), Expected::Accepted);
     let start = split(net);
     let refined = refine_once(&start).net;
     let sizes: BTreeSet<usize> = net.faces.iter().map(Vec::len).collect();
     let traits = sizes.iter().map(|n| format!("face of {n} sides"));
     object(&[
-        ("kind", quoted(format!("polygons-{}", shape.name()))),
+        ("kind", quoted(kind)),
         ("call", call_text(&case, true)),
         ("net", tables_of(&case)),
         ("moved", moved_text(&case)),
@@ -467,6 +509,7 @@ fn traits(net: &Net, steps: &[Step]) -> BTreeSet<String> {
         let form = if star.is_ring() { "ring" } else { "fan" };
         traits.insert(format!("{form} {}", star.face_count()));
     }
+    traits.extend(Met::of(net).features.iter().map(Feature::to_string));
     for point in steps.iter().take(1).flat_map(|step| &step.made) {
         traits.extend(rule_traits(point.rule));
     }

@@ -7,11 +7,12 @@ use reference::text::PROGRAM_REFINED_FACES;
 
 use crate::accepted::{Shape, Size, accepted};
 use crate::build::to_u32;
-use crate::case::{Case, Expected, TextCase, document};
+use crate::case::{Case, Drawn, Expected, TextCase, document};
 use crate::damaged::{
     Damage, damage_text, damaged_polygons, damaged_tables, damaged_text, random_polygons,
     random_tables,
 };
+use crate::named::{NAMED, by_turns};
 use crate::polygons::{PolygonShape, accepted_polygons};
 use crate::refused::{POLYGON_REASONS, TEXT_REASONS, refused_call, refused_polygons, refused_text};
 use crate::rng::Rng;
@@ -159,6 +160,22 @@ fn accepted_text(net: &Net, rounds: u32, rng: &mut Rng) -> TextCase {
         text: text.into_bytes(),
         expected: Expected::Accepted,
     }
+}
+
+/// The texts of all named nets without side counts that the program serves
+/// with a round or more, with as many rounds as it serves.
+pub fn named_texts(seed: u64) -> Vec<(String, TextCase)> {
+    let mut texts = Vec::new();
+    for number in 0..NAMED.len() {
+        let (named, dressing) = by_turns(number);
+        let rounds = most_rounds(named.drawn.quadrilaterals(), PROGRAM_REFINED_FACES);
+        let rng = &mut Rng::new(seed.wrapping_add(number as u64));
+        if let (Drawn::Plain(net), 1..) = (named.dressed(dressing, rng), rounds) {
+            let name = format!("named-{}-{}", named.name, dressing.name());
+            texts.push((name, accepted_text(&net, rounds, rng)));
+        }
+    }
+    texts
 }
 
 /// The most rounds, up to 6, after which so many quadrilaterals have become at

@@ -6,6 +6,8 @@
 //! - [`damaged`]: texts that lost their form, and damaged tables.
 //! - [`pairs`]: pairs of nets that share a boundary segment.
 //! - [`moved`]: calls and the same calls on the moved net.
+//! - [`named`]: small nets for the cases of the rules, one by one.
+//! - [`features`]: the cases of the rules that a net meets.
 //! - [`facts`]: small calls with all that the reference says of them.
 //! - [`stored`]: the stored form of calls.
 //! - [`kind`]: all kinds by name, small nets, and a mixed series of calls.
@@ -36,10 +38,13 @@ pub mod accepted;
 pub mod build;
 pub mod case;
 pub mod change;
+pub mod coordinates;
 pub mod damaged;
 pub mod facts;
+pub mod features;
 pub mod kind;
 pub mod moved;
+pub mod named;
 pub mod pairs;
 pub mod polygons;
 pub mod refused;

@@ -4,8 +4,11 @@
 //! - `nets make KIND SEED` prints one text.
 //! - `nets batch --seed S --count N --dir D` writes N texts of all kinds in
 //!   rotation into the folder D, and a file `list` with their paths.
-//! - `nets facts --seed S --count N` prints N accepted nets and all refusals
-//!   with what the reference says of them, a line of JSON each.
+//! - `nets named --seed S --dir D` writes the texts of all named nets that the
+//!   program serves in the same way.
+//! - `nets facts --seed S --count N` prints N accepted nets, small named nets
+//!   and all refusals with what the reference says of them, a line of JSON
+//!   each.
 //! - `nets calls list` names the kinds of calls with side counts.
 //! - `nets calls make KIND SEED` prints one of them.
 //! - `nets calls answer FILE ..` answers stored calls, each into the same path
@@ -20,13 +23,14 @@ use std::path::Path;
 use std::process::ExitCode;
 
 use nets::facts;
-use nets::kind::{CallKind, Kind};
+use nets::kind::{CallKind, Kind, named_texts};
 use nets::stored;
 use reference::text::print;
 
 const USAGE: &str = "usage: nets list | nets make KIND SEED | \
-    nets batch --seed S --count N --dir D | nets facts --seed S --count N | \
-    nets calls list | nets calls make KIND SEED | nets calls answer FILE ..";
+    nets batch --seed S --count N --dir D | nets named --seed S --dir D | \
+    nets facts --seed S --count N | nets calls list | nets calls make KIND SEED | \
+    nets calls answer FILE ..";
 
 fn main() -> ExitCode {
     let arguments: Vec<String> = std::env::args().skip(1).collect();
@@ -54,7 +58,14 @@ fn run(arguments: &[&str]) -> Result<(), Box<dyn Error>> {
             Ok(())
         }
         ["batch", "--seed", seed, "--count", count, "--dir", folder] => {
-            batch(seed.parse()?, count.parse()?, Path::new(folder))
+            write_texts(Path::new(folder), batch(seed.parse()?, count.parse()?))
+        }
+        ["named", "--seed", seed, "--dir", folder] => {
+            let texts = named_texts(seed.parse()?).into_iter();
+            write_texts(
+                Path::new(folder),
+                texts.map(|(name, case)| (name, case.text)),
+            )
         }
         ["facts", "--seed", seed, "--count", count] => {
             let lines = facts::lines(seed.parse()?, count.parse()?);
@@ -93,13 +104,25 @@ fn calls(arguments: &[&str]) -> Result<(), Box<dyn Error>> {
     Ok(())
 }
 
-fn batch(seed: u64, count: u64, folder: &Path) -> Result<(), Box<dyn Error>> {
+/// Texts of all kinds in rotation, with their names.
+fn batch(seed: u64, count: u64) -> impl Iterator<Item = (String, Vec<u8>)> {
+    let kinds = (0..count).zip(Kind::all().into_iter().cycle());
+    kinds.map(move |(number, kind)| {
+        let name = format!("{number:05}-{}", kind.name());
+        (name, kind.make(seed.wrapping_add(number)).text)
+    })
+}
+
+/// Writes texts into a folder, and their paths into the file `list` there.
+fn write_texts(
+    folder: &Path,
+    texts: impl Iterator<Item = (String, Vec<u8>)>,
+) -> Result<(), Box<dyn Error>> {
     fs::create_dir_all(folder)?;
     let mut list = String::new();
-    let kinds = Kind::all();
-    for (number, kind) in (0..count).zip(kinds.iter().cycle()) {
-        let path = folder.join(format!("{number:05}-{}.txt", kind.name()));
-        fs::write(&path, kind.make(seed.wrapping_add(number)).text)?;
+    for (name, text) in texts {
+        let path = folder.join(format!("{name}.txt"));
+        fs::write(&path, text)?;
         list += &format!("{}\n", path.display());
     }
     fs::write(folder.join("list"), list)?;

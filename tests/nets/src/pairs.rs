@@ -8,40 +8,12 @@ use reference::step::split;
 
 use crate::accepted::{Shape, Size, accepted};
 use crate::build::to_u32;
-use crate::case::{Case, Expected};
+use crate::case::Drawn;
 use crate::change::{Face, Placing, boundary_loops, flip, mark, place, renumber};
 use crate::polygons::{PolygonShape, accepted_polygons, some_size};
 use crate::remodel::Remodel;
 use crate::rng::Rng;
 use crate::{shapes, solids};
-
-/// A net as a caller draws it.
-#[derive(Clone, Debug)]
-pub enum Drawn {
-    Plain(Net),
-    WithSides(PolygonNet),
-}
-
-impl Drawn {
-    /// The net where refining begins.
-    pub fn start(&self) -> Net {
-        match self {
-            Drawn::Plain(net) => net.clone(),
-            Drawn::WithSides(net) => split(net),
-        }
-    }
-
-    pub fn has_sides(&self) -> bool {
-        matches!(self, Drawn::WithSides(_))
-    }
-
-    pub fn accepted_case(&self, rounds: u32) -> Case {
-        match self {
-            Drawn::Plain(net) => Case::new(net, rounds, Expected::Accepted),
-            Drawn::WithSides(net) => Case::with_sides(net, rounds, Expected::Accepted),
-        }
-    }
-}
 
 /// Two nets, and a reading in each where refining begins; both readings give
 /// the same points.

@@ -63,15 +63,26 @@ pub fn cylinder(around: i32, layers: i32) -> Net {
 
 /// A closed surface of genus 1, at least 3 by 3.
 pub fn torus(around: i32, across: i32) -> Net {
-    let mut net = Builder::default();
+    twisted_torus([around, across], 0)
+}
+
+/// The same, where going across once leads `twist` steps round: the square
+/// lattice with (x, y) and (x + around, y) one vertex, and (x, y) and (x +
+/// twist, y + across). Vertices up to two steps apart must not become one.
+pub fn twisted_torus([around, across]: [i32; 2], twist: i32) -> Net {
+    let key = |x: i32, y: i32| {
+        let back = twist * y.div_euclid(across);
+        [(x - back).rem_euclid(around), y.rem_euclid(across)]
+    };
     let place = |[x, y]: [i32; 2]| {
         let [radius, height] = diamond(y, across, UNIT);
         let [px, py] = diamond(x, around, 3 * UNIT + radius);
         [px, py, height]
     };
+    let mut net = Builder::default();
     for (y, x) in (0..across).flat_map(|y| (0..around).map(move |x| (y, x))) {
-        let (right, up) = ((x + 1) % around, (y + 1) % across);
-        net.face([[x, y], [right, y], [right, up], [x, up]], place);
+        let corners = [(x, y), (x + 1, y), (x + 1, y + 1), (x, y + 1)];
+        net.face(corners.map(|(x, y)| key(x, y)), place);
     }
     net.finish()
 }
@@ -109,6 +120,22 @@ pub fn trapezohedron(n: i32) -> Net {
     for i in (0..2 * n).step_by(2) {
         net.face([top, i, belt(i + 1), belt(i + 2)], place);
         net.face([bottom, belt(i + 1), i, belt(i - 1)], place);
+    }
+    net.finish()
+}
+
+/// A closed surface with `n` faces at every vertex, n even: each vertex u of
+/// one half is joined to every vertex w of the other.
+pub fn bipartite(n: i32) -> Net {
+    let place = |[half, i]: [i32; 2]| {
+        let [x, y] = diamond(i, n, (2 + half) * UNIT);
+        [x, y, half * UNIT]
+    };
+    let [u, w] = [0, 1].map(|half| move |i: i32| [half, i.rem_euclid(n)]);
+    let mut net = Builder::default();
+    for (i, j) in (0..n).step_by(2).flat_map(|i| (0..n).map(move |j| (i, j))) {
+        let on = 1 - 2 * (j % 2);
+        net.face([u(i), w(j), u(i + on), w(j - 1)], place);
     }
     net.finish()
 }
@@ -185,7 +212,12 @@ pub fn sectors(sectors: i32, size: i32, closed: bool) -> Net {
 /// A face whose corners get the given valences, with `layers` layers of faces
 /// round it; all further inner vertices have valence 4.
 pub fn patch(valences: [usize; 4], layers: usize) -> Net {
-    let mut net = grid(1, 1);
+    surrounded(grid(1, 1), &valences, layers)
+}
+
+/// A disc with `layers` layers of faces round it; its boundary vertices get
+/// the given valences, all further inner vertices valence 4.
+pub fn surrounded(mut net: Net, valences: &[usize], layers: usize) -> Net {
     let mut wanted = valences.to_vec();
     for _ in 0..layers {
         add_layer(&mut net, &wanted);

@@ -1,6 +1,7 @@
 //! The facts for the check of the definitions cover what they should.
 
 use nets::facts::lines;
+use nets::features::Feature;
 
 #[test]
 fn equal_seeds_give_equal_facts() {
@@ -28,7 +29,9 @@ fn every_ring_fan_loop_rule_and_refusal_is_met() {
         "second direction alone",
         "mean of both directions",
     ];
-    let named = named.map(|name| format!("\"{name}\"")).into_iter();
+    let features = Feature::ALL.map(Feature::name);
+    let named = named.iter().chain(&features);
+    let named = named.map(|name| format!("\"{name}\""));
     let wanted = rings.chain(fans).chain(neighbours).chain(refusals);
     for text in wanted.chain(named).chain(faces) {
         assert!(lines.iter().any(|line| line.contains(&text)), "no {text}");

@@ -2,9 +2,9 @@
 
 use std::collections::BTreeSet;
 
-use nets::case::{Case, Expected, TextCase};
-use nets::kind::{Kind, call, polygon_call, small_nets};
-use nets::pairs::{Drawn, SharedPair, shared_pair, shared_polygon_pair};
+use nets::case::{Case, Drawn, Expected, TextCase};
+use nets::kind::{Kind, call, named_texts, polygon_call, small_nets};
+use nets::pairs::{SharedPair, shared_pair, shared_polygon_pair};
 use nets::refused::{POLYGON_REASONS, refused_call, refused_polygons};
 use nets::rng::Rng;
 use reference::call::{Outcome, Tables, refine_times};
@@ -33,6 +33,16 @@ fn texts_of_every_kind_get_their_answer() {
             );
             assert_eq!(answer(&case.text), print(&outcome));
         }
+    }
+}
+
+#[test]
+fn named_texts_are_accepted() {
+    let texts = named_texts(3);
+    assert!(texts.len() > 300);
+    for (name, case) in texts {
+        let outcome = outcome(&case);
+        assert!(case.expected.agrees_with(&outcome), "{name}: {outcome:?}");
     }
 }
 

@@ -3,7 +3,9 @@
 use std::collections::{BTreeMap, BTreeSet};
 
 use nets::accepted::{Shape, Size, accepted};
+use nets::case::Drawn;
 use nets::change::{boundary_loops, flip, renumber};
+use nets::coordinates::{Weights, weights};
 use nets::rng::Rng;
 use reference::call::refine_times;
 use reference::curve::{Form, distance_bound, exact_curve, rounded_curve};
@@ -103,30 +105,19 @@ fn rounded_curves_stay_near_the_exact_ones() {
     }
 }
 
-/// The largest sum of absolute weights of a new point, from refining unit
-/// points.
-fn largest_weight_sum(net: &Net) -> Fraction {
-    let mut sums: Vec<Fraction> = Vec::new();
-    for vertex in 0..net.points.len() {
-        let mut unit = net.clone();
-        unit.points.fill([0; 3]);
-        unit.points[vertex] = [1, 0, 0];
-        let made = refine_once(&unit).made;
-        sums.resize(made.len(), Fraction::ZERO);
-        for (sum, new) in sums.iter_mut().zip(made) {
-            let weight = new.exact.0[0];
-            *sum = *sum + Fraction::new(weight.numerator().abs(), weight.denominator());
-        }
-    }
+/// The largest sum of absolute weights of a new point.
+fn largest_weight_sum(net: Net) -> Fraction {
+    let new = weights(&Drawn::Plain(net));
+    let sums = new.iter().map(Weights::absolute_sum);
     let larger = |a: Fraction, b: Fraction| if (a - b).numerator() > 0 { a } else { b };
-    sums.into_iter().fold(Fraction::ZERO, larger)
+    sums.fold(Fraction::ZERO, larger)
 }
 
 #[test]
 fn weights_are_too_small_to_leave_the_bound_in_six_rounds() {
     // 2.5 to the power 6 is below 256, the ratio of the two limits.
     for (shape, net) in nets(Size::Small, 30) {
-        let sum = largest_weight_sum(&net);
+        let sum = largest_weight_sum(net);
         assert!(
             (sum * 2 - Fraction::whole(5)).numerator() < 0,
             "{shape:?} {sum:?}"

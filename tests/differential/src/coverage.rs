@@ -1,0 +1,78 @@
+//! How many of the accepted nets meet each case of the rules, told from the
+//! reference's adjacency.
+
+use std::collections::BTreeSet;
+use std::fmt::{self, Display, Formatter};
+
+use nets::features::{End, Feature, Met};
+use reference::call::start_net;
+
+use crate::compare::Known;
+use crate::tally::Tally;
+
+pub struct Coverage {
+    nets: u64,
+    first: Tally<Feature>,
+    later: Tally<Feature>,
+    ends: Tally<String>,
+}
+
+fn pair_name([first, second]: &[End; 2]) -> String {
+    format!("{first} {second}")
+}
+
+impl Coverage {
+    pub fn new() -> Self {
+        let later = Feature::ALL.into_iter().filter(|f| f.occurs_later());
+        Self {
+            nets: 0,
+            first: Tally::new(Feature::ALL),
+            later: Tally::new(later),
+            ends: Tally::new(End::pairs().iter().map(pair_name)),
+        }
+    }
+
+    pub fn is_complete(&self) -> bool {
+        self.first.is_complete() && self.later.is_complete() && self.ends.is_complete()
+    }
+
+    /// Counts the net of an accepted call with a round or more.
+    pub fn add(&mut self, known: &Known) {
+        let case = &known.case;
+        if known.report.reason == 0 && case.rounds > 0 {
+            let start = start_net(&case.vertices, &case.faces, &case.sides, &case.marks);
+            self.add_first(&Met::of(&start.expect("an accepted net")));
+        }
+    }
+
+    /// Counts a net by what its first round meets.
+    pub fn add_first(&mut self, met: &Met) {
+        self.nets += 1;
+        met.features.iter().for_each(|&f| self.first.add(f));
+        met.ends
+            .iter()
+            .for_each(|ends| self.ends.add(pair_name(ends)));
+    }
+
+    /// Counts a net by what its further rounds meet.
+    pub fn add_later(&mut self, features: &BTreeSet<Feature>) {
+        features.iter().for_each(|&f| self.later.add(f));
+    }
+}
+
+impl Display for Coverage {
+    fn fmt(&self, f: &mut Formatter) -> fmt::Result {
+        let nets = self.nets;
+        writeln!(
+            f,
+            "{nets} accepted nets with a round or more, by what they meet"
+        )?;
+        writeln!(f, "{}", self.first.lines("in the first round"))?;
+        writeln!(
+            f,
+            "{}",
+            self.later.lines("in a later round, named nets only")
+        )?;
+        write!(f, "{}", self.ends.summary("two ends of an inner edge"))
+    }
+}

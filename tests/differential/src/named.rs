@@ -1,0 +1,123 @@
+//! Named nets through the C interface, each with every number of rounds.
+
+use std::collections::BTreeSet;
+use std::fmt::{self, Display, Formatter};
+
+use nets::case::{Case, Drawn};
+use nets::features::Met;
+use nets::named::{Family, NAMED, Named, by_turns, crowd};
+use nets::rng::Rng;
+use reference::refusal::MAX_ROUNDS;
+
+use crate::compare::Known;
+use crate::coverage::Coverage;
+use crate::draw::most_rounds;
+use crate::run::shown;
+use crate::tally::Tally;
+
+/// Most refined faces of a named net.
+const MOST_FACES: usize = 1_024;
+/// The same when a net comes up for the first time: four rounds of eight faces.
+const MOST_FIRST_FACES: usize = 2_048;
+/// The same then of a net with up to five faces, unless it is one of many that
+/// differ in their marks alone: six rounds.
+const MOST_DEEP_FACES: usize = 20_480;
+
+/// Nets of many named ones: rounds, with as many faces as these allow, and
+/// whether there are side counts.
+const CROWDS: [(u32, bool); 4] = [(6, false), (3, false), (5, true), (3, true)];
+
+pub const CROWD_COUNT: u64 = CROWDS.len() as u64;
+
+/// A call with a net of many named ones, and its name.
+pub fn crowd_call(number: u64, rng: &mut Rng) -> (String, Case) {
+    let at = usize::try_from(number % CROWD_COUNT).expect("below a length");
+    let (rounds, has_sides) = CROWDS[at];
+    let drawn = crowd(262_144 >> (2 * rounds), has_sides, rng);
+    let sides = if has_sides { "with" } else { "without" };
+    (
+        format!("crowd {sides} side counts"),
+        drawn.accepted_case(rounds),
+    )
+}
+
+/// What the compared nets were.
+pub struct NamedNets {
+    families: Tally<&'static str>,
+    rounds: Tally<u32>,
+}
+
+/// A net of the series with its name.
+fn named(number: u64, rng: &mut Rng) -> (&'static Named, String, Drawn) {
+    let (named, dressing) = by_turns(usize::try_from(number).expect("a number in memory"));
+    let name = format!("{} {}", dressing.name(), named.name);
+    (named, name, named.dressed(dressing, rng))
+}
+
+/// One call of the series with its name.
+pub fn named_call(number: u64, rng: &mut Rng) -> (String, Case) {
+    let (_, name, drawn) = named(number, rng);
+    let rounds = most_rounds(drawn.quadrilaterals(), MAX_ROUNDS, MOST_FACES);
+    (name, drawn.accepted_case(rounds))
+}
+
+/// Most refined faces of a net of the series.
+fn most_faces(number: u64, named: &Named) -> usize {
+    let is_first = number < NAMED.len() as u64;
+    match named.drawn.quadrilaterals() {
+        1..=5 if is_first && !named.family.has_marks() => MOST_DEEP_FACES,
+        _ if is_first => MOST_FIRST_FACES,
+        _ => MOST_FACES,
+    }
+}
+
+impl NamedNets {
+    pub fn new() -> Self {
+        Self {
+            families: Tally::new(Family::ALL.map(Family::name)),
+            rounds: Tally::new(0..=MAX_ROUNDS),
+        }
+    }
+
+    pub fn is_complete(&self) -> bool {
+        self.families.is_complete() && self.rounds.is_complete()
+    }
+
+    /// Compares a net after each number of rounds.
+    pub fn compare(
+        &mut self,
+        number: u64,
+        coverage: &mut Coverage,
+        rng: &mut Rng,
+    ) -> Result<(), String> {
+        let (named, name, drawn) = named(number, rng);
+        let most_faces = most_faces(number, named);
+        let most = most_rounds(drawn.quadrilaterals(), MAX_ROUNDS, most_faces);
+        let mut later = BTreeSet::new();
+        for rounds in 0..=most {
+            let case = drawn.accepted_case(rounds);
+            let fault = |fault| format!("{name}, {rounds} rounds, {fault}\n{}", shown(&case));
+            let known = Known::new(case.clone(), rng).map_err(fault)?;
+            let net = known.compare(rng).map_err(fault)?;
+            let net = net.ok_or_else(|| fault("an accepted net is missing".to_owned()))?;
+            match rounds {
+                _ if rounds == most => {}
+                0 => coverage.add_first(&Met::of(&net)),
+                _ => later.extend(Met::of(&net).features),
+            }
+            self.rounds.add(rounds);
+        }
+        coverage.add_later(&later);
+        self.families.add(named.family.name());
+        Ok(())
+    }
+}
+
+impl Display for NamedNets {
+    fn fmt(&self, f: &mut Formatter) -> fmt::Result {
+        let (nets, calls) = (self.families.total(), self.rounds.total());
+        writeln!(f, "{nets} named nets agree, in {calls} calls")?;
+        writeln!(f, "{}", self.families.line("nets by family"))?;
+        write!(f, "{}", self.rounds.line("calls by rounds"))
+    }
+}
