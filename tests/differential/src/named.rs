@@ -5,7 +5,7 @@ use std::fmt::{self, Display, Formatter};
 
 use nets::case::{Case, Drawn};
 use nets::features::Met;
-use nets::named::{Family, NAMED, Named, by_turns, crowd};
+use nets::named::{Dressing, Family, NAMED, Named, by_turns, crowd};
 use nets::rng::Rng;
 use reference::refusal::MAX_ROUNDS;
 
@@ -17,8 +17,8 @@ use crate::tally::Tally;
 
 /// Most refined faces of a named net.
 const MOST_FACES: usize = 1_024;
-/// The same when a net comes up for the first time: four rounds of eight faces.
-const MOST_FIRST_FACES: usize = 2_048;
+/// The same when a net comes up for the first time: four rounds of 16 faces.
+const MOST_FIRST_FACES: usize = 4_096;
 /// The same then of a net with up to five faces, unless it is one of many that
 /// differ in their marks alone: six rounds.
 const MOST_DEEP_FACES: usize = 20_480;
@@ -79,8 +79,10 @@ impl NamedNets {
         }
     }
 
+    /// Whether every net came up in every dressing, and every number of rounds.
     pub fn is_complete(&self) -> bool {
-        self.families.is_complete() && self.rounds.is_complete()
+        let due = NAMED.len() * Dressing::ALL.len();
+        self.families.total() >= due as u64 && self.rounds.is_complete()
     }
 
     /// Compares a net after each number of rounds.
