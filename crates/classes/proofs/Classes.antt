@@ -73,20 +73,20 @@ classes-counted v at l w b r = record {
   ordinary = λ p c e. let d = lt-ltb p v c in four-ordinary l p (sym (r .sizes p c) ∙ eqb-true (getD w (at + p) 0) 4 (rw d at e));
 }
 
--- the table is the same for the drawn vertices
-pub classes-same : (v at drawn : ℕ) (l w w′ : List ℕ) → at + drawn ≤ length w′ → ((p : ℕ) → p < drawn → getD w′ (at + p) 0 ≡ getD w (at + p) 0) → Classes v at drawn l w → Classes v at drawn l w′
+-- the table is the same for the initial vertices
+pub classes-same : (v at initial : ℕ) (l w w′ : List ℕ) → at + initial ≤ length w′ → ((p : ℕ) → p < initial → getD w′ (at + p) 0 ≡ getD w (at + p) 0) → Classes v at initial l w → Classes v at initial l w′
 unfolding ordinaryBy
-classes-same v at drawn l w w′ b f k = record { fewer = k .fewer; room = b; ordinary = λ p c e. k .ordinary p c (sym (same p (decLt p drawn)) ∙ e) }
+classes-same v at initial l w w′ b f k = record { fewer = k .fewer; room = b; ordinary = λ p c e. k .ordinary p c (sym (same p (decLt p initial)) ∙ e) }
   where
-    same : (p : ℕ) → Dec (p < drawn) → ordinaryBy w′ at drawn p ≡ ordinaryBy w at drawn p
-    same p (yes c) = ap (λ (x : ℕ). cond (ltb p drawn) (eqb x 4) true) (f p c)
-    same p (no c) = let d = le-ltb p drawn (omega arith) in rw d
+    same : (p : ℕ) → Dec (p < initial) → ordinaryBy w′ at initial p ≡ ordinaryBy w at initial p
+    same p (yes c) = ap (λ (x : ℕ). cond (ltb p initial) (eqb x 4) true) (f p c)
+    same p (no c) = let d = le-ltb p initial (omega arith) in rw d
 
-pub classes-refined : (v at drawn : ℕ) (l w : List ℕ) → Manifold quads v l → Classes v at drawn l w → Classes (refinedVertices quads v l) at drawn (refined quads v l) w
+pub classes-refined : (v at initial : ℕ) (l w : List ℕ) → Manifold quads v l → Classes v at initial l w → Classes (refinedVertices quads v l) at initial (refined quads v l) w
 unfolding ordinaryBy
-classes-refined v at drawn l w ok k = record { fewer = (let f = k .fewer in omega arith); room = k .room; ordinary = λ p c e. go p c e (decLt p v) }
+classes-refined v at initial l w ok k = record { fewer = (let f = k .fewer in omega arith); room = k .room; ordinary = λ p c e. go p c e (decLt p v) }
   where
-    go : (p : ℕ) → p < refinedVertices quads v l → ordinaryBy w at drawn p ≡ true → Dec (p < v) → Ordinary (refined quads v l) p
+    go : (p : ℕ) → p < refinedVertices quads v l → ordinaryBy w at initial p ≡ true → Dec (p < v) → Ordinary (refined quads v l) p
     go p c e (yes b) = old-ordinary v l ok p b (k .ordinary p b e)
     go p c e (no b) = made-ordinary v l ok p (omega arith) c
 

@@ -1,4 +1,4 @@
--- Which vertices are ordinary, by the sizes of their rings: a table w has the ring size of the drawn vertex p at the place at + p. Vertices that rounds made are ordinary.
+-- Which vertices are ordinary, by the sizes of their rings: a table w has the ring size of vertex p of the net where refining begins at the place at + p. Vertices that rounds made are ordinary.
 use mathlib.Core.Path.{_≡_}
 use mathlib.Core.Bool.{Bool, true, cond}
 use mathlib.Core.List.{List}
@@ -21,15 +21,15 @@ ringSize l p = valence l p + cond (ltb (boundaryFrom quads l p) (length l)) 2 0
 pub record RingSizes (v at : ℕ) (l w : List ℕ) : Type 0 where
   pub sizes : (p : ℕ) → p < v → getD w (at + p) 0 ≡ ringSize l p
 
--- whether the table says that p is ordinary, where `drawn` vertices are drawn
+-- whether the table says that p is ordinary, where refining begins with `initial` vertices
 unfoldable pub ordinaryBy : List ℕ → ℕ → ℕ → ℕ → Bool
-ordinaryBy w at drawn p = cond (ltb p drawn) (eqb (getD w (at + p) 0) 4) true
+ordinaryBy w at initial p = cond (ltb p initial) (eqb (getD w (at + p) 0) 4) true
 
 -- of the v vertices of the net with corners l, those that the table says to be ordinary are
-pub record Classes (v at drawn : ℕ) (l w : List ℕ) : Type 0 where
-  pub fewer : drawn ≤ v
-  pub room : at + drawn ≤ length w
-  pub ordinary : (p : ℕ) → p < v → ordinaryBy w at drawn p ≡ true → Ordinary l p
+pub record Classes (v at initial : ℕ) (l w : List ℕ) : Type 0 where
+  pub fewer : initial ≤ v
+  pub room : at + initial ≤ length w
+  pub ordinary : (p : ℕ) → p < v → ordinaryBy w at initial p ≡ true → Ordinary l p
 
 -- ---- counting
 -- corners l of a manifold net of v vertices, and a table w with their mates in front and room for v numbers from `at` on

@@ -1,4 +1,4 @@
-// Which vertices are ordinary: the ring sizes of the drawn vertices, counted once and read in every round.
+// Which vertices are ordinary: the ring sizes of the vertices where refining begins, counted once and read in every round.
 ghost use mathlib.Core.Path.{_≡_};
 ghost use Prim.Native.Nat.{_+_, _≤_, _<_};
 ghost use lib.ListN.{length};
@@ -58,11 +58,11 @@ pub fn count_ring_sizes(faces: &[u32], work: &mut [u32], at: usize, v: usize)
 }
 
 // Whether the table says that vertex p is ordinary.
-pub fn is_ordinary(work: &[u32], at: usize, drawn: usize, p: usize) -> bool
-    requires { ⌜ at + drawn ≤ length (now work) ⌝ }
-    ensures { λ r. ⌜ r ≡ ordinaryBy (now (work .entry)) at drawn p ⌝ }
+pub fn is_ordinary(work: &[u32], at: usize, initial: usize, p: usize) -> bool
+    requires { ⌜ at + initial ≤ length (now work) ⌝ }
+    ensures { λ r. ⌜ r ≡ ordinaryBy (now (work .entry)) at initial p ⌝ }
 {
-    if p < drawn {
+    if p < initial {
         return work[at + p] == 4;
     }
     true

@@ -152,10 +152,10 @@ wide-made l h m em p q ep eq e u w z eu ew ez =
     ∙ ap₂ (λ (x y : ℤ). innerEdgeZ kobbelt (e (from l h)) (e (to quads l h)) x y) eu (ew ∙ ap (virtualAtZ kobbelt l e) em)
 
 -- ---- the end of a half-edge is a corner too
-pub told-end : (v : ℕ) (l : List ℕ) → Manifold quads v l → (w : List ℕ) (at drawn : ℕ) → Told at drawn l w → (h : ℕ) → h < length l
-    → ordinaryBy w at drawn (to quads l h) ≡ true → Ordinary l (to quads l h)
+pub told-end : (v : ℕ) (l : List ℕ) → Manifold quads v l → (w : List ℕ) (at initial : ℕ) → Told at initial l w → (h : ℕ) → h < length l
+    → ordinaryBy w at initial (to quads l h) ≡ true → Ordinary l (to quads l h)
 unfolding to
-told-end v l ok w at drawn t h k e = t .ordinary (quads .next h) (ok .oriented .shape .next-lt h k) e
+told-end v l ok w at initial t h k e = t .ordinary (quads .next h) (ok .oriented .shape .next-lt h k) e
 
 -- ---- the far points of each rule
 module _ (l : List ℕ) (h : ℕ) (e : ℕ → ℤ) where

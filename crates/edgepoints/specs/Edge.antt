@@ -50,9 +50,9 @@ abbrev pub farOn : (ℕ → ℤ) → Far → (p q : ℕ) → ℤ
 farOn e f p q = farValue e f (e p) (e q)
 
 -- the corners of l that the classes in w, from `at` on, call ordinary are
-pub record Told (at drawn : ℕ) (l w : List ℕ) : Type 0 where
-  pub room : at + drawn ≤ length w
-  pub ordinary : (h : ℕ) → h < length l → ordinaryBy w at drawn (from l h) ≡ true → Ordinary l (from l h)
+pub record Told (at initial : ℕ) (l w : List ℕ) : Type 0 where
+  pub room : at + initial ≤ length w
+  pub ordinary : (h : ℕ) → h < length l → ordinaryBy w at initial (from l h) ≡ true → Ordinary l (from l h)
 
 -- the flag that the edge of h has. Open, and may differ between correct programs: whether an inner edge between ordinary vertices is wide
 pub data Flagged (l : List ℕ) (h flag : ℕ) : Type 0 where

@@ -201,15 +201,15 @@ fn end_virtual(
     faces: &[u32],
     work: &[u32],
     at: usize,
-    drawn: usize,
+    initial: usize,
     h: usize,
 ) -> Exact
     requires { ⌜ Ready (now faces) (now work) ⌝ }
-    requires { ⌜ Points (now faces) (now points) × Told at drawn (now faces) (now work) ⌝ }
+    requires { ⌜ Points (now faces) (now points) × Told at initial (now faces) (now work) ⌝ }
     requires { ⌜ (h < length (now faces)) × (mate quads (now faces) h < length (now faces)) ⌝ }
     ensures { λ e. ⌜ OnAxes (λ (a : ℕ). virtualAtZ kobbelt (now (faces .entry)) (axis (now (points .entry)) a) h) (e .x) (e .y) (e .z) ⌝ }
 {
-    if classes::is_ordinary(work, at, drawn, halfedges::start_of(faces, h)) {
+    if classes::is_ordinary(work, at, initial, halfedges::start_of(faces, h)) {
         return straight_virtual(points, faces, work, h);
     }
     virtualpoints::virtual_point(points, faces, work, h)
@@ -230,19 +230,19 @@ fn wide_edge(
     faces: &[u32],
     work: &[u32],
     at: usize,
-    drawn: usize,
+    initial: usize,
     h: usize,
     m: usize,
 ) -> Edge
     requires { ⌜ Ready (now faces) (now work) ⌝ }
-    requires { ⌜ Points (now faces) (now points) × Told at drawn (now faces) (now work) ⌝ }
+    requires { ⌜ Points (now faces) (now points) × Told at initial (now faces) (now work) ⌝ }
     requires { ⌜ (h < length (now faces)) × (m ≡ mate quads (now faces) h) × (m < length (now faces)) ⌝ }
     ensures { λ e. ⌜ (e .flag ≡ wideFlag) × OnAxes (λ (a : ℕ). edgeValueZ kobbelt (now (faces .entry)) (axis (now (points .entry)) a) h innerRule) (e .x) (e .y) (e .z) ⌝ }
 {
     let p = halfedges::start_of(faces, h);
     let q = halfedges::end_of(faces, h);
-    let u = end_virtual(points, faces, work, at, drawn, h);
-    let w = end_virtual(points, faces, work, at, drawn, m);
+    let u = end_virtual(points, faces, work, at, initial, h);
+    let w = end_virtual(points, faces, work, at, initial, m);
     Edge {
         x: wide_on(points, p, q, u.x, w.x, 0),
         y: wide_on(points, p, q, u.y, w.y, 1),
@@ -257,17 +257,17 @@ fn inner_edge(
     faces: &[u32],
     work: &[u32],
     at: usize,
-    drawn: usize,
+    initial: usize,
     h: usize,
     m: usize,
 ) -> Edge
     requires { ⌜ Ready (now faces) (now work) ⌝ }
-    requires { ⌜ Points (now faces) (now points) × Told at drawn (now faces) (now work) ⌝ }
+    requires { ⌜ Points (now faces) (now points) × Told at initial (now faces) (now work) ⌝ }
     requires { ⌜ (h < length (now faces)) × (m ≡ mate quads (now faces) h) × (m < length (now faces)) ⌝ }
     ensures { λ e. ⌜ Flagged (now (faces .entry)) h (e .flag) × ExactPoint (e .flag) (λ (a : ℕ). edgeValueZ kobbelt (now (faces .entry)) (axis (now (points .entry)) a) h innerRule) (e .x) (e .y) (e .z) ⌝ }
 {
-    if classes::is_ordinary(work, at, drawn, halfedges::start_of(faces, h)) {
-        if classes::is_ordinary(work, at, drawn, halfedges::end_of(faces, h)) {
+    if classes::is_ordinary(work, at, initial, halfedges::start_of(faces, h)) {
+        if classes::is_ordinary(work, at, initial, halfedges::end_of(faces, h)) {
             let e = plain_exact(points, faces, work, h, m);
             return Edge {
                 x: e.x,
@@ -277,7 +277,7 @@ fn inner_edge(
             };
         }
     }
-    wide_edge(points, faces, work, at, drawn, h, m)
+    wide_edge(points, faces, work, at, initial, h, m)
 }
 
 // The point on the edge of h, whose mate is m or none.
@@ -287,18 +287,18 @@ pub fn edge_exact(
     marks: &[u8],
     work: &[u32],
     at: usize,
-    drawn: usize,
+    initial: usize,
     h: usize,
     m: usize,
 ) -> Edge
     requires { ⌜ Ready (now faces) (now work) ⌝ }
-    requires { ⌜ Points (now faces) (now points) × Marks (now faces) (now marks) × Told at drawn (now faces) (now work) ⌝ }
+    requires { ⌜ Points (now faces) (now points) × Marks (now faces) (now marks) × Told at initial (now faces) (now work) ⌝ }
     requires { ⌜ (h < length (now faces)) × (m ≡ mate quads (now faces) h) ⌝ }
     ensures { λ e. ⌜ Flagged (now (faces .entry)) h (e .flag) × ExactPoint (e .flag) (λ (a : ℕ). edgeZ kobbelt (now (faces .entry)) (now (marks .entry)) (axis (now (points .entry)) a) h) (e .x) (e .y) (e .z) ⌝ }
 {
     let rule = edge_rule(faces, marks, h, m);
     match rule {
-        EdgeRule::InnerRule => inner_edge(points, faces, work, at, drawn, h, m),
+        EdgeRule::InnerRule => inner_edge(points, faces, work, at, initial, h, m),
         EdgeRule::InsideSegment => {
             let o = Far::At(vertex_before(faces, work, h));
             let r = Far::At(vertex_after(faces, work, h));

@@ -118,8 +118,8 @@ exact-small l h flag E x y z f k =
     (omega arith, omega arith, omega arith)
 
 -- ---- classes of corners
-pub told-of : (l marks w : List ℕ) (at drawn : ℕ) → Marks l marks → Classes (length marks) at drawn l w → Told at drawn l w
-told-of l marks w at drawn m c = record { room = c .room; ordinary = λ h b e. c .ordinary (from l h) (m .room h b) e }
+pub told-of : (l marks w : List ℕ) (at initial : ℕ) → Marks l marks → Classes (length marks) at initial l w → Told at initial l w
+told-of l marks w at initial m c = record { room = c .room; ordinary = λ h b e. c .ordinary (from l h) (m .room h b) e }
 
 -- ---- what stays stored
 stored-kept : (n : ℕ) (w w′ : List ℕ) (a t : ℕ) (X : ℤ) → getD w′ (placeOf n t + 2 * a) 0 ≡ getD w (placeOf n t + 2 * a) 0 → getD w′ (placeOf n t + 2 * a + 1) 0 ≡ getD w (placeOf n t + 2 * a + 1) 0
@@ -134,7 +134,7 @@ flagged-mate l h flag m b k (plain a c d e) =
 flagged-mate l h flag m b k (wide a e) = wide m e
 flagged-mate l h flag m b k (boundary a e) = let z : ⊥ = omega arith in absurd z
 
-module _ (l marks : List ℕ) (p₀ : List ℤ) (w₀ : List ℕ) (at drawn : ℕ) (ok : Round l marks p₀ w₀ at drawn) where
+module _ (l marks : List ℕ) (p₀ : List ℤ) (w₀ : List ℕ) (at initial : ℕ) (ok : Round l marks p₀ w₀ at initial) where
   -- ---- what the tables have
   old-length : length (take (3 * length marks) p₀) ≡ 3 * length marks
   old-length = let r = ok .room in length-take-le (3 * length marks) p₀ (omega arith)
@@ -200,12 +200,12 @@ module _ (l marks : List ℕ) (p₀ : List ℤ) (w₀ : List ℕ) (at drawn : �
           bounded = subst (Within coordinateRange) (sym f) (ok .bounded);
         }
 
-    classes-now : Classes (length marks) at drawn l w
+    classes-now : Classes (length marks) at initial l w
     classes-now =
         let n = done .kept in
         let r = ok .classes .room in
         let b = ok .behind in
-        classes-same (length marks) at drawn l w₀ w (omega arith) (λ p c. done .behind (at + p) (omega arith)) (ok .classes)
+        classes-same (length marks) at initial l w₀ w (omega arith) (λ p c. done .behind (at + p) (omega arith)) (ok .classes)
 
     module _ (b : h < length l) (c : e ≡ count (firstMet quads l) h) where
       number : h < mate quads l h → edge quads l h ≡ e
@@ -217,7 +217,7 @@ module _ (l marks : List ℕ) (p₀ : List ℤ) (w₀ : List ℕ) (at drawn : �
       exact-room : h < mate quads l h → 2 * length l + 6 * e + 6 ≤ length w
       exact-room m = let k = below m in let n = done .kept in let r = ok .classes .room in let q = ok .behind in let i = edges-le quads l in omega arith
 
-      pub turn-in : Turn l marks p w at drawn h e
+      pub turn-in : Turn l marks p w at initial h e
       turn-in =
           let n = count-le (firstMet quads l) h in
           let r = ok .room in

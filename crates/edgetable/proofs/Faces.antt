@@ -73,7 +73,7 @@ swapped true false true d = refl
 swapped true false false d = refl
 swapped false b c d = refl
 
-module _ (l marks : List ℕ) (p₀ : List ℤ) (w₀ : List ℕ) (at drawn : ℕ) (ok : Round l marks p₀ w₀ at drawn) (p : List ℤ) (w : List ℕ) (done : Edges l marks p₀ w₀ p w (length l) (edgeCount quads l)) where
+module _ (l marks : List ℕ) (p₀ : List ℤ) (w₀ : List ℕ) (at initial : ℕ) (ok : Round l marks p₀ w₀ at initial) (p : List ℤ) (w : List ℕ) (done : Edges l marks p₀ w₀ p w (length l) (edgeCount quads l)) where
   abbrev n : ℕ
   n = length l
 
@@ -81,10 +81,10 @@ module _ (l marks : List ℕ) (p₀ : List ℤ) (w₀ : List ℕ) (at drawn : �
   E a = edgeAxis l marks p₀ a
 
   few : (h : ℕ) → h < n → edge quads l h < wideFlag
-  few h k = edge-few l marks p₀ w₀ at drawn ok h k
+  few h k = edge-few l marks p₀ w₀ at initial ok h k
 
   mate-now : (h : ℕ) → h < n → getD w h 0 ≡ mate quads l h
-  mate-now h k = ready-now l marks p₀ w₀ at drawn ok p w n (edgeCount quads l) done .table .mated .mates h k
+  mate-now h k = ready-now l marks p₀ w₀ at initial ok p w n (edgeCount quads l) done .table .mated .mates h k
 
   beyond-now : (h : ℕ) → h < n → beyondOf w h ≡ beyond l h
   unfolding beyondOf beyond
@@ -213,6 +213,6 @@ module _ (l marks : List ℕ) (p₀ : List ℤ) (w₀ : List ℕ) (at drawn : �
             let m = ltb-true (mate quads l h) n (sym (entry-inner l h (entryOf n w h) (few h b) (done .entries h b)) ∙ lt-ltb (entryOf n w h) boundaryFlag c) in
             omega arith;
         high = λ a h c b. let s = done .stored a h c b in holds-high w (placeOf n (entryOf n w h) + 2 * a) (s .number) (s .holds);
-        small = λ a h c b. let e = ap natAbs (exact-is a h c b) in let s = edge-small l marks p₀ w₀ at drawn ok a h b in omega arith;
+        small = λ a h c b. let e = ap natAbs (exact-is a h c b) in let s = edge-small l marks p₀ w₀ at initial ok a h b in omega arith;
         agree = λ a f c b all. agree-now f b all a c;
       }

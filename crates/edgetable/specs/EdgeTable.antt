@@ -45,21 +45,21 @@ unfoldable pub edgeAxis : List ℕ → List ℕ → List ℤ → ℕ → ℕ →
 edgeAxis l marks p a h = edgeZ kobbelt l marks (oldAxis marks p a) h
 
 -- what the pass assumes of the tables: mates in front of w, classes of the vertices from `at` on, and room
-pub record Round (l marks : List ℕ) (p : List ℤ) (w : List ℕ) (at drawn : ℕ) : Type 0 where
+pub record Round (l marks : List ℕ) (p : List ℤ) (w : List ℕ) (at initial : ℕ) : Type 0 where
   pub net : Manifold quads (length marks) l
   pub table : Connectivity l w
-  pub classes : Classes (length marks) at drawn l w
+  pub classes : Classes (length marks) at initial l w
   pub vertices : length marks ≤ length l
   pub room : 3 * refinedVertices quads (length marks) l ≤ length p
   pub behind : 8 * length l ≤ at
   pub bounded : Within coordinateRange (take (3 * length marks) p)
 
 -- before half-edge h, with e edges met, the tables have room for the point of its edge
-pub record Turn (l marks : List ℕ) (p : List ℤ) (w : List ℕ) (at drawn h e : ℕ) : Type 0 where
+pub record Turn (l marks : List ℕ) (p : List ℤ) (w : List ℕ) (at initial h e : ℕ) : Type 0 where
   pub ready : Ready l w
   pub points : Points l (take (3 * length marks) p)
   pub marked : Marks l marks
-  pub classes : Classes (length marks) at drawn l w
+  pub classes : Classes (length marks) at initial l w
   pub lt : h < length l
   pub other : mate quads l h ≡ h → ⊥
   pub vertices : length marks ≤ length l

@@ -58,11 +58,11 @@ fn edge_side(
     marks: &[u8],
     work: &mut [u32],
     at: usize,
-    drawn: usize,
+    initial: usize,
     h: usize,
     edges: usize,
 ) -> usize
-    requires { ⌜ Turn (now faces) (now marks) (now points) (now work) at drawn h edges ⌝ }
+    requires { ⌜ Turn (now faces) (now marks) (now points) (now work) at initial h edges ⌝ }
     ensures { λ r. ⌜ Turned (now (faces .entry)) (now (marks .entry)) h edges r (now (points .entry)) (now (work .entry)) (now (points .exit)) (now (work .exit)) ⌝ }
 {
     let n = faces.len();
@@ -74,7 +74,7 @@ fn edge_side(
         return edges;
     }
     let end = 3 * v;
-    let e = edgepoints::edge_exact(&points[..end], faces, marks, &*work, at, drawn, h, m);
+    let e = edgepoints::edge_exact(&points[..end], faces, marks, &*work, at, initial, h, m);
     put_rounded(&mut *points, v + edges, e);
     let x = Exact {
         x: e.x,
@@ -93,9 +93,9 @@ pub fn edge_points(
     marks: &[u8],
     work: &mut [u32],
     at: usize,
-    drawn: usize,
+    initial: usize,
 ) -> usize
-    requires { ⌜ Round (now faces) (now marks) (now points) (now work) at drawn ⌝ }
+    requires { ⌜ Round (now faces) (now marks) (now points) (now work) at initial ⌝ }
     ensures { λ r. ⌜ r ≡ edgeCount quads (now (faces .entry)) ⌝ }
     ensures { λ r. ⌜ Edges (now (faces .entry)) (now (marks .entry)) (now (points .entry)) (now (work .entry)) (now (points .exit)) (now (work .exit)) (length (now (faces .entry))) (edgeCount quads (now (faces .entry))) ⌝ }
 {
@@ -103,7 +103,16 @@ pub fn edge_points(
     let mut edges = 0;
     let mut h = 0;
     while h < n {
-        edges = edge_side(&mut *points, faces, marks, &mut *work, at, drawn, h, edges);
+        edges = edge_side(
+            &mut *points,
+            faces,
+            marks,
+            &mut *work,
+            at,
+            initial,
+            h,
+            edges,
+        );
         h += 1;
     }
     edges

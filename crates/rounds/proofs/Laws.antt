@@ -38,7 +38,7 @@ use Rattle.nets.specs.Buffers.{Buffers, buffers, front}
 drop-same : (k : ℕ) (u w : List ℕ) → length u ≡ length w → ((i : ℕ) → k ≤ i → getD u i 0 ≡ getD w i 0) → drop k u ≡ drop k w
 drop-same k u w e h = ext-getD 0 (drop k u) (drop k w) (length-drop k u ∙ ap (λ (x : ℕ). x - k) e ∙ sym (length-drop k w)) (λ i b. getD-drop k u i 0 ∙ h (k + i) (omega arith) ∙ sym (getD-drop k w i 0))
 
-module _ (v n at drawn : ℕ) (t : Buffers) (c : Current v n at drawn t) where
+module _ (v n at initial : ℕ) (t : Buffers) (c : Current v n at initial t) where
   abbrev points : List ℤ
   points = t .vertices
 
@@ -109,7 +109,7 @@ module _ (v n at drawn : ℕ) (t : Buffers) (c : Current v n at drawn t) where
       pub mates-past : drop (8 * n) w″ ≡ drop (8 * n) w′
       mates-past = let r = c .roomWork in ap (drop (8 * n)) h ∙ drop-later (4 * n) (8 * n) _ _ (omega arith) (mates-rest n w′ (omega arith))
 
-  pub ready : Round l mk points w at drawn
+  pub ready : Round l mk points w at initial
   ready =
       let e = corners in
       let r = c .roomWork in
@@ -121,7 +121,7 @@ module _ (v n at drawn : ℕ) (t : Buffers) (c : Current v n at drawn t) where
       record {
         net = refinable-manifold old (c .refinable);
         table = record { sides = sides; room = omega arith; mated = c .mated };
-        classes = subst (λ (k : ℕ). Classes k at drawn l w) (sym m) (c .classes);
+        classes = subst (λ (k : ℕ). Classes k at initial l w) (sym m) (c .classes);
         vertices = omega arith;
         room = omega arith;
         behind = omega arith;
@@ -141,7 +141,7 @@ module _ (v n at drawn : ℕ) (t : Buffers) (c : Current v n at drawn t) where
     rest₁ = let e = corners in drop-same (8 * n) w₁ w (done .kept) (λ i h. done .behind i (omega arith))
 
     pub face-ready : FaceTable n w₁
-    face-ready = subst (λ (k : ℕ). FaceTable k w₁) corners (face-table l mk points w at drawn ready p₁ w₁ done)
+    face-ready = subst (λ (k : ℕ). FaceTable k w₁) corners (face-table l mk points w at initial ready p₁ w₁ done)
 
     pub net-ready : (count : ℕ) → count ≡ edgeCount quads l → FacesIn n v count faces w₁
     net-ready count h =
@@ -153,7 +153,7 @@ module _ (v n at drawn : ℕ) (t : Buffers) (c : Current v n at drawn t) where
           vertices = c .vertices;
           room = c .roomFaces;
           behind = omega arith;
-          numbered = λ g b. ap (λ (j : ℕ). edgeOf (entryOf j w₁ g)) (sym e) ∙ number-is l mk points w at drawn ready p₁ w₁ done g (omega arith);
+          numbered = λ g b. ap (λ (j : ℕ). edgeOf (entryOf j w₁ g)) (sym e) ∙ number-is l mk points w at initial ready p₁ w₁ done g (omega arith);
           counted = h;
         }
 
@@ -169,7 +169,7 @@ module _ (v n at drawn : ℕ) (t : Buffers) (c : Current v n at drawn t) where
       part-room =
           let e = corners in
           let m = marked in
-          let r = face-room l mk points w at drawn ready p₁ w₁ done edge he in
+          let r = face-room l mk points w at initial ready p₁ w₁ done edge he in
           subst (λ (j : ℕ). 3 * (n / 4) ≤ length (take (length p₁ - 3 * (j + edge)) (drop (3 * (j + edge)) p₁))) m (subst (λ (j : ℕ). 3 * (j / 4) ≤ length (take (length p₁ - 3 * (length mk + edge)) (drop (3 * (length mk + edge)) p₁))) e r)
 
       part-made : (y : List ℤ) → y ≡ filled (faceCoordinates n w₁) (take (length p₁ - first) (drop first p₁)) → putMid first (length p₁ - first) p₁ y ≡ filled (step kobbelt old .vertices) points
@@ -180,7 +180,7 @@ module _ (v n at drawn : ℕ) (t : Buffers) (c : Current v n at drawn t) where
           ∙ ap (λ (j : ℕ). filled (faceCoordinates j w₁) (take (length p₁ - first) (drop first p₁))) (sym corners)
           ∙ ap (λ (j : ℕ). filled (faceCoordinates (length l) w₁) (take (length p₁ - 3 * (j + edge)) (drop (3 * (j + edge)) p₁))) (sym m) in
           ap (λ (j : ℕ). putMid (3 * (j + edge)) (length p₁ - 3 * (j + edge)) p₁ y) (sym m)
-          ∙ points-made l mk points w at drawn ready p₁ w₁ done edge he y x
+          ∙ points-made l mk points w at initial ready p₁ w₁ done edge he y x
           ∙ ap (λ (x : Net). filled (step kobbelt x .vertices) points) made
 
       count : v + edge + n / 4 ≡ v + edgeCount quads l + n / 4

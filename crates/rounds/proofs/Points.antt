@@ -51,11 +51,11 @@ tabulate-join a m G F f =
         ∙ sym (getD-tabulate (a + m) G k (pos 0) b)
 
 -- ---- after both passes
-module _ (l marks : List ℕ) (p₀ : List ℤ) (w₀ : List ℕ) (at drawn : ℕ) (ok : Round l marks p₀ w₀ at drawn) (p : List ℤ) (w : List ℕ)
+module _ (l marks : List ℕ) (p₀ : List ℤ) (w₀ : List ℕ) (at initial : ℕ) (ok : Round l marks p₀ w₀ at initial) (p : List ℤ) (w : List ℕ)
     (done : Edges l marks p₀ w₀ p w (length l) (edgeCount quads l)) where
   face-refined : (a f : ℕ) → a < 3 → f < quads .faces (length l) → faceCoordinate (length l) w a f ≡ refinedAxis l marks p₀ a (length marks + edgeCount quads l + f)
   unfolding refinedAxis edgeAxis
-  face-refined a f k j = face-is l marks p₀ w₀ at drawn ok p w done a f k j ∙ sym (refined-face kobbelt (omega arith) (omega arith) (length marks) l marks (ok .net) (oldAxis marks p₀ a) f j)
+  face-refined a f k j = face-is l marks p₀ w₀ at initial ok p w done a f k j ∙ sym (refined-face kobbelt (omega arith) (omega arith) (length marks) l marks (ok .net) (oldAxis marks p₀ a) f j)
 
   abbrev first : ℕ
   first = 3 * (length marks + edgeCount quads l)

@@ -13,7 +13,7 @@ use Rattle.halfedges.specs.Tables.{MateTable}
 use Rattle.classes.specs.Classes.{Classes}
 
 -- the net at the front can be refined, its mates stand in the work table, the classes of its vertices from `at` on, and all tables have room for the refined net
-pub record Current (v n at drawn : ℕ) (t : Buffers) : Type 0 where
+pub record Current (v n at initial : ℕ) (t : Buffers) : Type 0 where
   pub refinable : Refinable (front v n t)
   pub within : Within coordinateRange (take (3 * v) (t .vertices))
   pub small : n ≤ 262144
@@ -24,7 +24,7 @@ pub record Current (v n at drawn : ℕ) (t : Buffers) : Type 0 where
   pub roomWork : 8 * n ≤ length (t .work)
   pub mated : MateTable (take n (t .faces)) (t .work)
   pub behind : 8 * n ≤ at
-  pub classes : Classes v at drawn (take n (t .faces)) (t .work)
+  pub classes : Classes v at initial (take n (t .faces)) (t .work)
 
 -- the tables after the round: the refined net of r vertices at their front, the mates of the net before it in the work table; past that all is as found.
 -- Open, and may differ between correct programs: what stands between the mates and place 8n of the work table

@@ -13,9 +13,9 @@ fn round(
     v: usize,
     n: usize,
     at: usize,
-    drawn: usize,
+    initial: usize,
 ) -> usize
-    requires { ⌜ Current v n at drawn (buffers (now points) (now faces) (now marks) (now work)) ⌝ }
+    requires { ⌜ Current v n at initial (buffers (now points) (now faces) (now marks) (now work)) ⌝ }
     ensures { λ r. ⌜ Refines v n r (buffers (now (points .entry)) (now (faces .entry)) (now (marks .entry)) (now (work .entry)))
         (buffers (now (points .exit)) (now (faces .exit)) (now (marks .exit)) (now (work .exit))) ⌝ }
 {
@@ -25,7 +25,7 @@ fn round(
         &marks[..v],
         &mut *work,
         at,
-        drawn,
+        initial,
     );
     let count = v + edges + n / 4;
     roundfaces::extend_marks(&mut *marks, v, count);

@@ -98,7 +98,7 @@ module _ (v : ℕ) (l : List ℕ) (ok : Manifold quads v l) where
   ordinary-old q b (ringOfFour e n) = let x = boundaryFrom-old q b in let y = length-refined quads v l in ringOfFour (omega arith) (sym (valence-old quads v l ok q b) ∙ n)
   ordinary-old q b (fanOfTwo e n) = let x = boundaryFrom-old q b in let y = length-refined quads v l in fanOfTwo (omega arith) (sym (valence-old quads v l ok q b) ∙ n)
 
--- ---- after any number of rounds: one class for each vertex of the drawn net is enough
+-- ---- after any number of rounds: one class for each vertex of the first net is enough
 module _ (v : ℕ) (l : List ℕ) (ok : Manifold quads v l) where
   pub made-after : (k i : ℕ) → v ≤ i → i < verticesAfter k v l → Ordinary (cornersAfter k v l) i
   unfolding verticesAfter cornersAfter
@@ -109,19 +109,19 @@ module _ (v : ℕ) (l : List ℕ) (ok : Manifold quads v l) where
       go f (yes c) = old-ordinary (verticesAfter k v l) (cornersAfter k v l) (manifold-after v l ok k) i c (f c)
       go f (no c) = made-ordinary (verticesAfter k v l) (cornersAfter k v l) (manifold-after v l ok k) i (omega arith) b
 
-  pub drawn-after : (k i : ℕ) → i < v → Ordinary l i → Ordinary (cornersAfter k v l) i
+  pub old-after : (k i : ℕ) → i < v → Ordinary l i → Ordinary (cornersAfter k v l) i
   unfolding cornersAfter
-  drawn-after zero i b o = o
-  drawn-after (suc k) i b o =
+  old-after zero i b o = o
+  old-after (suc k) i b o =
       let n = vertices-after-ge v l k in
-      old-ordinary (verticesAfter k v l) (cornersAfter k v l) (manifold-after v l ok k) i (omega arith) (drawn-after k i b o)
+      old-ordinary (verticesAfter k v l) (cornersAfter k v l) (manifold-after v l ok k) i (omega arith) (old-after k i b o)
 
-  pub after-drawn : (k i : ℕ) → i < v → Ordinary (cornersAfter k v l) i → Ordinary l i
+  pub after-old : (k i : ℕ) → i < v → Ordinary (cornersAfter k v l) i → Ordinary l i
   unfolding cornersAfter
-  after-drawn zero i b o = o
-  after-drawn (suc k) i b o =
+  after-old zero i b o = o
+  after-old (suc k) i b o =
       let n = vertices-after-ge v l k in
-      after-drawn k i b (ordinary-old (verticesAfter k v l) (cornersAfter k v l) (manifold-after v l ok k) i (omega arith) o)
+      after-old k i b (ordinary-old (verticesAfter k v l) (cornersAfter k v l) (manifold-after v l ok k) i (omega arith) o)
 
 -- ---- one mate tells: that of the side before an inner half-edge h, which is the turn of h
 module _ (v : ℕ) (l : List ℕ) (ok : Manifold quads v l) (h : ℕ) (k : h < length l) (m : mate quads l h < length l) where

@@ -16,11 +16,11 @@ shared-slice-read-result c = search needs
 
 returns : tie.Need-returns
 unfolding ordinaryBy
-returns c = let s = c .before .before in let a = lt-ltb (s .args .p) (s .args .drawn) (c .before .if1 .taken) in rw a
+returns c = let s = c .before .before in let a = lt-ltb (s .args .p) (s .args .initial) (c .before .if1 .taken) in rw a
 
 returns-2 : tie.Need-returns-2
 unfolding ordinaryBy
-returns-2 c = let s = c .before in let a = le-ltb (s .args .p) (s .args .drawn) (c .if1 .left) in rw a
+returns-2 c = let s = c .before in let a = le-ltb (s .args .p) (s .args .initial) (c .if1 .left) in rw a
 
 pub is-ordinary-spec : {M : Type 1} → statement M
 is-ordinary-spec =

@@ -27,7 +27,7 @@ ends c =
     let p = x .before in
     let s = p .before .before .before in
     let told = s .pre .1 .0 .1 in
-    let by = ordinaryBy (s .args .work .now) (s .args .at) (s .args .drawn) in
+    let by = ordinaryBy (s .args .work .now) (s .args .at) (s .args .initial) in
     let e = ap by (sym (p .start-of .ensures)) ∙ sym (x .is-ordinary .ensures) ∙ i .if1 .taken in
     let f = ap by (sym (q .end-of .ensures)) ∙ sym (y .is-ordinary2 .ensures) ∙ c .if2 .taken in
     record {

@@ -19,22 +19,22 @@ start x = x .before .before .before .before .before .before .before .before
 few : (x : tie.After-edge-points) → (let s = start x in s .args .v + x .edge-points .result + s .args .n / 4 ≤ 4 * s .args .n)
 few x =
     let s = start x in
-    subst (λ (j : ℕ). s .args .v + j + s .args .n / 4 ≤ 4 * s .args .n) (sym (x .edge-points .ensures .0)) (count-le (s .args .v) (s .args .n) (s .args .at) (s .args .drawn) (tables s) (s .pre))
+    subst (λ (j : ℕ). s .args .v + j + s .args .n / 4 ≤ 4 * s .args .n) (sym (x .edge-points .ensures .0)) (count-le (s .args .v) (s .args .n) (s .args .at) (s .args .initial) (tables s) (s .pre))
 
 slice-reshare-prefix-edge-points : tie.Need-slice-reshare-prefix-edge-points
 slice-reshare-prefix-edge-points c = search needs
 
 slice-aggregate-edge-points : tie.Need-slice-aggregate-edge-points
-slice-aggregate-edge-points c = let s = c .before .before .before .before .before in sym (corners (s .args .v) (s .args .n) (s .args .at) (s .args .drawn) (tables s) (s .pre))
+slice-aggregate-edge-points c = let s = c .before .before .before .before .before in sym (corners (s .args .v) (s .args .n) (s .args .at) (s .args .initial) (tables s) (s .pre))
 
 slice-reshare-prefix-edge-points-2 : tie.Need-slice-reshare-prefix-edge-points-2
 slice-reshare-prefix-edge-points-2 c = search needs
 
 slice-aggregate-edge-points-2 : tie.Need-slice-aggregate-edge-points-2
-slice-aggregate-edge-points-2 c = let s = c .before .before .before .before .before .before in sym (marked (s .args .v) (s .args .n) (s .args .at) (s .args .drawn) (tables s) (s .pre))
+slice-aggregate-edge-points-2 c = let s = c .before .before .before .before .before .before in sym (marked (s .args .v) (s .args .n) (s .args .at) (s .args .initial) (tables s) (s .pre))
 
 edge-points-requires : tie.Need-edge-points-requires
-edge-points-requires c κs = let s = c .before .before .before .before .before .before .before in ready (s .args .v) (s .args .n) (s .args .at) (s .args .drawn) (tables s) (s .pre)
+edge-points-requires c κs = let s = c .before .before .before .before .before .before .before in ready (s .args .v) (s .args .n) (s .args .at) (s .args .initial) (tables s) (s .pre)
 
 add-count : tie.Need-add-count
 add-count c = let x = c .before .before .before in let k = few x in let s = start x in let q = s .pre .small in omega arith
@@ -61,10 +61,10 @@ mul-face-points : tie.Need-mul-face-points
 mul-face-points c = let x = c .before .before .before .before .before .before .before in let k = few x in let s = start x in let q = s .pre .small in omega arith
 
 sub-face-points : tie.Need-sub-face-points
-sub-face-points c = let x = c .before .before .before .before .before .before .before in let s = start x in part-start (s .args .v) (s .args .n) (s .args .at) (s .args .drawn) (tables s) (s .pre) _ _ (x .edge-points .ensures .1) _ (x .edge-points .ensures .0)
+sub-face-points c = let x = c .before .before .before .before .before .before .before in let s = start x in part-start (s .args .v) (s .args .n) (s .args .at) (s .args .initial) (tables s) (s .pre) _ _ (x .edge-points .ensures .1) _ (x .edge-points .ensures .0)
 
 part-face-points-start : tie.Need-part-face-points-start
-part-face-points-start c = let x = c .before .before .before .before .before .before .before in let s = start x in part-start (s .args .v) (s .args .n) (s .args .at) (s .args .drawn) (tables s) (s .pre) _ _ (x .edge-points .ensures .1) _ (x .edge-points .ensures .0)
+part-face-points-start c = let x = c .before .before .before .before .before .before .before in let s = start x in part-start (s .args .v) (s .args .n) (s .args .at) (s .args .initial) (tables s) (s .pre) _ _ (x .edge-points .ensures .1) _ (x .edge-points .ensures .0)
 
 part-face-points-end : tie.Need-part-face-points-end
 part-face-points-end c = search needs
@@ -74,9 +74,9 @@ face-points-requires c κs =
     let x = c .before .before .before .before .before .before .before .before .before .before in
     let s = start x in
     let d = x .edge-points .ensures .1 in (
-      face-ready (s .args .v) (s .args .n) (s .args .at) (s .args .drawn) (tables s) (s .pre) _ _ d,
-      net-ready (s .args .v) (s .args .n) (s .args .at) (s .args .drawn) (tables s) (s .pre) _ _ d _ (x .edge-points .ensures .0),
-      part-room (s .args .v) (s .args .n) (s .args .at) (s .args .drawn) (tables s) (s .pre) _ _ d _ (x .edge-points .ensures .0),
+      face-ready (s .args .v) (s .args .n) (s .args .at) (s .args .initial) (tables s) (s .pre) _ _ d,
+      net-ready (s .args .v) (s .args .n) (s .args .at) (s .args .initial) (tables s) (s .pre) _ _ d _ (x .edge-points .ensures .0),
+      part-room (s .args .v) (s .args .n) (s .args .at) (s .args .initial) (tables s) (s .pre) _ _ d _ (x .edge-points .ensures .0),
     )
 
 same-length : tie.Need-same-length
@@ -97,7 +97,7 @@ returns c =
     let m = f .before .before .before .before .before .before in
     let x = m .before .before .before .before .before in
     let s = start x in
-    refines (s .args .v) (s .args .n) (s .args .at) (s .args .drawn) (tables s) (s .pre) _ _ (x .edge-points .ensures .1) _ (x .edge-points .ensures .0) _ _ _
+    refines (s .args .v) (s .args .n) (s .args .at) (s .args .initial) (tables s) (s .pre) _ _ (x .edge-points .ensures .1) _ (x .edge-points .ensures .0) _ _ _
     (f .face-points .ensures .0) (f .face-points .ensures .1) (m .extend-marks .ensures)
 
 pub round-spec : {M : Type 1} → statement M
