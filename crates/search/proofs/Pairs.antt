@@ -1,4 +1,5 @@
--- Two tests between which there is a one-to-one map hold equally often; a test that agrees along an involution without fixed points holds an even number of times. Assumes nothing.
+-- Two tests between which there is a one-to-one map hold equally often. A test that agrees along an involution without fixed points holds an even number of times.
+-- Assumes nothing.
 use mathlib.Core.Path.{_≡_, refl, sym, ap, _∙_}
 use mathlib.Core.Bool.{Bool, true, false, cond, _&&_, not}
 use Prim.Native.Nat.{ℕ, zero, suc, _+_, _*_, _≤_, _<_}
