@@ -1,5 +1,5 @@
 -- How many vertices and corners a net has after k rounds. Assumes nothing.
-use mathlib.Core.Path.{_≡_, sym, ap, _∙_}
+use mathlib.Core.Path.{_≡_, refl, sym, ap, _∙_}
 use Prim.Native.Nat.{ℕ, zero, suc, _*_, _^_, _≤_}
 use native.Mathlib.Nat.{mul-assoc, pow-suc}
 use native.Mathlib.Decide.{ℕ-discrete}
@@ -13,12 +13,16 @@ use Rattle.refinedfaces.proofs.Corners.{length-refined}
 use Rattle.scheme.specs.Step.{steps}
 use Rattle.schemelaws.proofs.Steps.{step-faces, step-count, refinable-steps}
 use Rattle.splitting.specs.Splitting.{startNet}
-use Rattle.splitting.proofs.Split.{split-corners, start-none, start-split}
+use Rattle.splitting.proofs.Split.{split-corners, split-count, start-none, start-split, start-cases}
 use Rattle.splitting.proofs.Room.{refinable-vertices-le}
 use Rattle.verdict.specs.Call.{Call, quadrilaterals, finalFaces}
 use Rattle.verdict.specs.Verdict.{accepted, verdict}
 use Rattle.verdict.proofs.Accepted.{by-fours, by-sides, accepted-limits}
 use Rattle.outcome.proofs.Accepted.{accepted-refinable}
+
+pub zero-steps : (m : Net) → length (steps kobbelt 0 m .marks) ≡ length (m .marks)
+unfolding steps
+zero-steps m = refl
 
 -- vertices never grow fewer
 pub more-vertices : (m : Net) (j k : ℕ) → j ≤ k → length (steps kobbelt j m .marks) ≤ length (steps kobbelt k m .marks)
@@ -29,6 +33,13 @@ more-vertices m j (suc k) h = go (ℕ-discrete j (suc k)) (λ l. more-vertices m
     go : Dec (j ≡ suc k) → (j ≤ k → length (steps kobbelt j m .marks) ≤ length (steps kobbelt k m .marks)) → length (steps kobbelt j m .marks) ≤ length (steps kobbelt (suc k) m .marks)
     go (yes e) f = rw e (omega arith)
     go (no e) f = let a = f (omega arith) in let b = step-count kobbelt (steps kobbelt k m) in omega arith
+
+-- the vertices that are drawn are among them
+pub drawn-among : (m : ControlNet) (k : ℕ) → length (m .marks) ≤ length (steps kobbelt k (startNet m) .marks)
+drawn-among m k =
+    let a = start-cases (λ n. length (m .marks) ≤ length (n .marks)) m (λ z. omega arith) (λ z. let c = split-count m in omega arith) in
+    let b = more-vertices (startNet m) 0 k (omega arith) in
+    omega (arith, zero-steps (startNet m))
 
 pub corners-grown : (m : Net) (k : ℕ) → length (steps kobbelt k m .faces) ≡ length (m .faces) * 4 ^ k
 unfolding steps

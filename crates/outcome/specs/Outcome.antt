@@ -6,7 +6,7 @@ use Rattle.curve.specs.Weights.{kobbelt}
 use Rattle.nets.specs.Net.{Net, ControlNet}
 use Rattle.nets.specs.Buffers.{Buffers, buffers}
 use Rattle.tables.specs.Tables.{filled}
-use Rattle.verdict.specs.Call.{Call, room, call, vertexCount, faceCount}
+use Rattle.verdict.specs.Call.{Room, room, Call, call, vertexCount, faceCount}
 use Rattle.verdict.specs.Verdict.{Verdict, accepted, refused, orElse, verdict, workAfter}
 use Rattle.scheme.specs.Step.{steps}
 use Rattle.splitting.specs.Splitting.{startNet}
@@ -37,9 +37,13 @@ pub record Outcome : Type 0 where
   pub tally : ℕ
   pub buffers : Buffers
 
+-- how much the caller's tables hold
+abbrev pub roomOf : Buffers → Room
+roomOf o = room (length (o .vertices)) (length (o .faces)) (length (o .marks)) (length (o .work))
+
 -- what decides the verdict of the check
 abbrev pub callOf : Request → Call
-callOf a = call (a .rounds) (a .net) (room (length (a .buffers .vertices)) (length (a .buffers .faces)) (length (a .buffers .marks)) (length (a .buffers .work)))
+callOf a = call (a .rounds) (a .net) (roomOf (a .buffers))
 
 -- what the call adds to the tally if it is accepted
 abbrev pub toAdd : Request → ℕ
