@@ -1,20 +1,22 @@
 // How many vertices a net has after refinement steps, from its mates and its counts.
 ghost use mathlib.Core.Path.{_≡_};
 ghost use Prim.Native.Nat.{_≤_};
+ghost use lib.ListN.{length};
 ghost use Rattle.edgenumbers.specs.Edges.{edgeCountBy};
 ghost use Rattle.growth.specs.Growth.{counts, grownBy, Bounded};
 
 // The number of edges: how many half-edges come before their mates.
 pub fn edge_count(mates: &[u32]) -> usize
+    requires { ⌜ length (now mates) ≤ 262144 ⌝ }
     ensures { λ r. ⌜ r ≡ edgeCountBy (now (mates .entry)) ⌝ }
 {
-    let mut edges = 0;
+    let mut edges: u32 = 0;
     let mut h = 0;
     while h < mates.len() {
-        edges += (h < mates[h] as usize) as usize;
+        edges += ((h as u32) < mates[h]) as u32;
         h += 1;
     }
-    edges
+    edges as usize
 }
 
 // The number of vertices after so many refinement steps on a net of v vertices.

@@ -21,14 +21,14 @@ loop-holds : tie.Need-loop-holds Inv-loop μ-loop
 unfolding count
 loop-holds c = (omega arith, refl)
 
+cast-edges : tie.Need-cast-edges Inv-loop μ-loop
+cast-edges c = let b = c .before .before .pre in omega arith
+
 mul-edges : tie.Need-mul-edges Inv-loop μ-loop
 mul-edges c = search needs
 
 shared-slice-read-edges : tie.Need-shared-slice-read-edges Inv-loop μ-loop
 shared-slice-read-edges c = search needs
-
-cast-edges : tie.Need-cast-edges Inv-loop μ-loop
-cast-edges c = omega (arith, c .shared-slice-known .given (c .before .before .loop .h))
 
 cast-edges-2 : tie.Need-cast-edges-2 Inv-loop μ-loop
 cast-edges-2 c = tt
@@ -39,6 +39,7 @@ add-edges c =
     let h = c .before .before .loop .h in
     let e = count-next ms h in
     let b = count-le (metBy ms) (h + 1) in
+    let f = c .before .before .before .pre in
     omega arith
 
 add-h : tie.Need-add-h Inv-loop μ-loop
@@ -53,6 +54,13 @@ loop-again c =
     let h = c .before .before .loop .h in
     let e = count-next ms h in
     (omega arith, omega arith)
+
+cast-result : tie.Need-cast-result Inv-loop μ-loop
+cast-result c =
+    let ms = c .before .before .args .mates .now in
+    let b = count-le (metBy ms) (c .before .loop .h) in
+    let f = c .before .before .pre in
+    omega arith
 
 returns : tie.Need-returns Inv-loop μ-loop
 unfolding edgeCountBy
@@ -69,12 +77,13 @@ edge-count-spec =
     Inv-loop
     μ-loop
     loop-holds
+    cast-edges
     mul-edges
     shared-slice-read-edges
-    cast-edges
     cast-edges-2
     add-edges
     add-h
     loop-less
     loop-again
+    cast-result
     returns)
