@@ -11,7 +11,7 @@ use Rattle.search.specs.Search.{first, count}
 use Rattle.search.proofs.Tests.{clash, and-on, and-left, and-right}
 use Rattle.search.proofs.First.{first-holds, first-reach}
 use Rattle.search.proofs.Count.{count-onto}
-use Rattle.search.proofs.Pigeonhole.{Listed, listed-le}
+use Rattle.search.proofs.Pigeonhole.{listed-le}
 
 -- f takes each number below n at which p holds to one at which q holds, and g takes it back
 pub record Matches (n : ℕ) (p q : ℕ → Bool) (f g : ℕ → ℕ) : Type 0 where
