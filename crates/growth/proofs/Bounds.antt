@@ -1,20 +1,19 @@
--- Bounds on the counts of a control net, and after refinement steps.
+-- Bounds on the counts of a net, and after refinement steps.
 use mathlib.Core.Path.{_≡_, sym, ap, _∙_}
 use mathlib.Core.List.{List}
 use Prim.Native.Nat.{ℕ, zero, suc, _*_, _/_, _^_, _≤_, _<_}
 use native.Mathlib.Decide.{decLt}
 use native.Mathlib.Omega.{arith}
 use native.Mathlib.Nat.{pow-suc, pow-le-pow-right, mul-assoc, mul-le-mul}
-use lib.ListN.{length}
+use lib.ListN.{length, take}
 use Rattle.topology.specs.Shape.{Shape, quads}
+use Rattle.topology.specs.HalfEdge.{edgeCount}
 use Rattle.topology.proofs.Mates.{edges-le}
 use Rattle.polygons.specs.Polygons.{shapeOf, Sided}
 use Rattle.polygons.proofs.Counts.{shape-none, shape-some, faces-polygons, faces-le}
-use Rattle.nets.specs.Net.{ControlNet}
-use Rattle.splitting.specs.Drawn.{Drawn}
-use Rattle.splitting.proofs.Room.{drawn-vertices-le}
-use Rattle.growth.specs.Growth.{Counts, countsOf, grown, grownBy, Bounded}
-use Rattle.growth.proofs.Laws.{controlCounts}
+use Rattle.edgenumbers.specs.Edges.{edgeCountBy}
+use Rattle.growth.specs.Growth.{Counts, counts, countsOf, grown, grownBy, Bounded, Countable}
+use Rattle.growth.proofs.Edges.{edges-by-mates}
 
 -- ---- refinement steps
 bounded-grown : (c : Counts) → Bounded c → Bounded (grown c)
@@ -52,7 +51,6 @@ small-by k c b few seven =
     let f = d .faces in
     record { vertices = omega arith; edges = omega arith; faces = omega arith; corners = omega arith }
 
--- ---- the counts of a control net
 -- a face has three corners or more
 pub faces-few : (s : List ℕ) (n : ℕ) → Sided s n → 3 * shapeOf s .faces n ≤ n
 unfolding quads
@@ -62,8 +60,23 @@ faces-few s n k = go (decLt 0 (length s))
     go (yes b) = let f = ap (λ (S : Shape). S .faces n) (shape-some s b) ∙ faces-polygons s n in let t = faces-le s n (k .counts b) in omega arith
     go (no b) = let f : shapeOf s .faces n ≡ n / 4 = ap (λ (S : Shape). S .faces n) (shape-none s (omega arith)) in omega arith
 
-pub control-bounded : (m : ControlNet) → Drawn m → Bounded (controlCounts m)
-unfolding countsOf
-control-bounded m ok =
-    let f = faces-few (m .sides) (length (m .faces)) (ok .sided) in
-    record { vertices = drawn-vertices-le m ok; edges = edges-le (shapeOf (m .sides)) (m .faces); faces = omega arith }
+-- ---- what is counted in code: e edges, and a fourth of the corners or as many faces as side counts
+module _ (k : ℕ) (l s : List ℕ) (v : ℕ) (w : List ℕ) (x : Countable k l s v w) where
+  abbrev n : ℕ
+  n = length l
+
+  pub bounded : Bounded (countsOf (shapeOf s) v l)
+  unfolding countsOf
+  bounded = let f = faces-few s n (x .sided) in record { vertices = x .vertices; edges = edges-le (shapeOf s) l; faces = omega arith }
+
+  module _ (e : ℕ) (c : e ≡ edgeCountBy (take (length l) w)) where
+    edges-are : e ≡ edgeCount (shapeOf s) l
+    edges-are = c ∙ edges-by-mates (shapeOf s) l w (x .room) (x .mated)
+
+    pub counts-plain : length s ≡ 0 → counts v e (length l / 4) (length l) ≡ countsOf (shapeOf s) v l
+    unfolding countsOf quads
+    counts-plain z = let f = ap (λ (S : Shape). S .faces n) (shape-none s z) in λ i. counts v (edges-are i) (sym f i) n
+
+    pub counts-split : (length s ≡ 0 → ⊥) → counts v e (length s) (length l) ≡ countsOf (shapeOf s) v l
+    unfolding countsOf
+    counts-split z = let f = ap (λ (S : Shape). S .faces n) (shape-some s (omega arith)) ∙ faces-polygons s n in λ i. counts v (edges-are i) (sym f i) n

@@ -4,6 +4,8 @@ use Prim.Native.Nat.{ℕ, zero, suc, _+_, _*_, _≤_}
 use lib.ListN.{length}
 use Rattle.topology.specs.Shape.{Shape}
 use Rattle.topology.specs.HalfEdge.{edgeCount}
+use Rattle.polygons.specs.Polygons.{shapeOf, Sided}
+use Rattle.halfedges.specs.Tables.{MateTableOf}
 
 pub record Counts : Type 0 where
   pub vertices : ℕ
@@ -37,3 +39,12 @@ pub record Bounded (c : Counts) : Type 0 where
   pub vertices : c .vertices ≤ c .corners
   pub edges : c .edges ≤ c .corners
   pub faces : c .faces ≤ c .corners
+
+-- corners l of faces with the side counts s, of v vertices, for k rounds; their mates stand at the front of w
+pub record Countable (k : ℕ) (l s : List ℕ) (v : ℕ) (w : List ℕ) : Type 0 where
+  pub rounds : k ≤ 6
+  pub sided : Sided s (length l)
+  pub few : length l ≤ 16384
+  pub vertices : v ≤ length l
+  pub room : 2 * length l ≤ length w
+  pub mated : MateTableOf (shapeOf s) l w

@@ -18,7 +18,7 @@ use Rattle.verdict.specs.Verdict.{Verdict, accepted, refused, orElse, verdict, 
 use Rattle.verdict.proofs.Accepted.{or-accepted, accepted-limits}
 use Rattle.admission.specs.Admission.{RefusedCall, AdmittedCall}
 use Rattle.admission.proofs.Laws.{admitted-cleared}
-use Rattle.growth.specs.Growth.{splits, countsOf, grownBy}
+use Rattle.growth.specs.Growth.{splits, countsOf, grownBy, Countable}
 use Rattle.growth.proofs.Laws.{vertices-after}
 use Rattle.outcome.specs.Tally.{newPoints, tallyVerdict}
 use Rattle.outcome.specs.Outcome.{refinedTo, refusedWith, Request, request, roomOf, callOf, toAdd, requestVerdict, Outcome, refinedOutcome, refusedOutcome, outcomeBy, outcome}
@@ -28,7 +28,7 @@ use Rattle.outcome.proofs.Tally.{tally-if, tally-refused, few-points}
 use Rattle.refine.specs.declared.Answer.the-variants.{Refined, Refused}
 use Rattle.refine.specs.declared.Charged.{Charged}
 use Rattle.refine.specs.Answer.{answered}
-use Rattle.refine.specs.Run.{Ran, Countable}
+use Rattle.refine.specs.Run.{Ran}
 use Rattle.refine.proofs.Laws.{corners-limit, corners-room, corners-steps}
 
 -- the request with another work table
@@ -40,6 +40,14 @@ module _ (a : Request) where
   pub refused-outcome : (r p : ℕ) (w : List ℕ) → RefusedCall (callOf a) (a .buffers .work) r p w → answered (record { answer = Refused r p; points = a .tally }) (withWork a w .buffers) ≡ outcome a
   unfolding outcome requestVerdict
   refused-outcome r p w x = rw (x .refuses) (λ i. record { result = refusedWith r p; tally = a .tally; buffers = withWork a (x .work i) .buffers })
+
+  -- the work table as it is found does not matter
+  abbrev given : Buffers → List ℕ → Verdict → Outcome
+  given o w v = outcomeBy v (a .tally) (toAdd a) (steps kobbelt (a .rounds) (startNet (a .net))) o w
+
+  same-given : (u w : List ℕ) (v : Verdict) → given (withWork a u .buffers) w v ≡ given (a .buffers) w v
+  same-given u w accepted = refl
+  same-given u w (refused r p) = refl
 
   -- ---- admitted: the work table u that the admission leaves does not matter
   module _ (last : ℕ) (u : List ℕ) (x : AdmittedCall (callOf a) last u) (s : length u ≡ length (a .buffers .work)) where
@@ -53,11 +61,12 @@ module _ (a : Request) where
     same-outcome d =
         let o = a .buffers in
         let c = callOf a in
+        let p : Buffers = withWork a u .buffers in
         let w : workAfter c u ≡ workAfter c (o .work) = sym (admitted-cleared c last u x u (cleared (16 * last) u) refl refl) ∙ admitted-cleared c last u x (o .work) (cleared (16 * last) u) d refl in
-        (λ i.
-        let e = call (a .rounds) (a .net) (room (length (o .vertices)) (length (o .faces)) (length (o .marks)) (s i)) in
-        outcomeBy (orElse (verdict e) (tallyVerdict (a .tally) (toAdd a))) (a .tally) (toAdd a) (steps kobbelt (a .rounds) (startNet (a .net))) o (workAfter e u))
-        ∙ ap (λ (l : List ℕ). outcomeBy (orElse (verdict c) (tallyVerdict (a .tally) (toAdd a))) (a .tally) (toAdd a) (steps kobbelt (a .rounds) (startNet (a .net))) o l) w
+        let t = tallyVerdict (a .tally) (toAdd a) in
+        (λ i. let e = call (a .rounds) (a .net) (room (length (o .vertices)) (length (o .faces)) (length (o .marks)) (s i)) in given p (workAfter e u) (orElse (verdict e) t))
+        ∙ ap (λ (l : List ℕ). given p l (orElse (verdict c) t)) w
+        ∙ same-given u (workAfter c (o .work)) (orElse (verdict c) t)
 
   module _ (last : ℕ) (ok : AdmittedCall (callOf a) last (a .buffers .work)) where
     abbrev n : Net

@@ -4,8 +4,6 @@ use mathlib.Core.List.{List}
 use Prim.Native.Nat.{ℕ, _*_, _≤_}
 use lib.ListN.{length}
 use Rattle.curve.specs.Weights.{kobbelt}
-use Rattle.polygons.specs.Polygons.{shapeOf, Sided}
-use Rattle.halfedges.specs.Tables.{MateTableOf}
 use Rattle.tables.specs.Tables.{filled, cleared}
 use Rattle.scheme.specs.Step.{steps}
 use Rattle.splitting.specs.Splitting.{startNet}
@@ -33,12 +31,3 @@ pub record Finishing (k v n last : ℕ) (t : Buffers) : Type 0 where
   pub prepared : Prepared k v n last t
   pub few : last ≤ 262144
   pub room : 16 * last ≤ length (t .work)
-
--- corners l of faces with the side counts s, of v vertices, for k rounds, and their mates at the front of w
-pub record Countable (k : ℕ) (l s : List ℕ) (v : ℕ) (w : List ℕ) : Type 0 where
-  pub rounds : k ≤ 6
-  pub sided : Sided s (length l)
-  pub few : length l ≤ 16384
-  pub vertices : v ≤ length l
-  pub room : 2 * length l ≤ length w
-  pub mated : MateTableOf (shapeOf s) l w

@@ -1,17 +1,13 @@
 // The refining call.
 use admission::Admission;
 ghost use mathlib.Core.Path.{_≡_};
-ghost use Prim.Native.Nat.{_+_};
-ghost use lib.ListN.{length};
-ghost use Rattle.polygons.specs.Polygons.{shapeOf};
 ghost use Rattle.nets.specs.Net.{controlNet};
-ghost use Rattle.growth.specs.Growth.{splits, countsOf, grownBy};
 ghost use Rattle.admission.specs.Admission.{AdmittedCall};
 ghost use Rattle.verdict.specs.Call.{call};
 ghost use Rattle.outcome.specs.Outcome.{request, roomOf, outcome};
 ghost use Rattle.nets.specs.Buffers.{buffers};
 ghost use Rattle.refine.specs.Answer.{answered};
-ghost use Rattle.refine.specs.Run.{Ran, Finished, Finishing, Countable};
+ghost use Rattle.refine.specs.Run.{Ran, Finished, Finishing};
 
 // The largest tally that a call may leave.
 const TALLY_LIMIT: u64 = 4000000000;
@@ -109,19 +105,6 @@ fn run(
     )
 }
 
-// The number of vertices after all rounds on a net of v vertices; the mates stand at the front of the work table.
-fn final_vertices(rounds: u32, faces: &[u32], sides: &[u8], v: usize, work: &[u32]) -> usize
-    requires { ⌜ Countable rounds (now faces) (now sides) v (now work) ⌝ }
-    ensures { λ r. ⌜ r ≡ grownBy (rounds + splits (now (sides .entry))) (countsOf (shapeOf (now (sides .entry))) v (now (faces .entry))) .vertices ⌝ }
-{
-    let n = faces.len();
-    let edges = growth::edge_count(&work[..n]);
-    if sides.len() == 0 {
-        return growth::vertices_after(v, edges, n / 4, n, rounds);
-    }
-    growth::vertices_after(v, edges, sides.len(), n, rounds + 1)
-}
-
 // What follows the admission: refusal 15, or the rounds.
 fn refine_admitted(
     points: u64,
@@ -142,7 +125,7 @@ fn refine_admitted(
         (buffers (now («out_vertices» .entry)) (now («out_faces» .entry)) (now («out_marks» .entry)) (now (work .entry)))) ⌝ }
 {
     let v = marks.len();
-    let new = (final_vertices(rounds, faces, sides, v, &*work) - v) as u64;
+    let new = (growth::final_vertices(rounds, faces, sides, v, &*work) - v) as u64;
     if TALLY_LIMIT - new < points {
         tables::clear(&mut *work, 16 * last);
         return Charged {
