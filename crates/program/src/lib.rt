@@ -34,7 +34,8 @@ fn refine_net(rounds: u32, vertices: &[i32], faces: &[u32], marks: &[u8], out: &
         &mut out_marks,
         &mut work,
     );
-    match charged.answer {
+    let answer = charged.answer;
+    match answer {
         Answer::Refined(v, f) => {
             printing::write_net(out, &out_vertices, &out_faces, &out_marks, v, f)
         }
