@@ -10,7 +10,7 @@ use Rattle.topology.specs.HalfEdge.{from, to, opposed, mate, firstMet, edgeCoun
 use Rattle.topology.specs.Boundary.{isBoundaryFrom, boundaryFrom}
 use Rattle.topology.specs.Vertex.{leaves, valence, turn, start, stops, facesMet}
 use Rattle.refusals.specs.Refusals.{badMark, badCorner, isolated, repeatedSide, nonManifold, badValence, markedRing}
-use Rattle.polygons.specs.Polygons.{sideAfter, sideBefore, faceThen, noFace, polygons, shapeOf, total, badCount, badSides}
+use Rattle.polygons.specs.Polygons.{sideAfter, sideBefore, faceThen, noFace, polygons, shapeOf}
 use Rattle.refinedfaces.specs.Refined.{corner, refined, refinedMarks}
 use Rattle.nets.specs.Net.{ControlNet, controlNet}
 use Rattle.nets.specs.Buffers.{Buffers, buffers}

@@ -10,10 +10,9 @@ use borrow.Author.Tests.{le-ltb, lt-ltb}
 use Rattle.curve.specs.Weights.{kobbelt}
 use Rattle.nets.specs.Net.{ControlNet, controlNet}
 use Rattle.refinedfaces.specs.Refined.{verticesAfter}
-use Rattle.scheme.specs.Step.{steps}
 use Rattle.schemelaws.proofs.Steps.{steps-count}
 use Rattle.splitting.specs.Splitting.{split, startNet}
-use Rattle.verdict.specs.Call.{Call, finalFaces}
+use Rattle.verdict.specs.Call.{Call}
 use Rattle.verdict.specs.Verdict.{Verdict, accepted, refused, orElse, verdict}
 use Rattle.verdict.proofs.Accepted.{never, or-accepted, accepted-limits, accepted-fewer}
 use Rattle.outcome.specs.Tally.{newPoints, tallyVerdict}

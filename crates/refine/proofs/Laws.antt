@@ -23,7 +23,7 @@ use Rattle.schemelaws.proofs.Steps.{refinable-steps}
 use Rattle.admission.specs.Admission.{AdmittedCall}
 use Rattle.admission.proofs.Laws.{admitted-faces, admitted-room}
 use Rattle.outcome.specs.Outcome.{roomOf}
-use Rattle.nets.specs.Buffers.{Buffers, buffers, front}
+use Rattle.nets.specs.Buffers.{Buffers, front}
 use Rattle.splitting.specs.Splitting.{startNet}
 use Rattle.splitting.specs.Drawn.{Drawn}
 use Rattle.splitting.proofs.Split.{split-corners, start-none, start-split}

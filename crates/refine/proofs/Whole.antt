@@ -15,18 +15,17 @@ use Rattle.splitting.specs.Drawn.{Drawn}
 use Rattle.splitting.proofs.Room.{drawn-vertices-le}
 use Rattle.verdict.specs.Call.{room, call}
 use Rattle.verdict.specs.Verdict.{Verdict, accepted, refused, orElse, verdict, workAfter}
-use Rattle.verdict.proofs.Accepted.{or-accepted, accepted-limits}
+use Rattle.verdict.proofs.Accepted.{accepted-limits}
 use Rattle.admission.specs.Admission.{RefusedCall, AdmittedCall}
 use Rattle.admission.proofs.Laws.{admitted-cleared}
 use Rattle.growth.specs.Growth.{splits, countsOf, grownBy, Countable}
 use Rattle.growth.proofs.Laws.{vertices-after}
 use Rattle.outcome.specs.Tally.{newPoints, tallyVerdict}
-use Rattle.outcome.specs.Outcome.{refinedTo, refusedWith, Request, request, roomOf, callOf, toAdd, requestVerdict, Outcome, refinedOutcome, refusedOutcome, outcomeBy, outcome}
+use Rattle.outcome.specs.Outcome.{refinedTo, refusedWith, Request, request, callOf, toAdd, requestVerdict, Outcome, refusedOutcome, outcomeBy, outcome}
 use Rattle.outcome.proofs.Accepted.{accepted-drawn}
 use Rattle.outcome.proofs.Counts.{drawn-among}
 use Rattle.outcome.proofs.Tally.{tally-if, tally-refused, few-points}
 use Rattle.refine.specs.declared.Answer.the-variants.{Refined, Refused}
-use Rattle.refine.specs.declared.Charged.{Charged}
 use Rattle.refine.specs.Answer.{answered}
 use Rattle.refine.specs.Run.{Ran}
 use Rattle.refine.proofs.Laws.{corners-limit, corners-room, corners-steps}
