@@ -46,7 +46,7 @@ mul-clear : tie.Need-mul-clear
 mul-clear c = let s = start (c .before .before) in let l = last-le (s .args .rounds) (asked s .net) (asked s .buffers) (s .args .last) (s .pre) in omega arith
 
 clear-requires : tie.Need-clear-requires
-clear-requires c κs = let s = start (c .before .before) in room-work (s .args .rounds) (asked s .net) (asked s .buffers) (s .args .last) (s .pre)
+clear-requires c κs = let s = start (c .before .before) in let r = room-work (s .args .rounds) (asked s .net) (asked s .buffers) (s .args .last) (s .pre) in omega arith
 
 same-length : tie.Need-same-length
 same-length c = search needs
