@@ -16,7 +16,7 @@ use crate::counts::Counts;
 use crate::run::shown;
 
 /// A series that begins near the limit begins at most so many points below it.
-const NEAR: usize = 4_000;
+const NEAR: usize = 1_000;
 
 /// What the compared series were.
 pub struct Series {
