@@ -67,8 +67,9 @@
  * absolute value.
  *
  * Let a net be moved: one whole number is added to the x of every vertex, one to every y and one to
- * every z. If the coordinates of both nets are in the range above, the call on the moved net reports
- * the same, a refusal too, gives the same faces and marks, and the same points moved by these numbers.
+ * every z. If the coordinates of both nets are in the range above, and the records of new points are
+ * equal, the call on the moved net reports the same, a refusal too, adds the same to the record, gives
+ * the same faces and marks, and the same points moved by these numbers.
  * This does not hold of mirroring: where a half is rounded, a mirrored net may give other points than
  * the mirrored ones.
  *
@@ -78,7 +79,7 @@
  *
  * The record of new points
  *
- * Every refining call is lent a record, which counts the points that are paid for. An accepted call
+ * Every refining call takes a record, which counts the points that are paid for. An accepted call
  * adds the number of refined vertices minus the number of drawn ones: with side counts the points of
  * the split too, with 0 rounds and no side counts nothing. A refused call adds nothing. A record that
  * starts at 0, and that nothing but calls writes, is the sum over its accepted calls.
@@ -414,7 +415,7 @@ GEDROVIT_API gedrovit_report gedrovit_refine(gedrovit_tally *tally, uint32_t rou
 
 /*
  * Checks without refining: the reason and place that gedrovit_refine would report for output tables
- * of these lengths, but for 15: no record is lent, so none is judged or changed. The work table is
+ * of these lengths, but for 15: it takes no record, so none is judged or changed. The work table is
  * needed, and afterwards holds what it would after that call.
  */
 GEDROVIT_API gedrovit_finding gedrovit_check(uint32_t rounds,

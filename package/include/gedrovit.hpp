@@ -33,7 +33,7 @@ struct net {
     }
 };
 
-// The record of new points that every refining call is lent. A fresh one is tally{}.
+// The record of new points that every refining call takes. A fresh one is tally{}.
 using tally = gedrovit_tally;
 
 // Why a call was refused: the first reason that holds, an enum gedrovit_reason in the order that stands there, and its place.

@@ -167,7 +167,7 @@ static void limits_of_sides(void)
     answer_by("MAX_FACES + 1 corners", 0, loose(4, GEDROVIT_MAX_FACES + 3), tables(), GEDROVIT_NET_TOO_LARGE, 0);
 }
 
-/* A square refined once has 5 new points; 0 rounds have none. The check is lent no record. */
+/* A square refined once has 5 new points; 0 rounds have none. The check takes no record. */
 static void limit_of_record(void)
 {
     square();

@@ -116,8 +116,8 @@ pub fn refine(
 }
 
 /// Whether [`refine`] would refine the net into tables of these lengths and this work table, which
-/// is left as by that call. `lengths.work` does not count. No record is lent, so the limit on it is
-/// not judged.
+/// is left as by that call. `lengths.work` does not count. It takes no record, so the limit on that
+/// is not judged.
 ///
 /// # Errors
 ///

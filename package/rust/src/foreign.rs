@@ -1,6 +1,6 @@
 //! The functions in the archive, as `gedrovit.h` declares them.
 
-/// The record of new points, which every refining call is lent. An accepted call adds the number of
+/// The record of new points, which every refining call takes. An accepted call adds the number of
 /// refined vertices minus the number of drawn ones, with side counts the points of the split too; a
 /// refused call adds nothing.
 #[repr(C)]

@@ -22,7 +22,7 @@
 //! # Ok::<(), gedrovit::Refusal>(())
 //! ```
 //!
-//! Every refining call is lent a [`Tally`], the record of new points that makers pay by: an accepted
+//! Every refining call takes a [`Tally`], the record of new points that makers pay by: an accepted
 //! call adds the number of refined vertices minus the number of drawn ones, a refused one nothing.
 //!
 //! Other faces than quadrilaterals come with side counts; zero rounds give the split net:
