@@ -220,6 +220,16 @@ types_only() {
     "${c[@]}" -I "$prefix/include" "$scratch/types.c" -o "$scratch/types" && "$scratch/types"
 }
 
+# A refining call without the record of new points does not compile, in C and in C++.
+no_record() {
+    local made='gedrovit_report made(gedrovit_tally *tally, const gedrovit_net *net, const gedrovit_tables *tables)'
+    printf '#include <gedrovit.h>\n%s;\n%s\n{\n    (void)tally;\n    return gedrovit_refine_net(RECORD 1, net, tables);\n}\n' "$made" "$made" >"$scratch/call.c"
+    for compiler in "${CC:-cc} -std=c11 -x c" "${CXX:-c++} -std=c++17 -x c++"; do
+        $compiler -w -fsyntax-only -I "$prefix/include" -DRECORD=tally, "$scratch/call.c" \
+            && ! $compiler -w -fsyntax-only -I "$prefix/include" -DRECORD= "$scratch/call.c" 2>"$scratch/said" && grep -q 'too few arguments' "$scratch/said" || return
+    done
+}
+
 # plugin NAME INCLUDES LIBRARIES LANGUAGE [WORD ..]: a plug-in; nothing is inlined
 plugin() {
     local compiler=("${CC:-cc}" -std=c11 -x c)
@@ -289,6 +299,7 @@ check "constants of the header" constants
 check "wrong constants are seen" wrong_constants
 check "header and archive of different versions" version_guard
 check "types without an archive" types_only
+check "a refining call without the record" no_record
 check "two plug-ins with archives" plugins
 check "archive in a shared object" shared_object
 check "nets in vectors" vectors
