@@ -226,7 +226,7 @@ no_record() {
     printf '#include <gedrovit.h>\n%s;\n%s\n{\n    (void)tally;\n    return gedrovit_refine_net(RECORD 1, net, tables);\n}\n' "$made" "$made" >"$scratch/call.c"
     for compiler in "${CC:-cc} -std=c11 -x c" "${CXX:-c++} -std=c++17 -x c++"; do
         $compiler -w -fsyntax-only -I "$prefix/include" -DRECORD=tally, "$scratch/call.c" \
-            && ! $compiler -w -fsyntax-only -I "$prefix/include" -DRECORD= "$scratch/call.c" 2>"$scratch/said" && grep -q 'too few arguments' "$scratch/said" || return
+            && ! $compiler -w -fsyntax-only -I "$prefix/include" -DRECORD= "$scratch/call.c" 2>"$scratch/said" && grep -q 'call.c:6:.*error' "$scratch/said" || return
     done
 }
 
