@@ -1,5 +1,5 @@
 #!/usr/bin/env python3
-"""Holds the documents to the tree: what tools/guarantees.py makes, every name in the promises, the layers of docs/ARCHITECTURE.md, the lines of crates.txt."""
+"""Holds the documents to the tree: what tools/guarantees.py and tools/walk.py make, every name in the promises, the layers of docs/ARCHITECTURE.md, the lines of crates.txt."""
 import pathlib
 import re
 import subprocess
@@ -26,10 +26,11 @@ def files_of(crate, endings):
     return [path for path in sorted((ROOT / "crates" / crate).rglob("*")) if path.suffix in endings and "must-fail" not in path.parts]
 
 
-def guarantees_faults():
-    made = subprocess.run([sys.executable, str(ROOT / "tools" / "guarantees.py"), "--check"], capture_output=True, text=True)
-    if made.returncode != 0:
-        yield made.stderr.strip()
+def made_faults():
+    for tool in ("guarantees.py", "walk.py"):
+        made = subprocess.run([sys.executable, str(ROOT / "tools" / tool), "--check"], capture_output=True, text=True)
+        if made.returncode != 0:
+            yield made.stderr.strip()
 
 
 def promise_faults():
@@ -78,7 +79,7 @@ def dependency_faults():
             yield f"crates.txt: {name} stands before {later}, which it names"
 
 
-faults = [*guarantees_faults(), *promise_faults(), *layer_faults(), *dependency_faults()]
+faults = [*made_faults(), *promise_faults(), *layer_faults(), *dependency_faults()]
 for fault in faults:
     print(fault)
 sys.exit(1 if faults else 0)

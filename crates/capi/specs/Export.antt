@@ -8,6 +8,7 @@ use Rattle.outcome.specs.Outcome.{Result, refinedTo, refusedWith, Outcome}
 use Rattle.nets.specs.Buffers.{Buffers}
 use Rattle.capi.specs.declared.Finding.{Finding}
 use Rattle.capi.specs.declared.Report.{Report}
+use Rattle.capi.specs.declared.Charged.{Charged}
 use Rattle.capi.specs.declared.Sizes.{Sizes}
 
 -- reason 0: accepted
@@ -31,16 +32,17 @@ abbrev pub report : Result → Report
 report (refinedTo v f) = record { reason = 0; place = 0; vertices = v; faces = f }
 report (refusedWith r p) = record { reason = r; place = p; vertices = 0; faces = 0 }
 
--- the numbers that the function returns, and the caller's tables as it leaves them
+-- the numbers that the function returns, the points in the caller's record and the caller's tables as it leaves them
 pub record RefineExport : Type 0 where
   pub report : Report
+  pub points : ℕ
   pub buffers : Buffers
 
-abbrev pub refineExportOf : Report → Buffers → RefineExport
-refineExportOf r o = record { report = r; buffers = o }
+abbrev pub chargedExportOf : Charged → Buffers → RefineExport
+chargedExportOf c o = record { report = c .report; points = c .points; buffers = o }
 
 abbrev pub refineExport : Outcome → RefineExport
-refineExport o = refineExportOf (report (o .result)) (o .buffers)
+refineExport o = record { report = report (o .result); points = o .tally; buffers = o .buffers }
 
 -- the lengths, or the refusal that holds whatever tables are given, with lengths 0
 abbrev pub sizesBy : Verdict → Room → Sizes

@@ -8,7 +8,7 @@ ghost use Rattle.admission.specs.Answer.{verdictOf, checked};
 ghost use Rattle.outcome.specs.Outcome.{request, outcome};
 ghost use Rattle.nets.specs.Buffers.{buffers};
 ghost use Rattle.refine.specs.Answer.{resultOf};
-ghost use Rattle.capi.specs.Export.{finding, checkExportOf, checkExport, report, refineExportOf, refineExport, sizes};
+ghost use Rattle.capi.specs.Export.{finding, checkExportOf, checkExport, report, chargedExportOf, refineExport, sizes};
 use admission::Answer;
 use limits::Lengths;
 
@@ -26,6 +26,18 @@ pub struct Report {
     pub place: u64,
     pub vertices: u64,
     pub faces: u64,
+}
+
+// The caller's record of new points, over all calls.
+#[repr(C)]
+pub struct Tally {
+    pub points: u64,
+}
+
+// The report, and what the record of new points then holds.
+pub struct Charged {
+    pub report: Report,
+    pub points: u64,
 }
 
 fn finding_of(answer: Answer) -> Finding
@@ -92,9 +104,9 @@ fn report_of(answer: refine::Answer) -> Report
     }
 }
 
-// The refined net in the output tables and both counts, or the refusal's number and place.
-#[no_mangle]
-pub extern "C" fn gedrovit_refine(
+// The refining call from a record of this many points.
+fn refine_from(
+    points: u64,
     rounds: u32,
     vertices: &[i32],
     faces: &[u32],
@@ -104,12 +116,13 @@ pub extern "C" fn gedrovit_refine(
     out_faces: &mut [u32],
     out_marks: &mut [u8],
     work: &mut [u32],
-) -> Report
-    ensures { λ r. ⌜ refineExportOf r (buffers (now («out_vertices» .exit)) (now («out_faces» .exit)) (now («out_marks» .exit)) (now (work .exit))) ≡
-        refineExport (outcome (request rounds (controlNet (now (vertices .entry)) (now (faces .entry)) (now (sides .entry)) (now (marks .entry)))
+) -> Charged
+    ensures { λ r. ⌜ chargedExportOf r (buffers (now («out_vertices» .exit)) (now («out_faces» .exit)) (now («out_marks» .exit)) (now (work .exit))) ≡
+        refineExport (outcome (request points rounds (controlNet (now (vertices .entry)) (now (faces .entry)) (now (sides .entry)) (now (marks .entry)))
         (buffers (now («out_vertices» .entry)) (now («out_faces» .entry)) (now («out_marks» .entry)) (now (work .entry))))) ⌝ }
 {
-    let answer = refine::refine(
+    let charged = refine::refine(
+        points,
         rounds,
         vertices,
         faces,
@@ -120,7 +133,45 @@ pub extern "C" fn gedrovit_refine(
         &mut *out_marks,
         &mut *work,
     );
-    report_of(answer)
+    let answer = charged.answer;
+    Charged {
+        report: report_of(answer),
+        points: charged.points,
+    }
+}
+
+// The refined net in the output tables and both counts, with its new points added to the record; or the refusal's number and place, and the record as it was.
+#[no_mangle]
+pub extern "C" fn gedrovit_refine(
+    tally: &mut Tally,
+    rounds: u32,
+    vertices: &[i32],
+    faces: &[u32],
+    sides: &[u8],
+    marks: &[u8],
+    out_vertices: &mut [i32],
+    out_faces: &mut [u32],
+    out_marks: &mut [u8],
+    work: &mut [u32],
+) -> Report
+    ensures { λ r. ⌜ chargedExportOf (record { report = r; points = now (tally .exit) .points }) (buffers (now («out_vertices» .exit)) (now («out_faces» .exit)) (now («out_marks» .exit)) (now (work .exit))) ≡
+        refineExport (outcome (request (now (tally .entry) .points) rounds (controlNet (now (vertices .entry)) (now (faces .entry)) (now (sides .entry)) (now (marks .entry)))
+        (buffers (now («out_vertices» .entry)) (now («out_faces» .entry)) (now («out_marks» .entry)) (now (work .entry))))) ⌝ }
+{
+    let charged = refine_from(
+        tally.points,
+        rounds,
+        vertices,
+        faces,
+        sides,
+        marks,
+        out_vertices,
+        out_faces,
+        out_marks,
+        work,
+    );
+    tally.points = charged.points;
+    charged.report
 }
 
 // The lengths that the output tables and the work table of a call must have at least, in elements.
@@ -184,12 +235,12 @@ pub extern "C" fn gedrovit_sizes_for(
 pub extern "C" fn gedrovit_version() -> u32
     ensures { λ r. ⌜ r ≡ version ⌝ }
 {
-    3000
+    4000
 }
 
 // The same under a name that has the version in it: a program that was compiled with another version's header does not link.
 #[no_mangle]
-pub extern "C" fn gedrovit_version_0_3_0() -> u32
+pub extern "C" fn gedrovit_version_0_4_0() -> u32
     ensures { λ r. ⌜ r ≡ version ⌝ }
 {
     gedrovit_version()

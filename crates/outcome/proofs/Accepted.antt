@@ -10,27 +10,41 @@ use Rattle.tables.proofs.Laws.{take-filled}
 use Rattle.nets.proofs.Laws.{same-net}
 use Rattle.verdict.specs.Call.{Call}
 use Rattle.verdict.specs.Verdict.{Verdict, accepted, refused, verdict, workAfter}
-use Rattle.verdict.proofs.Accepted.{accepted-limits, accepted-net}
+use Rattle.verdict.proofs.Accepted.{or-both, accepted-limits, accepted-net}
 use Rattle.scheme.specs.Step.{steps}
 use Rattle.splitting.specs.Splitting.{startNet}
 use Rattle.splitting.specs.Drawn.{Drawn}
 use Rattle.splitting.proofs.Split.{start-refinable}
 use Rattle.schemelaws.specs.Nets.{Refinable}
 use Rattle.schemelaws.proofs.Steps.{refinable-steps}
-use Rattle.outcome.specs.Outcome.{refinedTo, Request, forRounds, Outcome, callOf, outcomeBy, outcome}
+use Rattle.outcome.specs.Tally.{newPoints, tallyVerdict}
+use Rattle.outcome.specs.Outcome.{refinedTo, Request, forRounds, Outcome, callOf, requestVerdict, outcomeBy, outcome}
 use Rattle.nets.specs.Buffers.{Buffers}
 use Rattle.outcome.specs.SharedSegment.{AcceptedFor, netBy, netAfter}
 
 -- ---- the verdict behind the result
-pub by-result : (v : Verdict) (n : Net) (o : Buffers) (w : List ℕ) (x y : ℕ) → outcomeBy v n o w .result ≡ refinedTo x y → v ≡ accepted
-by-result accepted n o w x y e = refl
-by-result (refused r p) n o w x y e = let z : _≡_ {A = ℕ} 0 1 = cc in absurd (omega arith)
+pub by-result : (v : Verdict) (t d : ℕ) (n : Net) (o : Buffers) (w : List ℕ) (x y : ℕ) → outcomeBy v t d n o w .result ≡ refinedTo x y → v ≡ accepted
+by-result accepted t d n o w x y e = refl
+by-result (refused r p) t d n o w x y e = let z : _≡_ {A = ℕ} 0 1 = cc in absurd (omega arith)
 
-pub accepted-verdict : (a : Request) (k : ℕ) → AcceptedFor a k → verdict (callOf (forRounds k a)) ≡ accepted
-unfolding outcome
-accepted-verdict a k h =
-    let c = callOf (forRounds k a) in
-    by-result (verdict c) (steps kobbelt k (startNet (a .net))) (a .buffers) (workAfter c (a .buffers .work)) (h .vertices) (h .faces) (h .result)
+module _ (a : Request) (k : ℕ) (h : AcceptedFor a k) where
+  abbrev c : Call
+  c = callOf (forRounds k a)
+
+  accepted-request : requestVerdict (forRounds k a) ≡ accepted
+  unfolding outcome
+  accepted-request =
+      by-result (requestVerdict (forRounds k a)) (a .tally) (newPoints k (a .net)) (steps kobbelt k (startNet (a .net))) (a .buffers) (workAfter c (a .buffers .work)) (h .vertices) (h .faces) (h .result)
+
+  both : (verdict c ≡ accepted) × (tallyVerdict (a .tally) (newPoints k (a .net)) ≡ accepted)
+  unfolding requestVerdict
+  both = or-both (verdict c) (tallyVerdict (a .tally) (newPoints k (a .net))) accepted-request
+
+  pub accepted-verdict : verdict (callOf (forRounds k a)) ≡ accepted
+  accepted-verdict = both .0
+
+  pub accepted-tally : tallyVerdict (a .tally) (newPoints k (a .net)) ≡ accepted
+  accepted-tally = both .1
 
 -- ---- what an accepted net has
 pub accepted-drawn : (c : Call) → verdict c ≡ accepted → Drawn (c .net)
@@ -54,11 +68,15 @@ accepted-refinable c e = start-refinable (c .net) (accepted-drawn c e)
 -- ---- the net at the front of the outputs
 -- the outcome of the request for k rounds, were v the verdict and n the refined net
 abbrev pub given : Request → ℕ → Verdict → Net → Outcome
-given a k v n = outcomeBy v n (a .buffers) (workAfter (callOf (forRounds k a)) (a .buffers .work))
+given a k v n = outcomeBy v (a .tally) (newPoints k (a .net)) n (a .buffers) (workAfter (callOf (forRounds k a)) (a .buffers .work))
 
-module _ (a : Request) (k : ℕ) (e : verdict (callOf (forRounds k a)) ≡ accepted) where
+module _ (a : Request) (k : ℕ) (e : requestVerdict (forRounds k a) ≡ accepted) where
+  abbrev call : Call
+  call = callOf (forRounds k a)
+
   after : Refinable (steps kobbelt k (startNet (a .net)))
-  after = refinable-steps kobbelt (startNet (a .net)) (accepted-refinable (callOf (forRounds k a)) e) k
+  unfolding requestVerdict
+  after = refinable-steps kobbelt (startNet (a .net)) (accepted-refinable call (or-both (verdict call) (tallyVerdict (a .tally) (newPoints k (a .net))) e .0)) k
 
   pub accepted-result : AcceptedFor a k
   unfolding outcome

@@ -5,7 +5,7 @@ use native.Mathlib.Omega.{arith}
 use Rattle.curve.specs.Weights.{kobbelt}
 use Rattle.curve.proofs.Kobbelt.{tame}
 use Rattle.nets.specs.Net.{Net}
-use Rattle.verdict.proofs.Accepted.{accepted-limits, accepted-fewer, accepted-coordinate}
+use Rattle.verdict.proofs.Accepted.{accepted-limits, accepted-coordinate}
 use Rattle.integers.specs.Within.{Within}
 use Rattle.schemelaws.proofs.Growth.{steps-within}
 use Rattle.splitting.specs.Splitting.{startNet}
@@ -14,13 +14,14 @@ use Rattle.outcome.specs.Outcome.{Request, callOf}
 use Rattle.outcome.specs.SharedSegment.{AcceptedFor, netAfter}
 use Rattle.outcome.specs.Coordinates.{CoordinatesStay}
 use Rattle.outcome.proofs.Accepted.{accepted-verdict, accepted-drawn, accepted-refinable, accepted-after}
+use Rattle.outcome.proofs.Tally.{accepted-for-fewer}
 
 stays : (a : Request) → AcceptedFor a (a .rounds) → (k : ℕ) → k ≤ a .rounds → Within 268435456 (netAfter a k .vertices)
 stays a h k b =
     let c = callOf a in
     let e = accepted-verdict a (a .rounds) h in
     let f = accepted-limits c e .few in
-    subst (λ (n : Net). Within 268435456 (n .vertices)) (sym (accepted-after a k (accepted-fewer c k b e)))
+    subst (λ (n : Net). Within 268435456 (n .vertices)) (sym (accepted-after a k (accepted-for-fewer a h k b)))
     (steps-within kobbelt tame (startNet (a .net)) (accepted-refinable c e) (start-within (a .net) (accepted-drawn c e) 1048576 (record { at = accepted-coordinate c e })) k (omega arith))
 
 pub coordinates-stay : CoordinatesStay

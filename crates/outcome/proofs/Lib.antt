@@ -1,4 +1,8 @@
 pub mod Accepted
+pub mod Counts
+pub mod Tally
+pub mod Series
+pub mod Examples
 pub mod SharedSegment
 pub mod Coordinates
 pub mod AsBefore

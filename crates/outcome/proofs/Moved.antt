@@ -17,11 +17,14 @@ use Rattle.schemelaws.proofs.Moved.{steps-moved}
 use Rattle.splitting.specs.Splitting.{startNet}
 use Rattle.splitting.proofs.Moved.{start-moved}
 use Rattle.verdict.specs.Call.{Call}
-use Rattle.verdict.specs.Verdict.{Verdict, accepted, refused, verdict, workAfter}
+use Rattle.verdict.specs.Verdict.{Verdict, accepted, refused, orElse, verdict, workAfter}
+use Rattle.verdict.proofs.Accepted.{or-both}
 use Rattle.verdict.proofs.Coordinates.{same-verdict, same-work}
-use Rattle.outcome.specs.Outcome.{Request, forRounds, Outcome, callOf, outcomeBy, outcome}
+use Rattle.outcome.specs.Tally.{newPoints, tallyVerdict}
+use Rattle.outcome.specs.Outcome.{Request, forRounds, Outcome, callOf, requestVerdict, outcomeBy, outcome}
 use Rattle.outcome.specs.SharedSegment.{resultAfter, netBy, netAfter}
 use Rattle.outcome.specs.Moved.{movedBy, MovedAfter, MovedNets}
+use Rattle.outcome.proofs.Tally.{same-points}
 use Rattle.outcome.proofs.Accepted.{given, accepted-drawn, accepted-refinable, accepted-after}
 
 -- no vertices, moved
@@ -44,29 +47,40 @@ module _ (s : Point) (a : Request) (here : Within 1048576 (a .net .vertices)) (t
   abbrev n′ : Net
   n′ = steps kobbelt k (startNet (movedControl s (a .net)))
 
-  one-verdict : verdict (callOf (forRounds k (movedBy s a))) ≡ verdict c
-  one-verdict = same-verdict k (a .net .vertices) (movedVertices s (a .net .vertices)) (a .net .faces) (a .net .sides) (a .net .marks) (c .room) (moved-length s (a .net .vertices)) here there
+  one-check : verdict (callOf (forRounds k (movedBy s a))) ≡ verdict c
+  one-check = same-verdict k (a .net .vertices) (movedVertices s (a .net .vertices)) (a .net .faces) (a .net .sides) (a .net .marks) (c .room) (moved-length s (a .net .vertices)) here there
+
+  one-figure : newPoints k (movedControl s (a .net)) ≡ newPoints k (a .net)
+  one-figure = same-points k (movedVertices s (a .net .vertices)) (a .net .vertices) (a .net .faces) (a .net .sides) (a .net .marks)
+
+  one-verdict : requestVerdict (forRounds k (movedBy s a)) ≡ requestVerdict (forRounds k a)
+  unfolding requestVerdict
+  one-verdict = ap₂ (λ (v : Verdict) (d : ℕ). orElse v (tallyVerdict (a .tally) d)) one-check one-figure
 
   one-work : workAfter (callOf (forRounds k (movedBy s a))) (a .buffers .work) ≡ workAfter c (a .buffers .work)
   one-work = same-work k (a .net .vertices) (movedVertices s (a .net .vertices)) (a .net .faces) (a .net .sides) (a .net .marks) (c .room) (moved-length s (a .net .vertices)) (a .buffers .work)
 
-  moved-given : (v : Verdict) → verdict c ≡ v → resultAfter (movedBy s a) k ≡ given a k v n′
+  moved-given : (v : Verdict) → requestVerdict (forRounds k a) ≡ v → resultAfter (movedBy s a) k ≡ given a k v n′
   unfolding outcome
-  moved-given v e = ap₂ (λ (u : Verdict) (w : List ℕ). outcomeBy u n′ (a .buffers) w) (one-verdict ∙ e) one-work
+  moved-given v e = λ i. outcomeBy ((one-verdict ∙ e) i) (a .tally) (one-figure i) n′ (a .buffers) (one-work i)
 
-  here-given : (v : Verdict) → verdict c ≡ v → resultAfter a k ≡ given a k v n
+  here-given : (v : Verdict) → requestVerdict (forRounds k a) ≡ v → resultAfter a k ≡ given a k v n
   unfolding outcome
   here-given v e = ap (λ (u : Verdict). given a k u n) e
 
-  nets-moved : verdict c ≡ accepted → n′ ≡ moved s n
-  nets-moved e = ap (steps kobbelt k) (start-moved s (a .net) (accepted-drawn c e)) ∙ steps-moved kobbelt tame s (startNet (a .net)) (accepted-refinable c e) k
+  nets-moved : requestVerdict (forRounds k a) ≡ accepted → n′ ≡ moved s n
+  unfolding requestVerdict
+  nets-moved r =
+      let e = or-both (verdict c) (tallyVerdict (a .tally) (newPoints k (a .net))) r .0 in
+      ap (steps kobbelt k) (start-moved s (a .net) (accepted-drawn c e)) ∙ steps-moved kobbelt tame s (startNet (a .net)) (accepted-refinable c e) k
 
-  by : (v : Verdict) → verdict c ≡ v → MovedAfter s a k
+  by : (v : Verdict) → requestVerdict (forRounds k a) ≡ v → MovedAfter s a k
   by accepted e =
       let p : resultAfter (movedBy s a) k ≡ given a k accepted (moved s n) = moved-given accepted e ∙ ap (given a k accepted) (nets-moved e) in
       let q : resultAfter a k ≡ given a k accepted n = here-given accepted e in
       record {
         result = ap (λ (o : Outcome). o .result) p ∙ sym (ap (λ (o : Outcome). o .result) q);
+        tally = ap (λ (o : Outcome). o .tally) p ∙ sym (ap (λ (o : Outcome). o .tally) q);
         net = accepted-after (movedBy s a) k (one-verdict ∙ e) ∙ nets-moved e ∙ ap (moved s) (sym (accepted-after a k e));
         vertices = ap (λ (o : Outcome). o .buffers .vertices) p ∙ ap (λ (m : Net). filled (movedVertices s (m .vertices)) (a .buffers .vertices)) (sym (accepted-after a k e));
         faces = ap (λ (o : Outcome). o .buffers .faces) p ∙ sym (ap (λ (o : Outcome). o .buffers .faces) q);
@@ -80,6 +94,7 @@ module _ (s : Point) (a : Request) (here : Within 1048576 (a .net .vertices)) (t
       let none : netAfter a k ≡ net [] [] [] = ap (λ (t : Outcome). netBy (t .result) t) y in
       record {
         result = ap (λ (t : Outcome). t .result) o;
+        tally = ap (λ (t : Outcome). t .tally) o;
         net = ap (λ (t : Outcome). netBy (t .result) t) x ∙ sym (ap (moved s) none ∙ ap (λ (vs : List ℤ). net vs [] []) (moved-none s));
         vertices = ap (λ (t : Outcome). t .buffers .vertices) x ∙ sym (ap (λ (m : Net). filled (movedVertices s (m .vertices)) (a .buffers .vertices)) none ∙ none-filled s (a .buffers .vertices));
         faces = ap (λ (t : Outcome). t .buffers .faces) o;
@@ -88,4 +103,4 @@ module _ (s : Point) (a : Request) (here : Within 1048576 (a .net .vertices)) (t
       }
 
 pub moved-nets : MovedNets
-moved-nets = record { moves = λ s a h t k. by s a h t k (verdict (callOf (forRounds k a))) refl }
+moved-nets = record { moves = λ s a h t k. by s a h t k (requestVerdict (forRounds k a)) refl }

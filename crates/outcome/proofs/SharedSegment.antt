@@ -1,24 +1,18 @@
 -- Demand 3: two accepted calls whose nets share a boundary segment still share it after every round. Assumes nothing.
 use mathlib.Core.Path.{_≡_, sym, subst}
 use mathlib.Core.Logic.{_↔_}
-use Prim.Native.Nat.{ℕ, _≤_}
 use Rattle.curve.specs.Weights.{kobbelt}
 use Rattle.curve.specs.Curve.{curve}
 use Rattle.nets.specs.Net.{Net}
-use Rattle.verdict.specs.Verdict.{accepted, verdict}
-use Rattle.verdict.proofs.Accepted.{accepted-fewer}
 use Rattle.schemelaws.proofs.Steps.{refinable-manifold}
 use Rattle.splitting.specs.Splitting.{startNet}
 use Rattle.seam.specs.Reading.{Reads}
 use Rattle.seam.specs.Seam.{Admissible}
 use Rattle.seam.proofs.Seam.{seam}
-use Rattle.outcome.specs.Outcome.{Request, forRounds, callOf}
+use Rattle.outcome.specs.Outcome.{Request, callOf}
 use Rattle.outcome.specs.SharedSegment.{AcceptedFor, SharedSegments}
 use Rattle.outcome.proofs.Accepted.{accepted-verdict, accepted-refinable, accepted-result, accepted-after}
-
--- the call for fewer rounds
-fewer : (a : Request) → AcceptedFor a (a .rounds) → (k : ℕ) → k ≤ a .rounds → verdict (callOf (forRounds k a)) ≡ accepted
-fewer a h k l = accepted-fewer (callOf a) k l (accepted-verdict a (a .rounds) h)
+use Rattle.outcome.proofs.Tally.{accepted-for-fewer}
 
 admissible : (a : Request) → AcceptedFor a (a .rounds) → Admissible (startNet (a .net))
 admissible a h = refinable-manifold (startNet (a .net)) (accepted-refinable (callOf a) (accepted-verdict a (a .rounds) h))
@@ -27,8 +21,8 @@ pub shared-segments : SharedSegments
 shared-segments = record {
   shared = λ a b h g v w c s t L r q k i j.
       let m = seam (startNet (a .net)) (startNet (b .net)) (admissible a h) (admissible b g) v w c s t L r q k in
-      let x = fewer a h k i in
-      let y = fewer b g k j in
+      let x = accepted-for-fewer a h k i in
+      let y = accepted-for-fewer b g k j in
       record {
         accepted-left = accepted-result a k x;
         accepted-right = accepted-result b k y;

@@ -1,4 +1,6 @@
+pub mod Tally
 pub mod Outcome
+pub mod Series
 pub mod SharedSegment
 pub mod Coordinates
 pub mod AsBefore

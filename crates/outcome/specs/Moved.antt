@@ -5,17 +5,19 @@ use Rattle.curve.specs.Curve.{Point}
 use Rattle.integers.specs.Within.{Within}
 use Rattle.tables.specs.Tables.{filled}
 use Rattle.nets.specs.Moved.{movedVertices, moved, movedControl}
-use Rattle.outcome.specs.Outcome.{Request}
+use Rattle.outcome.specs.Outcome.{Request, request}
 use Rattle.outcome.specs.SharedSegment.{resultAfter, netAfter}
 
--- the same request, its net moved by s
+-- the same request, its net moved by s. Paper 02: "P2 compares calls from equal tallies."
 abbrev pub movedBy : Point → Request → Request
-movedBy s a = record { rounds = a .rounds; net = movedControl s (a .net); buffers = a .buffers }
+movedBy s a = request (a .tally) (a .rounds) (movedControl s (a .net)) (a .buffers)
 
 -- what the call on the moved net gives, after k rounds
 pub record MovedAfter (s : Point) (a : Request) (k : ℕ) : Type 0 where
   -- the same counts, or the same refusal and place
   pub result : resultAfter (movedBy s a) k .result ≡ resultAfter a k .result
+  -- the same tally
+  pub tally : resultAfter (movedBy s a) k .tally ≡ resultAfter a k .tally
   -- "must equal moving the refined net"; where the call is refused, there is no net in either
   pub net : netAfter (movedBy s a) k ≡ moved s (netAfter a k)
   -- the tables as the call returns: beyond that net the vertex table is as found, the others are the same

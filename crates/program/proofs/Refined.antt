@@ -1,7 +1,7 @@
 -- The refining call over the program's tables, and the text of what it gives. Assumes nothing.
 use mathlib.Core.Path.{_≡_, refl, sym, ap, ap₂, _∙_}
 use mathlib.Core.List.{List, []}
-use Prim.Native.Nat.{ℕ, zero, suc, _+_, _*_, _/_, _^_, _≤_}
+use Prim.Native.Nat.{ℕ, _+_, _*_, _/_, _^_, _≤_}
 use native.Mathlib.Omega.{arith}
 use lib.IntN.{ℤ, pos}
 use lib.ListN.{length}
@@ -9,39 +9,28 @@ use Rattle.lists.proofs.Tabulate.{tabulate-cong}
 use Rattle.curve.specs.Weights.{kobbelt}
 use Rattle.nets.specs.Net.{Net, plain}
 use Rattle.tables.specs.Tables.{filled}
-use Rattle.topology.specs.Shape.{quads}
 use Rattle.verdict.specs.Call.{lengthsOf, Call}
 use Rattle.verdict.specs.Verdict.{Verdict, accepted, refused, limitsVerdict, netVerdict, verdict, workAfter}
-use Rattle.verdict.proofs.Accepted.{within-if, accepted-net}
-use Rattle.refinedfaces.proofs.Corners.{length-refined}
+use Rattle.verdict.proofs.Accepted.{within-if}
 use Rattle.scheme.specs.Step.{steps}
 use Rattle.splitting.specs.Splitting.{startNet}
+use Rattle.splitting.proofs.Room.{refinable-vertices-le}
 use Rattle.schemelaws.specs.Nets.{Refinable}
-use Rattle.schemelaws.proofs.Steps.{step-faces, step-count, refinable-steps}
+use Rattle.schemelaws.proofs.Steps.{refinable-steps}
 use Rattle.tables.proofs.Laws.{filled-at}
-use Rattle.roundfaces.proofs.Round.{vertices-refined}
-use Rattle.admission.proofs.Laws.{joined}
-use Rattle.outcome.specs.Outcome.{Result, refinedTo, refusedWith, request, Outcome, callOf, outcomeBy, outcome}
+use Rattle.outcome.specs.Outcome.{Result, refinedTo, refusedWith, Request, request, Outcome, callOf, toAdd, outcomeBy, outcome}
 use Rattle.nets.specs.Buffers.{Buffers}
 use Rattle.outcome.proofs.Accepted.{by-result, accepted-refinable}
+use Rattle.outcome.proofs.Counts.{corners-grown}
+use Rattle.outcome.proofs.Tally.{untallied}
 use Rattle.refine.specs.declared.Answer.the-variants.{Refined, Refused}
 use Rattle.refine.specs.Answer.{answered}
-use Rattle.refine.proofs.Laws.{by-faces, corners-grown}
+use Rattle.refine.proofs.Laws.{by-faces}
 use Rattle.text.specs.Text.{answerText, refusalText}
 use Rattle.reading.specs.Loaded.{programRoom}
 use Rattle.printing.specs.Lines.{Written}
 use Rattle.printing.specs.Tables.{vertexAt, faceAt, verticesOf, facesOf}
 use Rattle.program.specs.Answer.{answerBy}
-
--- vertices stay at most as many as half-edges
-pub few-vertices : (m : Net) → length (m .marks) ≤ length (m .faces) → (k : ℕ) → length (steps kobbelt k m .marks) ≤ length (steps kobbelt k m .faces)
-unfolding steps
-few-vertices m h zero = h
-few-vertices m h (suc k) =
-    let a = step-count kobbelt (steps kobbelt k m) in
-    let b : length (steps kobbelt (suc k) m .faces) ≡ 4 * length (steps kobbelt k m .faces) = ap length (step-faces kobbelt (steps kobbelt k m)) ∙ length-refined quads _ _ in
-    let c = vertices-refined (length (steps kobbelt k m .marks)) (steps kobbelt k m .faces) (few-vertices m h k) in
-    omega arith
 
 -- ---- the text of tables that a net was written to
 module _ (n : Net) (vs : List ℤ) (fs ms : List ℕ) (e : length (n .vertices) ≡ 3 * length (n .marks)) where
@@ -74,35 +63,39 @@ faceNumber (refusedWith r p) = p
 
 module _ (k : ℕ) (m : Net) (o : Buffers) (lv : length (o .vertices) ≡ 3072) (lf : length (o .faces) ≡ 1024) (lm : length (o .marks) ≡ 1024) (lw : length (o .work) ≡ 4096)
     (h : limitsVerdict k [] (lengthsOf (plain m) programRoom) ≡ accepted) where
+  -- the call with a tally of its own, from zero
+  abbrev asked : Request
+  asked = request 0 k (plain m) o
+
   abbrev called : Call
-  called = callOf (request k (plain m) o)
+  called = callOf asked
 
   by-net : verdict called ≡ netVerdict (plain m)
   unfolding verdict
   by-net = rw (lv, lf, lm, lw, h)
 
   abbrev given : Verdict → Outcome
-  given v = outcomeBy v (steps kobbelt k m) o (workAfter (called) (o .work))
+  given v = outcomeBy v 0 (toAdd asked) (steps kobbelt k m) o (workAfter (called) (o .work))
 
-  outcome-is : outcome (request k (plain m) o) ≡ given (netVerdict (plain m))
+  outcome-is : outcome asked ≡ given (netVerdict (plain m))
   unfolding outcome startNet
-  outcome-is = ap given by-net
+  outcome-is = ap given (untallied asked refl ∙ by-net)
 
   -- a refusal
   by-refused : (v : Verdict) (r p : ℕ) → refusedWith r p ≡ given v .result → refusalText r p ≡ answerBy v (steps kobbelt k m)
   by-refused accepted r p e = let z : _≡_ {A = ℕ} 0 1 = cc in absurd (omega arith)
   by-refused (refused s q) r p e = ap₂ refusalText (ap vertexNumber e) (ap faceNumber e)
 
-  module _ (t : Buffers) where
-    pub refused-text : (r p : ℕ) → answered (Refused r p) t ≡ outcome (request k (plain m) o) → refusalText r p ≡ answerBy (netVerdict (plain m)) (steps kobbelt k m)
+  module _ (t : Buffers) (points : ℕ) where
+    pub refused-text : (r p : ℕ) → answered (record { answer = Refused r p; points = points }) t ≡ outcome asked → refusalText r p ≡ answerBy (netVerdict (plain m)) (steps kobbelt k m)
     refused-text r p e = by-refused (netVerdict (plain m)) r p (ap (λ (x : Outcome). x .result) (e ∙ outcome-is))
 
     -- a refined net
-    module _ (v f : ℕ) (e : answered (Refined v f) t ≡ outcome (request k (plain m) o)) where
+    module _ (v f : ℕ) (e : answered (record { answer = Refined v f; points = points }) t ≡ outcome asked) where
       accepts : netVerdict (plain m) ≡ accepted
-      accepts = by-result (netVerdict (plain m)) (steps kobbelt k m) o (workAfter (called) (o .work)) v f (sym (ap (λ (x : Outcome). x .result) (e ∙ outcome-is)))
+      accepts = by-result (netVerdict (plain m)) 0 (toAdd asked) (steps kobbelt k m) o (workAfter (called) (o .work)) v f (sym (ap (λ (x : Outcome). x .result) (e ∙ outcome-is)))
 
-      is : answered (Refined v f) t ≡ given accepted
+      is : answered (record { answer = Refined v f; points = points }) t ≡ given accepted
       is = e ∙ outcome-is ∙ ap given accepts
 
       vertex-count : v ≡ length (steps kobbelt k m .marks)
@@ -123,7 +116,7 @@ module _ (k : ℕ) (m : Net) (o : Buffers) (lv : length (o .vertices) ≡ 3072) 
           let c = w .roomFaces in
           let q = w .sided .fours refl in
           let g = corners-grown m k in
-          let l = few-vertices m (joined (m .faces) (length (m .marks)) (accepted-net (called) (by-net ∙ accepts) .no8) .few) k in
+          let l = refinable-vertices-le (steps kobbelt k m) (refinable-steps kobbelt m refinable k) in
           let s = by-faces (length (m .faces)) (4 ^ k) q in
           (omega arith, omega arith)
 

@@ -27,9 +27,9 @@ use Rattle.schemelaws.proofs.Steps.{refinable-manifold, refinable-steps}
 use Rattle.schemelaws.proofs.Growth.{steps-within}
 use Rattle.splitting.specs.Splitting.{startNet}
 use Rattle.splitting.proofs.Growth.{start-within}
-use Rattle.splitting.proofs.Room.{start-vertices-le}
+use Rattle.splitting.proofs.Room.{refinable-vertices-le}
 use Rattle.outcome.proofs.Accepted.{accepted-drawn, accepted-refinable}
-use Rattle.refine.proofs.Laws.{corners-grown, start-corners}
+use Rattle.outcome.proofs.Counts.{corners-grown, start-corners}
 use Rattle.text.specs.Form.{Vertex, Face, Net}
 use Rattle.text.specs.Written.{VertexFits, FaceFits, Each, NetFits}
 use Rattle.text.proofs.Back.{net-back}
@@ -37,7 +37,6 @@ use Rattle.reading.specs.Loaded.{netRead, loaded, coordinates, marksOf, corners
 use Rattle.reading.proofs.Back.{read-back}
 use Rattle.printing.specs.Tables.{vertexAt, faceAt, verticesOf, facesOf}
 use Rattle.program.specs.RoundTrip.{linesOf, ReadsBack, RoundTrip}
-use Rattle.program.proofs.Refined.{few-vertices}
 
 -- one element, by two forms of its index
 same-at : {A : Type 0} (l : List A) (d : A) (a b : ℕ) → a ≡ b → getD l a d ≡ getD l b d
@@ -163,7 +162,7 @@ module _ (c : Call) (e : verdict c ≡ accepted) (j : ℕ) (h : j ≤ c .rounds)
       let d = accepted-drawn c e in
       let ok = accepted-refinable c e in
       let near = steps-within kobbelt tame m ok (start-within (c .net) d 1048576 (record { at = accepted-coordinate c e })) j (let w = accepted-limits c e .few in omega arith) in
-      let l = few-vertices m (start-vertices-le (c .net) d) j in
+      let l = refinable-vertices-le (steps kobbelt j m) (refinable-steps kobbelt m ok j) in
       let n = corners-few in
       reads-back k few (steps kobbelt j m) (refinable-steps kobbelt m ok j) near (omega arith) (omega arith)
 

@@ -22,7 +22,8 @@ fn refine_net(rounds: u32, vertices: &[i32], faces: &[u32], marks: &[u8], out: &
     let mut out_marks = [0u8; 1024];
     let mut work = [0u32; 4096];
     let none = [0u8; 0];
-    match refine::refine(
+    let charged = refine::refine(
+        0,
         rounds,
         vertices,
         faces,
@@ -32,7 +33,9 @@ fn refine_net(rounds: u32, vertices: &[i32], faces: &[u32], marks: &[u8], out: &
         &mut out_faces,
         &mut out_marks,
         &mut work,
-    ) {
+    );
+    let answer = charged.answer;
+    match answer {
         Answer::Refined(v, f) => {
             printing::write_net(out, &out_vertices, &out_faces, &out_marks, v, f)
         }

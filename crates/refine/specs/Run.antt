@@ -7,17 +7,17 @@ use Rattle.curve.specs.Weights.{kobbelt}
 use Rattle.tables.specs.Tables.{filled, cleared}
 use Rattle.scheme.specs.Step.{steps}
 use Rattle.splitting.specs.Splitting.{startNet}
-use Rattle.outcome.specs.Outcome.{Request}
+use Rattle.nets.specs.Net.{ControlNet}
 use Rattle.nets.specs.Buffers.{Buffers, buffers}
 use Rattle.rounds.specs.Rounds.{Prepared, After}
 
--- the tables after the rounds of the request a, and the final number of vertices; `last` is the final number of faces
-pub record Ran (a : Request) (o : Buffers) (last r : ℕ) : Type 0 where
-  pub count : r ≡ length (steps kobbelt (a .rounds) (startNet (a .net)) .marks)
-  pub vertices : o .vertices ≡ filled (steps kobbelt (a .rounds) (startNet (a .net)) .vertices) (a .buffers .vertices)
-  pub faces : o .faces ≡ filled (steps kobbelt (a .rounds) (startNet (a .net)) .faces) (a .buffers .faces)
-  pub marks : o .marks ≡ filled (steps kobbelt (a .rounds) (startNet (a .net)) .marks) (a .buffers .marks)
-  pub work : o .work ≡ cleared (16 * last) (a .buffers .work)
+-- the tables o′ after k rounds on the net m, from the tables o, and the final number of vertices; `last` is the final number of faces
+pub record Ran (k : ℕ) (m : ControlNet) (o o′ : Buffers) (last r : ℕ) : Type 0 where
+  pub count : r ≡ length (steps kobbelt k (startNet m) .marks)
+  pub vertices : o′ .vertices ≡ filled (steps kobbelt k (startNet m) .vertices) (o .vertices)
+  pub faces : o′ .faces ≡ filled (steps kobbelt k (startNet m) .faces) (o .faces)
+  pub marks : o′ .marks ≡ filled (steps kobbelt k (startNet m) .marks) (o .marks)
+  pub work : o′ .work ≡ cleared (16 * last) (o .work)
 
 -- the tables t after k rounds on the net of v vertices and n corners at their front, with the work table cleared; r is the number of vertices
 pub record Finished (k v n last r : ℕ) (t t′ : Buffers) : Type 0 where

@@ -3,14 +3,24 @@ use admission::Admission;
 ghost use mathlib.Core.Path.{_≡_};
 ghost use Rattle.nets.specs.Net.{controlNet};
 ghost use Rattle.admission.specs.Admission.{AdmittedCall};
-ghost use Rattle.outcome.specs.Outcome.{request, callOf, outcome};
+ghost use Rattle.verdict.specs.Call.{call};
+ghost use Rattle.outcome.specs.Outcome.{request, roomOf, outcome};
 ghost use Rattle.nets.specs.Buffers.{buffers};
 ghost use Rattle.refine.specs.Answer.{answered};
 ghost use Rattle.refine.specs.Run.{Ran, Finished, Finishing};
 
+// The largest tally that a call may leave.
+const TALLY_LIMIT: u64 = 4000000000;
+
 pub enum Answer {
     Refined(usize, usize),
     Refused(u32, usize),
+}
+
+// The answer, and the tally after the call.
+pub struct Charged {
+    pub answer: Answer,
+    pub points: u64,
 }
 
 // The rounds on the net of v vertices and n corners at the front of the tables, and the work table cleared. It is called from two places, so that the compiler
@@ -56,9 +66,9 @@ fn run(
     work: &mut [u32],
     last: usize,
 ) -> usize
-    requires { ⌜ AdmittedCall (callOf (request rounds (controlNet (now vertices) (now faces) (now sides) (now marks)) (buffers (now «out_vertices») (now «out_faces») (now «out_marks») (now work)))) last (now work) ⌝ }
-    ensures { λ r. ⌜ Ran (request rounds (controlNet (now (vertices .entry)) (now (faces .entry)) (now (sides .entry)) (now (marks .entry)))
-        (buffers (now («out_vertices» .entry)) (now («out_faces» .entry)) (now («out_marks» .entry)) (now (work .entry))))
+    requires { ⌜ AdmittedCall (call rounds (controlNet (now vertices) (now faces) (now sides) (now marks)) (roomOf (buffers (now «out_vertices») (now «out_faces») (now «out_marks») (now work)))) last (now work) ⌝ }
+    ensures { λ r. ⌜ Ran rounds (controlNet (now (vertices .entry)) (now (faces .entry)) (now (sides .entry)) (now (marks .entry)))
+        (buffers (now («out_vertices» .entry)) (now («out_faces» .entry)) (now («out_marks» .entry)) (now (work .entry)))
         (buffers (now («out_vertices» .exit)) (now («out_faces» .exit)) (now («out_marks» .exit)) (now (work .exit))) last r ⌝ }
 {
     let start = loading::load(
@@ -95,8 +105,9 @@ fn run(
     )
 }
 
-// The net after all rounds, or the first refusal that holds. The time is that of the check, and after it linear in the refined net.
-pub fn refine(
+// What follows the admission: refusal 15, or the rounds.
+fn refine_admitted(
+    points: u64,
     rounds: u32,
     vertices: &[i32],
     faces: &[u32],
@@ -106,9 +117,56 @@ pub fn refine(
     out_faces: &mut [u32],
     out_marks: &mut [u8],
     work: &mut [u32],
-) -> Answer
+    last: usize,
+) -> Charged
+    requires { ⌜ AdmittedCall (call rounds (controlNet (now vertices) (now faces) (now sides) (now marks)) (roomOf (buffers (now «out_vertices») (now «out_faces») (now «out_marks») (now work)))) last (now work) ⌝ }
     ensures { λ r. ⌜ answered r (buffers (now («out_vertices» .exit)) (now («out_faces» .exit)) (now («out_marks» .exit)) (now (work .exit))) ≡
-        outcome (request rounds (controlNet (now (vertices .entry)) (now (faces .entry)) (now (sides .entry)) (now (marks .entry)))
+        outcome (request points rounds (controlNet (now (vertices .entry)) (now (faces .entry)) (now (sides .entry)) (now (marks .entry)))
+        (buffers (now («out_vertices» .entry)) (now («out_faces» .entry)) (now («out_marks» .entry)) (now (work .entry)))) ⌝ }
+{
+    let v = marks.len();
+    let new = (growth::final_vertices(rounds, faces, sides, v, &*work) - v) as u64;
+    if TALLY_LIMIT - new < points {
+        tables::clear(&mut *work, 16 * last);
+        return Charged {
+            answer: Answer::Refused(15, 0),
+            points,
+        };
+    }
+    let count = run(
+        rounds,
+        vertices,
+        faces,
+        sides,
+        marks,
+        &mut *out_vertices,
+        &mut *out_faces,
+        &mut *out_marks,
+        &mut *work,
+        last,
+    );
+    Charged {
+        answer: Answer::Refined(count, last),
+        points: points + new,
+    }
+}
+
+// The net after all rounds and its new points added to `points`, or the first refusal that holds. The time is that of the check, and after it linear in the
+// refined net.
+pub fn refine(
+    points: u64,
+    rounds: u32,
+    vertices: &[i32],
+    faces: &[u32],
+    sides: &[u8],
+    marks: &[u8],
+    out_vertices: &mut [i32],
+    out_faces: &mut [u32],
+    out_marks: &mut [u8],
+    work: &mut [u32],
+) -> Charged
+    ensures { λ r. ⌜ answered r (buffers (now («out_vertices» .exit)) (now («out_faces» .exit)) (now («out_marks» .exit)) (now (work .exit))) ≡
+        outcome (request points rounds (controlNet (now (vertices .entry)) (now (faces .entry)) (now (sides .entry)) (now (marks .entry)))
         (buffers (now («out_vertices» .entry)) (now («out_faces» .entry)) (now («out_marks» .entry)) (now (work .entry)))) ⌝ }
 {
     match admission::admit(
@@ -122,21 +180,22 @@ pub fn refine(
         out_marks.len(),
         &mut *work,
     ) {
-        Admission::Admitted(last) => {
-            let count = run(
-                rounds,
-                vertices,
-                faces,
-                sides,
-                marks,
-                &mut *out_vertices,
-                &mut *out_faces,
-                &mut *out_marks,
-                &mut *work,
-                last,
-            );
-            Answer::Refined(count, last)
-        }
-        Admission::Refused(number, place) => Answer::Refused(number, place),
+        Admission::Admitted(last) => refine_admitted(
+            points,
+            rounds,
+            vertices,
+            faces,
+            sides,
+            marks,
+            &mut *out_vertices,
+            &mut *out_faces,
+            &mut *out_marks,
+            &mut *work,
+            last,
+        ),
+        Admission::Refused(number, place) => Charged {
+            answer: Answer::Refused(number, place),
+            points,
+        },
     }
 }

@@ -7,3 +7,4 @@ pub mod Loops
 pub mod Tables
 pub mod Examples
 pub mod Marks
+pub mod Edges

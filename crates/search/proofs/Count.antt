@@ -79,3 +79,8 @@ pub count-none : (p : ℕ → Bool) (n : ℕ) → ((k : ℕ) → k < n → p k �
 unfolding count
 count-none p zero f = refl
 count-none p (suc n) f = count-same p n (f n (omega arith)) ∙ count-none p n (λ k h. f k (omega arith))
+
+pub count-all : (p : ℕ → Bool) (n : ℕ) → ((k : ℕ) → k < n → p k ≡ true) → count p n ≡ n
+unfolding count
+count-all p zero f = refl
+count-all p (suc n) f = let a = count-more p n (f n (omega arith)) in let b = count-all p n (λ k h. f k (omega arith)) in omega arith

@@ -4,3 +4,4 @@ pub mod Count
 pub mod Pigeonhole
 pub mod Iterate
 pub mod Quarters
+pub mod Pairs

@@ -1,7 +1,9 @@
 -- Numbers by fours, 4k to 4k + 3, and by twos. Assumes nothing.
-use mathlib.Core.Path.{_≡_, refl, subst}
+use mathlib.Core.Path.{_≡_, refl, ap, _∙_, subst}
+use mathlib.Core.Bool.{Bool, cond}
 use Prim.Native.Nat.{ℕ, zero, suc, _+_, _*_, _/_, _%_, _<_}
 use native.Mathlib.Omega.{arith}
+use Rattle.search.specs.Search.{count}
 
 pub quarters : (n : ℕ) (P : ℕ → Type 0) → ((k : ℕ) → k < n → P (4 * k)) → ((k : ℕ) → k < n → P (4 * k + 1)) → ((k : ℕ) → k < n → P (4 * k + 2)) → ((k : ℕ) → k < n → P (4 * k + 3))
     → (g : ℕ) → g < 4 * n → P g
@@ -34,6 +36,21 @@ below-four P a b c d (suc zero) h = b
 below-four P a b c d (suc (suc zero)) h = c
 below-four P a b c d (suc (suc (suc zero))) h = d
 below-four P a b c d (suc (suc (suc (suc k)))) h = let z : ⊥ = omega arith in absurd z
+
+-- a count by fours
+pub count-quarters : (p : ℕ → Bool) (n : ℕ)
+    → count p (4 * n) ≡ count (λ (h : ℕ). p (4 * h)) n + count (λ (h : ℕ). p (4 * h + 1)) n + count (λ (h : ℕ). p (4 * h + 2)) n + count (λ (h : ℕ). p (4 * h + 3)) n
+unfolding count
+count-quarters p zero = refl
+count-quarters p (suc n) =
+    let e : 4 * suc n ≡ suc (suc (suc (suc (4 * n)))) = omega arith in
+    let a = count-quarters p n in
+    let one : ℕ → ℕ = λ k. cond (p k) 1 0 in
+    let at : (i j : ℕ) → i ≡ j → one i ≡ one j = λ i j x. ap one x in
+    let b = at (suc (4 * n)) (4 * n + 1) (omega arith) in
+    let c = at (suc (suc (4 * n))) (4 * n + 2) (omega arith) in
+    let d = at (suc (suc (suc (4 * n)))) (4 * n + 3) (omega arith) in
+    ap (count p) e ∙ omega arith
 
 -- ---- numbers by twos
 pub parity : (k : ℕ) (P : ℕ → Type 0) → ((j : ℕ) → P (2 * j)) → ((j : ℕ) → P (suc (2 * j))) → P k

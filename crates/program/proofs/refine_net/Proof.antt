@@ -4,8 +4,9 @@ use Prim.Native.Nat.{ℕ}
 use native.Mathlib.Omega.{arith}
 use lib.IntN.{pos}
 use lib.ListN.{length, replicate, length-replicate}
-use Rattle.nets.specs.Net.{Net}
+use Rattle.nets.specs.Net.{Net, plain}
 use Rattle.nets.specs.Buffers.{Buffers, buffers}
+use Rattle.outcome.specs.Outcome.{Request, request, outcome}
 use Rattle.refine.specs.declared.Answer.{Answer}
 use Rattle.refine.specs.Answer.{answered}
 use Rattle.printing.proofs.Writing.{every-answer-fits}
@@ -32,10 +33,20 @@ long-work = length-replicate {A = ℕ} 4096 0
 
 -- its tables after the call
 abbrev after : tie.After-refine → Buffers
-after x = let o = x .refine .last .1 .1 .1 .1 .1 in buffers (o .0) (o .1 .0) (o .1 .1 .0) (o .1 .1 .1 .0)
+after x = let o = x .refine .last .1 .1 .1 .1 .1 .1 in buffers (o .0) (o .1 .0) (o .1 .1 .0) (o .1 .1 .1 .0)
 
 abbrev net : tie.Start → Net
 net s = record { vertices = s .args .vertices .now; faces = s .args .faces .now; marks = s .args .marks .now }
+
+abbrev begun : tie.After-refine → tie.Start
+begun x = x .before .before .before .before .before .before .before .before .before
+
+abbrev asked : tie.Start → Request
+asked s = request 0 (s .args .rounds) (plain (net s)) zeros
+
+-- what the call gives, once its answer is known
+given : (x : tie.After-refine) (a : Answer) → x .refine .result .answer ≡ a → answered (record { answer = a; points = x .refine .result .points }) (after x) ≡ outcome (asked (begun x))
+given x a e = sym (ap (λ (b : Answer). answered (record { answer = b; points = x .refine .result .points }) (after x)) e) ∙ x .refine .ensures
 
 slice-aggregate-refine : tie.Need-slice-aggregate-refine
 slice-aggregate-refine c = search needs
@@ -55,8 +66,8 @@ slice-aggregate-refine-5 c = search needs
 refine-requires : tie.Need-refine-requires
 refine-requires c κs = search needs
 
-enum-known-v : tie.Need-enum-known-v
-enum-known-v c = search needs
+enum-known-answer : tie.Need-enum-known-answer
+enum-known-answer c = search needs
 
 slice-aggregate-write-net : tie.Need-slice-aggregate-write-net
 slice-aggregate-write-net c = search needs
@@ -71,11 +82,11 @@ write-net-requires : tie.Need-write-net-requires
 write-net-requires c κs =
     let s = c .before .before .before .before .before .before .before .before .before .before .before .before .before .before .before .before .before .before .before .before in
     let x = c .before .before .before .before .before .before .before .before .before .before .before in
-    let e = sym (ap (λ (a : Answer). answered a (after x)) (c .before .before .before .before .before .v .given .1)) ∙ x .refine .ensures in
-    let t = served (s .args .rounds) (net s) zeros long-vertices long-corners long-marks long-work (s .pre .0) (after x) _ _ e in
+    let e = given x _ (c .before .before .before .before .before .answer .given .1) in
+    let t = served (s .args .rounds) (net s) zeros long-vertices long-corners long-marks long-work (s .pre .0) (after x) _ _ _ e in
     let a = t .0 in
     let b = t .1 in
-    let k = x .refine .kept .1 .1 .1 .1 .1 in
+    let k = x .refine .kept .1 .1 .1 .1 .1 .1 in
     let lv = k .0 ∙ long-vertices in
     let lf = k .1 .0 ∙ long-corners in
     let lm = k .1 .1 .0 ∙ long-marks in
@@ -83,8 +94,8 @@ write-net-requires c κs =
     let f = every-answer-fits _ _ a b in
     (omega arith, omega arith, omega arith, omega arith)
 
-enum-known-reason : tie.Need-enum-known-reason
-enum-known-reason c = search needs
+enum-known-answer-2 : tie.Need-enum-known-answer-2
+enum-known-answer-2 c = search needs
 
 write-refusal-requires : tie.Need-write-refusal-requires
 write-refusal-requires c κs = search needs
@@ -96,10 +107,10 @@ returns : tie.Need-returns
 returns c =
     let s = c .before .before .before .before .before .before .before .before .before .before .before .before .before .before .before .before .before .before .before .before .before .before .before in
     let x = c .before .before .before .before .before .before .before .before .before .before .before .before .before .before in
-    let e = sym (ap (λ (a : Answer). answered a (after x)) (c .before .before .before .before .before .before .before .before .v .given .1)) ∙ x .refine .ensures in
+    let e = given x _ (c .before .before .before .before .before .before .before .before .answer .given .1) in
     let y = c .before .before .write-net .ensures in
-    let t = served (s .args .rounds) (net s) zeros long-vertices long-corners long-marks long-work (s .pre .0) (after x) _ _ e in
-    wider _ _ _ _ _ _ y (refined-text (s .args .rounds) (net s) zeros long-vertices long-corners long-marks long-work (s .pre .0) (after x) _ _ e) (every-answer-fits _ _ (t .0) (t .1))
+    let t = served (s .args .rounds) (net s) zeros long-vertices long-corners long-marks long-work (s .pre .0) (after x) _ _ _ e in
+    wider _ _ _ _ _ _ y (refined-text (s .args .rounds) (net s) zeros long-vertices long-corners long-marks long-work (s .pre .0) (after x) _ _ _ e) (every-answer-fits _ _ (t .0) (t .1))
 
 same-length-2 : tie.Need-same-length-2
 same-length-2 c = search needs
@@ -108,9 +119,9 @@ returns-2 : tie.Need-returns-2
 returns-2 c =
     let s = c .before .before .before .before .before .before .before .before .before .before .before .before .before .before .before .before .before .before .before .before in
     let x = c .before .before .before .before .before .before .before .before .before .before .before in
-    let e = sym (ap (λ (a : Answer). answered a (after x)) (c .before .before .before .before .before .reason .given .1)) ∙ x .refine .ensures in
+    let e = given x _ (c .before .before .before .before .before .answer2 .given .1) in
     let y = c .before .before .write-refusal .ensures in
-    wider _ _ _ _ _ _ y (refused-text (s .args .rounds) (net s) zeros long-vertices long-corners long-marks long-work (s .pre .0) (after x) _ _ e) (omega arith)
+    wider _ _ _ _ _ _ y (refused-text (s .args .rounds) (net s) zeros long-vertices long-corners long-marks long-work (s .pre .0) (after x) _ _ _ e) (omega arith)
 
 pub refine-net-spec : {M : Type 1} → statement M
 refine-net-spec =
@@ -122,12 +133,12 @@ refine-net-spec =
     slice-aggregate-refine-4
     slice-aggregate-refine-5
     refine-requires
-    enum-known-v
+    enum-known-answer
     slice-aggregate-write-net
     slice-aggregate-write-net-2
     slice-aggregate-write-net-3
     write-net-requires
-    enum-known-reason
+    enum-known-answer-2
     write-refusal-requires
     same-length
     returns

@@ -1,20 +1,20 @@
--- `refine::refine` meets its contract: the admission, then the rounds. Assumes nothing.
-use mathlib.Core.Path.{_≡_, subst}
+-- `refine::refine` meets its contract: the admission, then refusal 15 or the rounds. Assumes nothing.
+use mathlib.Core.Path.{_≡_, _∙_, subst}
 use mathlib.Core.List.{List}
 use Prim.Native.Nat.{ℕ}
 use Rattle.nets.specs.Net.{controlNet}
 use Rattle.admission.specs.declared.Admission.{Admission}
 use Rattle.admission.specs.Admission.{Admits}
 use Rattle.outcome.specs.Outcome.{Request, request, callOf}
-use Rattle.nets.specs.Buffers.{Buffers, buffers}
-use Rattle.refine.proofs.Laws.{admitted-work, refined-outcome, refused-outcome}
+use Rattle.nets.specs.Buffers.{buffers}
+use Rattle.refine.proofs.Whole.{admitted-work, same-outcome, refused-outcome}
 use borrow.Author.Needs.{needs}
 use Rattle.refine.proofs.refine.Statement.{statement}
 use Rattle.refine.proofs.refine.Tie as tie
 
 abbrev asked : tie.Start → Request
 asked s =
-    request (s .args .rounds) (controlNet (s .args .vertices .now) (s .args .faces .now) (s .args .sides .now) (s .args .marks .now))
+    request (s .args .points) (s .args .rounds) (controlNet (s .args .vertices .now) (s .args .faces .now) (s .args .sides .now) (s .args .marks .now))
     (buffers (s .args .out-vertices .now) (s .args .out-faces .now) (s .args .out-marks .now) (s .args .work .now))
 
 -- after the admission: what is left of the work table
@@ -27,18 +27,14 @@ left x = x .admit .last .1 .1 .1 .1 .1 .1 .1 .1 .0
 admits : (x : tie.After-admit) (a : Admission) → x .admit .result ≡ a → Admits (callOf (asked (start x))) (start x .args .work .now) a (left x)
 admits x a e = subst (λ (b : Admission). Admits (callOf (asked (start x))) (start x .args .work .now) b (left x)) e (x .admit .ensures)
 
--- after the rounds: the caller's tables
-abbrev after : tie.After-run → Buffers
-after y = let o = y .run .last .1 .1 .1 .1 .1 in buffers (o .0) (o .1 .0) (o .1 .1 .0) (o .1 .1 .1 .0)
-
 admit-requires : tie.Need-admit-requires
 admit-requires c κs = search needs
 
 enum-known-last : tie.Need-enum-known-last
 enum-known-last c = search needs
 
-run-requires : tie.Need-run-requires
-run-requires c κs =
+refine-admitted-requires : tie.Need-refine-admitted-requires
+refine-admitted-requires c κs =
     let x = c .before .before .before .before .before .before .before .before .before in
     admitted-work (asked (start x)) _ (left x) (admits x _ (c .before .before .before .before .before .last .given .1) .0) (x .admit .kept .1 .1 .1 .1 .1 .1 .1 .1 .0)
 
@@ -62,7 +58,7 @@ returns c =
     let y = c .before .before .before .before .before .before .before in
     let x = y .before .before .before .before .before .before .before .before .before .before in
     let a = admits x _ (y .before .before .before .before .before .before .last .given .1) in
-    refined-outcome (asked (start x)) _ (left x) (a .0) (x .admit .kept .1 .1 .1 .1 .1 .1 .1 .1 .0) (y .run .result) (after y) (a .1) (y .run .ensures)
+    y .refine-admitted .ensures ∙ same-outcome (asked (start x)) _ (left x) (a .0) (x .admit .kept .1 .1 .1 .1 .1 .1 .1 .1 .0) (a .1)
 
 same-length-5 : tie.Need-same-length-5
 same-length-5 c = search needs
@@ -76,7 +72,7 @@ refine-spec =
     (tie.spec
     admit-requires
     enum-known-last
-    run-requires
+    refine-admitted-requires
     enum-known-number
     same-length
     same-length-2

@@ -3,9 +3,8 @@ use mathlib.Core.Path.{_≡_}
 use Prim.Native.Nat.{ℕ}
 use native.Mathlib.Omega.{arith}
 use lib.ListN.{length}
-use Rattle.nets.specs.Net.{controlNet}
+use Rattle.nets.specs.Net.{ControlNet, controlNet}
 use Rattle.splitting.specs.Splitting.{startNet}
-use Rattle.outcome.specs.Outcome.{Request, request}
 use Rattle.nets.specs.Buffers.{Buffers, buffers}
 use Rattle.refine.specs.Run.{Ran, Finished, Finishing}
 use Rattle.refine.proofs.Laws.{loadable, corners-plain, corners-split, corners-limit, finishing, ran}
@@ -13,10 +12,12 @@ use borrow.Author.Needs.{needs}
 use Rattle.refine.proofs.run.Statement.{statement}
 use Rattle.refine.proofs.run.Tie as tie
 
-abbrev asked : tie.Start → Request
-asked s =
-    request (s .args .rounds) (controlNet (s .args .vertices .now) (s .args .faces .now) (s .args .sides .now) (s .args .marks .now))
-    (buffers (s .args .out-vertices .now) (s .args .out-faces .now) (s .args .out-marks .now) (s .args .work .now))
+-- the net and the caller's tables
+abbrev control : tie.Start → ControlNet
+control s = controlNet (s .args .vertices .now) (s .args .faces .now) (s .args .sides .now) (s .args .marks .now)
+
+abbrev found : tie.Start → Buffers
+found s = buffers (s .args .out-vertices .now) (s .args .out-faces .now) (s .args .out-marks .now) (s .args .work .now)
 
 -- after the load: the start, and the caller's tables
 abbrev start : tie.After-load → tie.Start
@@ -26,22 +27,22 @@ abbrev loaded : tie.After-load → Buffers
 loaded x = let o = x .load .last .1 .1 .1 .1 in buffers (o .0) (o .1 .0) (o .1 .1 .0) (o .1 .1 .1 .0)
 
 -- from there the rounds can be made on as many corners as the net has, and give what the call asks for
-ready : (x : tie.After-load) (n : ℕ) → n ≡ length (startNet (asked (start x) .net) .faces) → Finishing (start x .args .rounds) (x .load .result) n (start x .args .last) (loaded x)
-ready x n e = let s = start x in finishing (asked s) (s .args .last) (s .pre) (loaded x) _ n (x .load .ensures) (x .load .kept .1 .1 .1 .1 .1 .1 .1 .0) e
+ready : (x : tie.After-load) (n : ℕ) → n ≡ length (startNet (control (start x)) .faces) → Finishing (start x .args .rounds) (x .load .result) n (start x .args .last) (loaded x)
+ready x n e = let s = start x in finishing (s .args .rounds) (control s) (found s) (s .args .last) (s .pre) (loaded x) _ n (x .load .ensures) (x .load .kept .1 .1 .1 .1 .1 .1 .1 .0) e
 
-done : (x : tie.After-load) (n : ℕ) → n ≡ length (startNet (asked (start x) .net) .faces) → (v : ℕ) (u : Buffers)
-    → Finished (start x .args .rounds) (x .load .result) n (start x .args .last) v (loaded x) u → Ran (asked (start x)) u (start x .args .last) v
-done x n e v u f = let s = start x in ran (asked s) (s .args .last) (s .pre) (loaded x) _ n (x .load .ensures) (x .load .kept .1 .1 .1 .1 .1 .1 .1 .0) e v u f
+done : (x : tie.After-load) (n : ℕ) → n ≡ length (startNet (control (start x)) .faces) → (v : ℕ) (u : Buffers)
+    → Finished (start x .args .rounds) (x .load .result) n (start x .args .last) v (loaded x) u → Ran (start x .args .rounds) (control (start x)) (found (start x)) u (start x .args .last) v
+done x n e v u f = let s = start x in ran (s .args .rounds) (control s) (found s) (s .args .last) (s .pre) (loaded x) _ n (x .load .ensures) (x .load .kept .1 .1 .1 .1 .1 .1 .1 .0) e v u f
 
 load-requires : tie.Need-load-requires
-load-requires c κs = let s = c .before .before .before .before .before .before .before .before .before .before in loadable (asked s) (s .args .last) (s .pre)
+load-requires c κs = let s = c .before .before .before .before .before .before .before .before .before .before in loadable (s .args .rounds) (control s) (found s) (s .args .last) (s .pre)
 
 finish-requires : tie.Need-finish-requires
 finish-requires c κs =
     let y = c .before .before .before .before in
     let x = y .before .before .before .before .before .before .before .before in
     let s = start x in
-    ready x _ (corners-plain (asked s) (s .args .last) (s .pre) (y .if1 .taken))
+    ready x _ (corners-plain (s .args .rounds) (control s) (found s) (s .args .last) (s .pre) (y .if1 .taken))
 
 same-length : tie.Need-same-length
 same-length c = search needs
@@ -62,17 +63,17 @@ returns c =
     let x = y .before .before .before .before .before .before .before .before in
     let s = start x in
     let o = z .finish .last in
-    done x _ (corners-plain (asked s) (s .args .last) (s .pre) (y .if1 .taken)) _ (buffers (o .0) (o .1 .0) (o .1 .1 .0) (o .1 .1 .1 .0)) (z .finish .ensures)
+    done x _ (corners-plain (s .args .rounds) (control s) (found s) (s .args .last) (s .pre) (y .if1 .taken)) _ (buffers (o .0) (o .1 .0) (o .1 .1 .0) (o .1 .1 .1 .0)) (z .finish .ensures)
 
 mul-finish : tie.Need-mul-finish
-mul-finish c = let s = start (c .before .before .before .before .before .before .before .before .before .before .before .before) in let k = corners-limit (asked s) (s .args .last) (s .pre) in omega arith
+mul-finish c = let s = start (c .before .before .before .before .before .before .before .before .before .before .before .before) in let k = corners-limit (s .args .rounds) (control s) (found s) (s .args .last) (s .pre) in omega arith
 
 finish-requires-2 : tie.Need-finish-requires-2
 finish-requires-2 c κs =
     let y = c .before .before .before .before in
     let x = y .before .before .before .before .before .before .before .before in
     let s = start x in
-    ready x _ (corners-split (asked s) (s .args .last) (s .pre) (y .if1 .left))
+    ready x _ (corners-split (s .args .rounds) (control s) (found s) (s .args .last) (s .pre) (y .if1 .left))
 
 same-length-5 : tie.Need-same-length-5
 same-length-5 c = search needs
@@ -93,7 +94,7 @@ returns-2 c =
     let x = y .before .before .before .before .before .before .before .before in
     let s = start x in
     let o = z .finish2 .last in
-    done x _ (corners-split (asked s) (s .args .last) (s .pre) (y .if1 .left)) _ (buffers (o .0) (o .1 .0) (o .1 .1 .0) (o .1 .1 .1 .0)) (z .finish2 .ensures)
+    done x _ (corners-split (s .args .rounds) (control s) (found s) (s .args .last) (s .pre) (y .if1 .left)) _ (buffers (o .0) (o .1 .0) (o .1 .1 .0) (o .1 .1 .1 .0)) (z .finish2 .ensures)
 
 pub run-spec : {M : Type 1} → statement M
 run-spec =

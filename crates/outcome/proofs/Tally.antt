@@ -1,0 +1,87 @@
+-- The new points of a net, and refusal 15. Assumes nothing.
+use mathlib.Core.Path.{_≡_, refl, ap₂, _∙_, sym}
+use mathlib.Core.List.{List, [], _∷_}
+use Prim.Native.Nat.{ℕ, _+_, _≤_, _<_}
+use native.Mathlib.Decide.{decLt}
+use native.Mathlib.Omega.{arith}
+use lib.IntN.{ℤ}
+use lib.ListN.{length}
+use borrow.Author.Tests.{le-ltb, lt-ltb}
+use Rattle.curve.specs.Weights.{kobbelt}
+use Rattle.nets.specs.Net.{ControlNet, controlNet}
+use Rattle.refinedfaces.specs.Refined.{verticesAfter}
+use Rattle.schemelaws.proofs.Steps.{steps-count}
+use Rattle.splitting.specs.Splitting.{split, startNet}
+use Rattle.verdict.specs.Call.{Call}
+use Rattle.verdict.specs.Verdict.{Verdict, accepted, refused, orElse, verdict}
+use Rattle.verdict.proofs.Accepted.{never, or-accepted, accepted-limits, accepted-fewer}
+use Rattle.outcome.specs.Tally.{newPoints, tallyVerdict}
+use Rattle.outcome.specs.Outcome.{Request, forRounds, callOf, toAdd, requestVerdict}
+use Rattle.outcome.specs.SharedSegment.{AcceptedFor}
+use Rattle.outcome.proofs.Accepted.{accepted-verdict, accepted-tally}
+use Rattle.outcome.proofs.Counts.{more-vertices, few-vertices}
+
+-- ---- 15
+pub tally-if : (t n : ℕ) → t + n ≤ 4000000000 → tallyVerdict t n ≡ accepted
+unfolding tallyVerdict
+tally-if t n h = rw (le-ltb 4000000000 (t + n) h)
+
+pub tally-refused : (t n : ℕ) → 4000000000 < t + n → tallyVerdict t n ≡ refused 15 0
+unfolding tallyVerdict
+tally-refused t n h = rw (lt-ltb 4000000000 (t + n) h)
+
+pub tally-le : (t n : ℕ) → tallyVerdict t n ≡ accepted → t + n ≤ 4000000000
+tally-le t n e = go (decLt 4000000000 (t + n))
+  where
+    go : Dec (4000000000 < t + n) → t + n ≤ 4000000000
+    go (yes h) = never 15 0 (sym (tally-refused t n h) ∙ e)
+    go (no h) = omega arith
+
+-- ---- new points
+-- fewer rounds, fewer points
+pub fewer-points : (m : ControlNet) (j k : ℕ) → j ≤ k → newPoints j m ≤ newPoints k m
+unfolding newPoints
+fewer-points m j k h = let a = more-vertices (startNet m) j k h in omega arith
+
+-- coordinates do not matter
+same-marks : (v v′ : List ℤ) (l s marks : List ℕ) → length (startNet (controlNet v l s marks) .marks) ≡ length (startNet (controlNet v′ l s marks) .marks)
+unfolding startNet split
+same-marks v v′ l [] marks = refl
+same-marks v v′ l (c ∷ s) marks = refl
+
+same-faces : (v v′ : List ℤ) (l s marks : List ℕ) → startNet (controlNet v l s marks) .faces ≡ startNet (controlNet v′ l s marks) .faces
+unfolding startNet split
+same-faces v v′ l [] marks = refl
+same-faces v v′ l (c ∷ s) marks = refl
+
+pub same-points : (k : ℕ) (v v′ : List ℤ) (l s marks : List ℕ) → newPoints k (controlNet v l s marks) ≡ newPoints k (controlNet v′ l s marks)
+unfolding newPoints
+same-points k v v′ l s marks =
+    let a = steps-count kobbelt (startNet (controlNet v l s marks)) k in
+    let b = steps-count kobbelt (startNet (controlNet v′ l s marks)) k in
+    let c = ap₂ (verticesAfter k) (same-marks v v′ l s marks) (same-faces v v′ l s marks) in
+    omega arith
+
+-- at most 4G
+pub few-points : (c : Call) → verdict c ≡ accepted → newPoints (c .rounds) (c .net) ≤ 1048576
+unfolding newPoints
+few-points c e = let a = few-vertices c e in let b = accepted-limits c e .final in omega arith
+
+-- from zero, 15 does not hold: the verdict is that of the check
+pub untallied : (a : Request) → a .tally ≡ 0 → requestVerdict a ≡ verdict (callOf a)
+unfolding requestVerdict
+untallied a z = go (verdict (callOf a)) refl
+  where
+    go : (v : Verdict) → verdict (callOf a) ≡ v → orElse v (tallyVerdict (a .tally) (toAdd a)) ≡ v
+    go accepted e = let b = few-points (callOf a) e in tally-if (a .tally) (toAdd a) (omega arith)
+    go (refused r p) e = refl
+
+-- ---- the same call for fewer rounds, from the same tally
+pub accepted-for-fewer : (a : Request) → AcceptedFor a (a .rounds) → (k : ℕ) → k ≤ a .rounds → requestVerdict (forRounds k a) ≡ accepted
+unfolding requestVerdict
+accepted-for-fewer a h k l =
+    let n : ControlNet = a .net in
+    let e = accepted-fewer (callOf a) k l (accepted-verdict a (a .rounds) h) in
+    let t = tally-le (a .tally) (newPoints (a .rounds) n) (accepted-tally a (a .rounds) h) in
+    let f = fewer-points n k (a .rounds) l in
+    or-accepted e (tally-if (a .tally) (newPoints k n) (omega arith))
