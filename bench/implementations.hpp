@@ -20,7 +20,7 @@ public:
     const char *const name;
 };
 
-// The proved call, with tables lent for the largest net and touched.
+// The proved call, with tables lent for the largest net and touched, and a record of new points from zero in each call.
 class Product : public Implementation {
 public:
     Product() : Implementation("gedrovit") {}
@@ -28,7 +28,8 @@ public:
     Verdict refine(const Net &net, uint32_t rounds) override
     {
         const bool splits = !net.sides.empty();
-        last = gedrovit_refine(rounds, &net.points.data()->x, 3 * net.points.size(), net.corners.data(), net.corners.size(),
+        tally.points = 0;
+        last = gedrovit_refine(&tally, rounds, &net.points.data()->x, 3 * net.points.size(), net.corners.data(), net.corners.size(),
                                splits ? net.sides.data() : net.marks.data(), net.sides.size(), net.marks.data(), net.marks.size(), vertices.data(),
                                vertices.size(), faces.data(), faces.size(), marks.data(), marks.size(), work.data(), work.size());
         return {last.reason, last.place};
@@ -44,6 +45,7 @@ public:
 
 private:
     gedrovit_report last = {};
+    gedrovit_tally tally = {};
     std::vector<int32_t> vertices = std::vector<int32_t>(12 * MOST_REFINED, 1);
     std::vector<uint32_t> faces = std::vector<uint32_t>(4 * MOST_REFINED, 1), work = std::vector<uint32_t>(16 * MOST_REFINED, 1);
     std::vector<uint8_t> marks = std::vector<uint8_t>(4 * MOST_REFINED, 1);

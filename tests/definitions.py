@@ -86,7 +86,7 @@ GROUPS = {
         "seam.Reading": "",
     },
 }
-GROUPS["Outcome"] = {**GROUPS["Round"], **GROUPS["Verdict"], **GROUPS["Split"], "tables.Tables": "", "outcome.Outcome": "refinedTo, refusedWith, request"}
+GROUPS["Outcome"] = {**GROUPS["Round"], **GROUPS["Verdict"], **GROUPS["Split"], "tables.Tables": "", "outcome.Tally": "", "outcome.Outcome": "refinedTo, refusedWith, request"}
 # Names that two modules of a group have; the group does not need the first module's.
 LEFT_OUT = {("Round", "topology.Boundary", "step"), ("Outcome", "topology.Boundary", "step"), ("Seam", "topology.Boundary", "step"), ("Seam", "curve.Curve", "step"), ("Seam", "curve.Curve", "steps")}
 LIBRARY = """use mathlib.Core.Path.{_≡_, refl, ap, _∙_}
@@ -174,16 +174,16 @@ def verdict_facts(label, case):
 
 
 def outcome_facts(label, case):
-    """What the call reports, and every lent table as it returns."""
+    """What the call reports, and the record and every lent table as it returns."""
     call = case["call"]
     if "lent" not in call:
         return
-    (counts, verdict), rounds = (call["counts"], call["verdict"]), call["rounds"]
-    result = f"refinedTo {counts[0]} {counts[1]}" if counts else f"refusedWith {verdict[0]} {verdict[1]}"
+    counts, refusal, (before, after), rounds = call["counts"], call["refusal"], call["tally"], call["rounds"]
+    result = f"refinedTo {counts[0]} {counts[1]}" if counts else f"refusedWith {refusal[0]} {refusal[1]}"
     size = len(case["net"][1]) // (1 if "sides" in case else 4)
     cost = 0.3 + (0.1 * size**2 if rounds else 0)
-    asked = f"request {rounds} {drawn(label, case)} (record {{ {lent_text(call['lent'])} }})"
-    yield "Outcome", "outcome", f"outcome ({asked})", f"record {{ result = {result}; buffers = record {{ {lent_text(call['left'])} }} }}", cost
+    asked = f"request {before} {rounds} {drawn(label, case)} (record {{ {lent_text(call['lent'])} }})"
+    yield "Outcome", "outcome", f"outcome ({asked})", f"record {{ result = {result}; tally = {after}; buffers = record {{ {lent_text(call['left'])} }} }}", cost
 
 
 def moved_facts(label, case):
@@ -512,6 +512,8 @@ MUTATIONS = {
     "corners summed over four": ("Split", "polygons-lone", "splitting/specs/Splitting.antt", [("/ᶠ S .sides h", "/ᶠ 4")]),
     "a side's first end twice": ("Split", "polygons-lone", "splitting/specs/Splitting.antt", [("(whole (p (to S l h)))", "(whole (p (from l h)))")]),
     "quadrilaterals left whole": ("Split", "polygons-quads", "splitting/specs/Splitting.antt", [("startBy (c ∷ s) m = split m", "startBy (c ∷ s) m = drawnTables m")]),
+    "the record passes its limit by one": ("Outcome", "polygons-stored-tally", "outcome/specs/Tally.antt", [("ltb 4000000000 ", "ltb 4000000001 ")]),
+    "drawn vertices billed": ("Outcome", "polygons-stored-tally", "outcome/specs/Tally.antt", [("(startNet m)) - length (m .marks)", "(startNet m))")]),
     "another end weight of the curve": ("Curve", "single", "curve/specs/Weights.antt", [("pos (w .near + w .far) *ℤ q", "pos (w .near) *ℤ q")]),
     "a loop followed backwards": ("Reading", "single", "topology/specs/Boundary.antt", [("step S l withSides h = along S l h", "step S l withSides h = back S l h")]),
 }

@@ -136,7 +136,7 @@ cmake_finds() {
         && cmake -S "$scratch/find" -B "$scratch/find/build" -DCMAKE_PREFIX_PATH="$prefix" "${@:2}"
 }
 
-# of version 0.3.0, say
+# of version 0.4.0, say
 cmake_versions() {
     local major minor patch
     IFS=. read -r major minor patch <<<"$version"
@@ -189,11 +189,11 @@ wrong_header() {
 
 wrong_constants() {
     for wrong in MAX_ROUNDS/5 MAX_ROUNDS/7 MAX_VERTICES/8190 MAX_VERTICES/8194 MAX_FACES/4095 MAX_FACES/5000 MAX_REFINED_FACES/262143 MAX_REFINED_FACES/266240 \
-        MAX_COORDINATE/1048575 MAX_COORDINATE/1048577 MAX_RING/7 MAX_RING/9 MAX_FAN/5 MAX_FAN/7 MIN_SIDES/2 MIN_SIDES/4 MAX_SIDES/7 MAX_SIDES/9; do
+        MAX_COORDINATE/1048575 MAX_COORDINATE/1048577 MAX_RING/7 MAX_RING/9 MAX_FAN/5 MAX_FAN/7 MIN_SIDES/2 MIN_SIDES/4 MAX_SIDES/7 MAX_SIDES/9 MAX_TALLY/3999999999 MAX_TALLY/4000000001; do
         wrong_header "s/(define GEDROVIT_${wrong%/*}) .*/\\1 ${wrong#*/}/" || return
     done
     local reason=1 next
-    for next in {2..12} 14; do
+    for next in {2..12} 14 15; do
         wrong_header "s/^(    GEDROVIT_.* = )$reason,/\\1@,/; s/^(    GEDROVIT_.* = )$next(,?)$/\\1$reason\\2/; s/@/$next/" || return
         reason=$next
     done
@@ -218,6 +218,16 @@ version_guard() {
 types_only() {
     printf '#define GEDROVIT_TYPES_ONLY\n#include <gedrovit.h>\nint main(void) { return gedrovit_reason_text(GEDROVIT_ACCEPTED)[0] == 0; }\n' >"$scratch/types.c"
     "${c[@]}" -I "$prefix/include" "$scratch/types.c" -o "$scratch/types" && "$scratch/types"
+}
+
+# A refining call without the record of new points does not compile, in C and in C++.
+no_record() {
+    local made='gedrovit_report made(gedrovit_tally *tally, const gedrovit_net *net, const gedrovit_tables *tables)'
+    printf '#include <gedrovit.h>\n%s;\n%s\n{\n    (void)tally;\n    return gedrovit_refine_net(RECORD 1, net, tables);\n}\n' "$made" "$made" >"$scratch/call.c"
+    for compiler in "${CC:-cc} -std=c11 -x c" "${CXX:-c++} -std=c++17 -x c++"; do
+        $compiler -w -fsyntax-only -I "$prefix/include" -DRECORD=tally, "$scratch/call.c" \
+            && ! $compiler -w -fsyntax-only -I "$prefix/include" -DRECORD= "$scratch/call.c" 2>"$scratch/said" && grep -q 'call.c:6:.*error' "$scratch/said" || return
+    done
 }
 
 # plugin NAME INCLUDES LIBRARIES LANGUAGE [WORD ..]: a plug-in; nothing is inlined
@@ -289,6 +299,7 @@ check "constants of the header" constants
 check "wrong constants are seen" wrong_constants
 check "header and archive of different versions" version_guard
 check "types without an archive" types_only
+check "a refining call without the record" no_record
 check "two plug-ins with archives" plugins
 check "archive in a shared object" shared_object
 check "nets in vectors" vectors

@@ -64,7 +64,8 @@ static int refine(uint32_t rounds)
     const gedrovit_tables t = gedrovit_tables_of(
         allocate(n.out_vertices, sizeof(int32_t)), n.out_vertices, allocate(n.out_faces, sizeof(uint32_t)), n.out_faces,
         allocate(n.out_marks, sizeof(uint8_t)), n.out_marks, allocate(n.work, sizeof(uint32_t)), n.work);
-    const gedrovit_report report = gedrovit_refine_net(rounds, &net, &t);
+    gedrovit_tally tally = {0};
+    const gedrovit_report report = gedrovit_refine_net(&tally, rounds, &net, &t);
     if (report.reason == GEDROVIT_ACCEPTED)
         print(report, t);
     release(t);

@@ -1,4 +1,4 @@
-// Two panels that share a boundary segment are refined separately; the shared points are compared.
+// Two panels that share a boundary segment are refined separately; the shared points are compared, and the new points of both are billed.
 #include <gedrovit.hpp>
 
 #include <algorithm>
@@ -17,10 +17,10 @@ using Point = std::array<std::int32_t, 3>;
 
 using gedrovit::net;
 
-// The refined net; a refusal ends the program.
-net refined(std::uint32_t rounds, const net &panel)
+// The refined net, its new points added to the bill; a refusal ends the program.
+net refined(gedrovit::tally &bill, std::uint32_t rounds, const net &panel)
 {
-    auto result = gedrovit::refine(rounds, panel);
+    auto result = gedrovit::refine(bill, rounds, panel);
     if (const auto *refusal = std::get_if<gedrovit::refusal>(&result))
         throw std::runtime_error("refusal " + std::to_string(refusal->reason) + ", place " + std::to_string(refusal->place) + ": " + refusal->text());
     return std::get<net>(std::move(result));
@@ -60,15 +60,18 @@ int main() try {
                    {0, 1, 3, 2, 2, 3, 5, 4, 4, 5, 7, 6}, {1, 1, 0, 0, 0, 0, 1, 1}};
     const net right{{40, 90, 0, 38, 60, 9, 44, 30, 6, 40, 0, 0, 90, 95, 7, 70, 55, 33, 85, 35, 21, 80, -5, 0},
                     {1, 5, 4, 0, 2, 6, 5, 1, 3, 7, 6, 2}, {1, 0, 0, 1, 1, 0, 0, 1}};
+    gedrovit::tally bill{};
     bool same = true;
     for (std::uint32_t rounds = 0; rounds <= GEDROVIT_MAX_ROUNDS; rounds++) {
-        const auto up = segment(refined(rounds, left), 1);
-        auto down = segment(refined(rounds, right), 0);
+        const auto before = bill.points;
+        const auto up = segment(refined(bill, rounds, left), 1);
+        auto down = segment(refined(bill, rounds, right), 0);
         std::reverse(down.begin(), down.end());
         same = same && up == down;
         std::cout << "rounds " << rounds << ": " << up.size() << " shared points "
-                  << (up == down ? "agree" : "differ") << '\n';
+                  << (up == down ? "agree" : "differ") << ", " << bill.points - before << " new points\n";
     }
+    std::cout << "the bill: " << bill.points << " new points\n";
     return same ? 0 : 1;
 } catch (const std::runtime_error &refusal) {
     std::cerr << "seam: " << refusal.what() << '\n';

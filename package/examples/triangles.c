@@ -1,6 +1,6 @@
 /*
- * Refines a panel of triangles and a pentagon and writes it as Wavefront OBJ: triangles [ROUNDS], by default 0, which gives
- * the drawn faces split into quadrilaterals.
+ * Refines a panel of triangles and a pentagon and writes it as Wavefront OBJ, after a comment with the number of new points:
+ * triangles [ROUNDS], by default 0, which gives the drawn faces split into quadrilaterals.
  */
 #include <gedrovit.h>
 
@@ -25,8 +25,9 @@ static int refused(uint32_t reason, uint64_t place)
 }
 
 /* OBJ counts vertices from 1. */
-static void print(gedrovit_report report, const gedrovit_tables *t)
+static void print(gedrovit_tally tally, gedrovit_report report, const gedrovit_tables *t)
 {
+    printf("# %" PRIu64 " new points\n", tally.points);
     for (const int32_t *p = t->vertices; p < t->vertices + 3 * report.vertices; p += 3)
         printf("v %" PRId32 " %" PRId32 " %" PRId32 "\n", p[0], p[1], p[2]);
     for (const uint32_t *c = t->faces; c < t->faces + 4 * report.faces; c += 4)
@@ -49,9 +50,10 @@ static int refine(uint32_t rounds)
         perror("triangles");
         exit(EXIT_FAILURE);
     }
-    const gedrovit_report report = gedrovit_refine_net(rounds, &net, &t);
+    gedrovit_tally tally = {0};
+    const gedrovit_report report = gedrovit_refine_net(&tally, rounds, &net, &t);
     if (report.reason == GEDROVIT_ACCEPTED)
-        print(report, &t);
+        print(tally, report, &t);
     free(t.vertices);
     free(t.faces);
     free(t.marks);

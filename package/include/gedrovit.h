@@ -67,13 +67,24 @@
  * absolute value.
  *
  * Let a net be moved: one whole number is added to the x of every vertex, one to every y and one to
- * every z. If the coordinates of both nets are in the range above, the call on the moved net reports
- * the same, a refusal too, gives the same faces and marks, and the same points moved by these numbers.
- * This does not hold of mirroring: where a half is rounded, a mirrored net may give other points than
- * the mirrored ones.
+ * every z. If the coordinates of both nets are in the range above, and the records of new points are
+ * equal, the call on the moved net reports the same, a refusal too, adds the same to the record,
+ * gives the same faces and marks, and the same points moved by these numbers. This does not hold of
+ * mirroring: where a half is rounded, a mirrored net may give other points than the mirrored ones.
  *
  * A refined net may not be fit to be handed in again: its coordinates may lie beyond 1,048,576, and
  * it may have more than 8,192 vertices or 4,096 faces. Reasons 6 to 12 below never hold for it.
+ *
+ *
+ * The record of new points
+ *
+ * Every refining call takes a record, which counts the points that are paid for. An accepted call
+ * adds the number of refined vertices minus the number of drawn ones: with side counts the points of
+ * the split too, with 0 rounds and no side counts nothing. A refused call adds nothing. A record that
+ * starts at 0, and that nothing but calls writes, is the sum over its accepted calls.
+ *
+ * Its figure is never above 4,000,000,000 after an accepted call: a call that would make it so, or
+ * finds it so, gets reason 15, even if it adds nothing. Any figure may stand there before a call.
  *
  *
  * The tables that you provide
@@ -94,6 +105,7 @@
  *   1 to 4     as before                                      as before
  *   and 14
  *   5 to 12    as before                                      the first 16 G are 0
+ *   and 15
  *
  * Output elements beyond the refined net and work elements beyond 16 G are never written. The
  * tables of the net are only read.
@@ -104,15 +116,16 @@
  *     std::vector may be null (with GNU's library it is), and so may malloc(0): pass the address of
  *     any variable of the element's type instead. It is neither read nor written. The functions
  *     over records do this for you.
+ *   - The pointer to the record of new points is non-null and aligned too, in every function.
  *   - Each table has the length that you state, in bytes at most PTRDIFF_MAX.
- *   - No output and no work table overlaps another table of the call.
+ *   - No output and no work table overlaps another table of the call, and the record overlaps none.
  *
  *
  * What a call does not do
  *
  * It keeps no state, allocates nothing, takes no lock and does no input or output. Calls from any
- * threads may run at the same time if each has its own output and work tables; they may share the
- * tables of a net, if nothing writes to these meanwhile. A call always returns. It calls nothing of
+ * threads may run at the same time if each has its own record, output and work tables; they may share
+ * the tables of a net, if nothing writes to these meanwhile. A call always returns. It calls nothing of
  * yours and throws nothing; no exception may unwind through it, as one thrown by a signal handler
  * would.
  *
@@ -163,9 +176,9 @@
 #include <stdint.h>
 
 /* The version of this header. */
-#define GEDROVIT_VERSION "0.3.0"
+#define GEDROVIT_VERSION "0.4.0"
 #define GEDROVIT_VERSION_MAJOR 0
-#define GEDROVIT_VERSION_MINOR 3
+#define GEDROVIT_VERSION_MINOR 4
 #define GEDROVIT_VERSION_PATCH 0
 
 /* The same as a number, to be compared with gedrovit_version(), and at the end of a name. */
@@ -186,6 +199,7 @@
 #define GEDROVIT_MAX_FAN 6
 #define GEDROVIT_MIN_SIDES 3
 #define GEDROVIT_MAX_SIDES 8
+#define GEDROVIT_MAX_TALLY 4000000000
 
 /* What calls stay within, as said above. */
 #define GEDROVIT_MAX_REFINED_COORDINATE 268435456
@@ -208,7 +222,7 @@ extern "C" {
  * Why a call was refused. If several reasons hold, the first in this order is reported:
  *
  *   1; 2 by the vertex table; with side counts 14, without them 2 by the face table;
- *   2 by the marks; 3; 4; then 5 to 12, as they are numbered.
+ *   2 by the marks; 3; 4; then 5 to 12, as they are numbered; 15.
  *
  * The place is the lowest vertex or face number concerned. 5 to 12 speak of the net as it is drawn,
  * before its split.
@@ -248,10 +262,12 @@ enum gedrovit_reason {
     /* vertex with mark 1 and a full ring, so not on the boundary */
     GEDROVIT_MARKED_INTERIOR_VERTEX = 12,
 
-    /* The calling program can cause this one too. The place is 0. */
+    /* The calling program can cause these too. The place is 0. */
 
     /* a side count outside 3 to 8, or counts that do not add up to faces_length */
-    GEDROVIT_INVALID_SIDE_COUNTS = 14
+    GEDROVIT_INVALID_SIDE_COUNTS = 14,
+    /* the record of new points would be above 4,000,000,000 after the call, even if nothing is added */
+    GEDROVIT_TALLY_LIMIT = 15
 };
 
 /* What a reason says, in English; the place is not in it. */
@@ -272,9 +288,15 @@ GEDROVIT_INLINE const char *gedrovit_reason_text(uint32_t reason) GEDROVIT_NOEXC
     case GEDROVIT_VALENCE_OUT_OF_RANGE: return "the ring is not of 3 to 8 faces, or the fan is of more than 6";
     case GEDROVIT_MARKED_INTERIOR_VERTEX: return "the vertex is marked and not on the boundary";
     case GEDROVIT_INVALID_SIDE_COUNTS: return "a side count is not from 3 to 8, or the counts do not add up to the corners";
+    case GEDROVIT_TALLY_LIMIT: return "the record of new points would be above 4,000,000,000";
     default: return "a reason that this version does not know";
     }
 }
+
+/* The record of new points. A fresh one is {0}; what it holds after a call is told above. */
+typedef struct {
+    uint64_t points;
+} gedrovit_tally;
 
 /* What gedrovit_refine answers. */
 typedef struct {
@@ -286,7 +308,7 @@ typedef struct {
 
 /* What gedrovit_check answers. */
 typedef struct {
-    uint32_t reason; /* 0: gedrovit_refine would refine; otherwise an enum gedrovit_reason */
+    uint32_t reason; /* 0: gedrovit_refine would refine, but for 15; otherwise an enum gedrovit_reason */
     uint64_t place;  /* 0 if reason is 0 */
 } gedrovit_finding;
 
@@ -379,8 +401,8 @@ GEDROVIT_API uint32_t GEDROVIT_VERSIONED(gedrovit_version)(void) GEDROVIT_NOEXCE
 GEDROVIT_KEPT static uint32_t (*const gedrovit_same_version)(void) = GEDROVIT_VERSIONED(gedrovit_version);
 #undef GEDROVIT_KEPT
 
-/* Refines a net into the output tables, or says why not. */
-GEDROVIT_API gedrovit_report gedrovit_refine(uint32_t rounds,
+/* Refines a net into the output tables and adds its new points to the record, or says why not. */
+GEDROVIT_API gedrovit_report gedrovit_refine(gedrovit_tally *tally, uint32_t rounds,
                                              const int32_t *vertices, size_t vertices_length,
                                              const uint32_t *faces, size_t faces_length,
                                              const uint8_t *sides, size_t sides_length,
@@ -392,7 +414,8 @@ GEDROVIT_API gedrovit_report gedrovit_refine(uint32_t rounds,
 
 /*
  * Checks without refining: the reason and place that gedrovit_refine would report for output tables
- * of these lengths. The work table is needed, and afterwards holds what it would after that call.
+ * of these lengths, but for 15: it takes no record, so none is judged or changed. The work table is
+ * needed, and afterwards holds what it would after that call.
  */
 GEDROVIT_API gedrovit_finding gedrovit_check(uint32_t rounds,
                                              const int32_t *vertices, size_t vertices_length,
@@ -412,13 +435,13 @@ GEDROVIT_API gedrovit_sizes gedrovit_sizes_for(uint32_t rounds, size_t vertices_
  * The same over records. A pointer may be null where its length is 0; the other duties stay.
  * gedrovit_check_net looks at the work table and at the lengths of the others alone.
  */
-GEDROVIT_INLINE gedrovit_report gedrovit_refine_net(uint32_t rounds, const gedrovit_net *net,
+GEDROVIT_INLINE gedrovit_report gedrovit_refine_net(gedrovit_tally *tally, uint32_t rounds, const gedrovit_net *net,
                                                     const gedrovit_tables *tables) GEDROVIT_NOEXCEPT
 {
     int32_t coordinate = 0;
     uint32_t number = 0;
     uint8_t byte = 0;
-    return gedrovit_refine(rounds,
+    return gedrovit_refine(tally, rounds,
                            net->vertices_length == 0 ? &coordinate : net->vertices, net->vertices_length,
                            net->faces_length == 0 ? &number : net->faces, net->faces_length,
                            net->sides_length == 0 ? &byte : net->sides, net->sides_length,

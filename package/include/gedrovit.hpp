@@ -33,6 +33,9 @@ struct net {
     }
 };
 
+// The record of new points that every refining call takes. A fresh one is tally{}.
+using tally = gedrovit_tally;
+
 // Why a call was refused: the first reason that holds, an enum gedrovit_reason in the order that stands there, and its place.
 struct refusal {
     std::uint32_t reason;
@@ -53,8 +56,9 @@ GEDROVIT_INLINE gedrovit_net view(const net &n) noexcept
 
 #ifndef GEDROVIT_TYPES_ONLY
 
-// The net after this many refinement steps, all faces with four sides, in tables allocated for it, or why not. std::bad_alloc may be thrown.
-GEDROVIT_INLINE std::variant<net, refusal> refine(std::uint32_t rounds, const net &coarse)
+// The net after this many refinement steps, all faces with four sides, in tables allocated for it, or why not. Its new points are added to
+// the bill. std::bad_alloc may be thrown, and the bill is then as before.
+GEDROVIT_INLINE std::variant<net, refusal> refine(tally &bill, std::uint32_t rounds, const net &coarse)
 {
     const gedrovit_net record = view(coarse);
     const gedrovit_sizes n = gedrovit_sizes_for_net(rounds, &record);
@@ -67,7 +71,7 @@ GEDROVIT_INLINE std::variant<net, refusal> refine(std::uint32_t rounds, const ne
     std::vector<std::uint32_t> work(n.work);
     const gedrovit_tables tables = gedrovit_tables_of(fine.vertices.data(), fine.vertices.size(), fine.faces.data(), fine.faces.size(),
                                                       fine.marks.data(), fine.marks.size(), work.data(), work.size());
-    const gedrovit_report report = gedrovit_refine_net(rounds, &record, &tables);
+    const gedrovit_report report = gedrovit_refine_net(&bill, rounds, &record, &tables);
     if (report.reason != GEDROVIT_ACCEPTED)
         return refusal{report.reason, report.place};
     fine.vertices.resize(3 * report.vertices);
@@ -76,7 +80,7 @@ GEDROVIT_INLINE std::variant<net, refusal> refine(std::uint32_t rounds, const ne
     return fine;
 }
 
-// Why refine would refuse, if it would. std::bad_alloc may be thrown.
+// Why refine would refuse, but for reason 15, if it would. std::bad_alloc may be thrown.
 GEDROVIT_INLINE std::optional<refusal> check(std::uint32_t rounds, const net &coarse)
 {
     const gedrovit_net record = view(coarse);

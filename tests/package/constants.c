@@ -74,15 +74,23 @@ static gedrovit_tables tables(void)
     return gedrovit_tables_of(out_vertices, 12 * REFINED, out_faces, 4 * REFINED, out_marks, 4 * REFINED, work, 16 * REFINED);
 }
 
+/* The refining call on a net, tables and this record gives this answer, and the record is charged with the new points of an accepted one. */
+static void answer_from(const char *what, uint64_t points, uint32_t rounds, gedrovit_net n, gedrovit_tables t, uint32_t reason, uint64_t place)
+{
+    gedrovit_tally tally = {points};
+    const gedrovit_report report = gedrovit_refine_net(&tally, rounds, &n, &t);
+    expect(what, report.reason, reason);
+    expect(what, report.place, place);
+    expect(what, tally.points, points + (reason == GEDROVIT_ACCEPTED ? report.vertices - n.marks_length : 0));
+}
+
 /* Both calls on a net and tables give this answer. */
 static void answer_by(const char *what, uint32_t rounds, gedrovit_net n, gedrovit_tables t, uint32_t reason, uint64_t place)
 {
     const gedrovit_finding finding = gedrovit_check_net(rounds, &n, &t);
-    const gedrovit_report report = gedrovit_refine_net(rounds, &n, &t);
     expect(what, finding.reason, reason);
     expect(what, finding.place, place);
-    expect(what, report.reason, reason);
-    expect(what, report.place, place);
+    answer_from(what, 0, rounds, n, t, reason, place);
 }
 
 /* On the net that was drawn. */
@@ -157,6 +165,20 @@ static void limits_of_sides(void)
     answer_by("MAX_SIDES + 1", 1, loose(GEDROVIT_MAX_SIDES + 1, 18), tables(), GEDROVIT_INVALID_SIDE_COUNTS, 0);
     answer_by("MAX_FACES corners", 0, loose(4, GEDROVIT_MAX_FACES), tables(), GEDROVIT_ACCEPTED, 0);
     answer_by("MAX_FACES + 1 corners", 0, loose(4, GEDROVIT_MAX_FACES + 3), tables(), GEDROVIT_NET_TOO_LARGE, 0);
+}
+
+/* A square refined once has 5 new points; 0 rounds have none. The check takes no record. */
+static void limit_of_record(void)
+{
+    square();
+    answer_from("up to MAX_TALLY", GEDROVIT_MAX_TALLY - 5, 1, net(), tables(), GEDROVIT_ACCEPTED, 0);
+    answer_from("up to MAX_TALLY + 1", GEDROVIT_MAX_TALLY - 4, 1, net(), tables(), GEDROVIT_TALLY_LIMIT, 0);
+    answer_from("at MAX_TALLY", GEDROVIT_MAX_TALLY, 0, net(), tables(), GEDROVIT_ACCEPTED, 0);
+    answer_from("at MAX_TALLY + 1", GEDROVIT_MAX_TALLY + 1, 0, net(), tables(), GEDROVIT_TALLY_LIMIT, 0);
+    answer_from("at the largest", UINT64_MAX, 1, net(), tables(), GEDROVIT_TALLY_LIMIT, 0);
+    answer_from("at 5 below 0", UINT64_MAX - 4, 1, net(), tables(), GEDROVIT_TALLY_LIMIT, 0);
+    marks[3] = 2;
+    answer_from("6 before 15", UINT64_MAX, 1, net(), tables(), GEDROVIT_INVALID_MARK, 3);
 }
 
 /* The first in the order that the header states: each fault beside those that come later. */
@@ -257,7 +279,7 @@ static void empty(void)
 static void texts(void)
 {
     const char *unknown = gedrovit_reason_text(UINT32_MAX);
-    for (uint32_t reason = 0; reason <= GEDROVIT_INVALID_SIDE_COUNTS; reason++) {
+    for (uint32_t reason = 0; reason <= GEDROVIT_TALLY_LIMIT; reason++) {
         expect("reason without a text", strcmp(gedrovit_reason_text(reason), unknown) == 0, reason == 13);
         for (uint32_t other = 0; other < reason; other++)
             expect("two reasons with one text", strcmp(gedrovit_reason_text(reason), gedrovit_reason_text(other)) == 0, 0);
@@ -271,6 +293,7 @@ int main(void)
     limits_of_counts();
     limits_of_nets();
     limits_of_sides();
+    limit_of_record();
     order();
     lengths();
     reasons_of_nets();

@@ -61,7 +61,8 @@ static void *calls(void *wanted)
         return NULL;
     gedrovit_check(rounds, vertices, 3 * vertex_count, faces, 4 * face_count, sides, sides_length, marks, vertex_count, sizeof out_vertices / 4,
                    sizeof out_faces / 4, sizeof out_marks, work, sizeof work / 4);
-    gedrovit_refine(rounds, vertices, 3 * vertex_count, faces, 4 * face_count, sides, sides_length, marks, vertex_count, out_vertices,
+    gedrovit_tally tally = {0};
+    gedrovit_refine(&tally, rounds, vertices, 3 * vertex_count, faces, 4 * face_count, sides, sides_length, marks, vertex_count, out_vertices,
                     sizeof out_vertices / 4, out_faces, sizeof out_faces / 4, out_marks, sizeof out_marks, work, sizeof work / 4);
     return NULL;
 }

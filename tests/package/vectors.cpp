@@ -26,31 +26,35 @@ const gedrovit::net square{{0, 0, 0, 16, 0, 0, 16, 16, 0, 0, 16, 0}, {0, 1, 2, 3
 // The flat functions get the address of a variable in the place of an empty table.
 void empty_tables()
 {
+    gedrovit_tally tally = {7};
     std::int32_t coordinate = 7;
     std::uint32_t number = 7;
     std::uint8_t byte = 7;
     const gedrovit_sizes sizes = gedrovit_sizes_for(6, 0, 0, &byte, 0, 0);
     const gedrovit_finding finding = gedrovit_check(6, &coordinate, 0, &number, 0, &byte, 0, &byte, 0, 0, 0, 0, &number, 0);
     const gedrovit_report report =
-        gedrovit_refine(6, &coordinate, 0, &number, 0, &byte, 0, &byte, 0, &coordinate, 0, &number, 0, &byte, 0, &number, 0);
+        gedrovit_refine(&tally, 6, &coordinate, 0, &number, 0, &byte, 0, &byte, 0, &coordinate, 0, &number, 0, &byte, 0, &number, 0);
     expect("empty: lengths", sizes.reason == 0 && sizes.out_vertices + sizes.out_faces + sizes.out_marks + sizes.work == 0);
     expect("empty: accepted", finding.reason == 0 && report.reason == 0 && report.vertices + report.faces == 0);
-    expect("empty: untouched", coordinate == 7 && number == 7 && byte == 7);
+    expect("empty: untouched", tally.points == 7 && coordinate == 7 && number == 7 && byte == 7);
 }
 
 void empty_vectors()
 {
-    const auto result = gedrovit::refine(6, gedrovit::net());
+    gedrovit::tally bill{};
+    const auto result = gedrovit::refine(bill, 6, gedrovit::net());
     const auto *fine = std::get_if<gedrovit::net>(&result);
-    expect("empty vectors: refined", fine != nullptr && fine->vertices.empty() && fine->faces.empty() && fine->marks.empty());
+    expect("empty vectors: refined", fine != nullptr && fine->vertices.empty() && fine->faces.empty() && fine->marks.empty() && bill.points == 0);
     expect("empty vectors: checked", !gedrovit::check(6, gedrovit::net()));
 }
 
 // refine and check refuse alike.
 void refused(std::uint32_t rounds, const gedrovit::net &net, std::uint32_t reason, std::uint64_t place)
 {
-    const auto result = gedrovit::refine(rounds, net);
+    gedrovit::tally bill{11};
+    const auto result = gedrovit::refine(bill, rounds, net);
     const auto *refusal = std::get_if<gedrovit::refusal>(&result);
+    expect("a refused call adds nothing", bill.points == 11);
     const auto finding = gedrovit::check(rounds, net);
     expect(gedrovit_reason_text(reason), refusal != nullptr && refusal->reason == reason && refusal->place == place);
     expect(gedrovit_reason_text(reason), finding && finding->reason == reason && finding->place == place);
@@ -74,17 +78,33 @@ void refusals()
 void other_faces()
 {
     const gedrovit::net triangle{{0, 0, 0, 6, 0, 0, 0, 6, 0}, {0, 1, 2}, {1, 0, 0}, {3}};
-    const auto result = gedrovit::refine(0, triangle);
+    gedrovit::tally bill{};
+    const auto result = gedrovit::refine(bill, 0, triangle);
     const auto *split = std::get_if<gedrovit::net>(&result);
     expect("triangle: points", split != nullptr && split->vertices == std::vector<std::int32_t>{0, 0, 0, 6, 0, 0, 0, 6, 0, 3, 0, 0, 3, 3, 0, 0, 3, 0, 2, 2, 0});
     expect("triangle: faces", split != nullptr && split->faces == std::vector<std::uint32_t>{0, 3, 6, 5, 1, 4, 6, 3, 2, 5, 6, 4});
     expect("triangle: marks", split != nullptr && split->marks == std::vector<std::uint8_t>{1, 0, 0, 0, 0, 0, 0} && split->sides.empty());
+    expect("triangle: bill", bill.points == 4);
+}
+
+// Two calls on one record, the second up to the limit, and a third beyond it, which the check does not judge.
+void bill_of_a_series()
+{
+    gedrovit::tally bill{GEDROVIT_MAX_TALLY - 10};
+    expect("bill: first", std::holds_alternative<gedrovit::net>(gedrovit::refine(bill, 1, square)) && bill.points == GEDROVIT_MAX_TALLY - 5);
+    expect("bill: second", std::holds_alternative<gedrovit::net>(gedrovit::refine(bill, 1, square)) && bill.points == GEDROVIT_MAX_TALLY);
+    const auto third = gedrovit::refine(bill, 1, square);
+    const auto *refusal = std::get_if<gedrovit::refusal>(&third);
+    expect("bill: third", refusal != nullptr && refusal->reason == GEDROVIT_TALLY_LIMIT && refusal->place == 0 && bill.points == GEDROVIT_MAX_TALLY);
+    expect("bill: check", !gedrovit::check(1, square));
 }
 
 // The point of side 0 after one step.
 std::array<std::int32_t, 2> first_edge_point(const gedrovit::net &net)
 {
-    const auto fine = std::get<gedrovit::net>(gedrovit::refine(1, net));
+    gedrovit::tally bill{};
+    const auto fine = std::get<gedrovit::net>(gedrovit::refine(bill, 1, net));
+    expect("bill of one step", bill.points == fine.marks.size() - net.marks.size());
     const std::size_t v = fine.faces[1];
     return {fine.vertices[3 * v], fine.vertices[3 * v + 1]};
 }
@@ -106,6 +126,7 @@ int main()
     empty_vectors();
     refusals();
     other_faces();
+    bill_of_a_series();
     closed_and_open();
     return faults == 0 ? 0 : 1;
 }

@@ -1,11 +1,11 @@
 //! The functions of the archive over slices.
 
 use crate::foreign::{
-    gedrovit_check, gedrovit_refine, gedrovit_sizes_for, gedrovit_version, gedrovit_version_0_3_0,
+    gedrovit_check, gedrovit_refine, gedrovit_sizes_for, gedrovit_version, gedrovit_version_0_4_0,
 };
-use crate::{NetView, Refusal, Tables};
+use crate::{NetView, Refusal, Tables, Tally};
 
-/// The version of the archive: 0.3.0 is 3000.
+/// The version of the archive: 0.4.0 is 4000.
 #[must_use]
 pub fn version() -> u32 {
     // SAFETY: the function takes nothing.
@@ -16,7 +16,7 @@ pub fn version() -> u32 {
 /// another version does not link.
 fn same_version() {
     // SAFETY: the function takes nothing.
-    unsafe { gedrovit_version_0_3_0() };
+    unsafe { gedrovit_version_0_4_0() };
 }
 
 /// How many vertices and faces a refined net has.
@@ -69,20 +69,26 @@ pub fn lengths(rounds: u32, net: NetView<'_>) -> Result<Lengths, Refusal> {
     })
 }
 
-/// Refines a net into the tables, from their front, and tells its numbers of vertices and faces.
-/// Elements beyond the refined net stay as they are. The first 16 G work numbers are 0 afterwards,
+/// Refines a net into the tables, from their front, adds its new points to the record, and tells its
+/// numbers of vertices and faces. Elements beyond the refined net stay as they are. The first 16 G work numbers are 0 afterwards,
 /// G being the number of refined faces.
 ///
 /// # Errors
 ///
-/// Every reason. The vertices, faces and marks stay as they are, and on reasons 1 to 4 and 14 the
-/// work numbers too.
-pub fn refine(rounds: u32, net: NetView<'_>, tables: Tables<'_>) -> Result<Counts, Refusal> {
+/// Every reason. The record, the vertices, faces and marks stay as they are, and on reasons 1 to 4
+/// and 14 the work numbers too.
+pub fn refine(
+    tally: &mut Tally,
+    rounds: u32,
+    net: NetView<'_>,
+    tables: Tables<'_>,
+) -> Result<Counts, Refusal> {
     same_version();
-    // SAFETY: slices are non-null, aligned and of at most isize::MAX bytes; mutable ones overlap no
-    // other.
+    // SAFETY: references and slices are non-null, aligned and of at most isize::MAX bytes; mutable
+    // ones overlap no other.
     let report = unsafe {
         gedrovit_refine(
+            tally,
             rounds,
             net.vertices.as_ptr(),
             net.vertices.len(),
@@ -110,11 +116,12 @@ pub fn refine(rounds: u32, net: NetView<'_>, tables: Tables<'_>) -> Result<Count
 }
 
 /// Whether [`refine`] would refine the net into tables of these lengths and this work table, which
-/// is left as by that call. `lengths.work` does not count.
+/// is left as by that call. `lengths.work` does not count. It takes no record, so the limit on that
+/// is not judged.
 ///
 /// # Errors
 ///
-/// As [`refine`].
+/// As [`refine`], but for reason 15.
 pub fn check(
     rounds: u32,
     net: NetView<'_>,

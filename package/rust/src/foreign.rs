@@ -1,5 +1,14 @@
 //! The functions in the archive, as `gedrovit.h` declares them.
 
+/// The record of new points, which every refining call takes. An accepted call adds the number of
+/// refined vertices minus the number of drawn ones, with side counts the points of the split too; a
+/// refused call adds nothing.
+#[repr(C)]
+#[derive(Debug, Default, PartialEq, Eq)]
+pub struct Tally {
+    pub(crate) points: u64,
+}
+
 #[repr(C)]
 #[derive(Clone, Copy, Debug, PartialEq, Eq)]
 pub struct Report {
@@ -29,9 +38,10 @@ pub struct Sizes {
 unsafe extern "C" {
     pub fn gedrovit_version() -> u32;
 
-    pub fn gedrovit_version_0_3_0() -> u32;
+    pub fn gedrovit_version_0_4_0() -> u32;
 
     pub fn gedrovit_refine(
+        tally: *mut Tally,
         rounds: u32,
         vertices: *const i32,
         vertices_length: usize,

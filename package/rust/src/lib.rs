@@ -14,18 +14,23 @@
 //!     vec![0, 1, 2, 3],
 //!     vec![1, 1, 1, 1],
 //! );
-//! let refined = square.refined(1)?;
+//! let mut tally = gedrovit::Tally::new();
+//! let refined = square.refined(&mut tally, 1)?;
 //! assert_eq!(refined.faces.len() / 4, 4);
 //! assert_eq!(refined.vertices[24..], [8, 8, 0]);
+//! assert_eq!(tally.points(), 5);
 //! # Ok::<(), gedrovit::Refusal>(())
 //! ```
+//!
+//! Every refining call takes a [`Tally`], the record of new points that makers pay by: an accepted
+//! call adds the number of refined vertices minus the number of drawn ones, a refused one nothing.
 //!
 //! Other faces than quadrilaterals come with side counts; zero rounds give the split net:
 //!
 //! ```
 //! let triangle = gedrovit::Net::new(vec![0, 0, 0, 6, 0, 0, 0, 6, 0], vec![0, 1, 2], vec![0; 3])
 //!     .with_sides(vec![3]);
-//! let split = triangle.refined(0)?;
+//! let split = triangle.refined(&mut gedrovit::Tally::new(), 0)?;
 //! assert_eq!(split.vertices[9..], [3, 0, 0, 3, 3, 0, 0, 3, 0, 2, 2, 0]);
 //! assert_eq!(split.faces, [0, 3, 6, 5, 1, 4, 6, 3, 2, 5, 6, 4]);
 //! # Ok::<(), gedrovit::Refusal>(())
@@ -40,8 +45,10 @@ mod foreign;
 mod limits;
 mod net;
 mod refusal;
+mod tally;
 
 pub use call::{check, lengths, refine, version, Counts, Lengths};
+pub use foreign::Tally;
 pub use limits::*;
 pub use net::{Net, NetView, Tables};
 pub use refusal::{Reason, Refusal};

@@ -18,6 +18,8 @@ pub const MAX_FAN: usize = 6;
 pub const MIN_SIDES: u8 = 3;
 /// The most sides of a face.
 pub const MAX_SIDES: u8 = 8;
+/// The most points in the record after an accepted call.
+pub const MAX_TALLY: u64 = 4_000_000_000;
 /// What refined coordinates stay within, in absolute value.
 pub const MAX_REFINED_COORDINATE: i32 = 268_435_456;
 /// A call uses less stack than this; measured, not proved.

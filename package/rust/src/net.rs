@@ -1,6 +1,6 @@
 //! Nets and the tables that a call fills.
 
-use crate::{lengths, refine, Refusal};
+use crate::{lengths, refine, Refusal, Tally};
 
 /// A net in tables of its own, made by [`Net::new`]; later versions add fields.
 #[derive(Clone, Debug, Default, PartialEq, Eq)]
@@ -71,13 +71,13 @@ impl Net {
     }
 
     /// The net after this many refinement steps, all faces with four sides, in tables allocated for
-    /// it.
+    /// it. Its new points are added to the record.
     ///
     /// # Errors
     ///
     /// Every reason but 4.
-    pub fn refined(&self, rounds: u32) -> Result<Net, Refusal> {
-        self.view().refined(rounds)
+    pub fn refined(&self, tally: &mut Tally, rounds: u32) -> Result<Net, Refusal> {
+        self.view().refined(tally, rounds)
     }
 }
 
@@ -104,12 +104,12 @@ impl<'a> NetView<'a> {
     /// # Errors
     ///
     /// Every reason but 4.
-    pub fn refined(self, rounds: u32) -> Result<Net, Refusal> {
+    pub fn refined(self, tally: &mut Tally, rounds: u32) -> Result<Net, Refusal> {
         let n = lengths(rounds, self)?;
         let mut net = Net::new(vec![0; n.vertices], vec![0; n.faces], vec![0; n.marks]);
         let mut work = vec![0; n.work];
         let tables = Tables::new(&mut net.vertices, &mut net.faces, &mut net.marks, &mut work);
-        let counts = refine(rounds, self, tables)?;
+        let counts = refine(tally, rounds, self, tables)?;
         cut(&mut net.vertices, 3 * counts.vertices);
         cut(&mut net.faces, 4 * counts.faces);
         cut(&mut net.marks, counts.vertices);

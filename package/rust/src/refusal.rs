@@ -36,6 +36,8 @@ pub enum Reason {
     MarkedInteriorVertex,
     /// A side count outside 3 to 8, or counts that do not add up to the length of the face table.
     InvalidSideCounts,
+    /// The record of new points would be above 4,000,000,000 after the call, even if nothing is added.
+    TallyLimit,
     /// A number that this version does not know.
     Unknown(u32),
 }
@@ -43,7 +45,7 @@ pub enum Reason {
 use Reason::*;
 
 /// The known reasons with their numbers.
-const ALL: [(u32, Reason); 13] = [
+const ALL: [(u32, Reason); 14] = [
     (1, TooManyRounds),
     (2, InvalidLengths),
     (3, NetTooLarge),
@@ -57,6 +59,7 @@ const ALL: [(u32, Reason); 13] = [
     (11, ValenceOutOfRange),
     (12, MarkedInteriorVertex),
     (14, InvalidSideCounts),
+    (15, TallyLimit),
 ];
 
 impl Reason {
@@ -100,6 +103,7 @@ impl Reason {
             InvalidSideCounts => {
                 "a side count is not from 3 to 8, or the counts do not add up to the corners"
             }
+            TallyLimit => "the record of new points would be above 4,000,000,000",
             Unknown(_) => "a reason that this version does not know",
         }
     }
@@ -108,7 +112,7 @@ impl Reason {
     fn subject(self) -> Option<&'static str> {
         match self {
             TooManyRounds | InvalidLengths | NetTooLarge | TableTooShort | InvalidSideCounts
-            | Unknown(_) => None,
+            | TallyLimit | Unknown(_) => None,
             InvalidCorner | RepeatedHalfEdge => Some("face"),
             _ => Some("vertex"),
         }
@@ -120,7 +124,7 @@ impl Reason {
 pub struct Refusal {
     /// Why.
     pub reason: Reason,
-    /// The lowest vertex or face number concerned, from 0; 0 for reasons 1 to 4 and 14.
+    /// The lowest vertex or face number concerned, from 0; 0 for reasons 1 to 4, 14 and 15.
     pub place: usize,
 }
 
@@ -162,7 +166,7 @@ mod tests {
 
     #[test]
     fn an_unknown_number_is_an_error() {
-        for number in [13, 15, u32::MAX] {
+        for number in [13, 16, u32::MAX] {
             let refusal = Refusal::accept(number, 5).unwrap_err();
             assert_eq!(refusal.reason, Unknown(number));
             assert!(refusal

@@ -1,6 +1,6 @@
 //! Calls through the safe functions: answers, refusals, and what they leave in the tables.
 
-use gedrovit::{check, lengths, refine, Counts, Lengths, Net, NetView, Reason, Refusal, Tables};
+use gedrovit::{check, lengths, Counts, Lengths, Net, NetView, Reason, Refusal, Tables, Tally};
 
 /// What the tables hold before a call.
 const FILL: u8 = 0xA5;
@@ -67,20 +67,41 @@ fn refusal(reason: Reason, place: usize) -> Refusal {
     Refusal { reason, place }
 }
 
+/// The refining call with a fresh record, which holds the new points afterwards.
+fn refine(rounds: u32, net: NetView<'_>, tables: Tables<'_>) -> Result<Counts, Refusal> {
+    let mut tally = Tally::new();
+    let answer = gedrovit::refine(&mut tally, rounds, net, tables);
+    let after = answer.map_or(0, |counts| counts.vertices - net.marks.len());
+    assert_eq!(tally.points(), after as u64);
+    answer
+}
+
+/// The refined net, with a fresh record.
+fn refined(net: NetView<'_>, rounds: u32) -> Result<Net, Refusal> {
+    let mut tally = Tally::new();
+    let answer = net.refined(&mut tally, rounds);
+    let after = answer
+        .as_ref()
+        .map_or(0, |fine| fine.marks.len() - net.marks.len());
+    assert_eq!(tally.points(), after as u64);
+    answer
+}
+
 #[test]
 fn the_square_is_refined() {
-    assert_eq!(square().refined(1), Ok(refined_square()));
+    assert_eq!(refined(square().view(), 1), Ok(refined_square()));
 }
 
 #[test]
 fn zero_rounds_copy() {
-    assert_eq!(refined_square().refined(0), Ok(refined_square()));
+    assert_eq!(refined(refined_square().view(), 0), Ok(refined_square()));
 }
 
 #[test]
 fn steps_can_be_done_one_by_one() {
-    let twice = square().refined(1).unwrap().refined(1).unwrap();
-    assert_eq!(square().refined(2), Ok(twice));
+    let once = refined(square().view(), 1).unwrap();
+    let twice = refined(once.view(), 1);
+    assert_eq!(refined(square().view(), 2), twice);
 }
 
 #[test]
@@ -100,7 +121,7 @@ fn an_empty_net_needs_no_tables() {
             faces: 0
         })
     );
-    assert_eq!(empty.refined(6), Ok(Net::default()));
+    assert_eq!(refined(empty.view(), 6), Ok(Net::default()));
 }
 
 #[test]
@@ -219,7 +240,7 @@ fn each_table_of_the_net_is_checked() {
     ];
     for (rounds, vertices, faces, marks, reason, place) in cases {
         let net = NetView::new(vertices, faces, marks);
-        assert_eq!(net.refined(rounds), Err(refusal(reason, place)));
+        assert_eq!(refined(net, rounds), Err(refusal(reason, place)));
     }
 }
 
@@ -227,13 +248,13 @@ fn each_table_of_the_net_is_checked() {
 fn vertices_are_checked() {
     let touching = NetView::new(&[0; 21], &[0, 1, 2, 3, 3, 4, 5, 6], &[0; 7]);
     assert_eq!(
-        touching.refined(1),
+        refined(touching, 1),
         Err(refusal(Reason::NonManifoldVertex, 3))
     );
     let mut marked = refined_square();
     marked.marks[8] = 1;
     assert_eq!(
-        marked.refined(1),
+        refined(marked.view(), 1),
         Err(refusal(Reason::MarkedInteriorVertex, 8))
     );
 }
@@ -280,13 +301,13 @@ fn zero_rounds_split_a_net_with_side_counts() {
         [[0, 3, 6, 5], [1, 4, 6, 3], [2, 5, 6, 4]].concat(),
         vec![1, 0, 1, 0, 0, 0, 0],
     );
-    assert_eq!(triangle.refined(0), Ok(split.clone()));
-    assert_eq!(triangle.refined(2), split.refined(2));
+    assert_eq!(refined(triangle.view(), 0), Ok(split.clone()));
+    assert_eq!(refined(triangle.view(), 2), refined(split.view(), 2));
 }
 
 #[test]
 fn midpoints_and_means_are_rounded_once() {
-    let split = lone(&[0, 0, -1, 0, -2]).refined(0).unwrap();
+    let split = refined(lone(&[0, 0, -1, 0, -2]).view(), 0).unwrap();
     assert_eq!(axis(&split.vertices, 2)[5..], [0, 0, 0, -1, -1, -1]);
 }
 
@@ -294,12 +315,12 @@ fn midpoints_and_means_are_rounded_once() {
 fn faces_of_four_sides_are_split_too() {
     let mut counted = square().with_sides(vec![4]);
     counted.marks.fill(0);
-    let split = counted.refined(0).unwrap();
+    let split = refined(counted.view(), 0).unwrap();
     assert_eq!(split.faces.len() / 4, 4);
     assert_eq!(split.vertices[12..15], [8, 0, 0]);
     counted.sides.clear();
-    let refined = counted.refined(1).unwrap();
-    assert_eq!(refined.vertices[12..15], [8, -2, 0]);
+    let round = refined(counted.view(), 1).unwrap();
+    assert_eq!(round.vertices[12..15], [8, -2, 0]);
 }
 
 #[test]
@@ -307,11 +328,11 @@ fn faces_have_three_to_eight_sides() {
     for count in 0..=20 {
         let net = lone(&vec![0; count]);
         let range = usize::from(gedrovit::MIN_SIDES)..=usize::from(gedrovit::MAX_SIDES);
-        let refined = net.refined(1).map(|refined| refined.faces.len());
+        let corners = refined(net.view(), 1).map(|refined| refined.faces.len());
         if range.contains(&count) {
-            assert_eq!(refined, Ok(16 * count));
+            assert_eq!(corners, Ok(16 * count));
         } else {
-            assert_eq!(refined, Err(refusal(Reason::InvalidSideCounts, 0)));
+            assert_eq!(corners, Err(refusal(Reason::InvalidSideCounts, 0)));
         }
     }
 }
@@ -367,9 +388,12 @@ fn limits_count_the_corners_where_there_are_side_counts() {
 #[test]
 fn places_are_those_of_drawn_faces() {
     let twice = NetView::new(&[0; 9], &[0, 1, 2, 2, 1, 2], &[0; 3]).with_sides(&[3, 3]);
-    assert_eq!(twice.refined(0), Err(refusal(Reason::InvalidCorner, 1)));
+    assert_eq!(refined(twice, 0), Err(refusal(Reason::InvalidCorner, 1)));
     let turned = NetView::new(&[0; 12], &[0, 1, 2, 0, 1, 3], &[0; 4]).with_sides(&[3, 3]);
-    assert_eq!(turned.refined(0), Err(refusal(Reason::RepeatedHalfEdge, 1)));
+    assert_eq!(
+        refined(turned, 0),
+        Err(refusal(Reason::RepeatedHalfEdge, 1))
+    );
 }
 
 #[test]
@@ -393,11 +417,68 @@ fn the_check_tells_what_refining_would() {
 #[test]
 fn threads_share_a_net() {
     let net = refined_square();
-    let expected = net.refined(5).unwrap();
+    let expected = refined(net.view(), 5).unwrap();
     std::thread::scope(|scope| {
-        let calls: Vec<_> = (0..4).map(|_| scope.spawn(|| net.refined(5))).collect();
+        let calls: Vec<_> = (0..4)
+            .map(|_| scope.spawn(|| refined(net.view(), 5)))
+            .collect();
         for call in calls {
             assert_eq!(call.join().unwrap().as_ref(), Ok(&expected));
         }
     });
+}
+
+#[test]
+fn a_record_adds_up_over_the_accepted_calls() {
+    let mut tally = Tally::default();
+    assert_eq!(tally, Tally::new());
+    square().refined(&mut tally, 1).unwrap();
+    assert_eq!(tally.points(), 5);
+    square().refined(&mut tally, 7).unwrap_err();
+    assert_eq!(tally.points(), 5);
+    lone(&[0, 0, 0]).refined(&mut tally, 0).unwrap();
+    assert_eq!(tally.points(), 5 + 4);
+    refined_square().refined(&mut tally, 0).unwrap();
+    assert_eq!(tally.points(), 5 + 4);
+}
+
+#[test]
+fn a_record_beyond_its_limit_is_refused() {
+    let refused = refusal(Reason::TallyLimit, 0);
+    let cases = [
+        (1, gedrovit::MAX_TALLY - 5, true),
+        (1, gedrovit::MAX_TALLY - 4, false),
+        (0, gedrovit::MAX_TALLY, true),
+        (0, gedrovit::MAX_TALLY + 1, false),
+        (1, u64::MAX, false),
+        (1, u64::MAX - 4, false),
+    ];
+    for (rounds, points, is_accepted) in cases {
+        let n = lengths(rounds, square().view()).unwrap();
+        let (mut tally, mut tables) = (Tally::with_points(points), Owned::new(n));
+        let answer = gedrovit::refine(&mut tally, rounds, square().view(), tables.lend());
+        assert_eq!(answer.err(), (!is_accepted).then_some(refused));
+        if is_accepted {
+            assert_eq!(tally.points(), gedrovit::MAX_TALLY);
+            continue;
+        }
+        assert_eq!(tally.points(), points);
+        let cleared = Owned {
+            work: vec![0; n.work],
+            ..Owned::new(n)
+        };
+        assert_eq!(tables, cleared);
+        let mut work = vec![7; n.work];
+        assert_eq!(check(rounds, square().view(), n, &mut work), Ok(()));
+    }
+}
+
+#[test]
+fn the_record_is_judged_last() {
+    let mut net = square();
+    net.marks[3] = 2;
+    let mut tally = Tally::with_points(u64::MAX);
+    let answer = net.refined(&mut tally, 1);
+    assert_eq!(answer, Err(refusal(Reason::InvalidMark, 3)));
+    assert_eq!(tally, Tally::with_points(u64::MAX));
 }

@@ -4,7 +4,7 @@ use gedrovit::Reason::{self, *};
 
 const HEADER: &str = include_str!("../../include/gedrovit.h");
 
-const REASONS: [Reason; 13] = [
+const REASONS: [Reason; 14] = [
     TooManyRounds,
     InvalidLengths,
     NetTooLarge,
@@ -18,6 +18,7 @@ const REASONS: [Reason; 13] = [
     ValenceOutOfRange,
     MarkedInteriorVertex,
     InvalidSideCounts,
+    TallyLimit,
 ];
 
 /// What stands between two texts, wherever they stand in one line of the header.
@@ -66,6 +67,7 @@ fn constants_are_the_headers() {
         ("MAX_FAN", gedrovit::MAX_FAN as u64),
         ("MIN_SIDES", gedrovit::MIN_SIDES.into()),
         ("MAX_SIDES", gedrovit::MAX_SIDES.into()),
+        ("MAX_TALLY", gedrovit::MAX_TALLY),
         (
             "MAX_REFINED_COORDINATE",
             gedrovit::MAX_REFINED_COORDINATE as u64,

@@ -127,6 +127,11 @@ impl Outputs {
     }
 }
 
+/// The record of new points with this figure.
+pub fn record(tally: u64, zones: Zones) -> Lent<u64> {
+    Lent::new(&[tally], zones.of(8))
+}
+
 /// The check, with output tables of these lengths.
 pub fn check(inputs: &Inputs, room: &Capacity, work: &mut Lent<u32>) -> Finding {
     // SAFETY: every pointer is lent with its length and lives through the call.
@@ -151,10 +156,11 @@ pub fn check(inputs: &Inputs, room: &Capacity, work: &mut Lent<u32>) -> Finding 
 }
 
 /// The refining call.
-pub fn refine(inputs: &Inputs, outputs: &mut Outputs) -> Report {
+pub fn refine(record: &mut Lent<u64>, inputs: &Inputs, outputs: &mut Outputs) -> Report {
     // SAFETY: every pointer is lent with its length and lives through the call.
     unsafe {
         gedrovit_refine(
+            record.pointer().cast(),
             inputs.rounds,
             inputs.vertices.pointer(),
             inputs.vertices.length(),

@@ -6,7 +6,10 @@ use reference::call::{Outcome, Tables};
 use reference::net::Net;
 use reference::refusal::{Capacity, check_call};
 
-use crate::capi::{Finding, Inputs, Outputs, Report, Sizes, Zones, check, refine, sizes_for};
+use crate::capi::{
+    Finding, Inputs, Outputs, Report, Sizes, Zones, check, record, refine, sizes_for,
+};
+use crate::lent::Lent;
 
 /// A call with what the reference says of it.
 pub struct Known {
@@ -15,6 +18,8 @@ pub struct Known {
     pub found: Tables,
     /// The same after the call.
     pub left: Tables,
+    /// What the record of new points holds after the call.
+    pub tally: u64,
     pub report: Report,
 }
 
@@ -28,7 +33,7 @@ impl Known {
     /// The call with these tables for its results.
     pub fn with_tables(case: Case, found: Tables) -> Result<Self, String> {
         let mut left = found.clone();
-        let outcome = case.outcome_in(&mut left);
+        let (outcome, tally) = case.outcome_in(&mut left);
         if !case.expected.agrees_with(&outcome) {
             return Err("the reference's answer is not the one drawn".to_owned());
         }
@@ -37,11 +42,12 @@ impl Known {
             case,
             found,
             left,
+            tally,
         })
     }
 
-    /// The functions for C give the same answer and leave the same tables,
-    /// wherever the tables lie: each touches either zone in turn. The result
+    /// The functions for C give the same answer and leave the same tables and
+    /// record, wherever these lie: each touches either zone in turn. The result
     /// is the net that the refining call gave, if any.
     pub fn compare(&self, rng: &mut Rng) -> Result<Option<Net>, String> {
         let drawn = Zones(rng.next_u64());
@@ -53,7 +59,15 @@ impl Known {
         let inputs = Inputs::new(&self.case, zones);
         self.compare_sizes(&inputs)?;
         self.compare_check(&inputs, zones)?;
-        self.compare_refine(&inputs, zones)
+        let mut record = record(self.case.tally, zones);
+        self.compare_refine(&mut record, &inputs, zones)
+    }
+
+    /// The refining call alone, on a record that other calls left so.
+    pub fn compare_on(&self, record: &mut Lent<u64>, rng: &mut Rng) -> Result<(), String> {
+        let zones = Zones(rng.next_u64());
+        let inputs = Inputs::new(&self.case, zones);
+        self.compare_refine(record, &inputs, zones).map(drop)
     }
 
     fn compare_sizes(&self, inputs: &Inputs) -> Result<(), String> {
@@ -63,18 +77,35 @@ impl Known {
         as_expected("sizes", sides)
     }
 
+    /// What the check must find: what the call reports, but for 15.
+    fn finding(&self) -> Finding {
+        match self.report {
+            Report { reason: 15, .. } => Finding {
+                reason: 0,
+                place: 0,
+            },
+            Report { reason, place, .. } => Finding { reason, place },
+        }
+    }
+
     fn compare_check(&self, inputs: &Inputs, zones: Zones) -> Result<(), String> {
         let mut work = Outputs::work(&self.found, zones);
         let finding = check(inputs, &self.case.capacity, &mut work);
-        let Report { reason, place, .. } = self.report;
-        agree("check", &finding, &Finding { reason, place })?;
+        agree("check", &finding, &self.finding())?;
         as_expected("check", inputs.differences(&self.case))?;
         as_expected("check", work.difference("work", &self.left.workspace))
     }
 
-    fn compare_refine(&self, inputs: &Inputs, zones: Zones) -> Result<Option<Net>, String> {
+    fn compare_refine(
+        &self,
+        record: &mut Lent<u64>,
+        inputs: &Inputs,
+        zones: Zones,
+    ) -> Result<Option<Net>, String> {
         let mut outputs = Outputs::new(&self.found, zones);
-        agree("refine", &refine(inputs, &mut outputs), &self.report)?;
+        let report = refine(record, inputs, &mut outputs);
+        agree("refine", &report, &self.report)?;
+        as_expected("refine", record.difference("record", &[self.tally]))?;
         as_expected("refine", inputs.differences(&self.case))?;
         as_expected("refine", outputs.differences(&self.left))?;
         Ok((self.report.reason == 0).then(|| outputs.net(&self.report)))

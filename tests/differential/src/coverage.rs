@@ -8,13 +8,13 @@ use nets::features::{End, Feature, Met};
 use reference::call::start_net;
 
 use crate::compare::Known;
-use crate::tally::Tally;
+use crate::counts::Counts;
 
 pub struct Coverage {
     nets: u64,
-    first: Tally<Feature>,
-    later: Tally<Feature>,
-    ends: Tally<String>,
+    first: Counts<Feature>,
+    later: Counts<Feature>,
+    ends: Counts<String>,
 }
 
 fn pair_name([first, second]: &[End; 2]) -> String {
@@ -26,9 +26,9 @@ impl Coverage {
         let later = Feature::ALL.into_iter().filter(|f| f.occurs_later());
         Self {
             nets: 0,
-            first: Tally::new(Feature::ALL),
-            later: Tally::new(later),
-            ends: Tally::new(End::pairs().iter().map(pair_name)),
+            first: Counts::new(Feature::ALL),
+            later: Counts::new(later),
+            ends: Counts::new(End::pairs().iter().map(pair_name)),
         }
     }
 

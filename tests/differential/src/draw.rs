@@ -5,9 +5,10 @@ use nets::build::to_u32;
 use nets::case::{Case, Expected};
 use nets::change::{PLACINGS, mark, place, renumber};
 use nets::damaged::{damaged_call, damaged_tables, random_tables};
-use nets::refused::refused_call;
+use nets::refused::{PLAIN_REASONS, refused_call};
 use nets::rng::Rng;
 use nets::shapes;
+use nets::tally::{Figure, any_tally, with_figure};
 use reference::net::Net;
 use reference::refusal::{Capacity, MAX_ROUNDS, Refusal};
 
@@ -73,7 +74,7 @@ impl Kind {
             kinds.extend(Shape::ALL.map(|shape| Kind::Accepted(shape, size)));
         }
         kinds.extend(Table::RESULTS.map(Kind::Short));
-        kinds.extend((1..=12).map(Kind::Refused));
+        kinds.extend(PLAIN_REASONS.map(Kind::Refused));
         kinds.extend([Kind::Large, Kind::Large, Kind::DamagedLarge, Kind::Brink]);
         kinds.extend([Kind::RefusedTwice, Kind::Damaged, Kind::Random].repeat(6));
         kinds.extend([Kind::Lengths, Kind::Noise].repeat(11));
@@ -81,6 +82,14 @@ impl Kind {
     }
 
     pub fn draw(self, rng: &mut Rng) -> Case {
+        let case = self.draw_net(rng);
+        match self {
+            Kind::Largest(_) => with_figure(case, Figure::ToLimit, rng),
+            _ => any_tally(case, rng),
+        }
+    }
+
+    fn draw_net(self, rng: &mut Rng) -> Case {
         let mut case = match self {
             Kind::Largest(rounds) => Case::new(&largest(rounds, rng), rounds, Expected::Accepted),
             Kind::Accepted(shape, size) => refined(&accepted(shape, size, rng), 1_024, rng),
@@ -90,7 +99,7 @@ impl Kind {
             Kind::Refused(reason) => refused_call(&[reason], rng),
             Kind::RefusedTwice => {
                 let reasons: Vec<u32> = (0..rng.between(2, 3))
-                    .map(|_| rng.between(1, 12).unsigned_abs())
+                    .map(|_| rng.pick(&PLAIN_REASONS))
                     .collect();
                 refused_call(&reasons, rng)
             }

@@ -1,8 +1,9 @@
 //! Calls and what the reference says of them, written for a harness in C.
 //!
-//! A call is 13 numbers of 64 bits (rounds, the lengths of its eight tables,
-//! reason, place, both counts), the tables of the net, those for the results
-//! as found, and those for the results as left; all in the machine's order.
+//! A call is 15 numbers of 64 bits (rounds, the lengths of its eight tables,
+//! reason, place, both counts, the record before and after), the tables of the
+//! net, those for the results as found, and those for the results as left; all
+//! in the machine's order.
 
 use std::fs::File;
 use std::io::{self, BufWriter, Write};
@@ -42,6 +43,8 @@ impl Dump {
             report.place,
             report.vertices,
             report.faces,
+            case.tally,
+            known.tally,
         ])?;
         self.bytes(case.vertices.iter().map(|entry| entry.to_ne_bytes()))?;
         self.bytes(case.faces.iter().map(|entry| entry.to_ne_bytes()))?;

@@ -7,7 +7,7 @@ use nets::shapes;
 use reference::net::PolygonNet;
 use reference::refusal::Capacity;
 
-use crate::capi::{Finding, Inputs, Outputs, Report, Zones, check, refine, sizes_for};
+use crate::capi::{Finding, Inputs, Outputs, Report, Zones, check, record, refine, sizes_for};
 use crate::compare::{Known, agree, as_expected, no_sizes, sizes};
 
 const BEYOND: usize = 1 << 32;
@@ -93,8 +93,8 @@ pub fn compare(number: u64, rng: &mut Rng) -> Result<(), String> {
 }
 
 fn compare_claim(known: &Known, reason: u32, claim: Claim) -> Result<(), String> {
-    let (report, left) = if reason == 0 {
-        (known.report, &known.left)
+    let (report, left, tally) = if reason == 0 {
+        (known.report, &known.left, known.tally)
     } else {
         let refused = Report {
             reason,
@@ -102,7 +102,7 @@ fn compare_claim(known: &Known, reason: u32, claim: Claim) -> Result<(), String>
             vertices: 0,
             faces: 0,
         };
-        (refused, &known.found)
+        (refused, &known.found, known.case.tally)
     };
     let mut inputs = Inputs::new(&known.case, BEFORE);
     let [mut checked, mut refined] = [(); 2].map(|()| {
@@ -132,7 +132,10 @@ fn compare_claim(known: &Known, reason: u32, claim: Claim) -> Result<(), String>
     let finding = check(&inputs, &room, &mut checked.work);
     agree("check", &finding, &Finding { reason, place: 0 })?;
     as_expected("check", checked.work.difference("work", &left.workspace))?;
-    agree("refine", &refine(&inputs, &mut refined), &report)?;
+    let mut record = record(known.case.tally, BEFORE);
+    let given = refine(&mut record, &inputs, &mut refined);
+    agree("refine", &given, &report)?;
+    as_expected("refine", record.difference("record", &[tally]))?;
     as_expected("refine", inputs.differences(&known.case))?;
     as_expected("refine", refined.differences(left))
 }

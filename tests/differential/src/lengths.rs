@@ -215,6 +215,7 @@ fn filled(vertices: usize, corners: usize, sides: Vec<u8>, rounds: u32, rng: &mu
     let marks = rng.pick(&[1, 2, 2, 256]);
     let number = |below: usize, rng: &mut Rng| to_u32(rng.below(below));
     let mut case = Case {
+        tally: 0,
         rounds,
         vertices: (0..3 * vertices)
             .map(|_| rng.between(-reach, reach))

@@ -40,6 +40,7 @@ unsafe extern "C" {
 pub trait Entry: Copy + Debug + PartialEq + From<u8> {}
 impl Entry for i32 {}
 impl Entry for u32 {}
+impl Entry for u64 {}
 impl Entry for u8 {}
 
 /// The zone that a table touches.

@@ -3,6 +3,7 @@
 
 mod capi;
 mod compare;
+mod counts;
 mod coverage;
 mod draw;
 mod dump;
@@ -16,7 +17,7 @@ mod options;
 mod polygons;
 mod run;
 mod seams;
-mod tally;
+mod series;
 
 use std::path::Path;
 use std::process::ExitCode;

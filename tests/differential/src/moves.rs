@@ -4,22 +4,22 @@ use std::fmt::{self, Debug, Display, Formatter};
 
 use nets::case::Case;
 use nets::moved::MovedPair;
-use nets::refused::POLYGON_REASONS;
+use nets::refused::{PLAIN_REASONS, POLYGON_REASONS};
 use nets::rng::Rng;
 
 use crate::compare::{Known, agree};
-use crate::tally::Tally;
+use crate::counts::Counts;
 
 /// What the compared pairs were.
 pub struct Moves {
     /// Answers to both calls of a pair within the coordinate limit.
-    answers: Tally<u32>,
-    sorts: Tally<&'static str>,
+    answers: Counts<u32>,
+    sorts: Counts<&'static str>,
 }
 
 impl Moves {
     pub fn without_sides() -> Self {
-        Self::new(1..=12)
+        Self::new(PLAIN_REASONS)
     }
 
     pub fn with_sides() -> Self {
@@ -30,8 +30,8 @@ impl Moves {
     fn new(reasons: impl IntoIterator<Item = u32>) -> Self {
         let reasons = reasons.into_iter().filter(|&reason| reason != 5);
         Self {
-            answers: Tally::new([0].into_iter().chain(reasons)),
-            sorts: Tally::new([
+            answers: Counts::new([0].into_iter().chain(reasons)),
+            sorts: Counts::new([
                 "within the limit",
                 "to the limit",
                 "out of the limit",
@@ -45,8 +45,9 @@ impl Moves {
         self.answers.is_complete() && self.sorts.is_complete()
     }
 
-    /// Compares both calls with the reference, and where both nets are within
-    /// the limit, the answers and every table of one with those of the other.
+    /// Compares both calls, from equal records, with the reference, and where
+    /// both nets are within the limit, the answers, the record and every table
+    /// of one with those of the other.
     pub fn compare(&mut self, case: Case, rng: &mut Rng) -> Result<(), String> {
         let pair = MovedPair::draw(case, rng);
         let plain = Known::new(pair.case.clone(), rng)?;
@@ -76,10 +77,11 @@ impl Moves {
     }
 }
 
-/// The call on the moved net gives the same answer and the same tables, the
+/// The call on the moved net gives the same answer, record and tables, the
 /// refined points moved.
 fn compare_pair(pair: &MovedPair, plain: &Known, moved: &Known) -> Result<(), String> {
     agree("refine", &moved.report, &plain.report)?;
+    agree("record", &moved.tally, &plain.tally)?;
     let vertices = usize::try_from(plain.report.vertices).expect("a count in memory");
     let due = pair.moved_tables(&plain.left, vertices);
     same("out vertices", &moved.left.vertices, &due.vertices)?;

@@ -7,13 +7,14 @@ use nets::case::{Case, Drawn};
 use nets::features::Met;
 use nets::named::{Dressing, Family, NAMED, Named, by_turns, crowd};
 use nets::rng::Rng;
+use nets::tally::{Figure, accepted_tally, with_figure};
 use reference::refusal::MAX_ROUNDS;
 
 use crate::compare::Known;
+use crate::counts::Counts;
 use crate::coverage::Coverage;
 use crate::draw::most_rounds;
 use crate::run::shown;
-use crate::tally::Tally;
 
 /// Most refined faces of a named net.
 const MOST_FACES: usize = 1_024;
@@ -35,16 +36,14 @@ pub fn crowd_call(number: u64, rng: &mut Rng) -> (String, Case) {
     let (rounds, has_sides) = CROWDS[at];
     let drawn = crowd(262_144 >> (2 * rounds), has_sides, rng);
     let sides = if has_sides { "with" } else { "without" };
-    (
-        format!("crowd {sides} side counts"),
-        drawn.accepted_case(rounds),
-    )
+    let case = with_figure(drawn.accepted_case(rounds), Figure::ToLimit, rng);
+    (format!("crowd {sides} side counts"), case)
 }
 
 /// What the compared nets were.
 pub struct NamedNets {
-    families: Tally<&'static str>,
-    rounds: Tally<u32>,
+    families: Counts<&'static str>,
+    rounds: Counts<u32>,
 }
 
 /// A net of the series with its name.
@@ -58,7 +57,7 @@ fn named(number: u64, rng: &mut Rng) -> (&'static Named, String, Drawn) {
 pub fn named_call(number: u64, rng: &mut Rng) -> (String, Case) {
     let (_, name, drawn) = named(number, rng);
     let rounds = most_rounds(drawn.quadrilaterals(), MAX_ROUNDS, MOST_FACES);
-    (name, drawn.accepted_case(rounds))
+    (name, accepted_tally(drawn.accepted_case(rounds), rng))
 }
 
 /// Most refined faces of a net of the series.
@@ -74,8 +73,8 @@ fn most_faces(number: u64, named: &Named) -> usize {
 impl NamedNets {
     pub fn new() -> Self {
         Self {
-            families: Tally::new(Family::ALL.map(Family::name)),
-            rounds: Tally::new(0..=MAX_ROUNDS),
+            families: Counts::new(Family::ALL.map(Family::name)),
+            rounds: Counts::new(0..=MAX_ROUNDS),
         }
     }
 
@@ -97,7 +96,7 @@ impl NamedNets {
         let most = most_rounds(drawn.quadrilaterals(), MAX_ROUNDS, most_faces);
         let mut later = BTreeSet::new();
         for rounds in 0..=most {
-            let case = drawn.accepted_case(rounds);
+            let case = accepted_tally(drawn.accepted_case(rounds), rng);
             let fault = |fault| format!("{name}, {rounds} rounds, {fault}\n{}", shown(&case));
             let known = Known::new(case.clone(), rng).map_err(fault)?;
             let net = known.compare(rng).map_err(fault)?;

@@ -10,8 +10,9 @@ use crate::named::CROWD_COUNT;
 pub const USAGE: &str = "usage: differential [--nets N] [--seed S] [--here] [MODE]
 
 Compares N seeded nets (20000), one with side counts for every 3 of them,
-moved nets, pairs with seams, named nets with every number of rounds, crowds of
-them, the stored calls, and calls with huge lengths. A second process does it, so
+moved nets, series of calls over one record, pairs with seams, named nets with
+every number of rounds, crowds of them, the stored calls, and calls with huge
+lengths. A second process does it, so
 that the call is known if that dies; with --here this one.
 MODE is one of
   --net I          compares only net I of the series
@@ -19,6 +20,7 @@ MODE is one of
   --moved I        compares only net I of those that are moved, and its copy
   --moved-polygons I
                    the same with side counts
+  --series I       compares only series I of calls over one record
   --pair I         compares only pair I
   --polygon-pair I compares only pair I with side counts in one net or both
   --named I        compares only net I of the named ones
@@ -51,6 +53,7 @@ pub enum What {
     Polygons,
     Moved,
     MovedPolygons,
+    Series,
     Pair,
     PolygonPair,
     Named,
@@ -60,11 +63,12 @@ pub enum What {
 }
 
 impl What {
-    pub const ALL: [Self; 10] = [
+    pub const ALL: [Self; 11] = [
         Self::Net,
         Self::Polygons,
         Self::Moved,
         Self::MovedPolygons,
+        Self::Series,
         Self::Pair,
         Self::PolygonPair,
         Self::Named,
@@ -79,6 +83,7 @@ impl What {
             What::Polygons => "polygons",
             What::Moved => "moved",
             What::MovedPolygons => "moved-polygons",
+            What::Series => "series",
             What::Pair => "pair",
             What::PolygonPair => "polygon-pair",
             What::Named => "named",
@@ -101,6 +106,7 @@ impl What {
             What::Polygons => nets.div_ceil(3),
             What::Moved | What::Named => nets.div_ceil(10),
             What::MovedPolygons | What::Pair => nets.div_ceil(20),
+            What::Series => nets.div_ceil(40),
             What::PolygonPair => nets.div_ceil(60),
             What::Crowd => CROWD_COUNT,
             What::Stored => stored_calls().len() as u64,

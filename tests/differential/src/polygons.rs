@@ -10,6 +10,7 @@ use nets::refused::{POLYGON_REASONS, refused_polygons};
 use nets::rng::Rng;
 use nets::shapes::union;
 use nets::solids;
+use nets::tally::{Figure, any_tally, with_figure};
 use reference::refusal::{Capacity, MAX_ROUNDS};
 
 use crate::draw::{fit_room, most_rounds, random, short};
@@ -92,6 +93,14 @@ impl PolygonKind {
     }
 
     pub fn draw(self, rng: &mut Rng) -> Case {
+        let case = self.draw_net(rng);
+        match self {
+            PolygonKind::Largest(_) => with_figure(case, Figure::ToLimit, rng),
+            _ => any_tally(case, rng),
+        }
+    }
+
+    fn draw_net(self, rng: &mut Rng) -> Case {
         let mut case = match self {
             PolygonKind::Largest(rounds) => largest(rounds, rng),
             PolygonKind::Accepted(shape, size) => accepted(shape, size, 1_024, rng),

@@ -7,6 +7,7 @@ use nets::rng::Rng;
 use nets::stored::{from_text, stored_calls};
 
 use crate::compare::Known;
+use crate::counts::Calls;
 use crate::coverage::Coverage;
 use crate::draw::Kind;
 use crate::guards::announce;
@@ -16,7 +17,7 @@ use crate::named::{NamedNets, crowd_call, named_call};
 use crate::options::What;
 use crate::polygons::PolygonKind;
 use crate::seams::Seams;
-use crate::tally::Calls;
+use crate::series::Series;
 
 /// Calls with at most so many vertex coordinates are printed whole.
 const PRINTED: usize = 120;
@@ -64,6 +65,7 @@ pub struct Run {
     polygons: Calls,
     moves: Moves,
     polygon_moves: Moves,
+    series: Series,
     seams: Seams,
     polygon_seams: Seams,
     named: NamedNets,
@@ -78,6 +80,7 @@ impl Run {
             polygons: Calls::with_sides(),
             moves: Moves::without_sides(),
             polygon_moves: Moves::with_sides(),
+            series: Series::new(),
             seams: Seams::without_sides(),
             polygon_seams: Seams::with_sides(),
             named: NamedNets::new(),
@@ -94,13 +97,15 @@ impl Run {
         let [crowds, stored, huge] =
             [What::Crowd, What::Stored, What::Huge].map(|what| what.count(nets));
         let counts = format!(
-            "{}\nwith side counts: {}\n{}\nwith side counts: {}\n{}\nwith side counts: {}\n{}\n\
+            "{}\nwith side counts: {}\n{}\nwith side counts: {}\n{}\n\
+             {}\nwith side counts: {}\n{}\n\
              {crowds} nets of many named ones agree\n{}\n\
              {stored} stored calls agree\n{huge} calls with lengths beyond 32 bits agree",
             self.calls,
             self.polygons,
             self.moves,
             self.polygon_moves,
+            self.series,
             self.seams,
             self.polygon_seams,
             self.named,
@@ -118,6 +123,7 @@ impl Run {
             && self.polygons.is_complete()
             && self.moves.is_complete()
             && self.polygon_moves.is_complete()
+            && self.series.is_complete()
             && self.seams.is_complete()
             && self.polygon_seams.is_complete()
             && self.named.is_complete()
@@ -134,6 +140,7 @@ impl Run {
                 self.net(what, drawn, rng)
             }
             What::Stored => self.net(what, stored(number), rng),
+            What::Series => self.series.compare(rng),
             What::Pair => self.seams.compare_pair(rng),
             What::PolygonPair => self.polygon_seams.compare_pair(rng),
             What::Named => self.named.compare(number, &mut self.coverage, rng),

@@ -5,14 +5,15 @@ use std::fmt::{self, Display, Formatter};
 use nets::case::Drawn;
 use nets::pairs::{SharedPair, shared_pair, shared_polygon_pair};
 use nets::rng::Rng;
+use nets::tally::accepted_tally;
 use reference::curve::{Form, exact_curve, rounded_curve};
 use reference::net::Net;
 use reference::refusal::MAX_ROUNDS;
 use reference::seam::{Boundary, Reading, is_near, shared_readings};
 
 use crate::compare::Known;
+use crate::counts::Counts;
 use crate::draw::most_rounds;
-use crate::tally::Tally;
 
 type DrawPair = fn(&mut Rng) -> SharedPair;
 
@@ -23,8 +24,8 @@ pub struct Seams {
     few: [usize; 2],
     pairs: u64,
     readings: u64,
-    rounds: Tally<u32>,
-    sorts: Tally<&'static str>,
+    rounds: Counts<u32>,
+    sorts: Counts<&'static str>,
 }
 
 impl Seams {
@@ -50,8 +51,8 @@ impl Seams {
             few,
             pairs: 0,
             readings: 0,
-            rounds: Tally::new(0..=most_rounds),
-            sorts: Tally::new(ways.into_iter().chain(forms).chain(counts.iter().copied())),
+            rounds: Counts::new(0..=most_rounds),
+            sorts: Counts::new(ways.into_iter().chain(forms).chain(counts.iter().copied())),
         }
     }
 
@@ -140,7 +141,8 @@ impl Display for Seams {
 
 /// The net that the call through C gives.
 fn refined(net: &Drawn, rounds: u32, rng: &mut Rng) -> Result<Net, String> {
-    let known = Known::new(net.accepted_case(rounds), rng)?;
+    let case = accepted_tally(net.accepted_case(rounds), rng);
+    let known = Known::new(case, rng)?;
     let answer = known
         .compare(rng)
         .map_err(|fault| format!("{fault}; {:?}", known.case))?;

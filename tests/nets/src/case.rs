@@ -31,6 +31,8 @@ impl Expected {
 /// A call with all its tables; those for the results are given by length.
 #[derive(Clone, Debug)]
 pub struct Case {
+    /// What the record of new points holds before the call.
+    pub tally: u64,
     pub rounds: u32,
     pub vertices: Vec<i32>,
     pub faces: Vec<u32>,
@@ -42,8 +44,8 @@ pub struct Case {
 }
 
 impl Case {
-    /// A call without side counts, with tables just long enough, or for one
-    /// round if there are too many rounds.
+    /// A call without side counts, with a record from zero and tables just long
+    /// enough, or for one round if there are too many rounds.
     pub fn new(net: &Net, rounds: u32, expected: Expected) -> Self {
         Self::of_tables(net, vec![], rounds, expected)
     }
@@ -60,6 +62,7 @@ impl Case {
         expected: Expected,
     ) -> Self {
         let mut case = Self {
+            tally: 0,
             rounds,
             vertices: net.vertex_table(),
             faces: net.face_table(),
@@ -103,6 +106,7 @@ impl Case {
     /// The reference's answer.
     pub fn outcome(&self) -> Outcome {
         refine(&Call {
+            tally: self.tally,
             rounds: self.rounds,
             vertices: &self.vertices,
             faces: &self.faces,
@@ -112,16 +116,20 @@ impl Case {
         })
     }
 
-    /// The reference's answer, and in `tables` the final state of every table.
-    pub fn outcome_in(&self, tables: &mut Tables) -> Outcome {
-        refine_into(
+    /// The reference's answer and what the record holds after the call, and in
+    /// `tables` the final state of every table.
+    pub fn outcome_in(&self, tables: &mut Tables) -> (Outcome, u64) {
+        let mut tally = self.tally;
+        let outcome = refine_into(
+            &mut tally,
             self.rounds,
             &self.vertices,
             &self.faces,
             &self.sides,
             &self.marks,
             tables,
-        )
+        );
+        (outcome, tally)
     }
 }
 

@@ -363,6 +363,7 @@ pub fn random_tables(rng: &mut Rng) -> Case {
     let vertices = rng.below(8);
     let faces = rng.below(5);
     let mut case = Case {
+        tally: 0,
         rounds: to_u32(rng.below(3)),
         vertices: (0..3 * vertices).map(|_| rng.between(-99, 99)).collect(),
         faces: (0..4 * faces)
@@ -387,6 +388,7 @@ pub fn random_polygons(rng: &mut Rng) -> Case {
     let sides: Vec<u8> = sizes.map(|size| size.to_le_bytes()[0]).collect();
     let corners = sides.iter().map(|&size| usize::from(size)).sum();
     let mut case = Case {
+        tally: 0,
         rounds: to_u32(rng.below(3)),
         vertices: (0..3 * vertices).map(|_| rng.between(-99, 99)).collect(),
         faces: (0..corners)

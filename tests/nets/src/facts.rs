@@ -25,10 +25,11 @@ use crate::kind::CallKind;
 use crate::moved::MovedPair;
 use crate::named::{Dressing, Family, NAMED, Named};
 use crate::polygons::{PolygonShape, accepted_polygons};
-use crate::refused::{POLYGON_REASONS, refused_call, refused_polygons};
+use crate::refused::{PLAIN_REASONS, POLYGON_REASONS, refused_call, refused_polygons};
 use crate::rng::Rng;
 use crate::shapes;
 use crate::stored::{from_text, stored_calls};
+use crate::tally::any_tally;
 
 /// Faces of the nets that are preferred, since the definitions are slow.
 const FEW_FACES: usize = 6;
@@ -61,9 +62,9 @@ pub fn lines(seed: u64, count: usize) -> Vec<String> {
         .iter()
         .map(|(kind, net)| accepted_line(kind, net, rng))
         .collect();
-    for first in 1..=12 {
+    for (at, &first) in PLAIN_REASONS.iter().enumerate() {
         lines.extend((0..ALONE).map(|_| refused_line(&[first], rng)));
-        for second in first + 1..=12 {
+        for &second in &PLAIN_REASONS[at + 1..] {
             lines.push(refused_line(&[first, second], rng));
         }
     }
@@ -172,6 +173,7 @@ fn drawn_polygons(shape: PolygonShape, tries: usize, rng: &mut Rng) -> PolygonNe
 /// An accepted net with side counts: its split, and the net after one round.
 fn accepted_polygon_line(kind: &str, net: &PolygonNet, rng: &mut Rng) -> String {
     let case = Case::with_sides(net, to_u32(rng.below(2)), Expected::Accepted);
+    let case = any_tally(case, rng);
     let start = split(net);
     let refined = refine_once(&start).net;
     let sizes: BTreeSet<usize> = net.faces.iter().map(Vec::len).collect();
@@ -201,6 +203,7 @@ fn near_polygon_limits(rng: &mut Rng) -> Case {
     let (count, times) = rng.pick(&[(8, 8), (5, 13), (4, 16), (3, 22), (8, 32), (3, 342)]);
     let rounds = rng.pick(&[0, 4, 5, 6, 7]);
     let mut case = Case {
+        tally: 0,
         rounds,
         vertices: vec![0; 3 * vertices],
         faces: vec![0; count * times],
@@ -266,6 +269,7 @@ fn drawn(shape: Shape, tries: usize, rng: &mut Rng) -> Net {
 fn accepted_line(kind: &str, net: &Net, rng: &mut Rng) -> String {
     let rounds = if net.faces.len() <= TWO_ROUNDS { 2 } else { 1 };
     let case = Case::new(net, to_u32(rng.below(3)), Expected::Accepted);
+    let case = any_tally(case, rng);
     let steps = trace(net, rounds);
     let mut nets: Vec<&Net> = vec![net];
     nets.extend(steps.iter().map(|step| &step.net));
@@ -318,6 +322,7 @@ fn near_limits(rng: &mut Rng) -> Case {
         }
     }
     Case {
+        tally: 0,
         rounds,
         vertices: vec![0; 3 * vertices],
         faces: vec![0; 4 * faces],
@@ -380,13 +385,13 @@ fn is_whole(case: &Case) -> bool {
 }
 
 /// Rounds, lengths of the three tables, room, and the reference's verdicts on
-/// the call, of its lengths alone unless `with_net`, and on its net if the
-/// table lengths fit: nothing, or a number and a place.
+/// the call but for 15, of its lengths alone unless `with_net`, and on its net
+/// if the table lengths fit: nothing, or a number and a place.
 fn call_text(case: &Case, with_net: bool) -> String {
     let lengths = [case.vertices.len(), case.faces.len(), case.marks.len()];
     let room = case.capacity;
     let verdict = match with_net.then(|| case.outcome()) {
-        Some(Outcome::Refined { .. }) => vec![],
+        Some(Outcome::Refined { .. } | Outcome::Refused { reason: 15, .. }) => vec![],
         Some(Outcome::Refused { reason, place }) => vec![reason, place],
         None => told(check_call(
             case.rounds,
@@ -421,20 +426,23 @@ fn call_text(case: &Case, with_net: bool) -> String {
     object(&fields)
 }
 
-/// The lent tables before the call and after it, and what the call reports of
-/// an accepted net: its counts of vertices and faces.
-fn lent_fields(case: &Case) -> [(&'static str, String); 3] {
+/// The lent tables and the record of new points before the call and after it,
+/// and what the call reports: the counts of vertices and faces of an accepted
+/// net, or number and place of the refusal.
+fn lent_fields(case: &Case) -> [(&'static str, String); 5] {
     let before = case.tables(&mut Rng::new(0));
     let mut after = before.clone();
-    let outcome = case.outcome_in(&mut after);
-    let counts = match outcome {
-        Outcome::Refined { faces, marks, .. } => vec![marks.len(), faces.len() / 4],
-        Outcome::Refused { .. } => vec![],
+    let (outcome, tally) = case.outcome_in(&mut after);
+    let (counts, refusal) = match outcome {
+        Outcome::Refined { faces, marks, .. } => (vec![marks.len(), faces.len() / 4], vec![]),
+        Outcome::Refused { reason, place } => (vec![], vec![reason, place]),
     };
     [
         ("lent", tables_text(&before)),
         ("left", tables_text(&after)),
+        ("tally", numbers(&[case.tally, tally])),
         ("counts", numbers(&counts)),
+        ("refusal", numbers(&refusal)),
     ]
 }
 

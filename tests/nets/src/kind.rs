@@ -14,8 +14,11 @@ use crate::damaged::{
 };
 use crate::named::{NAMED, by_turns};
 use crate::polygons::{PolygonShape, accepted_polygons};
-use crate::refused::{POLYGON_REASONS, TEXT_REASONS, refused_call, refused_polygons, refused_text};
+use crate::refused::{
+    PLAIN_REASONS, POLYGON_REASONS, TEXT_REASONS, refused_call, refused_polygons, refused_text,
+};
 use crate::rng::Rng;
+use crate::tally::any_tally;
 
 /// A kind of text.
 #[derive(Clone, Debug, PartialEq, Eq)]
@@ -206,14 +209,15 @@ pub fn small_nets(seed: u64, number: usize) -> Vec<(Net, u32)> {
 }
 
 /// A call of any kind: accepted nets of all sizes, one to three reasons for a
-/// refusal, damaged and random tables, with tables often longer than needed.
+/// refusal, damaged and random tables, with tables often longer than needed and
+/// with any figure in the record of new points.
 pub fn call(seed: u64) -> Case {
     let rng = &mut Rng::new(seed);
     let mut case = match seed % 8 {
         0..=3 => accepted_call(rng),
         4 | 5 => {
             let reasons: Vec<u32> = (0..rng.between(1, 3))
-                .map(|_| to_u32(rng.below(12)) + 1)
+                .map(|_| rng.pick(&PLAIN_REASONS))
                 .collect();
             refused_call(&reasons, rng)
         }
@@ -221,7 +225,7 @@ pub fn call(seed: u64) -> Case {
         _ => random_tables(rng),
     };
     lengthen(&mut case, rng);
-    case
+    any_tally(case, rng)
 }
 
 /// The same with side counts.
@@ -239,7 +243,7 @@ pub fn polygon_call(seed: u64) -> Case {
         _ => random_polygons(rng),
     };
     lengthen(&mut case, rng);
-    case
+    any_tally(case, rng)
 }
 
 /// Makes some of the tables of an accepted call longer.

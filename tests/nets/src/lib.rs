@@ -5,6 +5,7 @@
 //! - [`refused`]: calls and texts with one or more reasons for a refusal.
 //! - [`damaged`]: texts that lost their form, and damaged tables.
 //! - [`pairs`]: pairs of nets that share a boundary segment.
+//! - [`tally`]: what calls find in the record of new points.
 //! - [`moved`]: calls and the same calls on the moved net.
 //! - [`named`]: small nets for the cases of the rules, one by one.
 //! - [`features`]: the cases of the rules that a net meets.
@@ -53,3 +54,4 @@ pub mod rng;
 pub mod shapes;
 pub mod solids;
 pub mod stored;
+pub mod tally;

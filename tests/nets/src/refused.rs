@@ -13,6 +13,7 @@ use crate::polygons::{PolygonShape, accepted_polygons, some_size, some_sizes};
 use crate::rng::Rng;
 use crate::shapes;
 use crate::solids;
+use crate::tally::refused_tally;
 
 /// Stands for a corner beyond the vertex table until the table is complete.
 const BEYOND: u32 = u32::MAX;
@@ -317,7 +318,7 @@ fn with_flaws(mut draft: Draft, reasons: &[u32], rng: &mut Rng) -> (PolygonNet, 
     (net, expected)
 }
 
-/// A call with these of the reasons 1 to 12 against it.
+/// A call with these of [`PLAIN_REASONS`] against it.
 pub fn refused_call(reasons: &[u32], rng: &mut Rng) -> Case {
     let has = |reason| reasons.contains(&reason);
     let (start, mut rounds) = if has(3) {
@@ -337,10 +338,10 @@ pub fn refused_call(reasons: &[u32], rng: &mut Rng) -> Case {
         shorten(&mut case.capacity, rng);
     }
     case.expected = callers_refusal(reasons).unwrap_or(case.expected);
-    case
+    with_tally(case, reasons, rng)
 }
 
-/// A call with side counts and these of the reasons 1 to 12 and 14 against it.
+/// A call with side counts and these of [`POLYGON_REASONS`] against it.
 pub fn refused_polygons(reasons: &[u32], rng: &mut Rng) -> Case {
     let has = |reason| reasons.contains(&reason);
     let (start, mut rounds) = if has(3) {
@@ -377,11 +378,23 @@ pub fn refused_polygons(reasons: &[u32], rng: &mut Rng) -> Case {
     if let Some(&reason) = order.iter().find(|&&reason| has(reason)) {
         case.expected = Expected::Refused(Refusal::new(reason, 0));
     }
-    case
+    with_tally(case, reasons, rng)
 }
 
+/// Puts in reason 15 if it is one of these. It is the last in the order.
+fn with_tally(case: Case, reasons: &[u32], rng: &mut Rng) -> Case {
+    if reasons.contains(&15) {
+        refused_tally(case, rng)
+    } else {
+        case
+    }
+}
+
+/// Reasons that a call without side counts can have.
+pub const PLAIN_REASONS: [u32; 13] = [1, 2, 3, 4, 5, 6, 7, 8, 9, 10, 11, 12, 15];
+
 /// Reasons that a call with side counts can have.
-pub const POLYGON_REASONS: [u32; 13] = [1, 2, 3, 4, 5, 6, 7, 8, 9, 10, 11, 12, 14];
+pub const POLYGON_REASONS: [u32; 14] = [1, 2, 3, 4, 5, 6, 7, 8, 9, 10, 11, 12, 14, 15];
 
 /// Makes the side counts wrong, or the corners for them.
 pub fn break_sides(case: &mut Case, rng: &mut Rng) {

@@ -1,5 +1,6 @@
 //! The stored form of a call: its rounds, the tables of its net and the
-//! lengths of the tables for its results, a line each.
+//! lengths of the tables for its results, a line each. Before them stands a
+//! line with what the record of new points holds, unless that is 0.
 
 use std::fmt::Display;
 use std::fs;
@@ -10,13 +11,19 @@ use reference::refusal::Capacity;
 
 use crate::case::{Case, Expected};
 
+const TALLY: &str = "tally";
 const NAMES: [&str; 6] = ["rounds", "vertices", "faces", "sides", "marks", "room"];
 
 /// The text of a call.
 pub fn to_text(case: &Case) -> String {
     let room = case.capacity;
     let room = [room.vertices, room.faces, room.marks, room.workspace];
+    let tally = match case.tally {
+        0 => String::new(),
+        tally => line(TALLY, &[tally]),
+    };
     [
+        tally,
         line(NAMES[0], &[case.rounds]),
         line(NAMES[1], &case.vertices),
         line(NAMES[2], &case.faces),
@@ -34,9 +41,15 @@ fn line<T: Display>(name: &str, values: &[T]) -> String {
 
 /// The call of a text, if it has this form.
 pub fn from_text(text: &str) -> Option<Case> {
-    let mut lines = text.lines().zip(NAMES);
+    let (tally, text_of_net) = match text.split_once('\n')? {
+        (first, others) if first.starts_with(TALLY) => (numbers((first, TALLY))?, others),
+        _ => (vec![0], text),
+    };
+    let [tally] = tally.try_into().ok()?;
+    let mut lines = text_of_net.lines().zip(NAMES);
     let [rounds] = numbers(lines.next()?)?.try_into().ok()?;
     let case = Case {
+        tally,
         rounds,
         vertices: numbers(lines.next()?)?,
         faces: numbers(lines.next()?)?,

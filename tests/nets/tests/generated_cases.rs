@@ -5,7 +5,7 @@ use std::collections::BTreeSet;
 use nets::case::{Case, Drawn, Expected, TextCase};
 use nets::kind::{Kind, call, named_texts, polygon_call, small_nets};
 use nets::pairs::{SharedPair, shared_pair, shared_polygon_pair};
-use nets::refused::{POLYGON_REASONS, refused_call, refused_polygons};
+use nets::refused::{PLAIN_REASONS, POLYGON_REASONS, refused_call, refused_polygons};
 use nets::rng::Rng;
 use reference::call::{Outcome, Tables, refine_times};
 use reference::curve::Form;
@@ -56,8 +56,8 @@ fn names_of_kinds_are_distinct() {
 
 #[test]
 fn calls_with_one_or_two_reasons_get_the_lowest() {
-    for first in 1..=12 {
-        for second in first..=12 {
+    for (at, &first) in PLAIN_REASONS.iter().enumerate() {
+        for &second in &PLAIN_REASONS[at..] {
             for seed in 0..4 {
                 let case = refused_call(&[first, second], &mut Rng::new(seed));
                 let Expected::Refused(refusal) = case.expected else {
@@ -116,9 +116,9 @@ fn reasons_met(call: impl Fn(u64) -> Case) -> BTreeSet<u32> {
 
 #[test]
 fn mixed_calls_get_their_answer() {
-    assert_eq!(reasons_met(call), (0..=12).collect());
-    let with_sides = (0..=14).filter(|&reason| reason != 13);
-    assert_eq!(reasons_met(polygon_call), with_sides.collect());
+    let accepted_or = |reasons: &[u32]| [&[0], reasons].concat().into_iter().collect();
+    assert_eq!(reasons_met(call), accepted_or(&PLAIN_REASONS));
+    assert_eq!(reasons_met(polygon_call), accepted_or(&POLYGON_REASONS));
 }
 
 /// What the paper says of the tables after a call, apart from the contents of
@@ -135,7 +135,7 @@ fn assert_frame(case: &Case, before: &Tables, after: &Tables, outcome: &Outcome)
             assert_eq!(after.marks[..marks.len()], *marks);
             ([vertices.len(), faces.len(), marks.len()], true)
         }
-        Outcome::Refused { reason, .. } => ([0; 3], (5..=12).contains(reason)),
+        Outcome::Refused { reason, .. } => ([0; 3], matches!(reason, 5..=12 | 15)),
     };
     assert_eq!(after.vertices[filled[0]..], before.vertices[filled[0]..]);
     assert_eq!(after.faces[filled[1]..], before.faces[filled[1]..]);
@@ -145,14 +145,24 @@ fn assert_frame(case: &Case, before: &Tables, after: &Tables, outcome: &Outcome)
     assert_eq!(after.workspace[used..], before.workspace[used..]);
 }
 
+/// "An accepted call adds refined vertices minus drawn vertices; a refused call
+/// adds nothing."
+fn added(case: &Case, outcome: &Outcome) -> u64 {
+    match outcome {
+        Outcome::Refined { marks, .. } => (marks.len() - case.marks.len()) as u64,
+        Outcome::Refused { .. } => 0,
+    }
+}
+
 #[test]
 fn calls_leave_every_table_as_the_paper_says() {
     let plain = (0..200).map(call);
     for (seed, case) in (0..).zip(plain.chain((0..200).map(polygon_call))) {
         let before = case.tables(&mut Rng::new(seed));
         let mut after = before.clone();
-        let outcome = case.outcome_in(&mut after);
+        let (outcome, tally) = case.outcome_in(&mut after);
         assert_eq!(outcome, case.outcome());
+        assert_eq!(tally, case.tally + added(&case, &outcome));
         assert_frame(&case, &before, &after, &outcome);
     }
 }

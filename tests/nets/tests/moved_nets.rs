@@ -7,6 +7,7 @@ use nets::accepted::{Shape, Size, accepted};
 use nets::case::{Case, Expected};
 use nets::kind::{call, polygon_call};
 use nets::moved::MovedPair;
+use nets::refused::{PLAIN_REASONS, POLYGON_REASONS};
 use nets::rng::Rng;
 use nets::shapes::grid;
 use reference::call::{Outcome, start_net};
@@ -45,8 +46,8 @@ impl Met {
     fn compare(&mut self, pair: &MovedPair, seed: u64) {
         let found = pair.case.tables(&mut Rng::new(seed));
         let [mut left, mut left_moved] = [found.clone(), found];
-        let outcome = pair.case.outcome_in(&mut left);
-        let moved = pair.moved.outcome_in(&mut left_moved);
+        let (outcome, tally) = pair.case.outcome_in(&mut left);
+        let (moved, moved_tally) = pair.moved.outcome_in(&mut left_moved);
         assert!(
             pair.moved.expected.agrees_with(&moved),
             "{pair:?} {moved:?}"
@@ -57,6 +58,7 @@ impl Met {
             return;
         }
         assert_eq!(answer(&moved), answer(&outcome), "{pair:?}");
+        assert_eq!(moved_tally, tally, "{pair:?}");
         assert_eq!(left_moved, pair.moved_tables(&left, vertices), "{pair:?}");
         self.reasons.insert(reason);
         self.bad_lengths += u64::from(!pair.case.vertices.len().is_multiple_of(3));
@@ -92,12 +94,14 @@ fn halves_on_other_side(pair: &MovedPair) -> usize {
 }
 
 #[track_caller]
-fn assert_moved(call: fn(u64) -> Case, reasons: impl Iterator<Item = usize>) {
+fn assert_moved(call: fn(u64) -> Case, reasons: &[u32]) {
     let mut met = Met::default();
     for seed in 0..1_000 {
         met.compare(&MovedPair::draw(call(seed), &mut Rng::new(!seed)), seed);
     }
-    assert_eq!(met.reasons, reasons.filter(|&reason| reason != 5).collect());
+    let reasons = reasons.iter().map(|&reason| reason as usize);
+    let due = [0].into_iter().chain(reasons.filter(|&reason| reason != 5));
+    assert_eq!(met.reasons, due.collect());
     assert!([0, 5].iter().all(|reason| met.beyond.contains(reason)));
     assert!(met.bad_lengths > 10);
     assert!(met.at_limit > 50);
@@ -106,12 +110,12 @@ fn assert_moved(call: fn(u64) -> Case, reasons: impl Iterator<Item = usize>) {
 
 #[test]
 fn calls_on_moved_nets_give_the_same_moved() {
-    assert_moved(call, 0..=12);
+    assert_moved(call, &PLAIN_REASONS);
 }
 
 #[test]
 fn calls_with_side_counts_on_moved_nets_give_the_same_moved() {
-    assert_moved(polygon_call, (0..=12).chain([14]));
+    assert_moved(polygon_call, &POLYGON_REASONS);
 }
 
 #[test]

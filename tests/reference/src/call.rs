@@ -1,13 +1,17 @@
 //! The call that refines a net, with the tables it is given.
 
 use crate::net::{Net, PolygonNet};
-use crate::refusal::{Capacity, Refusal, check_call, check_net, quadrilaterals, refined_faces};
+use crate::refusal::{
+    Capacity, Refusal, check_call, check_net, check_tally, quadrilaterals, refined_faces,
+};
 use crate::step::{refine_once, split};
 
-/// What a caller passes: the net, the rounds and the lengths of the tables
-/// for the results and as workspace.
+/// What a caller passes: the record of new points, the rounds, the net and the
+/// lengths of the tables for the results and as workspace.
 #[derive(Clone, Copy, Debug)]
 pub struct Call<'a> {
+    /// What the record holds before the call.
+    pub tally: u64,
     pub rounds: u32,
     pub vertices: &'a [i32],
     pub faces: &'a [u32],
@@ -78,16 +82,27 @@ pub fn refine(call: &Call) -> Outcome {
 /// The result of a call that refusals 1 to 4 and 14 do not stop.
 fn refine_net(call: &Call) -> Outcome {
     match start_net(call.vertices, call.faces, call.sides, call.marks) {
-        Ok(net) => {
-            let refined = refine_times(net, call.rounds);
-            Outcome::Refined {
-                vertices: refined.vertex_table(),
-                faces: refined.face_table(),
-                marks: refined.marks,
-            }
-        }
+        Ok(net) => judge_tally(call, &refine_times(net, call.rounds)),
         Err(refusal) => refusal.into(),
     }
+}
+
+/// The result of a call that gives this net unless refusal 15 holds.
+fn judge_tally(call: &Call, refined: &Net) -> Outcome {
+    match check_tally(call.tally, new_points(call.vertices, &refined.marks)) {
+        Ok(()) => Outcome::Refined {
+            vertices: refined.vertex_table(),
+            faces: refined.face_table(),
+            marks: refined.marks.clone(),
+        },
+        Err(refusal) => refusal.into(),
+    }
+}
+
+/// "refined vertices minus drawn vertices", from the drawn vertex table and
+/// the refined marks.
+fn new_points(drawn_vertices: &[i32], refined_marks: &[u8]) -> u64 {
+    (refined_marks.len() - drawn_vertices.len() / 3) as u64
 }
 
 /// The net where refining begins, or why the drawn net is refused: the net
@@ -112,8 +127,10 @@ pub fn refine_times(net: Net, rounds: u32) -> Net {
     (0..rounds).fold(net, |net, _| refine_once(&net).net)
 }
 
-/// The result of a call, and in `tables` the final state of every table.
+/// The result of a call, in `tally` what the record holds after it, and in
+/// `tables` the final state of every table.
 pub fn refine_into(
+    tally: &mut u64,
     rounds: u32,
     vertices: &[i32],
     faces: &[u32],
@@ -122,6 +139,7 @@ pub fn refine_into(
     tables: &mut Tables,
 ) -> Outcome {
     let outcome = refine(&Call {
+        tally: *tally,
         rounds,
         vertices,
         faces,
@@ -129,12 +147,14 @@ pub fn refine_into(
         marks,
         capacity: tables.capacity(),
     });
+    let drawn_vertices = vertices;
     match &outcome {
         Outcome::Refined {
             vertices,
             faces,
             marks,
         } => {
+            *tally += new_points(drawn_vertices, marks);
             tables.vertices[..vertices.len()].copy_from_slice(vertices);
             tables.faces[..faces.len()].copy_from_slice(faces);
             tables.marks[..marks.len()].copy_from_slice(marks);

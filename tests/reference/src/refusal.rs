@@ -10,6 +10,7 @@ pub const MAX_REFINED_FACES: u128 = 262_144;
 pub const MAX_COORDINATE: u32 = 1_048_576;
 pub const RING_SIZES: std::ops::RangeInclusive<usize> = 3..=8;
 pub const MAX_FAN: usize = 6;
+pub const MAX_TALLY: u64 = 4_000_000_000;
 pub const SIDE_COUNTS: std::ops::RangeInclusive<u8> = 3..=8;
 
 /// A refusal: its number in the scope paper and its place.
@@ -151,6 +152,14 @@ pub fn check_net<F: AsRef<[u32]>>(net: &Mesh<F>) -> Result<(), Refusal> {
     refuse(12, &marked_stars, |(star, mark)| {
         *mark == 1 && star.is_ring()
     })
+}
+
+/// Refusal 15: the record would pass its limit, also where nothing is added.
+pub fn check_tally(tally: u64, new_points: u64) -> Result<(), Refusal> {
+    if u128::from(tally) + u128::from(new_points) > u128::from(MAX_TALLY) {
+        return Err(Refusal::new(15, 0));
+    }
+    Ok(())
 }
 
 /// Refuses with the lowest place whose entry is bad.

@@ -50,12 +50,14 @@ pub fn answer(text: &[u8]) -> String {
     print(&outcome)
 }
 
-/// Refines a document within the program's own tables.
+/// Refines a document within the program's own tables, with a record of its
+/// own from zero.
 pub fn refine_document(document: &Document) -> Outcome {
     if let Err(refusal) = check_program(document) {
         return refusal.into();
     }
     refine(&Call {
+        tally: 0,
         rounds: document.rounds,
         vertices: &document.vertices,
         faces: &document.faces,

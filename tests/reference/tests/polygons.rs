@@ -69,6 +69,7 @@ impl Drawn {
 
     fn outcome(&self) -> Outcome {
         refine(&Call {
+            tally: 0,
             rounds: self.rounds,
             vertices: &self.vertices,
             faces: &self.faces,
@@ -352,6 +353,7 @@ fn run(drawn: &Drawn) -> (Outcome, Tables, Tables) {
     };
     let mut after = before.clone();
     let outcome = refine_into(
+        &mut 0,
         drawn.rounds,
         &drawn.vertices,
         &drawn.faces,

@@ -25,6 +25,7 @@ struct Sizes {
 impl Sizes {
     fn outcome(&self) -> Outcome {
         refine(&Call {
+            tally: 0,
             rounds: self.rounds,
             vertices: &vec![0; self.vertices],
             faces: &vec![0; self.faces],
@@ -46,6 +47,7 @@ const NOTHING: Capacity = Capacity {
 fn an_empty_net_is_accepted_for_all_rounds() {
     for rounds in 0..=7 {
         let outcome = refine(&Call {
+            tally: 0,
             rounds,
             vertices: &[],
             faces: &[],
@@ -104,6 +106,7 @@ fn each_table_must_be_long_enough() {
     short[3].workspace -= 1;
     let call = |capacity| {
         refine(&Call {
+            tally: 0,
             rounds: 2,
             vertices: &net.vertex_table(),
             faces: &net.face_table(),
@@ -231,6 +234,7 @@ fn filled_tables(refined_faces: usize, surplus: usize) -> Tables {
 /// Calls with filled tables and returns their final state.
 fn run(net: &Net, rounds: u32, mut tables: Tables) -> (Outcome, Tables) {
     let outcome = refine_into(
+        &mut 0,
         rounds,
         &net.vertex_table(),
         &net.face_table(),

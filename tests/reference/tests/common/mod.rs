@@ -99,6 +99,7 @@ pub fn scattered(count: u32) -> Vec<Point> {
 pub fn refine_net(net: &Net, rounds: u32) -> Outcome {
     let refined = net.faces.len() * 4_usize.pow(rounds.min(6));
     refine(&Call {
+        tally: 0,
         rounds,
         vertices: &net.vertex_table(),
         faces: &net.face_table(),

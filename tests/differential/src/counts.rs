@@ -3,18 +3,19 @@
 use std::collections::BTreeMap;
 use std::fmt::{self, Display, Formatter};
 
-use nets::refused::POLYGON_REASONS;
+use nets::refused::{PLAIN_REASONS, POLYGON_REASONS};
+use nets::tally::{Figure, new_points};
 use reference::refusal::{MAX_ROUNDS, SIDE_COUNTS};
 
 use crate::compare::Known;
 
 /// How many were of each sort; sorts that must occur begin at 0.
 #[derive(Clone, Debug)]
-pub struct Tally<K> {
+pub struct Counts<K> {
     counts: BTreeMap<K, u64>,
 }
 
-impl<K: Ord + Display> Tally<K> {
+impl<K: Ord + Display> Counts<K> {
     pub fn new(due: impl IntoIterator<Item = K>) -> Self {
         Self {
             counts: due.into_iter().map(|sort| (sort, 0)).collect(),
@@ -62,19 +63,22 @@ impl<K: Ord + Display> Tally<K> {
 
 /// What the compared calls were.
 pub struct Calls {
-    refusals: Tally<u32>,
-    rounds: Tally<u32>,
+    refusals: Counts<u32>,
+    rounds: Counts<u32>,
     /// Side counts in accepted nets.
-    sides: Tally<u8>,
+    sides: Counts<u8>,
+    /// What nets that are accepted, but for 15, find in the record.
+    figures: Counts<&'static str>,
     empty: u64,
 }
 
 impl Calls {
     pub fn without_sides() -> Self {
         Self {
-            refusals: Tally::new(1..=12),
-            rounds: Tally::new(0..=MAX_ROUNDS),
-            sides: Tally::new([]),
+            refusals: Counts::new(PLAIN_REASONS),
+            rounds: Counts::new(0..=MAX_ROUNDS),
+            sides: Counts::new([]),
+            figures: Counts::new(Figure::ALL.map(Figure::name)),
             empty: 0,
         }
     }
@@ -82,14 +86,19 @@ impl Calls {
     /// The largest nets are few and do not all have 6 rounds.
     pub fn with_sides() -> Self {
         Self {
-            refusals: Tally::new(POLYGON_REASONS),
-            rounds: Tally::new(0..MAX_ROUNDS),
-            sides: Tally::new(SIDE_COUNTS),
+            refusals: Counts::new(POLYGON_REASONS),
+            rounds: Counts::new(0..MAX_ROUNDS),
+            sides: Counts::new(SIDE_COUNTS),
+            figures: Counts::new(Figure::ALL.map(Figure::name)),
             empty: 0,
         }
     }
 
     pub fn add(&mut self, known: &Known) {
+        if matches!(known.report.reason, 0 | 15) {
+            let figure = Figure::of(known.case.tally, new_points(&known.case));
+            self.figures.add(figure.name());
+        }
         match known.report.reason {
             0 if known.case.faces.is_empty() => self.empty += 1,
             0 => {
@@ -101,7 +110,10 @@ impl Calls {
     }
 
     pub fn is_complete(&self) -> bool {
-        self.refusals.is_complete() && self.rounds.is_complete() && self.sides.is_complete()
+        self.refusals.is_complete()
+            && self.rounds.is_complete()
+            && self.sides.is_complete()
+            && self.figures.is_complete()
     }
 }
 
@@ -117,6 +129,7 @@ impl Display for Calls {
         if self.sides.total() > 0 {
             writeln!(f, "{}", self.sides.line("accepted faces by sides"))?;
         }
+        writeln!(f, "{}", self.figures.line("the record goes"))?;
         write!(f, "{}", self.refusals.line("refused by reason"))
     }
 }
