@@ -11,12 +11,12 @@ use Rattle.verdict.specs.Verdict.{accepted, refused, verdict, workAfter}
 use Rattle.admission.specs.declared.Admission.{Admission}
 use Rattle.admission.specs.declared.Admission.the-variants.{Refused, Admitted}
 
--- the call c is refused, and leaves w′ of its work table w
+-- the check refuses the call c, and leaves w′ of its work table w
 pub record RefusedCall (c : Call) (w : List ℕ) (number place : ℕ) (w′ : List ℕ) : Type 0 where
   pub refuses : verdict c ≡ refused number place
   pub work : w′ ≡ workAfter c w
 
--- the call c is accepted, g is its number of refined faces, and the work table w starts with the mates; where there are side counts, it holds the shape
+-- the check accepts the call c, g is its number of refined faces, and the work table w starts with the mates; where there are side counts, it holds the shape
 pub record AdmittedCall (c : Call) (g : ℕ) (w : List ℕ) : Type 0 where
   pub accepts : verdict c ≡ accepted
   pub final : g ≡ finalFaces c

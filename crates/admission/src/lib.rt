@@ -157,7 +157,7 @@ pub fn admit(
     }
 }
 
-// The verdict on a call, given the lengths of its output tables. The time is that of admitting it, and of clearing the work table.
+// The verdict on a call but for 15, given the lengths of its output tables. The time is that of admitting it, and of clearing the work table.
 pub fn check(
     rounds: u32,
     vertices: &[i32],

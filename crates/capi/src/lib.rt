@@ -12,7 +12,7 @@ ghost use Rattle.capi.specs.Export.{finding, checkExportOf, checkExport,
 use admission::Answer;
 use limits::Lengths;
 
-// The verdict on a call: reason 0, or the refusal's number and place.
+// The verdict of the check: reason 0, or the refusal's number and place.
 #[repr(C)]
 pub struct Finding {
     pub reason: u32,
@@ -28,7 +28,7 @@ pub struct Report {
     pub faces: u64,
 }
 
-// The caller's record of new points, over all calls.
+// The caller's record: the new points of the accepted calls.
 #[repr(C)]
 pub struct Tally {
     pub points: u64,
@@ -55,7 +55,7 @@ fn finding_of(answer: Answer) -> Finding
     }
 }
 
-// The verdict on a call, given the lengths of its output tables: reason 0, or the refusal's number and place.
+// The verdict on a call but for 15, given the lengths of its output tables: reason 0, or the refusal's number and place.
 #[no_mangle]
 pub extern "C" fn gedrovit_check(
     rounds: u32,

@@ -51,19 +51,22 @@ module _ (S : Shape) (l : List ℕ) where
       }
 
   -- a table that starts with the mates of the net
-  module _ (w : List ℕ) (r : 2 * length l ≤ length w) (f : (g : ℕ) → g < length l → getD w g 0 ≡ mate S l g) where
+  module _ (w : List ℕ) (r : length l ≤ length w) (f : (g : ℕ) → g < length l → getD w g 0 ≡ mate S l g) where
     pub take-is-mates : take (length l) w ≡ mates S l
     take-is-mates =
         let a = length-mates S l in
-        let b = length-take-le (length l) w (omega arith) in
+        let b = length-take-le (length l) w r in
         ext-getD 0 (take (length l) w) (mates S l) (omega arith) (λ i k. getD-take (length l) w i 0 (omega arith) ∙ f i (omega arith) ∙ sym (getD-mates S l i (omega arith)))
 
-    pub mates-paired : (v : ℕ) → Oriented S v l → length l ≤ 262144 → PairedIn (length l) w
-    mates-paired v ok few = record { few = few; room = r; paired = rw take-is-mates (paired-mates v ok) }
-
-    -- what `number_edges` answers and leaves
     pub edges-counted : edgeCountBy (take (length l) w) ≡ edgeCount S l
     edges-counted = ap edgeCountBy take-is-mates ∙ count-mates
+
+  -- and has room for the edge numbers behind them
+  module _ (w : List ℕ) (r : 2 * length l ≤ length w) (f : (g : ℕ) → g < length l → getD w g 0 ≡ mate S l g) where
+    pub mates-paired : (v : ℕ) → Oriented S v l → length l ≤ 262144 → PairedIn (length l) w
+    mates-paired v ok few = record { few = few; room = r; paired = rw (take-is-mates w (omega arith) f) (paired-mates v ok) }
+
+    -- what `number_edges` leaves
 
     module _ (u : List ℕ) (e : u ≡ filled (withEdges (take (length l) w)) w) where
       length-front : length (withEdges (take (length l) w)) ≡ 2 * length l

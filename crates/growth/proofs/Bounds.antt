@@ -12,7 +12,7 @@ use Rattle.topology.proofs.Mates.{edges-le}
 use Rattle.polygons.specs.Polygons.{shapeOf, Sided}
 use Rattle.polygons.proofs.Counts.{shape-none, shape-some, faces-polygons, faces-le}
 use Rattle.edgenumbers.specs.Edges.{edgeCountBy}
-use Rattle.growth.specs.Growth.{Counts, counts, countsOf, grown, grownBy, Bounded, Countable}
+use Rattle.growth.specs.Growth.{Counts, counts, countsOf, grown, grownBy, Bounded, Growable}
 use Rattle.growth.proofs.Edges.{edges-by-mates}
 
 -- ---- refinement steps
@@ -61,7 +61,7 @@ faces-few s n k = go (decLt 0 (length s))
     go (no b) = let f : shapeOf s .faces n ≡ n / 4 = ap (λ (S : Shape). S .faces n) (shape-none s (omega arith)) in omega arith
 
 -- ---- what is counted in code: e edges, and a fourth of the corners or as many faces as side counts
-module _ (k : ℕ) (l s : List ℕ) (v : ℕ) (w : List ℕ) (x : Countable k l s v w) where
+module _ (k : ℕ) (l s : List ℕ) (v : ℕ) (w : List ℕ) (x : Growable k l s v w) where
   abbrev n : ℕ
   n = length l
 

@@ -24,5 +24,5 @@ unfolding count metBy
 count-next ms h = rw (add-one h) (ap (λ (x : ℕ). count (metBy ms) h + x) (byte-cond (ltb h (getD ms h 0))))
 
 -- a table that starts with the mates of a net
-pub edges-by-mates : (S : Shape) (l w : List ℕ) → 2 * length l ≤ length w → MateTableOf S l w → edgeCountBy (take (length l) w) ≡ edgeCount S l
+pub edges-by-mates : (S : Shape) (l w : List ℕ) → length l ≤ length w → MateTableOf S l w → edgeCountBy (take (length l) w) ≡ edgeCount S l
 edges-by-mates S l w r x = edges-counted S l w r (x .mates)

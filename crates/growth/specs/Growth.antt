@@ -41,10 +41,10 @@ pub record Bounded (c : Counts) : Type 0 where
   pub faces : c .faces ≤ c .corners
 
 -- corners l of faces with the side counts s, of v vertices, for k rounds; their mates stand at the front of w
-pub record Countable (k : ℕ) (l s : List ℕ) (v : ℕ) (w : List ℕ) : Type 0 where
+pub record Growable (k : ℕ) (l s : List ℕ) (v : ℕ) (w : List ℕ) : Type 0 where
   pub rounds : k ≤ 6
   pub sided : Sided s (length l)
   pub few : length l ≤ 16384
   pub vertices : v ≤ length l
-  pub room : 2 * length l ≤ length w
+  pub room : length l ≤ length w
   pub mated : MateTableOf (shapeOf s) l w

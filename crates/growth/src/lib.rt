@@ -4,9 +4,9 @@ ghost use Prim.Native.Nat.{_+_, _≤_};
 ghost use lib.ListN.{length};
 ghost use Rattle.polygons.specs.Polygons.{shapeOf};
 ghost use Rattle.edgenumbers.specs.Edges.{edgeCountBy};
-ghost use Rattle.growth.specs.Growth.{counts, countsOf, grownBy, splits, Bounded, Countable};
+ghost use Rattle.growth.specs.Growth.{counts, countsOf, grownBy, splits, Bounded, Growable};
 
-// The number of edges: how many half-edges come before their mates.
+// The number of edges: how many half-edges come before their mates or have none.
 fn edge_count(mates: &[u32]) -> usize
     requires { ⌜ length (now mates) ≤ 262144 ⌝ }
     ensures { λ r. ⌜ r ≡ edgeCountBy (now (mates .entry)) ⌝ }
@@ -44,7 +44,7 @@ fn vertices_after(v: usize, edges: usize, faces: usize, corners: usize, steps: u
 
 // The number of vertices after all rounds on a net of v vertices, the split among the steps; the mates stand at the front of the work table.
 pub fn final_vertices(rounds: u32, faces: &[u32], sides: &[u8], v: usize, work: &[u32]) -> usize
-    requires { ⌜ Countable rounds (now faces) (now sides) v (now work) ⌝ }
+    requires { ⌜ Growable rounds (now faces) (now sides) v (now work) ⌝ }
     ensures { λ r. ⌜ r ≡ grownBy (rounds + splits (now (sides .entry))) (countsOf (shapeOf (now (sides .entry))) v (now (faces .entry))) .vertices ⌝ }
 {
     let n = faces.len();

@@ -123,7 +123,7 @@ module _ (m : ControlNet) (o : Buffers) (ok : Loadable m o) where
     paired = let f = ok .few in mates-paired S l (o .work) room₂ (ok .mated .mates) v oriented (omega arith)
 
     pub counted : edgeCountBy (take (length l) (o .work)) ≡ edgeCount S l
-    counted = edges-counted S l (o .work) room₂ (ok .mated .mates)
+    counted = edges-counted S l (o .work) (let r = room₂ in omega arith) (ok .mated .mates)
 
     -- ---- once the edges are numbered
     module _ (w₁ : List ℕ) (e₁ : w₁ ≡ filled (withEdges (take (length l) (o .work))) (o .work)) where

@@ -1,7 +1,7 @@
 -- The tally, computed on one square, one triangle and no net. Assumes nothing.
 use mathlib.Core.Path.{_≡_, refl}
-use mathlib.Core.List.{List, [], _∷_}
-use Prim.Native.Nat.{ℕ, zero, suc}
+use mathlib.Core.List.{List, [], _∷_, _++_}
+use Prim.Native.Nat.{ℕ, zero, suc, _+_, _*_}
 use lib.IntN.{ℤ, pos}
 use Rattle.lists.specs.Tabulate.{tabulate}
 use Rattle.search.specs.Search.{firstFrom, first, any, count, iterate}
@@ -13,27 +13,32 @@ use Rattle.refusals.specs.Refusals.{badMark, badCorner, isolated, repeatedSide,
 use Rattle.polygons.specs.Polygons.{sideAfter, sideBefore, faceThen, noFace, polygons, shapeOf}
 use Rattle.refinedfaces.specs.Refined.{corner, refined, refinedMarks}
 use Rattle.nets.specs.Net.{ControlNet, controlNet}
+use Rattle.tables.specs.Tables.{filled, cleared}
 use Rattle.nets.specs.Buffers.{Buffers, buffers}
 use Rattle.scheme.specs.Step.{step, steps}
 use Rattle.splitting.specs.Splitting.{split, startNet}
 use Rattle.verdict.specs.Verdict.{Verdict, accepted, refused, tablesVerdict, sizeVerdict, roomVerdict, limitsVerdict, badCoordinate, coordinatesVerdict, vertexVerdict, adjacencyVerdict, facesVerdict, shapeVerdict, netVerdict, verdict}
 use Rattle.outcome.specs.Tally.{newPoints, tallyVerdict}
-use Rattle.outcome.specs.Outcome.{Request, request, requestVerdict, outcome}
+use Rattle.outcome.specs.Outcome.{Request, request, requestVerdict, refusedOutcome, outcome}
 use Rattle.outcome.specs.Series.{tallyAfter}
 
 abbrev zeros : ℕ → List ℤ
 zeros zero = []
 zeros (suc n) = pos 0 ∷ zeros n
 
-abbrev noughts : ℕ → List ℕ
-noughts zero = []
-noughts (suc n) = 0 ∷ noughts n
+abbrev copies : ℕ → ℕ → List ℕ
+copies c zero = []
+copies c (suc n) = c ∷ copies c n
 
 abbrev square : ControlNet
-square = controlNet (zeros 12) (0 ∷ 1 ∷ 2 ∷ 3 ∷ []) [] (noughts 4)
+square = controlNet (zeros 12) (0 ∷ 1 ∷ 2 ∷ 3 ∷ []) [] (copies 0 4)
 
 abbrev triangle : ControlNet
-triangle = controlNet (zeros 9) (0 ∷ 1 ∷ 2 ∷ []) (3 ∷ []) (noughts 3)
+triangle = controlNet (zeros 9) (0 ∷ 1 ∷ 2 ∷ []) (3 ∷ []) (copies 0 3)
+
+-- a cube with a marked vertex, which 12 refuses
+abbrev cube : ControlNet
+cube = controlNet (zeros 24) (0 ∷ 3 ∷ 2 ∷ 1 ∷ 4 ∷ 5 ∷ 6 ∷ 7 ∷ 0 ∷ 1 ∷ 5 ∷ 4 ∷ 1 ∷ 2 ∷ 6 ∷ 5 ∷ 2 ∷ 3 ∷ 7 ∷ 6 ∷ 3 ∷ 0 ∷ 4 ∷ 7 ∷ []) [] (1 ∷ copies 0 7)
 
 abbrev none : ControlNet
 none = controlNet [] [] [] []
@@ -43,30 +48,41 @@ points : newPoints 0 square ∷ newPoints 1 square ∷ newPoints 2 square ∷ ne
 unfolding newPoints steps step startNet split tabulate firstFrom first count quads from to opposed mate firstMet edgeCount edge corner refined refinedMarks sideAfter sideBefore faceThen noFace polygons shapeOf
 points = refl
 
--- tables for one round on one square
-abbrev tables : Buffers
-tables = buffers (zeros 48) (noughts 16) (noughts 16) (noughts 64)
+-- tables for g refined faces, and two work numbers more
+abbrev tables : ℕ → Buffers
+tables g = buffers (zeros (12 * g)) (copies 7 (4 * g)) (copies 7 (4 * g)) (copies 7 (16 * g + 2))
 
--- the square refined once: five new points fit or do not; nothing to add, at the limit and above; 1 and 4 go first
+-- the square refined once: five new points fit or do not, the sum beyond 64 bits too; nothing to add, at the limit and above; 1, 4 and 12 go first
 abbrev verdicts : List Verdict
 verdicts =
-    requestVerdict (request 3999999995 1 square tables)
-    ∷ requestVerdict (request 3999999996 1 square tables)
-    ∷ requestVerdict (request 4000000000 0 square tables)
-    ∷ requestVerdict (request 4000000001 0 square tables)
-    ∷ requestVerdict (request 4000000000 6 none tables)
-    ∷ requestVerdict (request 18446744073709551615 0 none tables)
-    ∷ requestVerdict (request 18446744073709551615 7 none tables)
-    ∷ requestVerdict (request 18446744073709551615 2 square tables)
+    requestVerdict (request 3999999995 1 square (tables 4))
+    ∷ requestVerdict (request 3999999996 1 square (tables 4))
+    ∷ requestVerdict (request 18446744073709551615 1 square (tables 4))
+    ∷ requestVerdict (request 4000000000 0 square (tables 4))
+    ∷ requestVerdict (request 4000000001 0 square (tables 4))
+    ∷ requestVerdict (request 4000000000 6 none (tables 0))
+    ∷ requestVerdict (request 18446744073709551615 0 none (tables 0))
+    ∷ requestVerdict (request 18446744073709551615 7 none (tables 0))
+    ∷ requestVerdict (request 18446744073709551615 2 square (tables 4))
+    ∷ requestVerdict (request 18446744073709551615 0 cube (tables 6))
     ∷ []
 
-judged : verdicts ≡ accepted ∷ refused 15 0 ∷ accepted ∷ refused 15 0 ∷ accepted ∷ refused 15 0 ∷ refused 1 0 ∷ refused 4 0 ∷ []
+judged : verdicts ≡ accepted ∷ refused 15 0 ∷ refused 15 0 ∷ accepted ∷ refused 15 0 ∷ accepted ∷ refused 15 0 ∷ refused 1 0 ∷ refused 4 0 ∷ refused 12 0 ∷ []
 unfolding requestVerdict tallyVerdict newPoints steps step startNet split tabulate firstFrom first any count iterate quads from to opposed mate firstMet edgeCount edge corner refined refinedMarks shapeOf verdict limitsVerdict tablesVerdict sizeVerdict roomVerdict netVerdict coordinatesVerdict shapeVerdict facesVerdict adjacencyVerdict vertexVerdict badCoordinate badMark badCorner isolated repeatedSide nonManifold badValence markedRing isBoundaryFrom boundaryFrom leaves valence turn start stops facesMet
 judged = refl
 
+-- on 15 the outputs and the tally are as found, and the first 16G work numbers are zero; on 4 all is as found
+fifteen : outcome (request 3999999996 1 square (tables 4)) ≡ refusedOutcome 15 0 3999999996 (tables 4) (copies 0 64 ++ copies 7 2)
+unfolding outcome requestVerdict tallyVerdict newPoints steps step startNet split tabulate firstFrom first any count iterate quads from to opposed mate firstMet edgeCount edge corner refined refinedMarks shapeOf verdict limitsVerdict tablesVerdict sizeVerdict roomVerdict netVerdict coordinatesVerdict shapeVerdict facesVerdict adjacencyVerdict vertexVerdict badCoordinate badMark badCorner isolated repeatedSide nonManifold badValence markedRing isBoundaryFrom boundaryFrom leaves valence turn start stops facesMet cleared filled
+fifteen = refl
+
+four : outcome (request 3999999996 2 square (tables 4)) ≡ refusedOutcome 4 0 3999999996 (tables 4) (copies 7 66)
+unfolding outcome requestVerdict tallyVerdict newPoints steps step startNet split tabulate firstFrom first any count iterate quads from to opposed mate firstMet edgeCount edge corner refined refinedMarks shapeOf verdict limitsVerdict tablesVerdict sizeVerdict roomVerdict netVerdict coordinatesVerdict shapeVerdict facesVerdict adjacencyVerdict vertexVerdict badCoordinate badMark badCorner isolated repeatedSide nonManifold badValence markedRing isBoundaryFrom boundaryFrom leaves valence turn start stops facesMet cleared filled
+four = refl
+
 -- the square twice, then for too many rounds, then once more
 abbrev calls : List Request
-calls = request 0 1 square tables ∷ request 0 1 square tables ∷ request 0 7 square tables ∷ request 0 1 square tables ∷ []
+calls = request 0 1 square (tables 4) ∷ request 0 1 square (tables 4) ∷ request 0 7 square (tables 4) ∷ request 0 1 square (tables 4) ∷ []
 
 series : tallyAfter 0 calls ∷ tallyAfter 3999999988 calls ∷ [] ≡ 15 ∷ 3999999998 ∷ []
 unfolding tallyAfter outcome requestVerdict tallyVerdict newPoints steps step startNet split tabulate firstFrom first any count iterate quads from to opposed mate firstMet edgeCount edge corner refined refinedMarks shapeOf verdict limitsVerdict tablesVerdict sizeVerdict roomVerdict netVerdict coordinatesVerdict shapeVerdict facesVerdict adjacencyVerdict vertexVerdict badCoordinate badMark badCorner isolated repeatedSide nonManifold badValence markedRing isBoundaryFrom boundaryFrom leaves valence turn start stops facesMet

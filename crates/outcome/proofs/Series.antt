@@ -1,27 +1,53 @@
--- The tally is the sum over the accepted calls. Assumes nothing.
+-- The tally after a call goes by its report; after a series it is the sum over the accepted calls. Assumes nothing.
 use mathlib.Core.Path.{_≡_, refl, ap}
 use mathlib.Core.List.{List, [], _∷_}
 use Prim.Native.Nat.{ℕ, _+_, _≤_}
 use native.Mathlib.Omega.{arith}
+use lib.ListN.{length}
 use Rattle.curve.specs.Weights.{kobbelt}
+use Rattle.nets.specs.Net.{ControlNet}
+use Rattle.nets.specs.Buffers.{Buffers}
 use Rattle.scheme.specs.Step.{steps}
 use Rattle.splitting.specs.Splitting.{startNet}
 use Rattle.verdict.specs.Verdict.{Verdict, accepted, refused, verdict, workAfter}
 use Rattle.verdict.proofs.Accepted.{or-both}
-use Rattle.outcome.specs.Tally.{tallyVerdict}
-use Rattle.outcome.specs.Outcome.{Request, request, Outcome, callOf, toAdd, requestVerdict, outcomeBy, outcome}
-use Rattle.outcome.specs.Series.{outcomeFrom, tallyAfter, acceptedOf, pointsOf, TallyIsSum}
+use Rattle.outcome.specs.Tally.{newPoints, tallyVerdict}
+use Rattle.outcome.specs.Outcome.{refinedTo, refusedWith, Request, fromTally, Outcome, callOf, toAdd, requestVerdict, outcomeBy, outcome}
+use Rattle.outcome.specs.Series.{TallyByReport, tallyAfter, acceptedOf, pointsOf, TallyIsSum}
+use Rattle.outcome.proofs.Counts.{drawn-among}
 use Rattle.outcome.proofs.Tally.{tally-le}
 
+-- ---- one call, by its verdict
+module _ (m : ControlNet) (k t : ℕ) (o : Buffers) (w : List ℕ) where
+  abbrev by : Verdict → Outcome
+  by v = outcomeBy v t (newPoints k m) (steps kobbelt k (startNet m)) o w
+
+  adds-by : (v : Verdict) (x y : ℕ) → by v .result ≡ refinedTo x y → by v .tally + length (m .marks) ≡ t + x
+  unfolding newPoints
+  adds-by accepted x y e = let d = drawn-among m k in let z : length (steps kobbelt k (startNet m) .marks) ≡ x = cc in omega arith
+  adds-by (refused r p) x y e = let z : _≡_ {A = ℕ} 0 1 = cc in absurd (omega arith)
+
+  keeps-by : (v : Verdict) (x y : ℕ) → by v .result ≡ refusedWith x y → by v .tally ≡ t
+  keeps-by accepted x y e = let z : _≡_ {A = ℕ} 0 1 = cc in absurd (omega arith)
+  keeps-by (refused r p) x y e = refl
+
+pub tally-by-report : TallyByReport
+unfolding outcome
+tally-by-report = record {
+  adds = λ a v f e. adds-by (a .net) (a .rounds) (a .tally) (a .buffers) (workAfter (callOf a) (a .buffers .work)) (requestVerdict a) v f e;
+  keeps = λ a r p e. keeps-by (a .net) (a .rounds) (a .tally) (a .buffers) (workAfter (callOf a) (a .buffers .work)) (requestVerdict a) r p e;
+}
+
+-- ---- a series
 module _ (t : ℕ) (a : Request) where
   abbrev b : Request
-  b = request t (a .rounds) (a .net) (a .buffers)
+  b = fromTally t a
 
   abbrev given : Verdict → Outcome
   given v = outcomeBy v t (toAdd a) (steps kobbelt (a .rounds) (startNet (a .net))) (a .buffers) (workAfter (callOf b) (a .buffers .work))
 
   -- the outcome by its verdict
-  is-given : (v : Verdict) → requestVerdict b ≡ v → outcomeFrom t a ≡ given v
+  is-given : (v : Verdict) → requestVerdict b ≡ v → outcome (fromTally t a) ≡ given v
   unfolding outcome
   is-given v e = ap given e
 

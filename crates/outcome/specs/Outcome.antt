@@ -31,6 +31,10 @@ request tally rounds net buffers = record { tally = tally; rounds = rounds; net 
 abbrev pub forRounds : ℕ → Request → Request
 forRounds k a = request (a .tally) k (a .net) (a .buffers)
 
+-- the same, made when the tally is t
+abbrev pub fromTally : ℕ → Request → Request
+fromTally t a = request t (a .rounds) (a .net) (a .buffers)
+
 -- the result, and the caller's tally and tables as the call returns
 pub record Outcome : Type 0 where
   pub result : Result
@@ -49,12 +53,12 @@ callOf a = call (a .rounds) (a .net) (roomOf (a .buffers))
 abbrev pub toAdd : Request → ℕ
 toAdd a = newPoints (a .rounds) (a .net)
 
--- 15 is "tested last of all"
+-- the verdict on a refining call: that of the check, then 15, "tested last of all"
 unfoldable pub requestVerdict : Request → Verdict
 requestVerdict a = orElse (verdict (callOf a)) (tallyVerdict (a .tally) (toAdd a))
 
 -- "An accepted call fills the refined vertices, faces and marks from the front, reports both counts, leaves the first 16G work numbers zero and the rest of
--- every output as found."
+-- every output as found." The tally is then t.
 abbrev pub refinedOutcome : (tally : ℕ) → Net → Buffers → List ℕ → Outcome
 refinedOutcome t n o w = record {
   result = refinedTo (vertexCount n) (faceCount n);
@@ -62,7 +66,7 @@ refinedOutcome t n o w = record {
   buffers = buffers (filled (n .vertices) (o .vertices)) (filled (n .faces) (o .faces)) (filled (n .marks) (o .marks)) w;
 }
 
--- "outputs untouched" on every refusal
+-- "outputs untouched" on every refusal; the tally is then t
 abbrev pub refusedOutcome : (number place tally : ℕ) → Buffers → List ℕ → Outcome
 refusedOutcome r p t o w = record { result = refusedWith r p; tally = t; buffers = buffers (o .vertices) (o .faces) (o .marks) w }
 

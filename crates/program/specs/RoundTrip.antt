@@ -33,6 +33,6 @@ pub record ReadsBack (k : ℕ) (m : nets.Net) : Type 0 where
   pub read : (vs : List ℤ) (fs ms : List ℕ) → length (netText (linesOf k m)) ≤ 32768 → countsVerdict (linesOf k m .counts) ≡ accepted
       → readNet (netText (linesOf k m)) vs fs ms ≡ loaded (netRead k (vertexCount m) (faceCount m)) (filled (m .vertices) vs) (filled (m .faces) fs) (filled (m .marks) ms)
 
--- of the net after any round of an accepted call, the net where refining begins among them
+-- of the net after any round of a call that the check accepts, the net where refining begins among them
 pub record RoundTrip : Type 0 where
   pub back : (c : Call) → verdict c ≡ accepted → (j : ℕ) → j ≤ c .rounds → (k : ℕ) → k ≤ 2147483647 → ReadsBack k (steps kobbelt j (startNet (c .net)))

@@ -123,7 +123,7 @@ module _ (k : ℕ) (control : ControlNet) (o : Buffers) (last : ℕ) (ok : Admit
   pub corners-limit : length (control .faces) ≤ 16384
   corners-limit = loadable .few
 
-  pub corners-room : 2 * length (control .faces) ≤ length (o .work)
+  pub corners-room : length (control .faces) ≤ length (o .work)
   corners-room =
       let l = corners-le (control .sides) (length (control .faces)) (limits .sided) in
       let s = size in

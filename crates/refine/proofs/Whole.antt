@@ -18,7 +18,7 @@ use Rattle.verdict.specs.Verdict.{Verdict, accepted, refused, orElse, verdict, 
 use Rattle.verdict.proofs.Accepted.{accepted-limits}
 use Rattle.admission.specs.Admission.{RefusedCall, AdmittedCall}
 use Rattle.admission.proofs.Laws.{admitted-cleared}
-use Rattle.growth.specs.Growth.{splits, countsOf, grownBy, Countable}
+use Rattle.growth.specs.Growth.{splits, countsOf, grownBy, Growable}
 use Rattle.growth.proofs.Laws.{vertices-after}
 use Rattle.outcome.specs.Tally.{newPoints, tallyVerdict}
 use Rattle.outcome.specs.Outcome.{refinedTo, refusedWith, Request, request, callOf, toAdd, requestVerdict, Outcome, refusedOutcome, outcomeBy, outcome}
@@ -75,8 +75,8 @@ module _ (a : Request) where
     drawn = accepted-drawn (callOf a) (ok .accepts)
 
     -- ---- the new points
-    pub countable : Countable (a .rounds) (a .net .faces) (a .net .sides) (length (a .net .marks)) (a .buffers .work)
-    countable =
+    pub growable : Growable (a .rounds) (a .net .faces) (a .net .sides) (length (a .net .marks)) (a .buffers .work)
+    growable =
         let w = accepted-limits (callOf a) (ok .accepts) in
         record {
           rounds = w .few;

@@ -19,7 +19,7 @@ pub record Ran (k : ℕ) (m : ControlNet) (o o′ : Buffers) (last r : ℕ) : Ty
   pub marks : o′ .marks ≡ filled (steps kobbelt k (startNet m) .marks) (o .marks)
   pub work : o′ .work ≡ cleared (16 * last) (o .work)
 
--- the tables t after k rounds on the net of v vertices and n corners at their front, with the work table cleared; r is the number of vertices
+-- the tables t′ after k rounds on the net of v vertices and n corners at the front of t, with the work table cleared; r is the number of vertices then
 pub record Finished (k v n last r : ℕ) (t t′ : Buffers) : Type 0 where
   -- the work table before it is cleared
   pub before : List ℕ

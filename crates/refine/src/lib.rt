@@ -9,7 +9,7 @@ ghost use Rattle.nets.specs.Buffers.{buffers};
 ghost use Rattle.refine.specs.Answer.{answered};
 ghost use Rattle.refine.specs.Run.{Ran, Finished, Finishing};
 
-// The largest tally that a call may leave.
+// The largest tally that an accepted call may leave.
 const TALLY_LIMIT: u64 = 4000000000;
 
 pub enum Answer {
@@ -26,7 +26,7 @@ pub struct Charged {
 // The rounds on the net of v vertices and n corners at the front of the tables, and the work table cleared. It is called from two places, so that the compiler
 // keeps it apart from the load.
 fn finish(
-    points: &mut [i32],
+    vertices: &mut [i32],
     faces: &mut [u32],
     marks: &mut [u8],
     work: &mut [u32],
@@ -35,12 +35,12 @@ fn finish(
     rounds: u32,
     last: usize,
 ) -> usize
-    requires { ⌜ Finishing rounds v n last (buffers (now points) (now faces) (now marks) (now work)) ⌝ }
-    ensures { λ r. ⌜ Finished rounds v n last r (buffers (now (points .entry)) (now (faces .entry)) (now (marks .entry)) (now (work .entry)))
-        (buffers (now (points .exit)) (now (faces .exit)) (now (marks .exit)) (now (work .exit))) ⌝ }
+    requires { ⌜ Finishing rounds v n last (buffers (now vertices) (now faces) (now marks) (now work)) ⌝ }
+    ensures { λ r. ⌜ Finished rounds v n last r (buffers (now (vertices .entry)) (now (faces .entry)) (now (marks .entry)) (now (work .entry)))
+        (buffers (now (vertices .exit)) (now (faces .exit)) (now (marks .exit)) (now (work .exit))) ⌝ }
 {
     let count = rounds::rounds(
-        &mut *points,
+        &mut *vertices,
         &mut *faces,
         &mut *marks,
         &mut *work,

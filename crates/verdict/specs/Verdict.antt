@@ -1,5 +1,5 @@
--- The verdict on a call: refused with a number and a place, or accepted. The first refusal that holds is given, in this order: 1; 2 for the vertex table; 14
--- with side counts, without them 2 for the face table; 2 for the marks; 3; 4; 5 to 12. "Places are the lowest number concerned."
+-- The verdict of the check on a call: refused with a number and a place, or accepted. The first refusal that holds is given, in this order: 1; 2 for the vertex
+-- table; 14 with side counts, without them 2 for the face table; 2 for the marks; 3; 4; 5 to 12. 15, which a refining call may get after them, is in `outcome`. "Places are the lowest number concerned."
 use mathlib.Core.Bool.{Bool, cond, not}
 use mathlib.Core.List.{List, [], _∷_}
 use Prim.Native.Nat.{ℕ, _*_, _/_, _%_, _^_}
@@ -111,6 +111,6 @@ unfoldable pub verdict : Call → Verdict
 verdict c = orElse (callVerdict c) (netVerdict (c .net))
 
 -- ---- the work table
--- "(place 0, all memory untouched)" on 1 to 4 and 14; "first 16G work numbers zero" on 5 to 12 and on acceptance; "Work numbers beyond 16G are never touched."
+-- "(place 0, all memory untouched)" on 1 to 4 and 14; "first 16G work numbers zero" on 5 to 12, on 15 and on acceptance; "Work numbers beyond 16G are never touched."
 abbrev pub workAfter : Call → List ℕ → List ℕ
 workAfter c w = afterCall (callVerdict c) w (cleared (16 * finalFaces c) w)

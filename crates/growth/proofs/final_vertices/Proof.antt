@@ -13,10 +13,6 @@ use borrow.Author.Needs.{needs}
 use Rattle.growth.proofs.final_vertices.Statement.{statement}
 use Rattle.growth.proofs.final_vertices.Tie as tie
 
--- the work table has room for the mates
-room : (s : tie.Start) → length (s .args .faces .now) ≤ length (s .args .work .now)
-room s = let r = s .pre .room in omega arith
-
 abbrev start : tie.After-edge-count → tie.Start
 start e = e .before .before .before .before .before .before
 
@@ -38,10 +34,10 @@ few : (e : tie.After-edge-count) (c : Counts) → c ≡ whole (start e) → Boun
 few e c h = let s = start e in subst Bounded (sym h) (bounded (s .args .rounds) (s .args .faces .now) (s .args .sides .now) (s .args .v) (s .args .work .now) (s .pre))
 
 slice-aggregate-edge-count : tie.Need-slice-aggregate-edge-count
-slice-aggregate-edge-count c = sym (length-take-le _ _ (room (c .before .before .before .before .before)))
+slice-aggregate-edge-count c = sym (length-take-le _ _ (c .before .before .before .before .before .pre .room))
 
 edge-count-requires : tie.Need-edge-count-requires
-edge-count-requires c κs = let s = c .before .before .before .before .before in let f = s .pre .few in omega (arith, length-take-le (length (s .args .faces .now)) (s .args .work .now) (room s))
+edge-count-requires c κs = let s = c .before .before .before .before .before in let f = s .pre .few in omega (arith, length-take-le (length (s .args .faces .now)) (s .args .work .now) (s .pre .room))
 
 vertices-after-requires : tie.Need-vertices-after-requires
 vertices-after-requires c κs = let e = c .before in let p = start e .pre in let k = p .rounds in (few e _ (plain e (c .if3 .taken)), (p .few, omega arith))

@@ -9,7 +9,7 @@ use Rattle.outcome.specs.Outcome.{Request, request, toAdd}
 use Rattle.refine.specs.Answer.{answered}
 use Rattle.refine.specs.declared.Answer.the-variants.{Refined}
 use Rattle.refine.proofs.Laws.{room-work, last-le}
-use Rattle.refine.proofs.Whole.{countable, new-points, few-new, refused-15, refined-outcome}
+use Rattle.refine.proofs.Whole.{growable, new-points, few-new, refused-15, refined-outcome}
 use borrow.Author.Needs.{needs}
 use Rattle.refine.proofs.refine_admitted.Statement.{statement}
 use Rattle.refine.proofs.refine_admitted.Tie as tie
@@ -34,7 +34,7 @@ abbrev after : tie.After-run → Buffers
 after y = let o = y .run .last .1 .1 .1 .1 .1 in buffers (o .0) (o .1 .0) (o .1 .1 .0) (o .1 .1 .1 .0)
 
 final-vertices-requires : tie.Need-final-vertices-requires
-final-vertices-requires c κs = let s = c .before .before .before .before .before .before .before in countable (asked s) (s .args .last) (s .pre)
+final-vertices-requires c κs = let s = c .before .before .before .before .before .before .before in growable (asked s) (s .args .last) (s .pre)
 
 sub-new : tie.Need-sub-new
 sub-new c = new c .0
