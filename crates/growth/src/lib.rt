@@ -48,6 +48,9 @@ pub fn final_vertices(rounds: u32, faces: &[u32], sides: &[u8], v: usize, work: 
     ensures { λ r. ⌜ r ≡ grownBy (rounds + splits (now (sides .entry))) (countsOf (shapeOf (now (sides .entry))) v (now (faces .entry))) .vertices ⌝ }
 {
     let n = faces.len();
+    if rounds == 0 && sides.len() == 0 {
+        return v;
+    }
     let edges = edge_count(&work[..n]);
     if sides.len() == 0 {
         return vertices_after(v, edges, n / 4, n, rounds);
