@@ -67,7 +67,6 @@ module _ (S : Shape) (l : List ℕ) where
     mates-paired v ok few = record { few = few; room = r; paired = rw (take-is-mates w (omega arith) f) (paired-mates v ok) }
 
     -- what `number_edges` leaves
-
     module _ (u : List ℕ) (e : u ≡ filled (withEdges (take (length l) w)) w) where
       length-front : length (withEdges (take (length l) w)) ≡ 2 * length l
       length-front = let a = length-with (take (length l) w) in let b = length-take-le (length l) w (omega arith) in omega arith
@@ -85,7 +84,7 @@ module _ (S : Shape) (l : List ℕ) where
             let b = length-take-le (length l) w (omega arith) in
             ap (λ (x : List ℕ). getD x (length l + g) 0) e ∙ filled-at (withEdges (take (length l) w)) w 0 (length l + g) (omega arith)
             ∙ ap (λ (j : ℕ). getD (withEdges (take (length l) w)) (j + g) 0) (sym b) ∙ with-edge (take (length l) w) g (omega arith)
-            ∙ ap (λ (x : List ℕ). edgeBy x g) take-is-mates ∙ edge-mates g k;
+            ∙ ap (λ (x : List ℕ). edgeBy x g) (take-is-mates w (omega arith) f) ∙ edge-mates g k;
       }
 
       pub edges-rest : drop (2 * length l) u ≡ drop (2 * length l) w
