@@ -92,7 +92,3 @@ module _ (S : Shape) (l : List ℕ) where
 
       pub edges-kept : length u ≡ length w
       edges-kept = let a = length-front in ap length e ∙ length-filled (withEdges (take (length l) w)) w (omega arith)
-
--- only the numbers from n up to 2n count
-pub numbered-cong : (S : Shape) (l w w′ : List ℕ) → ((i : ℕ) → length l ≤ i → i < 2 * length l → getD w′ i 0 ≡ getD w i 0) → Numbered S l w → Numbered S l w′
-numbered-cong S l w w′ f x = record { numbers = λ g b. f (length l + g) (omega arith) (omega arith) ∙ x .numbers g b }

@@ -34,9 +34,9 @@ more-vertices m j (suc k) h = go (ℕ-discrete j (suc k)) (λ l. more-vertices m
     go (yes e) f = rw e (omega arith)
     go (no e) f = let a = f (omega arith) in let b = step-count kobbelt (steps kobbelt k m) in omega arith
 
--- the vertices that are drawn are among them
-pub drawn-among : (m : ControlNet) (k : ℕ) → length (m .marks) ≤ length (steps kobbelt k (startNet m) .marks)
-drawn-among m k =
+-- the vertices of the control net are among them
+pub control-among : (m : ControlNet) (k : ℕ) → length (m .marks) ≤ length (steps kobbelt k (startNet m) .marks)
+control-among m k =
     let a = start-cases (λ n. length (m .marks) ≤ length (n .marks)) m (λ z. omega arith) (λ z. let c = split-count m in omega arith) in
     let b = more-vertices (startNet m) 0 k (omega arith) in
     omega (arith, zero-steps (startNet m))

@@ -14,7 +14,7 @@ use Rattle.verdict.proofs.Accepted.{or-both}
 use Rattle.outcome.specs.Tally.{newPoints, tallyVerdict}
 use Rattle.outcome.specs.Outcome.{refinedTo, refusedWith, Request, fromTally, Outcome, callOf, toAdd, requestVerdict, outcomeBy, outcome}
 use Rattle.outcome.specs.Series.{TallyByReport, tallyAfter, acceptedOf, pointsOf, TallyIsSum}
-use Rattle.outcome.proofs.Counts.{drawn-among}
+use Rattle.outcome.proofs.Counts.{control-among}
 use Rattle.outcome.proofs.Tally.{tally-le}
 
 -- ---- one call, by its verdict
@@ -24,7 +24,7 @@ module _ (m : ControlNet) (k t : ℕ) (o : Buffers) (w : List ℕ) where
 
   adds-by : (v : Verdict) (x y : ℕ) → by v .result ≡ refinedTo x y → by v .tally + length (m .marks) ≡ t + x
   unfolding newPoints
-  adds-by accepted x y e = let d = drawn-among m k in let z : length (steps kobbelt k (startNet m) .marks) ≡ x = cc in omega arith
+  adds-by accepted x y e = let d = control-among m k in let z : length (steps kobbelt k (startNet m) .marks) ≡ x = cc in omega arith
   adds-by (refused r p) x y e = let z : _≡_ {A = ℕ} 0 1 = cc in absurd (omega arith)
 
   keeps-by : (v : Verdict) (x y : ℕ) → by v .result ≡ refusedWith x y → by v .tally ≡ t

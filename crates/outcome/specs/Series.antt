@@ -3,7 +3,7 @@ use mathlib.Core.Path.{_≡_}
 use mathlib.Core.List.{List, [], _∷_}
 use Prim.Native.Nat.{ℕ, _+_, _≤_}
 use lib.ListN.{length}
-use Rattle.outcome.specs.Outcome.{Result, refinedTo, refusedWith, Request, fromTally, Outcome, toAdd, outcome}
+use Rattle.outcome.specs.Outcome.{Result, refinedTo, refusedWith, Request, fromTally, toAdd, outcome}
 
 -- by what the call reports: "An accepted call adds refined vertices minus drawn vertices; a refused call adds nothing."
 pub record TallyByReport : Type 0 where
@@ -15,6 +15,7 @@ unfoldable pub tallyAfter : ℕ → List Request → ℕ
 tallyAfter t [] = t
 tallyAfter t (a ∷ calls) = tallyAfter (outcome (fromTally t a) .tally) calls
 
+-- with the call a where it was accepted
 abbrev keptIf : Result → Request → List Request → List Request
 keptIf (refinedTo v f) a accepted = a ∷ accepted
 keptIf (refusedWith r p) a accepted = accepted

@@ -23,7 +23,7 @@ use Rattle.growth.proofs.Laws.{vertices-after}
 use Rattle.outcome.specs.Tally.{newPoints, tallyVerdict}
 use Rattle.outcome.specs.Outcome.{refinedTo, refusedWith, Request, request, callOf, toAdd, requestVerdict, Outcome, refusedOutcome, outcomeBy, outcome}
 use Rattle.outcome.proofs.Accepted.{accepted-drawn}
-use Rattle.outcome.proofs.Counts.{drawn-among}
+use Rattle.outcome.proofs.Counts.{control-among}
 use Rattle.outcome.proofs.Tally.{tally-if, tally-refused, few-points}
 use Rattle.refine.specs.declared.Answer.the-variants.{Refined, Refused}
 use Rattle.refine.specs.Answer.{answered}
@@ -92,7 +92,7 @@ module _ (a : Request) where
     unfolding newPoints
     new-points v e =
         let c = vertices-after (a .net) drawn (a .rounds) in
-        let m = drawn-among (a .net) (a .rounds) in
+        let m = control-among (a .net) (a .rounds) in
         (omega arith, omega arith)
 
     pub few-new : toAdd a ≤ 1048576
