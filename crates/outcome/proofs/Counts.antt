@@ -36,10 +36,7 @@ more-vertices m j (suc k) h = go (ℕ-discrete j (suc k)) (λ l. more-vertices m
 
 -- the vertices of the control net are among them
 pub control-among : (m : ControlNet) (k : ℕ) → length (m .marks) ≤ length (steps kobbelt k (startNet m) .marks)
-control-among m k =
-    let a = start-cases (λ n. length (m .marks) ≤ length (n .marks)) m (λ z. omega arith) (λ z. let c = split-count m in omega arith) in
-    let b = more-vertices (startNet m) 0 k (omega arith) in
-    omega (arith, zero-steps (startNet m))
+control-among m k = omega (arith, start-grows m, more-vertices (startNet m) 0 k (omega arith), zero-steps (startNet m))
 
 pub corners-grown : (m : Net) (k : ℕ) → length (steps kobbelt k m .faces) ≡ length (m .faces) * 4 ^ k
 unfolding steps
