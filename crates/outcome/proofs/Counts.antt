@@ -13,7 +13,7 @@ use Rattle.refinedfaces.proofs.Corners.{length-refined}
 use Rattle.scheme.specs.Step.{steps}
 use Rattle.schemelaws.proofs.Steps.{step-faces, step-count, refinable-steps}
 use Rattle.splitting.specs.Splitting.{startNet}
-use Rattle.splitting.proofs.Split.{split-corners, split-count, start-none, start-split, start-cases}
+use Rattle.splitting.proofs.Split.{split-corners, start-none, start-split, start-grows}
 use Rattle.splitting.proofs.Room.{refinable-vertices-le}
 use Rattle.verdict.specs.Call.{Call, quadrilaterals, finalFaces}
 use Rattle.verdict.specs.Verdict.{accepted, verdict}
