@@ -85,7 +85,13 @@ module _ (w : Weights) (s : ℕ → Origin) (n : Net) where
   unfolding originFrom
   origin-new k i b = let t = le-ltb i (length (steps w k n .marks)) b in rw t
 
-  -- a vertex of n keeps its origin; any other was made in some round
+  -- a vertex of n keeps its origin
+  pub origin-start : (k i : ℕ) → i < length (n .marks) → originFrom w s n k i ≡ s i
+  unfolding originFrom
+  origin-start zero i b = refl
+  origin-start (suc k) i b = let c = steps-count w n k in let g = vertices-after-ge (length (n .marks)) (n .faces) k in origin-kept k i (omega arith) ∙ origin-start k i b
+
+  -- any other was made in some round
   data Traced (k i : ℕ) : Type 0 where
     kept : i < length (n .marks) → originFrom w s n k i ≡ s i → Traced k i
     made : (r : Rule) → originFrom w s n k i ≡ madeBy r → MadeEarlier w (λ (j : ℕ). steps w j n) k i r → Traced k i
