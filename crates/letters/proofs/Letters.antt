@@ -19,10 +19,17 @@ use Rattle.tables.specs.Tables.{Written}
 use Rattle.tables.proofs.Written.{written-on, written-as}
 use Rattle.scheme.specs.Points.{edgeRule, inner, fourInner, faceRule}
 use Rattle.origins.specs.Origins.{madeBy, letterOf, edgeOrigin, newRule}
-use Rattle.letters.specs.Letters.{startLetter, newLetter, faceLetter, edgePlace, Nameable}
+use Rattle.letters.specs.Letters.{startLetter, newLetter, faceLetter, edgePlace, Nameable, WrittenIf}
 
 pub nameable-kept : (l marks w letters letters′ : List ℕ) → length letters′ ≡ length letters → Nameable l marks w letters → Nameable l marks w letters′
 nameable-kept l marks w letters letters′ e ok = record { net = ok .net; table = ok .table; room = let r = ok .room in omega arith }
+
+-- ---- asked for, or not
+pub if-asked : (asked : Bool) (a e : ℕ) (f : ℕ → ℕ) (s s′ : List ℕ) → asked ≡ true → Written a e f s s′ → WrittenIf asked a e f s s′
+if-asked asked a e f s s′ t x = record { all = λ _. x; none = λ n. let z : _≡_ {A = ℕ} 0 1 = cc in absurd (omega arith) }
+
+pub if-not-asked : (asked : Bool) (a e : ℕ) (f : ℕ → ℕ) (s : List ℕ) → asked ≡ false → WrittenIf asked a e f s s
+if-not-asked asked a e f s n = record { all = λ t. let z : _≡_ {A = ℕ} 0 1 = cc in absurd (omega arith); none = λ _. refl }
 
 -- ---- where refining begins
 pub start-named : (drawn start : ℕ) (w w₁ w₂ : List ℕ) → drawn ≤ start → Written 0 drawn (λ (i : ℕ). 86) w w₁ → Written drawn start (λ (i : ℕ). 83) w₁ w₂ → Written 0 start (startLetter drawn) w w₂

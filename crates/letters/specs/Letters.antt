@@ -1,9 +1,11 @@
 -- Letters in the caller's table, of a net with corners l and marks, whose mates stand in front of w.
-use mathlib.Core.Bool.{cond}
+use mathlib.Core.Path.{_≡_}
+use mathlib.Core.Bool.{Bool, true, false, cond}
 use mathlib.Core.List.{List}
 use Prim.Native.Nat.{ℕ, _+_, _-_, _≤_}
 use lib.Dec.{ltb}
 use lib.ListN.{length}
+use Rattle.tables.specs.Tables.{Written}
 use Rattle.search.specs.Search.{count}
 use Rattle.topology.specs.Shape.{quads}
 use Rattle.topology.specs.HalfEdge.{firstMet}
@@ -34,3 +36,8 @@ pub record Nameable (l marks w letters : List ℕ) : Type 0 where
   pub net : Oriented quads (length marks) l
   pub table : Connectivity l w
   pub room : refinedVertices quads (length marks) l ≤ length letters
+
+-- where letters are asked for, s′ is s with those of f from a up to e; else nothing is written
+pub record WrittenIf (asked : Bool) (a e : ℕ) (f : ℕ → ℕ) (s s′ : List ℕ) : Type 0 where
+  pub all : asked ≡ true → Written a e f s s′
+  pub none : asked ≡ false → s′ ≡ s

@@ -1,5 +1,6 @@
 // Letters of refined vertices: which rule made each, by corners, marks and mates alone.
 ghost use mathlib.Core.Path.{_≡_};
+ghost use mathlib.Core.Bool.{true};
 ghost use Prim.Native.Nat.{ℕ, _+_, _-_, _≤_, _<_};
 ghost use lib.ListN.{length};
 ghost use Rattle.tables.specs.Tables.{Written};
@@ -9,7 +10,7 @@ ghost use Rattle.refinedfaces.specs.Refined.{refinedVertices};
 ghost use Rattle.scheme.specs.Points.{edgeRule, fourInner};
 ghost use Rattle.halfedges.specs.Tables.{Quadrilaterals, Connectivity};
 ghost use Rattle.origins.specs.Origins.{madeBy, letterOf, edgeOrigin};
-ghost use Rattle.letters.specs.Letters.{startLetter, newLetter, faceLetter, edgePlace, Nameable};
+ghost use Rattle.letters.specs.Letters.{startLetter, newLetter, faceLetter, edgePlace, Nameable, WrittenIf};
 use edgepoints::EdgeRule;
 
 // Writes one letter from the place `first` up to `end`.
@@ -24,13 +25,15 @@ fn fill(letters: &mut [u8], first: usize, end: usize, letter: u8)
     }
 }
 
-// Writes the letters of the vertices where refining begins, of which the first are drawn and the others made by the split.
-pub fn name_start(letters: &mut [u8], drawn: usize, start: usize)
-    requires { ⌜ (drawn ≤ start) × (start ≤ length (now letters)) ⌝ }
-    ensures { λ _. ⌜ Written 0 start (startLetter drawn) (now (letters .entry)) (now (letters .exit)) ⌝ }
+// Writes the letters of the vertices where refining begins, where they are asked for: the first are drawn, and the others made by the split.
+pub fn name_start(asked: bool, letters: &mut [u8], drawn: usize, start: usize)
+    requires { ⌜ (asked ≡ true → (drawn ≤ start) × (start ≤ length (now letters))) ⌝ }
+    ensures { λ _. ⌜ WrittenIf asked 0 start (startLetter drawn) (now (letters .entry)) (now (letters .exit)) ⌝ }
 {
-    fill(&mut *letters, 0, drawn, b'V');
-    fill(&mut *letters, drawn, start, b'S');
+    if asked {
+        fill(&mut *letters, 0, drawn, b'V');
+        fill(&mut *letters, drawn, start, b'S');
+    }
 }
 
 // The letter of the edge of h, whose mate is m, by the rule that makes its point.
@@ -133,11 +136,13 @@ fn name_faces(letters: &mut [u8], faces: &[u32], work: &[u32], first: usize)
     }
 }
 
-// Writes the letters of the new vertices of a round: of the edges, then of the faces, behind those of the old vertices.
-pub fn name_points(letters: &mut [u8], faces: &[u32], marks: &[u8], work: &[u32])
-    requires { ⌜ Nameable (now faces) (now marks) (now work) (now letters) ⌝ }
-    ensures { λ _. ⌜ Written (length (now (marks .entry))) (refinedVertices quads (length (now (marks .entry))) (now (faces .entry))) (newLetter (now (faces .entry)) (now (marks .entry))) (now (letters .entry)) (now (letters .exit)) ⌝ }
+// Writes the letters of the new vertices of a round, where they are asked for: of the edges, then of the faces, behind those of the old vertices.
+pub fn name_points(asked: bool, letters: &mut [u8], faces: &[u32], marks: &[u8], work: &[u32])
+    requires { ⌜ (asked ≡ true → Nameable (now faces) (now marks) (now work) (now letters)) ⌝ }
+    ensures { λ _. ⌜ WrittenIf asked (length (now (marks .entry))) (refinedVertices quads (length (now (marks .entry))) (now (faces .entry))) (newLetter (now (faces .entry)) (now (marks .entry))) (now (letters .entry)) (now (letters .exit)) ⌝ }
 {
-    let first = name_edges(&mut *letters, faces, marks, work);
-    name_faces(&mut *letters, faces, work, first);
+    if asked {
+        let first = name_edges(&mut *letters, faces, marks, work);
+        name_faces(&mut *letters, faces, work, first);
+    }
 }

@@ -117,6 +117,15 @@ written-face G f w w₁ w₂ w₃ w₄ b p₁ p₂ p₃ p₄ =
     (written-then (16 * f + 4) (16 * f + 8) (16 * f + 16) g w w₂ w₃ (omega arith) (omega arith)
     (written-then (16 * f + 8) (16 * f + 12) (16 * f + 16) g w w₁ w₂ (omega arith) (omega arith) x₁ x₂) x₃) x₄
 
+-- from the front on
+pub written-all : (e : ℕ) (f : ℕ → ℕ) (w u : List ℕ) → e ≤ length w → length u ≡ length w → Written 0 e f w u → u ≡ filled (tabulate e f) w
+unfolding filled
+written-all e f w u h k x =
+    let t = length-tabulate e f in
+    joined 0 u (tabulate e f) w (omega arith) k
+    (λ i b. x .inside i (omega arith) (omega arith) ∙ sym (getD-tabulate e f i 0 (omega arith)))
+    (λ i b. x .behind i (omega arith))
+
 -- ---- a loop over faces, from the last to the first: of the 4n numbers of g over the front of w, those from 16f on are written in u
 pub record Refining (n : ℕ) (g : ℕ → ℕ) (w u : List ℕ) (f : ℕ) : Type 0 where
   pub le : 4 * f ≤ n
@@ -138,9 +147,4 @@ module _ (n : ℕ) (g : ℕ → ℕ) (w : List ℕ) where
       }
 
   pub refining-all : (u : List ℕ) (f : ℕ) → 4 * n ≤ length w → f ≤ 0 → Refining n g w u f → u ≡ filled (tabulate (4 * n) g) w
-  unfolding filled
-  refining-all u f h z x =
-      let t = length-tabulate (4 * n) g in
-      joined 0 u (tabulate (4 * n) g) w (omega arith) (x .kept)
-      (λ k b. x .written .inside k (omega arith) (omega arith) ∙ sym (getD-tabulate (4 * n) g k 0 (omega arith)))
-      (λ k b. x .written .behind k (omega arith))
+  refining-all u f h z x = let e : 16 * f ≡ 0 = omega arith in written-all (4 * n) g w u h (x .kept) (rw e at (x .written))
