@@ -1,7 +1,7 @@
 -- Letters in the caller's table, of a net with corners l and marks, whose mates stand in front of w.
 use mathlib.Core.Bool.{cond}
 use mathlib.Core.List.{List}
-use Prim.Native.Nat.{ℕ, _+_, _-_, _≤_}
+use Prim.Native.Nat.{ℕ, _+_, _≤_}
 use lib.Dec.{ltb}
 use lib.ListN.{length}
 use Rattle.search.specs.Search.{count}
