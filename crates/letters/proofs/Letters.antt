@@ -1,5 +1,5 @@
 -- Laws of letters: where the letter of an edge or a face goes, and which it is. Assumes nothing.
-use mathlib.Core.Path.{_≡_, refl, sym, ap, _∙_, subst}
+use mathlib.Core.Path.{_≡_, ap, _∙_, subst}
 use mathlib.Core.Bool.{Bool, true, false, cond, _&&_}
 use mathlib.Core.List.{List}
 use Prim.Native.Nat.{ℕ, _+_, _-_, _*_, _≤_, _<_, min}
@@ -10,7 +10,7 @@ use lib.Dec.{ltb}
 use lib.ListN.{length}
 use Rattle.search.specs.Search.{count}
 use Rattle.topology.specs.Shape.{quads}
-use Rattle.topology.specs.HalfEdge.{mate, firstMet, edgeCount, edge, edgeAt}
+use Rattle.topology.specs.HalfEdge.{mate, edgeCount, edge, edgeAt}
 use Rattle.topology.specs.Quads.{across, beyond}
 use Rattle.topology.specs.Manifold.{Oriented}
 use Rattle.topology.proofs.Mates.{edge-lt, edge-new, count-new, count-old, edgeAt-edge}

@@ -2,7 +2,7 @@
 use mathlib.Core.Path.{_≡_}
 use mathlib.Core.Bool.{Bool, true, false, cond}
 use mathlib.Core.List.{List}
-use Prim.Native.Nat.{ℕ, _+_, _-_, _≤_}
+use Prim.Native.Nat.{ℕ, _+_, _≤_}
 use lib.Dec.{ltb}
 use lib.ListN.{length}
 use Rattle.tables.specs.Tables.{Written}
@@ -31,7 +31,7 @@ faceLetter l f = letterOf (madeBy (faceOrigin (faceRule l f)))
 abbrev pub edgePlace : (l marks : List ℕ) → ℕ → ℕ
 edgePlace l marks h = length marks + count (firstMet quads l) h
 
--- what writing the letters of a round asks of the tables: "from the front, one for each refined vertex"
+-- what writing the letters of a round asks of the tables: an oriented net, its mates in front of w, and room for a letter of each refined vertex
 pub record Nameable (l marks w letters : List ℕ) : Type 0 where
   pub net : Oriented quads (length marks) l
   pub table : Connectivity l w

@@ -8,10 +8,11 @@ use Rattle.origins.specs.Origins.{madeBy, letterOf, edgeOrigin}
 use Rattle.letters.proofs.edge_letter.Statement.{statement}
 use Rattle.letters.proofs.edge_letter.Tie as tie
 
--- the letter of the rule r, where it is the edge's
+-- where the rule is known
 abbrev start : tie.After-edge-rule → tie.Start
 start x = x .before .before .before
 
+-- its letter is the edge's
 letter-is : (x : tie.After-edge-rule) (r : EdgeRule) → x .edge-rule .result ≡ r
     → letterOf (madeBy (edgeOrigin (ruleOf r))) ≡ letterOf (madeBy (edgeOrigin (points.edgeRule (start x .args .faces .now) (start x .args .marks .now) (start x .args .h))))
 letter-is x r e = ap (λ (u : points.EdgeRule). letterOf (madeBy (edgeOrigin u))) (ap ruleOf (sym e) ∙ x .edge-rule .ensures)

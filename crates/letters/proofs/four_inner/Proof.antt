@@ -26,7 +26,7 @@ across-lt l h g q k e = let s = quads-lawful (length l) (q .fours) in rw e (s .n
 abbrev start : tie.Else2 → tie.Start
 start x = x .before .before .before .before .before .before .before
 
-abbrev opposite : (y : tie.After-mate-side2) → y .mate-side2 .result ≡ mate quads (y .before .before .before .before .before .before .args .faces .now) (across (y .before .before .before .before .before .before .args .h))
+opposite : (y : tie.After-mate-side2) → y .mate-side2 .result ≡ mate quads (y .before .before .before .before .before .before .args .faces .now) (across (y .before .before .before .before .before .before .args .h))
 opposite y = y .mate-side2 .ensures ∙ ap (mate quads (y .before .before .before .before .before .before .args .faces .now)) (y .before .across-side .ensures)
 
 record Beside (x : tie.Else2) : Type 0 where
