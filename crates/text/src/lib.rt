@@ -9,7 +9,10 @@ ghost use Rattle.text.specs.Form.{startsWith, readNames, coordinate, nat
 ghost use Rattle.text.specs.Answers.{namesOf, namesUsed, countsOf, countsUsed, vertexOf, vertexUsed, faceOf, faceUsed};
 
 pub enum NamesLine {
-    Input(usize),
+    Input {
+        rule: bool,
+        used: usize,
+    },
     Marked(usize),
     Unmarked(usize),
     Corners(usize),
@@ -69,7 +72,16 @@ pub fn read_names(text: &[u8]) -> NamesLine
     ensures { λ r. ⌜ Gives namesOf namesUsed r (now (text .entry)) (readNames (now (text .entry))) ⌝ }
 {
     if starts_with(text, b"vertices faces rounds\n") {
-        return NamesLine::Input(22);
+        return NamesLine::Input {
+            rule: false,
+            used: 22,
+        };
+    }
+    if starts_with(text, b"vertices faces rounds rule\n") {
+        return NamesLine::Input {
+            rule: true,
+            used: 27,
+        };
     }
     if starts_with(text, b"x y z corner\n") {
         return NamesLine::Marked(13);
