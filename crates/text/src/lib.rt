@@ -9,10 +9,7 @@ ghost use Rattle.text.specs.Form.{startsWith, readNames, coordinate, nat
 ghost use Rattle.text.specs.Answers.{namesOf, namesUsed, countsOf, countsUsed, vertexOf, vertexUsed, faceOf, faceUsed};
 
 pub enum NamesLine {
-    Input {
-        rule: bool,
-        used: usize,
-    },
+    Input { rule: bool, used: usize },
     Marked(usize),
     Unmarked(usize),
     Corners(usize),
