@@ -122,7 +122,11 @@ tables-same rule v f vs us fs gs ms ns ls ks hv hf hl =
     ∙ ap₂ (λ (s t : List ℕ). bytes "vertices faces\n" ++ pairText v f ++ columnsText rule ++ s ++ namesText corners ++ t) a b
     ∙ sym (answer-is rule v f us gs ns ks)
 
--- Paper 01: "Its tables serve G up to 256 and V up to 1,024": a buffer of 54,355 bytes holds every answer, and one of 52,302 every answer without letters
+-- the largest answers of the program, without letters and with them
+largest : roomFor false 1024 256 ∷ roomFor true 1024 256 ∷ [] ≡ 52302 ∷ 54355 ∷ []
+largest = refl
+
+-- Paper 01: "Its tables serve G up to 256 and V up to 1,024": a buffer of 54,355 bytes holds every answer and every refusal
 pub every-answer-fits : (rule : Bool) (v f : ℕ) → v ≤ 1024 → f ≤ 256 → roomFor rule v f ≤ 54355
 every-answer-fits false v f h k = omega arith
 every-answer-fits true v f h k = omega arith

@@ -32,13 +32,13 @@ tracedOf n vs ms ls = tabulate n (tracedAt vs ms ls)
 abbrev pub tablesText : (rule : Bool) → ℕ → ℕ → List ℤ → List ℕ → List ℕ → List ℕ → List ℕ
 tablesText rule v f vs fs ms ls = answerText rule (tracedOf v vs ms ls) (facesOf f fs)
 
--- the most bytes of the names of the columns, and of a vertex line
+-- the bytes of the names of the columns, and those after the mark in a vertex line
 abbrev pub columnsRoom : (rule : Bool) → ℕ
 columnsRoom rule = cond rule 18 13
 
 abbrev pub endRoom : (rule : Bool) → ℕ
 endRoom rule = cond rule 3 1
 
--- room for the answer with v vertices and f faces, whose lines have at most 44 bytes: 78 + 40 v + 44 f, and 83 + 42 v + 44 f with letters
+-- room for the answer with v vertices and f faces, whose numbers take at most 39 and 44 bytes: 78 + 40 v + 44 f, with letters 83 + 42 v + 44 f
 abbrev pub roomFor : (rule : Bool) → ℕ → ℕ → ℕ
 roomFor rule v f = 65 + columnsRoom rule + (39 + endRoom rule) * v + 44 * f

@@ -34,7 +34,7 @@ passed-served n e =
 pub served : (v f k r : ℕ) → countsVerdict (countsAre v f k) ≡ limitsOf r → r ≡ 0 → Served v f
 served v f k r e z = passed-served (countsAre v f k) (e ∙ rw (eq-eqb r 0 z))
 
--- ---- a letter table of 1,024 bytes serves where a mark table of 1,024 does, so the wish for letters makes no difference
+-- ---- letters have room where marks have it, so it makes no difference whether they are asked for
 twice : (b : Bool) (v : Verdict) → orElse (refusedIf 4 b) v ≡ orElse (refusedIf 4 b) (orElse (refusedIf 4 b) v)
 twice true v = refl
 twice false v = refl

@@ -45,7 +45,7 @@ tablesOf n = record { vertices = coordinates (n .vertices); faces = cornersOf (n
 
 -- ---- refusals from the counts alone
 
--- Paper 01: "Its tables serve G up to 256"; so does its letter table, which is lent whether letters are asked for or not
+-- Paper 01: "Its tables serve G up to 256", the letter table among them; a text that asks for no letters gets the same refusals
 abbrev pub programRoom : Room
 programRoom = needed 256
 

@@ -17,7 +17,7 @@ at x y z m = record { x = x; y = y; z = z; mark = m }
 abbrev face : ℕ → ℕ → ℕ → ℕ → Face
 face a b c d = record { a = a; b = b; c = c; d = d }
 
--- Paper 01's input, with a wish for letters and without
+-- Paper 01's input, and the same with letters asked for
 abbrev square : Bool → Net
 square r =
     record {
@@ -113,6 +113,7 @@ damaged =
     ∷ record { name = "letters, blank at the end"; text = "vertices faces rounds rule \n1 1 0\n"; place = 1 }
     ∷ record { name = "letters, the word alone"; text = "rule\n1 1 0\n"; place = 1 }
     ∷ record { name = "letters, the word on line 2"; text = "vertices faces rounds\nrule\n1 1 0\n"; place = 2 }
+    ∷ record { name = "letters, the word after the numbers"; text = "vertices faces rounds rule\n1 1 0 rule\nx y z\n"; place = 2 }
     ∷ record { name = "letters, four numbers"; text = "vertices faces rounds rule\n1 1 0 1\nx y z\n"; place = 2 }
     ∷ record { name = "letters, the columns of the answer"; text = "vertices faces rounds rule\n1 1 0\nx y z corner rule\n0 0 0 1 V\n"; place = 3 }
     ∷ record { name = "the first line twice"; text = "vertices faces rounds rule\n1 1 0\nvertices faces rounds rule\n"; place = 3 }

@@ -36,7 +36,7 @@ pub record Net : Type 0 where
 
 -- ---- lines of names
 
--- Paper 02: "prints the letter as a last column named `rule` if the first input line reads `vertices faces rounds rule`": there are two first lines
+-- Paper 02: "prints the letter as a last column named `rule` if the first input line reads `vertices faces rounds rule`": that line is `input true`
 pub data Names : Type 0 where
   input : (rule : Bool) → Names
   marked unmarked corners : Names
