@@ -13,7 +13,7 @@ use Rattle.lists.proofs.Parts.{drop-later}
 use Rattle.curve.specs.Weights.{kobbelt}
 use Rattle.curve.proofs.Kobbelt.{tame}
 use Rattle.nets.specs.Net.{Net}
-use Rattle.tables.specs.Tables.{filled, SameOutside}
+use Rattle.tables.specs.Tables.{filled, Written, SameOutside}
 use Rattle.tables.proofs.Written.{written-none, written-on, written-as}
 use Rattle.tables.proofs.Laws.{length-filled, take-filled, filled-over, same-front, same-rest}
 use Rattle.nets.proofs.Laws.{same-net}
@@ -79,7 +79,7 @@ module _ (k v n last : ℕ) (t : Buffers) (ok : Prepared k v n last t) where
   classes-room : 8 * last + v ≤ length w
   classes-room = let o = once in let z = ok .size in let r = ok .roomWork in let q = ok .vertices in omega arith
 
-  sized : (i : ℕ) → i < k → 4 * (n * 4 ^ i) ≤ n * 4 ^ k
+  pub sized : (i : ℕ) → i < k → 4 * (n * 4 ^ i) ≤ n * 4 ^ k
   sized i h =
       let p : 4 ^ (i + 1) ≤ 4 ^ k = pow-le-pow-right {n = 4} (omega arith) (omega arith) in
       let g : n * 4 ^ (i + 1) ≤ n * 4 ^ k = mul-le-mul-left n p in
@@ -255,7 +255,7 @@ module _ (k v n last : ℕ) (t : Buffers) (ok : Prepared k v n last t) where
               all = λ u. written-on v r r₂ f₂ s s₁ s₂ b (omega arith)
                   (written-as v r f f₂ s s₁ (λ j _ l. ap letterOf (sym (origin-kept kobbelt o m i j (omega arith)) ∙ ap (λ (h : ℕ). originFrom kobbelt o m h j) (sym q))) (x o .all u))
                   (written-as r r₂ (newLetter (old .faces) (old .marks)) f₂ s₁ s₂ (λ j l _. ap letterOf (sym (origin-new kobbelt o m i j (omega arith)) ∙ ap (λ (h : ℕ). originFrom kobbelt o m h j) (sym q)))
-                  (rw (sym d, c) at (y₂ .all u)));
+                  (subst (λ (j : ℕ). Written j r₂ (newLetter (old .faces) (old .marks)) s₁ s₂) (sym d) (subst (λ (j : ℕ). Written (length (old .marks)) j (newLetter (old .faces) (old .marks)) s₁ s₂) c (y₂ .all u))));
               none = λ u. y₂ .none u ∙ x o .none u;
             }
 
