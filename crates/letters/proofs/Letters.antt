@@ -18,7 +18,7 @@ use Rattle.refinedfaces.specs.Refined.{refinedVertices}
 use Rattle.tables.specs.Tables.{Written}
 use Rattle.tables.proofs.Written.{written-on, written-as}
 use Rattle.scheme.specs.Points.{edgeRule, inner, fourInner, faceRule}
-use Rattle.origins.specs.Origins.{madeBy, letterOf, edgeOrigin, newRule}
+use Rattle.origins.specs.Origins.{madeBy, letterOf, edgeCase, newRule}
 use Rattle.letters.specs.Letters.{startLetter, newLetter, faceLetter, edgePlace, Nameable, WrittenIf}
 
 pub nameable-kept : (l marks w letters letters′ : List ℕ) → length letters′ ≡ length letters → Nameable l marks w letters → Nameable l marks w letters′
@@ -63,7 +63,7 @@ module _ (l marks : List ℕ) where
     pub place-lt : edgePlace l marks h < length marks + edgeCount quads l
     place-lt = let e = edge-new quads l h b in let c = edge-lt quads (length marks) l ok h k in omega arith
 
-    pub edge-named : newLetter l marks (edgePlace l marks h) ≡ letterOf (madeBy (edgeOrigin (edgeRule l marks h)))
+    pub edge-named : newLetter l marks (edgePlace l marks h) ≡ letterOf (madeBy (edgeCase (edgeRule l marks h)))
     unfolding newRule
     edge-named =
         let t = lt-ltb (edgePlace l marks h) (length marks + edgeCount quads l) place-lt in

@@ -13,11 +13,11 @@ use Rattle.topology.specs.Manifold.{Oriented}
 use Rattle.refinedfaces.specs.Refined.{refinedVertices}
 use Rattle.scheme.specs.Points.{faceRule}
 use Rattle.halfedges.specs.Tables.{Connectivity}
-use Rattle.origins.specs.Origins.{controlVertex, splitPoint, madeBy, letterOf, faceOrigin, newRule}
+use Rattle.origins.specs.Origins.{controlVertex, splitPoint, madeBy, letterOf, faceCase, newRule}
 
 -- the letter of vertex i where refining begins: "V drawn", "S made by P1's split"
 abbrev pub startLetter : (drawn : ℕ) → ℕ → ℕ
-startLetter drawn i = letterOf (cond (ltb i drawn) controlVertex splitPoint)
+startLetter drawn i = letterOf (startOrigin drawn i)
 
 -- the letter of the new vertex i of a round
 abbrev pub newLetter : (l marks : List ℕ) → ℕ → ℕ
@@ -25,7 +25,7 @@ newLetter l marks i = letterOf (madeBy (newRule l marks i))
 
 -- the letter of face f
 abbrev pub faceLetter : List ℕ → ℕ → ℕ
-faceLetter l f = letterOf (madeBy (faceOrigin (faceRule l f)))
+faceLetter l f = letterOf (madeBy (faceCase (faceRule l f)))
 
 -- the new vertex of the first edge that is met at the half-edge h or later
 abbrev pub edgePlace : (l marks : List ℕ) → ℕ → ℕ

@@ -9,7 +9,7 @@ ghost use Rattle.topology.specs.HalfEdge.{from, to, mate, edgeCount};
 ghost use Rattle.refinedfaces.specs.Refined.{refinedVertices};
 ghost use Rattle.scheme.specs.Points.{edgeRule, fourInner};
 ghost use Rattle.halfedges.specs.Tables.{Quadrilaterals, Connectivity};
-ghost use Rattle.origins.specs.Origins.{madeBy, letterOf, edgeOrigin};
+ghost use Rattle.origins.specs.Origins.{madeBy, letterOf, edgeCase};
 ghost use Rattle.letters.specs.Letters.{startLetter, newLetter, faceLetter, edgePlace, Nameable, WrittenIf};
 use edgepoints::EdgeRule;
 
@@ -40,7 +40,7 @@ pub fn name_start(asked: bool, letters: &mut [u8], drawn: usize, start: usize)
 fn edge_letter(faces: &[u32], marks: &[u8], h: usize, m: usize) -> u8
     requires { ⌜ Quadrilaterals (length (now faces)) × (h < length (now faces)) × (m ≡ mate quads (now faces) h) ⌝ }
     requires { ⌜ (from (now faces) h < length (now marks)) × (to quads (now faces) h < length (now marks)) ⌝ }
-    ensures { λ r. ⌜ r ≡ letterOf (madeBy (edgeOrigin (edgeRule (now (faces .entry)) (now (marks .entry)) h))) ⌝ }
+    ensures { λ r. ⌜ r ≡ letterOf (madeBy (edgeCase (edgeRule (now (faces .entry)) (now (marks .entry)) h))) ⌝ }
 {
     let rule = edgepoints::edge_rule(faces, marks, h, m);
     match rule {

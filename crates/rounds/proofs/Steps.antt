@@ -37,7 +37,7 @@ use Rattle.origins.proofs.Named.{origin-kept, origin-new}
 use Rattle.letters.specs.Letters.{newLetter, WrittenIf}
 use Rattle.rounds.specs.Round.{Current, Refines}
 use Rattle.nets.specs.Buffers.{Buffers, buffers, front}
-use Rattle.rounds.specs.Rounds.{Prepared, After, Lettered}
+use Rattle.rounds.specs.Rounds.{Prepared, After, LettersAfter}
 use Rattle.rounds.proofs.Laws.{count-le, count-is, mates-ready, mates-next, mates-past}
 
 -- a list at the front of a table of its length is the whole
@@ -112,7 +112,7 @@ module _ (k v n last : ℕ) (t : Buffers) (ok : Prepared k v n last t) where
   vertices-here : length (m .marks) ≡ v
   vertices-here = let o = once in let q = ok .vertices in let r = ok .roomMarks in length-take-le v marks (omega arith)
 
-  pub letters-none : (asked : Bool) (s : List ℕ) → Lettered asked 0 v v m s s
+  pub letters-none : (asked : Bool) (s : List ℕ) → LettersAfter asked 0 v v m s s
   letters-none asked s o = record { all = λ _. written-none v (λ (i : ℕ). letterOf (originFrom kobbelt o m 0 i)) s; none = λ _. refl }
 
   pub mated-none : MateTable (steps kobbelt 0 m .faces) w
@@ -238,9 +238,9 @@ module _ (k v n last : ℕ) (t : Buffers) (ok : Prepared k v n last t) where
         after-next = past w₂ refl refl
 
         -- one round more of letters: old vertices keep theirs
-        pub letters-next : (asked : Bool) (s s₁ s₂ : List ℕ) → Lettered asked i v r m s s₁
+        pub letters-next : (asked : Bool) (s s₁ s₂ : List ℕ) → LettersAfter asked i v r m s s₁
             → WrittenIf asked (length (take r marks₁)) (refinedVertices quads (length (take r marks₁)) (take (n * 4 ^ i) faces₁)) (newLetter (take (n * 4 ^ i) faces₁) (take r marks₁)) s₁ s₂
-            → Lettered asked (i + 1) v r₂ m s s₂
+            → LettersAfter asked (i + 1) v r₂ m s s₂
         letters-next asked s s₁ s₂ x y o =
             let old : Net = steps kobbelt i m in
             let f : ℕ → ℕ = λ j. letterOf (originFrom kobbelt o m i j) in

@@ -3,7 +3,7 @@ ghost use Rattle.rounds.specs.Round.{Current, Refines};
 ghost use Prim.Native.Nat.{_*_, _^_};
 ghost use Rattle.nets.specs.Net.{frontNet};
 ghost use Rattle.nets.specs.Buffers.{buffers};
-ghost use Rattle.rounds.specs.Rounds.{Prepared, After, LettersFit, Lettered};
+ghost use Rattle.rounds.specs.Rounds.{Prepared, After, LettersFit, LettersAfter};
 
 // One round on the net of v vertices and n corners at the front of the tables; the mates stay as they are, and the classes of the vertices, from `at` on.
 // The answer is the new number of vertices.
@@ -54,7 +54,7 @@ pub fn rounds(
     requires { ⌜ LettersFit «with_letters» (n * 4 ^ k) (now letters) ⌝ }
     ensures { λ r. ⌜ After k v n r (buffers (now (points .entry)) (now (faces .entry)) (now (marks .entry)) (now (work .entry)))
         (buffers (now (points .exit)) (now (faces .exit)) (now (marks .exit)) (now (work .exit))) ⌝ }
-    ensures { λ r. ⌜ Lettered «with_letters» k v r (frontNet v n (now (points .entry)) (now (faces .entry)) (now (marks .entry))) (now (letters .entry)) (now (letters .exit)) ⌝ }
+    ensures { λ r. ⌜ LettersAfter «with_letters» k v r (frontNet v n (now (points .entry)) (now (faces .entry)) (now (marks .entry))) (now (letters .entry)) (now (letters .exit)) ⌝ }
 {
     if k == 0 {
         return v;

@@ -13,7 +13,7 @@ use Rattle.scheme.specs.Step.{steps}
 use Rattle.nets.specs.Net.{frontNet}
 use Rattle.rounds.specs.Round.{Current, Refines}
 use Rattle.nets.specs.Buffers.{Buffers, buffers}
-use Rattle.rounds.specs.Rounds.{Prepared, After, Lettered}
+use Rattle.rounds.specs.Rounds.{Prepared, After, LettersAfter}
 use Rattle.rounds.proofs.Laws.{corners, marked, nameable}
 use Rattle.rounds.proofs.Steps.{again, sized, after-none, letters-none, letters-next, mated-none, classes-none, corners-room, corners-length, countable, prepared-classes, after-classes, kept-points, kept-faces, kept-marks, current, after-next, ready-mates, after-mates, mated-next, classes-next}
 use Rattle.rounds.proofs.rounds.Statement.{statement}
@@ -24,7 +24,7 @@ Inv-loop points₀ faces₀ marks₀ asked letters₀ work₀ v n k last at coun
     (i ≤ k) × (corners ≡ n * 4 ^ i) × After i v n count (buffers points₀ faces₀ marks₀ work₀) (buffers points faces marks work)
     × MateTable (steps kobbelt i (frontNet v n points₀ faces₀ marks₀) .faces) work
     × Classes count (8 * last) v (steps kobbelt i (frontNet v n points₀ faces₀ marks₀) .faces) work
-    × Lettered asked i v count (frontNet v n points₀ faces₀ marks₀) letters₀ letters × (length letters ≡ length letters₀)
+    × LettersAfter asked i v count (frontNet v n points₀ faces₀ marks₀) letters₀ letters × (length letters ≡ length letters₀)
 
 abbrev μ-loop : tie.MeasureT-loop
 μ-loop points₀ faces₀ marks₀ asked letters₀ work₀ v n k last at count₀ corners₀ i₀ points faces marks letters work count corners i = k - i
@@ -97,7 +97,7 @@ done z =
 
 -- the letters then
 lettered : (z : tie.After-round Inv-loop μ-loop)
-    → (let x = top z in let s = start x in Lettered (s .args .with-letters) (x .loop .i + 1) (s .args .v) (z .round .result) (frontNet (s .args .v) (s .args .n) (s .args .points .now) (s .args .faces .now) (s .args .marks .now)) (s .args .letters .now) (named z .name-points .last .1 .0))
+    → (let x = top z in let s = start x in LettersAfter (s .args .with-letters) (x .loop .i + 1) (s .args .v) (z .round .result) (frontNet (s .args .v) (s .args .n) (s .args .points .now) (s .args .faces .now) (s .args .marks .now)) (s .args .letters .now) (named z .name-points .last .1 .0))
 lettered z =
     let x = top z in
     let s = start x in
