@@ -1,22 +1,17 @@
-// Letters of refined vertices: which rule made each, by corners, marks and mates alone. Most are those of inner edges and of faces away from the boundary.
+// Letters of refined vertices: which rule made each, by corners, marks and mates alone.
 ghost use mathlib.Core.Path.{_≡_};
 ghost use mathlib.Core.Bool.{true};
-ghost use Prim.Native.Nat.{ℕ, _+_, _≤_, _<_};
-ghost use lib.ListN.{length, set};
+ghost use Prim.Native.Nat.{ℕ, _+_, _-_, _≤_, _<_};
+ghost use lib.ListN.{length};
 ghost use Rattle.tables.specs.Tables.{Written};
 ghost use Rattle.topology.specs.Shape.{quads};
 ghost use Rattle.topology.specs.HalfEdge.{from, to, mate, edgeCount};
-ghost use Rattle.topology.specs.Boundary.{OnBoundary};
 ghost use Rattle.refinedfaces.specs.Refined.{refinedVertices};
 ghost use Rattle.scheme.specs.Points.{edgeRule, fourInner};
 ghost use Rattle.halfedges.specs.Tables.{Quadrilaterals, Connectivity};
 ghost use Rattle.origins.specs.Origins.{madeBy, letterOf, edgeOrigin};
-ghost use Rattle.letters.specs.Letters.{startLetter, newLetter, faceLetter, PutRight, RightBefore, Nameable, WrittenIf};
+ghost use Rattle.letters.specs.Letters.{startLetter, newLetter, faceLetter, edgePlace, Nameable, WrittenIf};
 use edgepoints::EdgeRule;
-
-const WIDE: usize = 536870912;
-
-const BOUNDARY: u32 = 1073741824;
 
 // Writes one letter from the place `first` up to `end`.
 fn fill(letters: &mut [u8], first: usize, end: usize, letter: u8)
@@ -57,6 +52,43 @@ fn edge_letter(faces: &[u32], marks: &[u8], h: usize, m: usize) -> u8
     }
 }
 
+// Writes the letter of the edge of half-edge h if the edge is first met there, to the place `at`; the answer is the place of the next edge.
+fn name_side(
+    letters: &mut [u8],
+    faces: &[u32],
+    marks: &[u8],
+    work: &[u32],
+    h: usize,
+    at: usize,
+) -> usize
+    requires { ⌜ Nameable (now faces) (now marks) (now work) (now letters) ⌝ }
+    requires { ⌜ (h < length (now faces)) × (at ≡ edgePlace (now faces) (now marks) h) ⌝ }
+    ensures { λ r. ⌜ r ≡ edgePlace (now (faces .entry)) (now (marks .entry)) (h + 1) ⌝ }
+    ensures { λ r. ⌜ Written at r (newLetter (now (faces .entry)) (now (marks .entry))) (now (letters .entry)) (now (letters .exit)) ⌝ }
+{
+    let m = halfedges::mate_side(faces, work, h);
+    if h < m {
+        letters[at] = edge_letter(faces, marks, h, m);
+        return at + 1;
+    }
+    at
+}
+
+// Writes the letters of all edges; the answer is the place of the first face.
+fn name_edges(letters: &mut [u8], faces: &[u32], marks: &[u8], work: &[u32]) -> usize
+    requires { ⌜ Nameable (now faces) (now marks) (now work) (now letters) ⌝ }
+    ensures { λ r. ⌜ r ≡ length (now (marks .entry)) + edgeCount quads (now (faces .entry)) ⌝ }
+    ensures { λ r. ⌜ Written (length (now (marks .entry))) r (newLetter (now (faces .entry)) (now (marks .entry))) (now (letters .entry)) (now (letters .exit)) ⌝ }
+{
+    let mut at = marks.len();
+    let mut h = 0;
+    while h < faces.len() {
+        at = name_side(&mut *letters, faces, marks, work, h, at);
+        h += 1;
+    }
+    at
+}
+
 // Whether the direction of the side h has four inner edges.
 fn four_inner(faces: &[u32], work: &[u32], h: usize) -> bool
     requires { ⌜ Connectivity (now faces) (now work) × (h < length (now faces)) ⌝ }
@@ -91,50 +123,16 @@ fn face_letter(faces: &[u32], work: &[u32], f: usize) -> u8
     b'E'
 }
 
-// Writes the letter of face f, where `first` is the place of the first face.
-fn name_face(letters: &mut [u8], faces: &[u32], work: &[u32], first: usize, f: usize)
-    requires { ⌜ Connectivity (now faces) (now work) × (f < quads .faces (length (now faces))) × (first + f < length (now letters)) ⌝ }
-    ensures { λ _. ⌜ now (letters .exit) ≡ set (now (letters .entry)) (first + f) (faceLetter (now (faces .entry)) f) ⌝ }
+// Writes the letters of all faces, from the place `first` on.
+fn name_faces(letters: &mut [u8], faces: &[u32], work: &[u32], first: usize)
+    requires { ⌜ Connectivity (now faces) (now work) × (first + quads .faces (length (now faces)) ≤ length (now letters)) ⌝ }
+    ensures { λ _. ⌜ Written first (first + quads .faces (length (now (faces .entry)))) (λ (i : ℕ). faceLetter (now (faces .entry)) (i - first)) (now (letters .entry)) (now (letters .exit)) ⌝ }
 {
-    letters[first + f] = face_letter(faces, work, f);
-}
-
-// Puts right what the boundary half-edge h touches: the letter of its edge, of its face, and of the face beyond the opposite side.
-fn name_boundary(
-    letters: &mut [u8],
-    faces: &[u32],
-    marks: &[u8],
-    work: &[u32],
-    first: usize,
-    h: usize,
-)
-    requires { ⌜ Nameable (now faces) (now marks) (now work) (now letters) ⌝ }
-    requires { ⌜ (first ≡ length (now marks) + edgeCount quads (now faces)) × OnBoundary quads (now faces) h ⌝ }
-    ensures { λ _. ⌜ PutRight (now (faces .entry)) (now (marks .entry)) h (now (letters .entry)) (now (letters .exit)) ⌝ }
-{
-    let n = faces.len();
-    let edge = work[n + h] as usize % WIDE;
-    letters[marks.len() + edge] = edge_letter(faces, marks, h, n);
-    name_face(&mut *letters, faces, work, first, halfedges::face_of(h));
-    let g = halfedges::mate_side(faces, work, halfedges::across_side(h));
-    if g < n {
-        name_face(&mut *letters, faces, work, first, halfedges::face_of(g));
-    }
-}
-
-// Puts right what the boundary touches, where `first` is the place of the first face.
-fn name_boundaries(letters: &mut [u8], faces: &[u32], marks: &[u8], work: &[u32], first: usize)
-    requires { ⌜ Nameable (now faces) (now marks) (now work) (now letters) ⌝ }
-    requires { ⌜ (first ≡ length (now marks) + edgeCount quads (now faces)) × RightBefore (now faces) (now marks) 0 (now letters) ⌝ }
-    ensures { λ _. ⌜ Written (length (now (marks .entry))) (refinedVertices quads (length (now (marks .entry))) (now (faces .entry))) (newLetter (now (faces .entry)) (now (marks .entry))) (now (letters .entry)) (now (letters .exit)) ⌝ }
-{
-    let n = faces.len();
-    let mut h = 0;
-    while h < n {
-        if BOUNDARY <= work[n + h] {
-            name_boundary(&mut *letters, faces, marks, work, first, h);
-        }
-        h += 1;
+    let count = faces.len() / 4;
+    let mut f = 0;
+    while f < count {
+        letters[first + f] = face_letter(faces, work, f);
+        f += 1;
     }
 }
 
@@ -151,10 +149,7 @@ pub fn name_points(
     ensures { λ _. ⌜ WrittenIf asked (length (now (marks .entry))) (refinedVertices quads (length (now (marks .entry))) (now (faces .entry))) (newLetter (now (faces .entry)) (now (marks .entry))) (now (letters .entry)) (now (letters .exit)) ⌝ }
 {
     if asked {
-        let first = marks.len() + edges;
-        let end = first + faces.len() / 4;
-        fill(&mut *letters, marks.len(), first, b'C');
-        fill(&mut *letters, first, end, b'D');
-        name_boundaries(&mut *letters, faces, marks, work, first);
+        let first = name_edges(&mut *letters, faces, marks, work);
+        name_faces(&mut *letters, faces, work, first);
     }
 }

@@ -1,5 +1,6 @@
 -- How the parts of a round fit together. Assumes nothing.
 use mathlib.Core.Path.{_≡_, sym, ap, _∙_, subst}
+use mathlib.Core.Bool.{Bool}
 use mathlib.Core.List.{List}
 use Prim.Native.Nat.{ℕ, _+_, _-_, _*_, _/_, _≤_}
 use native.Mathlib.Omega.{arith}
@@ -29,7 +30,7 @@ use Rattle.roundmates.proofs.Round.{mates-in, mated-refined, mates-rest}
 use Rattle.classes.specs.Classes.{Classes}
 use Rattle.coordinates.specs.Entry.{entryOf, edgeOf}
 use Rattle.facepoints.specs.Faces.{faceCoordinates, FaceTable}
-use Rattle.letters.specs.Letters.{Nameable}
+use Rattle.letters.specs.Letters.{newLetter, Nameable, WrittenIf}
 use Rattle.edgetable.specs.EdgeTable.{Round, Edges}
 use Rattle.edgetable.proofs.Faces.{face-table, number-is, inner-is}
 use Rattle.rounds.proofs.Points.{face-room, points-made}
@@ -160,6 +161,14 @@ module _ (v n at initial : ℕ) (t : Buffers) (c : Current v n at initial t) whe
           boundary = λ g b h. ltb-false _ _ (inner-is l mk points w at initial ready p₁ w₁ done g b ∙ le-ltb (mate quads l g) (length l) (omega arith));
           room = omega arith;
         }
+
+    -- by the numbers of vertices before the round and after it
+    pub letters-made : (edge : ℕ) → edge ≡ edgeCount quads l → (asked : Bool) (s s′ : List ℕ) → WrittenIf asked (length mk) (refinedVertices quads (length mk) l) (newLetter l mk) s s′
+        → WrittenIf asked v (v + edge + n / 4) (newLetter l mk) s s′
+    unfolding quads
+    letters-made edge e asked s s′ x =
+        let r : refinedVertices quads (length mk) l ≡ v + edge + n / 4 = omega (arith, marked, corners) in
+        subst (λ (j : ℕ). WrittenIf asked j (v + edge + n / 4) (newLetter l mk) s s′) marked (subst (λ (j : ℕ). WrittenIf asked (length mk) j (newLetter l mk) s s′) r x)
 
     pub face-ready : FaceTable n w₁
     face-ready = subst (λ (k : ℕ). FaceTable k w₁) corners (face-table l mk points w at initial ready p₁ w₁ done)
