@@ -22,7 +22,7 @@ use Rattle.origins.specs.Origins.{madeBy, letterOf, edgeCase, newRule}
 use Rattle.letters.specs.Letters.{startLetter, newLetter, faceLetter, edgePlace, Nameable, WrittenIf}
 
 pub nameable-kept : (l marks w letters letters′ : List ℕ) → length letters′ ≡ length letters → Nameable l marks w letters → Nameable l marks w letters′
-nameable-kept l marks w letters letters′ e ok = record { net = ok .net; table = ok .table; room = let r = ok .room in omega arith }
+nameable-kept l marks w letters letters′ e ok = record { net = ok .net; table = ok .table; entries = ok .entries; numbered = ok .numbered; inner = ok .inner; boundary = ok .boundary; room = let r = ok .room in omega arith }
 
 -- ---- asked for, or not
 pub if-asked : (asked : Bool) (a e : ℕ) (f : ℕ → ℕ) (s s′ : List ℕ) → asked ≡ true → Written a e f s s′ → WrittenIf asked a e f s s′

@@ -2,13 +2,14 @@
 use mathlib.Core.Path.{_≡_}
 use mathlib.Core.Bool.{Bool, true, false, cond}
 use mathlib.Core.List.{List}
-use Prim.Native.Nat.{ℕ, _+_, _≤_}
+use Prim.Native.Nat.{ℕ, _+_, _-_, _*_, _≤_, _<_}
 use lib.Dec.{ltb}
 use lib.ListN.{length}
 use Rattle.tables.specs.Tables.{Written}
 use Rattle.search.specs.Search.{count}
 use Rattle.topology.specs.Shape.{quads}
-use Rattle.topology.specs.HalfEdge.{firstMet}
+use Rattle.topology.specs.HalfEdge.{mate, firstMet, edge}
+use Rattle.coordinates.specs.Entry.{boundaryFlag, entryOf, edgeOf}
 use Rattle.topology.specs.Manifold.{Oriented}
 use Rattle.refinedfaces.specs.Refined.{refinedVertices}
 use Rattle.scheme.specs.Points.{faceRule}
@@ -35,6 +36,10 @@ edgePlace l marks h = length marks + count (firstMet quads l) h
 pub record Nameable (l marks w letters : List ℕ) : Type 0 where
   pub net : Oriented quads (length marks) l
   pub table : Connectivity l w
+  pub entries : 2 * length l ≤ length w
+  pub numbered : (g : ℕ) → g < length l → edgeOf (entryOf (length l) w g) ≡ edge quads l g
+  pub inner : (g : ℕ) → g < length l → mate quads l g < length l → entryOf (length l) w g < boundaryFlag
+  pub boundary : (g : ℕ) → g < length l → mate quads l g ≡ length l → boundaryFlag ≤ entryOf (length l) w g
   pub room : refinedVertices quads (length marks) l ≤ length letters
 
 -- where letters are asked for, s′ is s with those of f from a up to e; else nothing is written

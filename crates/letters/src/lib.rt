@@ -137,8 +137,15 @@ fn name_faces(letters: &mut [u8], faces: &[u32], work: &[u32], first: usize)
 }
 
 // Writes the letters of the new vertices of a round, where they are asked for: of the edges, then of the faces, behind those of the old vertices.
-pub fn name_points(asked: bool, letters: &mut [u8], faces: &[u32], marks: &[u8], work: &[u32])
-    requires { ⌜ (asked ≡ true → Nameable (now faces) (now marks) (now work) (now letters)) ⌝ }
+pub fn name_points(
+    asked: bool,
+    letters: &mut [u8],
+    faces: &[u32],
+    marks: &[u8],
+    work: &[u32],
+    edges: usize,
+)
+    requires { ⌜ (asked ≡ true → Nameable (now faces) (now marks) (now work) (now letters) × (edges ≡ edgeCount quads (now faces))) ⌝ }
     ensures { λ _. ⌜ WrittenIf asked (length (now (marks .entry))) (refinedVertices quads (length (now (marks .entry))) (now (faces .entry))) (newLetter (now (faces .entry)) (now (marks .entry))) (now (letters .entry)) (now (letters .exit)) ⌝ }
 {
     if asked {

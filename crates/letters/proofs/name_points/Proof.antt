@@ -9,14 +9,14 @@ abbrev start : tie.Then1 → tie.Start
 start x = x .before .before .before .before .before
 
 name-edges-requires : tie.Need-name-edges-requires
-name-edges-requires c κs = let t = c .before in start t .pre (t .if1 .taken)
+name-edges-requires c κs = let t = c .before in start t .pre (t .if1 .taken) .0
 
 name-faces-requires : tie.Need-name-faces-requires
 name-faces-requires c κs =
     let x = c .before .before .before in
     let t = x .before .before in
     let s = start t in
-    let n = s .pre (t .if1 .taken) in
+    let n = s .pre (t .if1 .taken) .0 in
     (n .table, omega (arith, n .room, x .name-edges .ensures .0, x .name-edges .kept .0))
 
 same-length : tie.Need-same-length
