@@ -35,14 +35,12 @@ pub data Touches (l marks : List ℕ) (g i : ℕ) : Type 0 where
   inFace : i ≡ length marks + edgeCount quads l + quads .face g → Touches l marks g i
   inFarFace : mate quads l (across g) < length l → i ≡ length marks + edgeCount quads l + quads .face (mate quads l (across g)) → Touches l marks g i
 
--- s′ is s with the letters that h touches put right
-pub record PutRight (l marks : List ℕ) (h : ℕ) (s s′ : List ℕ) : Type 0 where
-  pub touched : (i : ℕ) → Touches l marks h i → getD s′ i 0 ≡ newLetter l marks i
-  pub others : (i : ℕ) → (Touches l marks h i → ⊥) → getD s′ i 0 ≡ getD s i 0
-
--- the letters of new vertices that no boundary half-edge from h on touches are right
-pub record RightBefore (l marks : List ℕ) (h : ℕ) (s : List ℕ) : Type 0 where
-  pub right : (i : ℕ) → length marks ≤ i → i < refinedVertices quads (length marks) l → ((g : ℕ) → OnBoundary quads l g → Touches l marks g i → g < h) → getD s i 0 ≡ newLetter l marks i
+-- s′ is s but for letters of new vertices, which are right in it; and so are those that the boundary half-edges from a up to e touch
+pub record PutRight (l marks : List ℕ) (a e : ℕ) (s s′ : List ℕ) : Type 0 where
+  pub before : (i : ℕ) → i < length marks → getD s′ i 0 ≡ getD s i 0
+  pub behind : (i : ℕ) → refinedVertices quads (length marks) l ≤ i → getD s′ i 0 ≡ getD s i 0
+  pub kept : (i : ℕ) → getD s i 0 ≡ newLetter l marks i → getD s′ i 0 ≡ newLetter l marks i
+  pub touched : (g i : ℕ) → a ≤ g → g < e → OnBoundary quads l g → Touches l marks g i → getD s′ i 0 ≡ newLetter l marks i
 
 -- what writing the letters of a round asks of the tables: an oriented net, its mates in front of w, the entries of its edges behind them, and room for a letter of
 -- each refined vertex

@@ -2,16 +2,16 @@
 ghost use mathlib.Core.Path.{_≡_};
 ghost use mathlib.Core.Bool.{true};
 ghost use Prim.Native.Nat.{ℕ, _+_, _≤_, _<_};
-ghost use lib.ListN.{length, set};
+ghost use lib.ListN.{length, getD, set};
 ghost use Rattle.tables.specs.Tables.{Written};
 ghost use Rattle.topology.specs.Shape.{quads};
 ghost use Rattle.topology.specs.HalfEdge.{from, to, mate, edgeCount};
-ghost use Rattle.topology.specs.Boundary.{OnBoundary};
 ghost use Rattle.refinedfaces.specs.Refined.{refinedVertices};
 ghost use Rattle.scheme.specs.Points.{edgeRule, fourInner};
 ghost use Rattle.halfedges.specs.Tables.{Quadrilaterals, Connectivity};
+ghost use Rattle.coordinates.specs.Entry.{boundaryFlag};
 ghost use Rattle.origins.specs.Origins.{madeBy, letterOf, edgeOrigin};
-ghost use Rattle.letters.specs.Letters.{startLetter, newLetter, faceLetter, PutRight, RightBefore, Nameable, WrittenIf};
+ghost use Rattle.letters.specs.Letters.{startLetter, newLetter, faceLetter, PutRight, Nameable, WrittenIf};
 use edgepoints::EdgeRule;
 
 const WIDE: usize = 536870912;
@@ -99,8 +99,8 @@ fn name_face(letters: &mut [u8], faces: &[u32], work: &[u32], first: usize, f: u
     letters[first + f] = face_letter(faces, work, f);
 }
 
-// Puts right what the boundary half-edge h touches: the letter of its edge, of its face, and of the face beyond the opposite side.
-fn name_boundary(
+// Puts right what the half-edge h touches if it lies on the boundary: the letter of its edge, of its face, and of the face beyond the opposite side.
+fn name_side(
     letters: &mut [u8],
     faces: &[u32],
     marks: &[u8],
@@ -109,12 +109,16 @@ fn name_boundary(
     h: usize,
 )
     requires { ⌜ Nameable (now faces) (now marks) (now work) (now letters) ⌝ }
-    requires { ⌜ (first ≡ length (now marks) + edgeCount quads (now faces)) × OnBoundary quads (now faces) h ⌝ }
-    ensures { λ _. ⌜ PutRight (now (faces .entry)) (now (marks .entry)) h (now (letters .entry)) (now (letters .exit)) ⌝ }
+    requires { ⌜ (first ≡ length (now marks) + edgeCount quads (now faces)) × (h < length (now faces)) ⌝ }
+    ensures { λ _. ⌜ PutRight (now (faces .entry)) (now (marks .entry)) h (h + 1) (now (letters .entry)) (now (letters .exit)) ⌝ }
 {
     let n = faces.len();
-    let edge = work[n + h] as usize % WIDE;
-    letters[marks.len() + edge] = edge_letter(faces, marks, h, n);
+    let entry = work[n + h];
+    if entry < BOUNDARY {
+        return;
+    }
+    let place = marks.len() + entry as usize % WIDE;
+    letters[place] = edge_letter(faces, marks, h, n);
     name_face(&mut *letters, faces, work, first, halfedges::face_of(h));
     let g = halfedges::mate_side(faces, work, halfedges::across_side(h));
     if g < n {
@@ -122,19 +126,55 @@ fn name_boundary(
     }
 }
 
-// Puts right what the boundary touches, where `first` is the place of the first face.
-fn name_boundaries(letters: &mut [u8], faces: &[u32], marks: &[u8], work: &[u32], first: usize)
-    requires { ⌜ Nameable (now faces) (now marks) (now work) (now letters) ⌝ }
-    requires { ⌜ (first ≡ length (now marks) + edgeCount quads (now faces)) × RightBefore (now faces) (now marks) 0 (now letters) ⌝ }
-    ensures { λ _. ⌜ Written (length (now (marks .entry))) (refinedVertices quads (length (now (marks .entry))) (now (faces .entry))) (newLetter (now (faces .entry)) (now (marks .entry))) (now (letters .entry)) (now (letters .exit)) ⌝ }
+// Whether the four entries from the place i on are those of inner edges.
+fn inner_sides(work: &[u32], i: usize) -> bool
+    requires { ⌜ i + 4 ≤ length (now work) ⌝ }
+    ensures { λ r. ⌜ (r ≡ true → (k : ℕ) → i ≤ k → k < i + 4 → getD (now (work .entry)) k 0 < boundaryFlag) ⌝ }
 {
-    let n = faces.len();
+    if BOUNDARY <= work[i] {
+        return false;
+    }
+    if BOUNDARY <= work[i + 1] {
+        return false;
+    }
+    if BOUNDARY <= work[i + 2] {
+        return false;
+    }
+    work[i + 3] < BOUNDARY
+}
+
+// Puts right what the four sides from h on touch; most faces have none on the boundary.
+fn name_sides(
+    letters: &mut [u8],
+    faces: &[u32],
+    marks: &[u8],
+    work: &[u32],
+    first: usize,
+    h: usize,
+)
+    requires { ⌜ Nameable (now faces) (now marks) (now work) (now letters) ⌝ }
+    requires { ⌜ (first ≡ length (now marks) + edgeCount quads (now faces)) × (h + 4 ≤ length (now faces)) ⌝ }
+    ensures { λ _. ⌜ PutRight (now (faces .entry)) (now (marks .entry)) h (h + 4) (now (letters .entry)) (now (letters .exit)) ⌝ }
+{
+    if inner_sides(work, faces.len() + h) {
+        return;
+    }
+    name_side(&mut *letters, faces, marks, work, first, h);
+    name_side(&mut *letters, faces, marks, work, first, h + 1);
+    name_side(&mut *letters, faces, marks, work, first, h + 2);
+    name_side(&mut *letters, faces, marks, work, first, h + 3);
+}
+
+// Puts right what the boundary touches, where `first` is the place of the first face.
+fn name_boundary(letters: &mut [u8], faces: &[u32], marks: &[u8], work: &[u32], first: usize)
+    requires { ⌜ Nameable (now faces) (now marks) (now work) (now letters) ⌝ }
+    requires { ⌜ first ≡ length (now marks) + edgeCount quads (now faces) ⌝ }
+    ensures { λ _. ⌜ PutRight (now (faces .entry)) (now (marks .entry)) 0 (length (now (faces .entry))) (now (letters .entry)) (now (letters .exit)) ⌝ }
+{
     let mut h = 0;
-    while h < n {
-        if BOUNDARY <= work[n + h] {
-            name_boundary(&mut *letters, faces, marks, work, first, h);
-        }
-        h += 1;
+    while h < faces.len() {
+        name_sides(&mut *letters, faces, marks, work, first, h);
+        h += 4;
     }
 }
 
@@ -155,6 +195,6 @@ pub fn name_points(
         let end = first + faces.len() / 4;
         fill(&mut *letters, marks.len(), first, b'C');
         fill(&mut *letters, first, end, b'D');
-        name_boundaries(&mut *letters, faces, marks, work, first);
+        name_boundary(&mut *letters, faces, marks, work, first);
     }
 }

@@ -1,99 +1,69 @@
+-- `name_boundary` meets its contract: what the half-edges below h touch is put right. Assumes nothing.
+use mathlib.Core.Path.{_≡_, refl, _∙_}
+use Prim.Native.Nat.{_-_, _%_, _≤_}
+use native.Mathlib.Omega.{arith}
+use lib.ListN.{length}
+use Rattle.letters.specs.Letters.{PutRight}
+use Rattle.letters.proofs.Letters.{nameable-kept}
+use Rattle.letters.proofs.Boundary.{put-none, put-then}
 use Rattle.letters.proofs.name_boundary.Statement.{statement}
 use Rattle.letters.proofs.name_boundary.Tie as tie
-use Rattle.letters.proofs.name_boundary.Reads as reads
-use Rattle.letters.proofs.name_boundary.Lts as lts
-use Rattle.halfedges.proofs.across_side.Reads as across-side-reads
-use Rattle.halfedges.proofs.face_of.Reads as face-of-reads
-use Rattle.halfedges.proofs.mate_side.Reads as mate-side-reads
-use Rattle.letters.proofs.edge_letter.Reads as edge-letter-reads
-use Rattle.letters.proofs.name_face.Reads as name-face-reads
 
--- src/lib.rt:116:21
-add-edge : tie.Need-add-edge
-add-edge c = ?
+abbrev Inv-loop : tie.InvT-loop
+Inv-loop letters₀ faces marks work first h₀ letters h = (h ≤ length faces) × (h % 4 ≡ 0) × (length letters ≡ length letters₀) × PutRight faces marks 0 h letters₀ letters
 
--- src/lib.rt:116:16
-mul-edge : tie.Need-mul-edge
-mul-edge c = ?
+abbrev μ-loop : tie.MeasureT-loop
+μ-loop letters₀ faces marks work first h₀ letters h = length faces - h
 
--- src/lib.rt:116:16
-shared-slice-read-edge : tie.Need-shared-slice-read-edge
-shared-slice-read-edge c = ?
+loop-holds : tie.Need-loop-holds Inv-loop μ-loop
+loop-holds c = (omega arith, refl, refl, put-none _ _ 0 0 _ (λ g a b o. omega arith))
 
--- src/lib.rt:116:16
-cast-edge : tie.Need-cast-edge
-cast-edge c = ?
+name-sides-requires : tie.Need-name-sides-requires Inv-loop μ-loop
+name-sides-requires c κs =
+    let q = c .before .before in
+    let s = q .before .before .before .before .before in
+    let i = q .loop .inv in
+    let f = s .pre .0 .table .sides .fours in
+    let t = c .before .loop-test .taken in
+    (nameable-kept _ _ _ _ _ (i .2) (s .pre .0), (s .pre .1, omega (arith, i .1)))
 
--- src/lib.rt:117:35
-edge-letter-requires : tie.Need-edge-letter-requires
-edge-letter-requires c κs = ?
+add-h : tie.Need-add-h Inv-loop μ-loop
+add-h c = omega arith
 
--- src/lib.rt:117:13
-add-letters : tie.Need-add-letters
-add-letters c = ?
+loop-less : tie.Need-loop-less Inv-loop μ-loop
+loop-less c = omega arith
 
--- src/lib.rt:117:5
-slice-write-letters : tie.Need-slice-write-letters
-slice-write-letters c = ?
+loop-again : tie.Need-loop-again Inv-loop μ-loop
+loop-again c =
+    let d = c .before .before in
+    let q = d .before .before .before in
+    let s = q .before .before .before .before .before in
+    let i = q .loop .inv in
+    let f = s .pre .0 .table .sides .fours in
+    let t = d .before .before .loop-test .taken in
+    (omega (arith, i .1), omega (arith, i .1), d .name-sides .kept .0 ∙ i .2, put-then _ _ 0 (q .loop .h) _ _ _ _ (i .3) (d .name-sides .ensures))
 
--- src/lib.rt:118:50
-face-of-requires : tie.Need-face-of-requires
-face-of-requires c κs = ?
+same-length : tie.Need-same-length Inv-loop μ-loop
+same-length c = c .before .loop .inv .2
 
--- src/lib.rt:118:5
-name-face-requires : tie.Need-name-face-requires
-name-face-requires c κs = ?
-
--- src/lib.rt:119:47
-across-side-requires : tie.Need-across-side-requires
-across-side-requires c κs = ?
-
--- src/lib.rt:119:9
-mate-side-requires : tie.Need-mate-side-requires
-mate-side-requires c κs = ?
-
--- src/lib.rt:121:54
-face-of-requires-2 : tie.Need-face-of-requires-2
-face-of-requires-2 c κs = ?
-
--- src/lib.rt:121:9
-name-face-requires-2 : tie.Need-name-face-requires-2
-name-face-requires-2 c κs = ?
-
--- src/lib.rt:103:1
-same-length : tie.Need-same-length
-same-length c = ?
-
--- src/lib.rt:103:1
-returns : tie.Need-returns
-returns c = ?
-
--- src/lib.rt:103:1
-same-length-2 : tie.Need-same-length-2
-same-length-2 c = ?
-
--- src/lib.rt:103:1
-returns-2 : tie.Need-returns-2
-returns-2 c = ?
+returns : tie.Need-returns Inv-loop μ-loop
+returns c =
+    let q = c .before in
+    let b = q .loop .inv .0 in
+    let t = c .loop-test .left in
+    let e : q .loop .h ≡ length (q .before .before .before .before .before .args .faces .now) = omega arith in
+    rw (← e) (q .loop .inv .3)
 
 pub name-boundary-spec : {M : Type 1} → statement M
 name-boundary-spec =
     tie.close
     (tie.spec
-    add-edge
-    mul-edge
-    shared-slice-read-edge
-    cast-edge
-    edge-letter-requires
-    add-letters
-    slice-write-letters
-    face-of-requires
-    name-face-requires
-    across-side-requires
-    mate-side-requires
-    face-of-requires-2
-    name-face-requires-2
+    Inv-loop
+    μ-loop
+    loop-holds
+    name-sides-requires
+    add-h
+    loop-less
+    loop-again
     same-length
-    returns
-    same-length-2
-    returns-2)
+    returns)

@@ -1,28 +1,26 @@
+-- `name_face` meets its contract. Assumes nothing.
+use mathlib.Core.Path.{ap}
+use Prim.Native.Nat.{ℕ, _+_}
+use native.Mathlib.Omega.{arith}
+use borrow.Author.Needs.{needs}
+use lib.ListN.{set}
 use Rattle.letters.proofs.name_face.Statement.{statement}
 use Rattle.letters.proofs.name_face.Tie as tie
-use Rattle.letters.proofs.name_face.Reads as reads
-use Rattle.letters.proofs.name_face.Lts as lts
-use Rattle.letters.proofs.face_letter.Reads as face-letter-reads
 
--- src/lib.rt:99:26
 face-letter-requires : tie.Need-face-letter-requires
-face-letter-requires c κs = ?
+face-letter-requires c κs = let s = c .before .before .before in (s .pre .0, s .pre .1)
 
--- src/lib.rt:99:13
 add-letters : tie.Need-add-letters
-add-letters c = ?
+add-letters c = search needs
 
--- src/lib.rt:99:5
 slice-write-letters : tie.Need-slice-write-letters
-slice-write-letters c = ?
+slice-write-letters c = c .before .before .before .before .pre .2
 
--- src/lib.rt:95:1
 same-length : tie.Need-same-length
-same-length c = ?
+same-length c = search needs
 
--- src/lib.rt:95:1
 returns : tie.Need-returns
-returns c = ?
+returns c = let s = c .before .before .before .before in ap (λ (x : ℕ). set (s .args .letters .now) (s .args .first + s .args .f) x) (c .face-letter .ensures)
 
 pub name-face-spec : {M : Type 1} → statement M
 name-face-spec =
