@@ -1,4 +1,4 @@
--- Laws of letters: where the letter of an edge or a face goes, and which it is. Assumes nothing.
+-- Laws of letters: which one an edge or a face has. Assumes nothing.
 use mathlib.Core.Path.{_≡_, refl, sym, ap, _∙_, subst}
 use mathlib.Core.Bool.{Bool, true, false, cond, _&&_}
 use mathlib.Core.List.{List}
@@ -7,21 +7,19 @@ use native.Mathlib.Decide.{decLt, ℕ-discrete}
 use native.Mathlib.Omega.{arith}
 use borrow.Author.Tests.{lt-ltb, le-ltb}
 use lib.Dec.{ltb}
-use lib.ListN.{length, getD, set}
-use lib.Seq.{getD-set-same, getD-set-other}
-use Rattle.topology.specs.Shape.{Lawful, quads}
+use lib.ListN.{length}
 use Rattle.search.specs.Search.{iterate}
+use Rattle.topology.specs.Shape.{Lawful, quads}
 use Rattle.topology.specs.HalfEdge.{mate, edgeCount, edge, edgeAt}
 use Rattle.topology.specs.Boundary.{OnBoundary}
 use Rattle.topology.specs.Quads.{across, beyond}
 use Rattle.topology.specs.Manifold.{Oriented}
-use Rattle.topology.proofs.Mates.{mate-le, mate-back, mate-not, edge-lt, edge-onto, edgeAt-edge}
-use Rattle.refinedfaces.specs.Refined.{refinedVertices}
+use Rattle.topology.proofs.Mates.{mate-back, edge-lt, edgeAt-edge}
 use Rattle.tables.specs.Tables.{Written}
 use Rattle.tables.proofs.Written.{written-on, written-as}
 use Rattle.scheme.specs.Points.{edgeRule, inner, fourInner, faceRule}
 use Rattle.origins.specs.Origins.{madeBy, letterOf, edgeOrigin, newRule}
-use Rattle.letters.specs.Letters.{startLetter, newLetter, faceLetter, Touches, onEdge, inFace, inFarFace, PutRight, Nameable, WrittenIf}
+use Rattle.letters.specs.Letters.{startLetter, newLetter, faceLetter, Nameable, WrittenIf}
 
 pub nameable-kept : (l marks w letters letters′ : List ℕ) → length letters′ ≡ length letters → Nameable l marks w letters → Nameable l marks w letters′
 nameable-kept l marks w letters letters′ e ok = record {
@@ -114,9 +112,7 @@ module _ (l marks : List ℕ) where
     inner-letter h m = let t = lt-ltb (mate quads l h) (length l) m in rw t
 
     pub inner-named : (h : ℕ) → h < length l → mate quads l h < length l → newLetter l marks (length marks + edge quads l h) ≡ 67
-    inner-named h k m =
-        let b = mate-back quads (length marks) l ok h k m in
-        edge-named h k ∙ inner-letter (min h (mate quads l h)) (go (decLt h (mate quads l h)))
+    inner-named h k m = edge-named h k ∙ inner-letter (min h (mate quads l h)) (go (decLt h (mate quads l h)))
       where
         go : Dec (h < mate quads l h) → mate quads l (min h (mate quads l h)) < length l
         go (yes x) = let e : min h (mate quads l h) ≡ h = omega arith in rw e m

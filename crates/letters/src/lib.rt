@@ -100,14 +100,7 @@ fn name_face(letters: &mut [u8], faces: &[u32], work: &[u32], first: usize, f: u
 }
 
 // Puts right what the half-edge h touches if it lies on the boundary: the letter of its edge, of its face, and of the face beyond the opposite side.
-fn name_side(
-    letters: &mut [u8],
-    faces: &[u32],
-    marks: &[u8],
-    work: &[u32],
-    first: usize,
-    h: usize,
-)
+fn name_side(letters: &mut [u8], faces: &[u32], marks: &[u8], work: &[u32], first: usize, h: usize)
     requires { ⌜ Nameable (now faces) (now marks) (now work) (now letters) ⌝ }
     requires { ⌜ (first ≡ length (now marks) + edgeCount quads (now faces)) × (h < length (now faces)) ⌝ }
     ensures { λ _. ⌜ PutRight (now (faces .entry)) (now (marks .entry)) h (h + 1) (now (letters .entry)) (now (letters .exit)) ⌝ }
@@ -144,14 +137,7 @@ fn inner_sides(work: &[u32], i: usize) -> bool
 }
 
 // Puts right what the four sides from h on touch; most faces have none on the boundary.
-fn name_sides(
-    letters: &mut [u8],
-    faces: &[u32],
-    marks: &[u8],
-    work: &[u32],
-    first: usize,
-    h: usize,
-)
+fn name_sides(letters: &mut [u8], faces: &[u32], marks: &[u8], work: &[u32], first: usize, h: usize)
     requires { ⌜ Nameable (now faces) (now marks) (now work) (now letters) ⌝ }
     requires { ⌜ (first ≡ length (now marks) + edgeCount quads (now faces)) × (h + 4 ≤ length (now faces)) ⌝ }
     ensures { λ _. ⌜ PutRight (now (faces .entry)) (now (marks .entry)) h (h + 4) (now (letters .entry)) (now (letters .exit)) ⌝ }

@@ -1,7 +1,6 @@
 -- `four_inner` meets its contract. Assumes nothing.
 use mathlib.Core.Path.{_≡_, refl, sym, ap, _∙_}
 use mathlib.Core.Bool.{_&&_}
-use mathlib.Core.List.{List}
 use Prim.Native.Nat.{ℕ, _<_}
 use native.Mathlib.Omega.{arith}
 use borrow.Author.Needs.{needs}
@@ -13,7 +12,6 @@ use Rattle.topology.specs.HalfEdge.{mate}
 use Rattle.topology.specs.Quads.{across}
 use Rattle.topology.proofs.Shape.{quads-lawful}
 use Rattle.scheme.specs.Points.{fourInner}
-use Rattle.halfedges.specs.Tables.{Quadrilaterals}
 use Rattle.letters.proofs.Letters.{four-by, across-lt}
 use Rattle.letters.proofs.four_inner.Statement.{statement}
 use Rattle.letters.proofs.four_inner.Tie as tie

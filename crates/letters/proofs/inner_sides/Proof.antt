@@ -61,8 +61,8 @@ returns-4 c =
     let z = y .before .before in
     let w = z .before .before .args .work .now in
     λ t.
-      four-in-turn (λ (k : ℕ). getD w k 0 < boundaryFlag) (z .before .before .args .i) (let b = z .if1 .left in omega arith) (let b = y .if2 .left in omega arith) (let b = x .if3 .left in omega arith)
-      (ltb-true _ _ t)
+    four-in-turn (λ (k : ℕ). getD w k 0 < boundaryFlag) (z .before .before .args .i) (let b = z .if1 .left in omega arith) (let b = y .if2 .left in omega arith) (let b = x .if3 .left in omega arith)
+    (ltb-true _ _ t)
 
 pub inner-sides-spec : {M : Type 1} → statement M
 inner-sides-spec =
