@@ -123,6 +123,14 @@ module _ (w : Weights) (s : ℕ → Origin) (n : Net) where
           made _ (origin-new k i (omega arith)) (record { round = k; earlier = omega arith; made = made-new w (steps w k n) i (omega arith) (omega arith) })
 
 -- ---- the net where refining begins
+pub start-control : (v i : ℕ) → i < v → startOrigin v i ≡ controlVertex
+unfolding startOrigin
+start-control v i b = let t = lt-ltb i v b in rw t
+
+pub start-split-point : (v i : ℕ) → v ≤ i → startOrigin v i ≡ splitPoint
+unfolding startOrigin
+start-split-point v i b = let t = le-ltb i v b in rw t
+
 module _ (m : ControlNet) where
   start-made : (i : ℕ) → length (m .marks) ≤ i → i < length (startNet m .marks) → MadeInSplit m (startNet m .vertices) i
   start-made i b c = go (decLt 0 (length (m .sides)))
@@ -134,14 +142,6 @@ module _ (m : ControlNet) where
           let q : i < refinedVertices (shapeOf (m .sides)) (length (m .marks)) (m .faces) = omega arith in
           rw e (record { counted = d; new = b; among = q; point = λ a f. split-axis m a i f q ∙ split-new (shapeOf (m .sides)) (length (m .marks)) (m .faces) (axis (m .vertices) a) i b })
       go (no d) = let e = ap (λ (x : Net). length (x .marks)) (start-none m (omega arith)) in let z : ⊥ = omega arith in absurd z
-
-  start-control : (i : ℕ) → i < length (m .marks) → startOrigin (length (m .marks)) i ≡ controlVertex
-  unfolding startOrigin
-  start-control i b = let t = lt-ltb i (length (m .marks)) b in rw t
-
-  start-split-point : (i : ℕ) → length (m .marks) ≤ i → startOrigin (length (m .marks)) i ≡ splitPoint
-  unfolding startOrigin
-  start-split-point i b = let t = le-ltb i (length (m .marks)) b in rw t
 
 -- ---- the origin of each vertex
 no-split : {A : Type 0} → _≡_ {A = Origin} controlVertex splitPoint → A
@@ -194,8 +194,8 @@ module _ (w : Weights) (m : ControlNet) (k i : ℕ) (b : i < length (steps w k (
   origin-is = go (traced w (startOrigin (length (m .marks))) (startNet m) k i b)
     where
       starting : i < length (startNet m .marks) → o ≡ startOrigin (length (m .marks)) i → Dec (i < length (m .marks)) → HasOrigin w m after k i o
-      starting d e (yes c) = is-control c (e ∙ start-control m i c)
-      starting d e (no c) = is-split (omega arith) d (e ∙ start-split-point m i (omega arith))
+      starting d e (yes c) = is-control c (e ∙ start-control (length (m .marks)) i c)
+      starting d e (no c) = is-split (omega arith) d (e ∙ start-split-point (length (m .marks)) i (omega arith))
 
       go : KeptOrMade w (startOrigin (length (m .marks))) (startNet m) k i → HasOrigin w m after k i o
       go (kept d e) = starting d e (decLt i (length (m .marks)))
