@@ -1,4 +1,4 @@
-// Letters of refined vertices: which rule made each, by corners, marks and mates, and by the entries of the edges in the work table.
+// Letters of refined vertices: which rule made each, by corners, marks and mates alone. Most are those of inner edges and of faces away from the boundary.
 ghost use mathlib.Core.Path.{_≡_};
 ghost use mathlib.Core.Bool.{true};
 ghost use Prim.Native.Nat.{ℕ, _+_, _≤_, _<_};
@@ -14,10 +14,8 @@ ghost use Rattle.origins.specs.Origins.{madeBy, letterOf, edgeCase};
 ghost use Rattle.letters.specs.Letters.{startLetter, newLetter, faceLetter, PutRight, Nameable, WrittenIf};
 use edgepoints::EdgeRule;
 
-// The entry of an edge is its number, smaller than this, and a flag.
 const WIDE: usize = 536870912;
 
-// The entries of inner edges are smaller.
 const BOUNDARY: u32 = 1073741824;
 
 // Writes one letter from the place `first` up to `end`.
@@ -166,8 +164,7 @@ fn name_boundary(letters: &mut [u8], faces: &[u32], marks: &[u8], work: &[u32], 
     }
 }
 
-// Writes the letters of the new vertices of a round, where they are asked for: of the edges, then of the faces, behind those of the old vertices. All as away from
-// the boundary, then what it touches is put right.
+// Writes the letters of the new vertices of a round, where they are asked for: of the edges, then of the faces, behind those of the old vertices.
 pub fn name_points(
     with_letters: bool,
     letters: &mut [u8],

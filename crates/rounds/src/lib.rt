@@ -78,7 +78,7 @@ pub fn rounds(
     let mut count = v;
     let mut corners = n;
     let mut i = 0;
-    while i + 1 < k {
+    while i < k {
         count = round(
             &mut *points,
             &mut *faces,
@@ -91,20 +91,12 @@ pub fn rounds(
             at,
             v,
         );
+        i += 1;
+        if i == k {
+            return count;
+        }
         roundmates::refine_mates(&mut *work, corners);
         corners *= 4;
-        i += 1;
     }
-    round(
-        &mut *points,
-        &mut *faces,
-        &mut *marks,
-        with_letters,
-        &mut *letters,
-        &mut *work,
-        count,
-        corners,
-        at,
-        v,
-    )
+    count
 }
