@@ -544,11 +544,15 @@ fn rule_traits(rule: Rule) -> Vec<String> {
         Rule::EndEdge => vec!["end edge".to_owned()],
         Rule::OneEdge => vec!["segment of one edge".to_owned()],
         Rule::InnerEdge => vec!["inner edge".to_owned()],
-        Rule::Face { neighbours, used } => {
-            let used = match used {
+        Rule::Face {
+            neighbours,
+            four_inner,
+        } => {
+            let used = match four_inner {
                 Directions::First => "first direction alone",
                 Directions::Second => "second direction alone",
-                Directions::Both => "mean of both directions",
+                Directions::Both => "mean of two directions with four inner edges",
+                Directions::Neither => "mean of two directions without four inner edges",
             };
             let direction = |n: &u8| format!("direction with {n} neighbours");
             let mut traits: Vec<String> = neighbours.iter().map(direction).collect();

@@ -27,7 +27,8 @@ fn every_ring_fan_loop_rule_and_refusal_is_met() {
         "inner edge",
         "first direction alone",
         "second direction alone",
-        "mean of both directions",
+        "mean of two directions with four inner edges",
+        "mean of two directions without four inner edges",
     ];
     let features = Feature::ALL.map(Feature::name);
     let named = named.iter().chain(&features);
