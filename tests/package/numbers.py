@@ -97,7 +97,7 @@ LIMITS = [
     (r"faces of N to N sides", [SIDES], 1),
     (r"sides? it has, from N to N", [SIDES], 1),
     (r"(?:would be|never) above N", [(TALLY,)], 3),
-    (r"N bytes for each refined face", [(132,)], 1),
+    (r"N bytes for each refined face", [(132,), (136,)], 2),
     (r"more than N bytes", [(TEXT,)], 0),
 ]
 texts = {str(path.relative_to(ROOT)): running(path.read_text(encoding="utf-8"))
