@@ -71,7 +71,7 @@ impl LetterTable {
 
 /// The call with such a letter table.
 pub fn with_letter_table(mut case: Case, table: LetterTable, rng: &mut Rng) -> Case {
-    let due = 4 * case.served_faces();
+    let due = 4 * served_faces(&case);
     let (with_letters, letters) = (table.is_asked(), table.length(due, rng));
     case.capacity = Capacity {
         with_letters,
@@ -82,6 +82,17 @@ pub fn with_letter_table(mut case: Case, table: LetterTable, rng: &mut Rng) -> C
         case.expected = with_short_table(case.expected);
     }
     case
+}
+
+/// The refined faces of a call. Where it is refused before any table for the
+/// results is measured, they are taken to be few.
+fn served_faces(case: &Case) -> usize {
+    match case.expected {
+        Expected::Refused(Refusal {
+            reason: 1..=3 | 14, ..
+        }) => case.served_faces().min(64),
+        _ => case.served_faces(),
+    }
 }
 
 /// What is known of the answer if a table is too short.
