@@ -112,8 +112,8 @@ fn examine_net(
     examine_shape(faces, sides, marks, &mut *work)
 }
 
-// Admits the net of a call, given the lengths of its output tables, and leaves its mates at the front of the work table, and its shape where there are side
-// counts; or refuses it.
+// Admits the net of a call, given the lengths of its output tables, the letters counted where they are asked for, and leaves its mates at the front of the
+// work table, and its shape where there are side counts; or refuses it.
 // Beside clearing the work table on a refusal the time is linear in the tables for nets of bounded valence; with d faces at a vertex, finding
 // the mates there takes d * d steps at most.
 pub fn admit(
@@ -125,9 +125,11 @@ pub fn admit(
     out_vertices: usize,
     out_faces: usize,
     out_marks: usize,
+    with_letters: bool,
+    letters: usize,
     work: &mut [u32],
 ) -> Admission
-    ensures { λ r. ⌜ Admits (call rounds (controlNet (now (vertices .entry)) (now (faces .entry)) (now (sides .entry)) (now (marks .entry))) (room «out_vertices» «out_faces» «out_marks» (length (now (work .entry)))))
+    ensures { λ r. ⌜ Admits (call rounds (controlNet (now (vertices .entry)) (now (faces .entry)) (now (sides .entry)) (now (marks .entry))) (room «out_vertices» «out_faces» «out_marks» «with_letters» letters (length (now (work .entry)))))
         (now (work .entry)) r (now (work .exit)) ⌝ }
 {
     let fault = limits::limits(
@@ -140,6 +142,8 @@ pub fn admit(
             out_vertices,
             out_faces,
             out_marks,
+            with_letters,
+            letters,
             work: work.len(),
         },
     );
@@ -167,10 +171,12 @@ pub fn check(
     out_vertices: usize,
     out_faces: usize,
     out_marks: usize,
+    with_letters: bool,
+    letters: usize,
     work: &mut [u32],
 ) -> Answer
     ensures { λ r. ⌜ found (verdictOf r) (now (work .exit)) ≡
-        checked (call rounds (controlNet (now (vertices .entry)) (now (faces .entry)) (now (sides .entry)) (now (marks .entry))) (room «out_vertices» «out_faces» «out_marks» (length (now (work .entry))))) (now (work .entry)) ⌝ }
+        checked (call rounds (controlNet (now (vertices .entry)) (now (faces .entry)) (now (sides .entry)) (now (marks .entry))) (room «out_vertices» «out_faces» «out_marks» «with_letters» letters (length (now (work .entry))))) (now (work .entry)) ⌝ }
 {
     match admit(
         rounds,
@@ -181,6 +187,8 @@ pub fn check(
         out_vertices,
         out_faces,
         out_marks,
+        with_letters,
+        letters,
         &mut *work,
     ) {
         Admission::Admitted(g) => {

@@ -37,12 +37,13 @@ pub record RefineExport : Type 0 where
   pub report : Report
   pub points : ℕ
   pub buffers : Buffers
+  pub letters : List ℕ
 
-abbrev pub chargedExportOf : Charged → Buffers → RefineExport
-chargedExportOf c o = record { report = c .report; points = c .points; buffers = o }
+abbrev pub chargedExportOf : Charged → Buffers → (letters : List ℕ) → RefineExport
+chargedExportOf c o letters = record { report = c .report; points = c .points; buffers = o; letters = letters }
 
 abbrev pub refineExport : Outcome → RefineExport
-refineExport o = record { report = report (o .result); points = o .tally; buffers = o .buffers }
+refineExport o = record { report = report (o .result); points = o .tally; buffers = o .buffers; letters = o .letters }
 
 -- the lengths, or the refusal that holds whatever tables are given, with lengths 0
 abbrev pub sizesBy : Verdict → Room → Sizes

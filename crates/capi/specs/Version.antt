@@ -5,11 +5,11 @@ abbrev pub major : ℕ
 major = 0
 
 abbrev pub minor : ℕ
-minor = 4
+minor = 5
 
 abbrev pub patch : ℕ
 patch = 0
 
--- as one number: 0.4.0 is 4000
+-- as one number: 0.5.0 is 5000
 abbrev pub version : ℕ
 version = 1000000 * major + 1000 * minor + patch

@@ -6,7 +6,7 @@ ghost use Rattle.nets.specs.Net.{controlNet};
 ghost use Rattle.verdict.specs.Call.{room, call};
 ghost use Rattle.admission.specs.Answer.{verdictOf, checked};
 ghost use Rattle.outcome.specs.Outcome.{request, outcome};
-ghost use Rattle.nets.specs.Buffers.{buffers};
+ghost use Rattle.nets.specs.Buffers.{buffers, letterTable};
 ghost use Rattle.refine.specs.Answer.{resultOf};
 ghost use Rattle.capi.specs.Export.{finding, checkExportOf, checkExport, report, chargedExportOf, refineExport, sizes};
 use admission::Answer;
@@ -55,7 +55,7 @@ fn finding_of(answer: Answer) -> Finding
     }
 }
 
-// The verdict on a call but for 15, given the lengths of its output tables: reason 0, or the refusal's number and place.
+// The verdict on a call but for 15, given the lengths of its output tables and whether letters are asked for: reason 0, or the refusal's number and place.
 #[no_mangle]
 pub extern "C" fn gedrovit_check(
     rounds: u32,
@@ -66,10 +66,12 @@ pub extern "C" fn gedrovit_check(
     out_vertices: usize,
     out_faces: usize,
     out_marks: usize,
+    with_letters: bool,
+    letters: usize,
     work: &mut [u32],
 ) -> Finding
     ensures { λ r. ⌜ checkExportOf r (now (work .exit)) ≡
-        checkExport (checked (call rounds (controlNet (now (vertices .entry)) (now (faces .entry)) (now (sides .entry)) (now (marks .entry))) (room «out_vertices» «out_faces» «out_marks» (length (now (work .entry))))) (now (work .entry))) ⌝ }
+        checkExport (checked (call rounds (controlNet (now (vertices .entry)) (now (faces .entry)) (now (sides .entry)) (now (marks .entry))) (room «out_vertices» «out_faces» «out_marks» «with_letters» letters (length (now (work .entry))))) (now (work .entry))) ⌝ }
 {
     let answer = admission::check(
         rounds,
@@ -80,6 +82,8 @@ pub extern "C" fn gedrovit_check(
         out_vertices,
         out_faces,
         out_marks,
+        with_letters,
+        letters,
         &mut *work,
     );
     finding_of(answer)
@@ -115,11 +119,13 @@ fn refine_from(
     out_vertices: &mut [i32],
     out_faces: &mut [u32],
     out_marks: &mut [u8],
+    with_letters: bool,
+    letters: &mut [u8],
     work: &mut [u32],
 ) -> Charged
-    ensures { λ r. ⌜ chargedExportOf r (buffers (now («out_vertices» .exit)) (now («out_faces» .exit)) (now («out_marks» .exit)) (now (work .exit))) ≡
+    ensures { λ r. ⌜ chargedExportOf r (buffers (now («out_vertices» .exit)) (now («out_faces» .exit)) (now («out_marks» .exit)) (now (work .exit))) (now (letters .exit)) ≡
         refineExport (outcome (request points rounds (controlNet (now (vertices .entry)) (now (faces .entry)) (now (sides .entry)) (now (marks .entry)))
-        (buffers (now («out_vertices» .entry)) (now («out_faces» .entry)) (now («out_marks» .entry)) (now (work .entry))))) ⌝ }
+        (buffers (now («out_vertices» .entry)) (now («out_faces» .entry)) (now («out_marks» .entry)) (now (work .entry))) (letterTable «with_letters» (now (letters .entry))))) ⌝ }
 {
     let charged = refine::refine(
         points,
@@ -131,6 +137,8 @@ fn refine_from(
         &mut *out_vertices,
         &mut *out_faces,
         &mut *out_marks,
+        with_letters,
+        &mut *letters,
         &mut *work,
     );
     let answer = charged.answer;
@@ -140,7 +148,8 @@ fn refine_from(
     }
 }
 
-// The refined net in the output tables and both counts, with its new points added to the record; or the refusal's number and place, and the record as it was.
+// The refined net in the output tables and both counts, with its new points added to the record, and its letters where they are asked for; or the refusal's number
+// and place, and the record as it was.
 #[no_mangle]
 pub extern "C" fn gedrovit_refine(
     tally: &mut Tally,
@@ -152,11 +161,13 @@ pub extern "C" fn gedrovit_refine(
     out_vertices: &mut [i32],
     out_faces: &mut [u32],
     out_marks: &mut [u8],
+    with_letters: bool,
+    letters: &mut [u8],
     work: &mut [u32],
 ) -> Report
-    ensures { λ r. ⌜ chargedExportOf (record { report = r; points = now (tally .exit) .points }) (buffers (now («out_vertices» .exit)) (now («out_faces» .exit)) (now («out_marks» .exit)) (now (work .exit))) ≡
+    ensures { λ r. ⌜ chargedExportOf (record { report = r; points = now (tally .exit) .points }) (buffers (now («out_vertices» .exit)) (now («out_faces» .exit)) (now («out_marks» .exit)) (now (work .exit))) (now (letters .exit)) ≡
         refineExport (outcome (request (now (tally .entry) .points) rounds (controlNet (now (vertices .entry)) (now (faces .entry)) (now (sides .entry)) (now (marks .entry)))
-        (buffers (now («out_vertices» .entry)) (now («out_faces» .entry)) (now («out_marks» .entry)) (now (work .entry))))) ⌝ }
+        (buffers (now («out_vertices» .entry)) (now («out_faces» .entry)) (now («out_marks» .entry)) (now (work .entry))) (letterTable «with_letters» (now (letters .entry))))) ⌝ }
 {
     let charged = refine_from(
         tally.points,
@@ -168,13 +179,15 @@ pub extern "C" fn gedrovit_refine(
         out_vertices,
         out_faces,
         out_marks,
+        with_letters,
+        letters,
         work,
     );
     tally.points = charged.points;
     charged.report
 }
 
-// The lengths that the output tables and the work table of a call must have at least, in elements.
+// The lengths that the output tables and the work table of a call must have at least, in elements; a letter table is as long as the marks.
 #[repr(C)]
 pub struct Sizes {
     pub reason: u32,
@@ -209,6 +222,8 @@ pub extern "C" fn gedrovit_sizes_for(
             out_vertices: least.vertices,
             out_faces: least.faces,
             out_marks: least.marks,
+            with_letters: true,
+            letters: least.letters,
             work: least.work,
         },
     );
@@ -235,12 +250,12 @@ pub extern "C" fn gedrovit_sizes_for(
 pub extern "C" fn gedrovit_version() -> u32
     ensures { λ r. ⌜ r ≡ version ⌝ }
 {
-    4000
+    5000
 }
 
 // The same under a name that has the version in it: a program that was compiled with another version's header does not link.
 #[no_mangle]
-pub extern "C" fn gedrovit_version_0_4_0() -> u32
+pub extern "C" fn gedrovit_version_0_5_0() -> u32
     ensures { λ r. ⌜ r ≡ version ⌝ }
 {
     gedrovit_version()

@@ -1,6 +1,7 @@
 -- The cases that paper 01 marks P, in one table: what the definitions give, and what the paper states, in two rows as paper 02 changes it. The last row of the nets
--- and the rows of nets with other faces are not among them.
+-- and the rows of nets with other faces and of letters are not among them.
 use mathlib.Core.Path.{_≡_}
+use mathlib.Core.Bool.{false}
 use mathlib.Core.List.{List, [], _∷_, _++_}
 use Prim.Native.Nat.{ℕ, zero, suc, _<_}
 use lib.IntN.{ℤ, pos, negsuc, _*ℤ_}
@@ -13,6 +14,7 @@ use Rattle.fractions.specs.Fraction.{Fraction}
 use Rattle.scheme.specs.Points.{facePoint}
 use Rattle.scheme.specs.Step.{refinedCoordinate}
 use Rattle.splitting.specs.Splitting.{startNet}
+use Rattle.origins.specs.Origins.{letters}
 use Rattle.curve.specs.Curve.{Open, Closed, rounded, step, Point, curve}
 
 pub record Case : Type 0 where
@@ -53,7 +55,7 @@ answer accepted = []
 answer (refused r p) = pos r ∷ pos p ∷ []
 
 abbrev pub ample : Room
-ample = room 4000000 4000000 4000000 5000000
+ample = room 4000000 4000000 4000000 false 0 5000000
 
 -- v vertices at the origin without marks
 abbrev pub flat : ℕ → List ℤ
@@ -194,9 +196,25 @@ splitCases =
     }
     ∷ []
 
+-- ---- letters of a square, as bytes: paper 02's "V drawn, A within a stretch or round an unmarked loop, B end edge, M one-edge stretch, S made by P1's split, .. E any other face point"
+abbrev pub squareLetters : (sides marks : List ℕ) (rounds : ℕ) → List ℤ
+squareLetters sides marks k = numbers (letters kobbelt (controlNet (square .vertices) (square .faces) sides marks) k)
+
+abbrev pub letterCases : List Case
+letterCases =
+    -- all corners marked, one round: VVVVMMMME
+    record { computed = squareLetters [] (1 ∷ 1 ∷ 1 ∷ 1 ∷ []) 1; stated = numbers (86 ∷ 86 ∷ 86 ∷ 86 ∷ 77 ∷ 77 ∷ 77 ∷ 77 ∷ 69 ∷ []) }
+    -- no marks: VVVVAAAAE
+    ∷ record { computed = squareLetters [] (unmarked 4) 1; stated = numbers (86 ∷ 86 ∷ 86 ∷ 86 ∷ 65 ∷ 65 ∷ 65 ∷ 65 ∷ 69 ∷ []) }
+    -- one mark: VVVVBAABE
+    ∷ record { computed = squareLetters [] (1 ∷ 0 ∷ 0 ∷ 0 ∷ []) 1; stated = numbers (86 ∷ 86 ∷ 86 ∷ 86 ∷ 66 ∷ 65 ∷ 65 ∷ 66 ∷ 69 ∷ []) }
+    -- split: VVVVSSSSS
+    ∷ record { computed = squareLetters (4 ∷ []) (unmarked 4) 0; stated = numbers (86 ∷ 86 ∷ 86 ∷ 86 ∷ 83 ∷ 83 ∷ 83 ∷ 83 ∷ 83 ∷ []) }
+    ∷ []
+
 -- ---- the table
 unfoldable pub cases : List Case
-cases = curveCases ++ refusalCases ++ netCases ++ splitCases
+cases = curveCases ++ refusalCases ++ netCases ++ splitCases ++ letterCases
 
 -- at every row the definitions give what is stated
 pub record AllHold (table : List Case) : Type 0 where

@@ -1,12 +1,14 @@
 // Refusals 1 to 4 and 14, from the side counts and the lengths of the other tables.
 ghost use Prim.Native.Nat.{_≤_, _/_, _*_, _^_};
 ghost use mathlib.Core.Path.{_≡_};
+ghost use mathlib.Core.Bool.{_&&_};
+ghost use lib.Dec.{ltb};
 ghost use Rattle.polygons.specs.Polygons.{badCount, badSides};
 ghost use Rattle.verdict.specs.Verdict.{cornersVerdict, tablesVerdict, sizeVerdict, roomVerdict, limitsVerdict};
 ghost use Rattle.verdict.specs.Call as call;
 ghost use Rattle.limits.specs.Answer.{limitsOf, roomIn, lengthsIn, FinalFaces};
 
-// The lengths of the tables of a call but the side counts, in its order.
+// The lengths of the tables of a call but the side counts, and whether letters are asked for, in its order.
 pub struct Lengths {
     pub coordinates: usize,
     pub corners: usize,
@@ -14,14 +16,17 @@ pub struct Lengths {
     pub out_vertices: usize,
     pub out_faces: usize,
     pub out_marks: usize,
+    pub with_letters: bool,
+    pub letters: usize,
     pub work: usize,
 }
 
-// The lengths of the output tables and the work table.
+// The lengths of the output tables, the letters among them, and the work table.
 pub struct Room {
     pub vertices: usize,
     pub faces: usize,
     pub marks: usize,
+    pub letters: usize,
     pub work: usize,
 }
 
@@ -73,6 +78,7 @@ pub fn needed(g: usize) -> Room
         vertices: 12 * g,
         faces: 4 * g,
         marks: 4 * g,
+        letters: 4 * g,
         work: 16 * g,
     }
 }
@@ -156,6 +162,13 @@ fn test_size(v: usize, f: usize, g: usize) -> u32
     0
 }
 
+// Whether letters are asked for, and their table is shorter than the least.
+fn letters_short(n: Lengths, least: usize) -> bool
+    ensures { λ r. ⌜ r ≡ (n .«with_letters» && ltb (n .letters) least) ⌝ }
+{
+    n.with_letters && n.letters < least
+}
+
 // Refusal 4 for g refined faces, or 0.
 fn test_room(g: usize, n: Lengths) -> u32
     requires { ⌜ g ≤ 16777216 ⌝ }
@@ -169,6 +182,9 @@ fn test_room(g: usize, n: Lengths) -> u32
         return 4;
     }
     if n.out_marks < least.marks {
+        return 4;
+    }
+    if letters_short(n, least.letters) {
         return 4;
     }
     if n.work < least.work {

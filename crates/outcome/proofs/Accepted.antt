@@ -19,13 +19,14 @@ use Rattle.schemelaws.specs.Nets.{Refinable}
 use Rattle.schemelaws.proofs.Steps.{refinable-steps}
 use Rattle.outcome.specs.Tally.{newPoints, tallyVerdict}
 use Rattle.outcome.specs.Outcome.{refinedTo, Request, forRounds, Outcome, callOf, requestVerdict, outcomeBy, outcome}
-use Rattle.nets.specs.Buffers.{Buffers}
+use Rattle.nets.specs.Buffers.{Buffers, Letters}
+use Rattle.origins.specs.Origins.{letters}
 use Rattle.outcome.specs.SharedSegment.{AcceptedFor, netBy, netAfter}
 
 -- ---- the verdict behind the result
-pub by-result : (v : Verdict) (t d : ℕ) (n : Net) (o : Buffers) (w : List ℕ) (x y : ℕ) → outcomeBy v t d n o w .result ≡ refinedTo x y → v ≡ accepted
-by-result accepted t d n o w x y e = refl
-by-result (refused r p) t d n o w x y e = let z : _≡_ {A = ℕ} 0 1 = cc in absurd (omega arith)
+pub by-result : (v : Verdict) (t d : ℕ) (n : Net) (s : List ℕ) (o : Buffers) (l : Letters) (w : List ℕ) (x y : ℕ) → outcomeBy v t d n s o l w .result ≡ refinedTo x y → v ≡ accepted
+by-result accepted t d n s o l w x y e = refl
+by-result (refused r p) t d n s o l w x y e = let z : _≡_ {A = ℕ} 0 1 = cc in absurd (omega arith)
 
 module _ (a : Request) (k : ℕ) (h : AcceptedFor a k) where
   abbrev c : Call
@@ -34,7 +35,7 @@ module _ (a : Request) (k : ℕ) (h : AcceptedFor a k) where
   accepted-request : requestVerdict (forRounds k a) ≡ accepted
   unfolding outcome
   accepted-request =
-      by-result (requestVerdict (forRounds k a)) (a .tally) (newPoints k (a .net)) (steps kobbelt k (startNet (a .net))) (a .buffers) (workAfter c (a .buffers .work)) (h .vertices) (h .faces) (h .result)
+      by-result (requestVerdict (forRounds k a)) (a .tally) (newPoints k (a .net)) (steps kobbelt k (startNet (a .net))) (letters kobbelt (a .net) k) (a .buffers) (a .letters) (workAfter c (a .buffers .work)) (h .vertices) (h .faces) (h .result)
 
   both : (verdict c ≡ accepted) × (tallyVerdict (a .tally) (newPoints k (a .net)) ≡ accepted)
   unfolding requestVerdict
@@ -68,7 +69,7 @@ accepted-refinable c e = start-refinable (c .net) (accepted-drawn c e)
 -- ---- the net at the front of the outputs
 -- the outcome of the request for k rounds, were v the verdict and n the refined net
 abbrev pub given : Request → ℕ → Verdict → Net → Outcome
-given a k v n = outcomeBy v (a .tally) (newPoints k (a .net)) n (a .buffers) (workAfter (callOf (forRounds k a)) (a .buffers .work))
+given a k v n = outcomeBy v (a .tally) (newPoints k (a .net)) n (letters kobbelt (a .net) k) (a .buffers) (a .letters) (workAfter (callOf (forRounds k a)) (a .buffers .work))
 
 module _ (a : Request) (k : ℕ) (e : requestVerdict (forRounds k a) ≡ accepted) where
   abbrev call : Call

@@ -13,7 +13,7 @@ use Rattle.refinedfaces.proofs.Corners.{length-refined}
 use Rattle.scheme.specs.Step.{steps}
 use Rattle.schemelaws.proofs.Steps.{step-faces, step-count, refinable-steps}
 use Rattle.splitting.specs.Splitting.{startNet}
-use Rattle.splitting.proofs.Split.{split-corners, split-count, start-none, start-split, start-cases}
+use Rattle.splitting.proofs.Split.{split-corners, start-none, start-split, start-grows}
 use Rattle.splitting.proofs.Room.{refinable-vertices-le}
 use Rattle.verdict.specs.Call.{Call, quadrilaterals, finalFaces}
 use Rattle.verdict.specs.Verdict.{accepted, verdict}
@@ -36,10 +36,7 @@ more-vertices m j (suc k) h = go (ℕ-discrete j (suc k)) (λ l. more-vertices m
 
 -- the vertices of the control net are among them
 pub control-among : (m : ControlNet) (k : ℕ) → length (m .marks) ≤ length (steps kobbelt k (startNet m) .marks)
-control-among m k =
-    let a = start-cases (λ n. length (m .marks) ≤ length (n .marks)) m (λ z. omega arith) (λ z. let c = split-count m in omega arith) in
-    let b = more-vertices (startNet m) 0 k (omega arith) in
-    omega (arith, zero-steps (startNet m))
+control-among m k = omega (arith, start-grows m, more-vertices (startNet m) 0 k (omega arith), zero-steps (startNet m))
 
 pub corners-grown : (m : Net) (k : ℕ) → length (steps kobbelt k m .faces) ≡ length (m .faces) * 4 ^ k
 unfolding steps

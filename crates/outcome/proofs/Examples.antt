@@ -1,22 +1,26 @@
--- The tally, computed on one square, one triangle and no net. Assumes nothing.
+-- The tally and the letter table, computed on one square, one triangle and no net. Assumes nothing.
 use mathlib.Core.Path.{_≡_, refl}
+use mathlib.Core.Bool.{true, false}
 use mathlib.Core.List.{List, [], _∷_, _++_}
 use Prim.Native.Nat.{ℕ, zero, suc, _+_, _*_}
 use lib.IntN.{ℤ, pos}
 use Rattle.lists.specs.Tabulate.{tabulate}
 use Rattle.search.specs.Search.{firstFrom, first, any, count, iterate}
 use Rattle.topology.specs.Shape.{quads}
-use Rattle.topology.specs.HalfEdge.{from, to, opposed, mate, firstMet, edgeCount, edge}
+use Rattle.topology.specs.HalfEdge.{from, to, opposed, mate, firstMet, edgeCount, edge, edgeAt}
+use Rattle.topology.specs.Quads.{across, beyond}
 use Rattle.topology.specs.Boundary.{isBoundaryFrom, boundaryFrom}
 use Rattle.topology.specs.Vertex.{leaves, valence, turn, start, stops, facesMet}
 use Rattle.refusals.specs.Refusals.{badMark, badCorner, isolated, repeatedSide, nonManifold, badValence, markedRing}
 use Rattle.polygons.specs.Polygons.{sideAfter, sideBefore, faceThen, noFace, polygons, shapeOf}
 use Rattle.refinedfaces.specs.Refined.{corner, refined, refinedMarks}
-use Rattle.nets.specs.Net.{ControlNet, controlNet}
+use Rattle.nets.specs.Net.{ControlNet, controlNet, marked}
 use Rattle.tables.specs.Tables.{filled, cleared}
-use Rattle.nets.specs.Buffers.{Buffers, buffers}
+use Rattle.nets.specs.Buffers.{Buffers, buffers, Letters, letterTable}
+use Rattle.scheme.specs.Points.{edgeRule, inner, fourInner, faceRule}
 use Rattle.scheme.specs.Step.{step, steps}
 use Rattle.splitting.specs.Splitting.{split, startNet}
+use Rattle.origins.specs.Origins.{newRule, startOrigin, originFrom, originAfter, letters}
 use Rattle.verdict.specs.Verdict.{Verdict, accepted, refused, tablesVerdict, sizeVerdict, roomVerdict, limitsVerdict, badCoordinate, coordinatesVerdict, vertexVerdict, adjacencyVerdict, facesVerdict, shapeVerdict, netVerdict, verdict}
 use Rattle.outcome.specs.Tally.{newPoints, tallyVerdict}
 use Rattle.outcome.specs.Outcome.{Request, request, requestVerdict, refusedOutcome, outcome}
@@ -52,19 +56,23 @@ points = refl
 abbrev tables : ℕ → Buffers
 tables g = buffers (zeros (12 * g)) (copies 7 (4 * g)) (copies 7 (4 * g)) (copies 7 (16 * g + 2))
 
+-- no letters
+abbrev unasked : Letters
+unasked = letterTable false []
+
 -- the square refined once: five new points fit or do not, the sum beyond 64 bits too; nothing to add, at the limit and above; 1, 4 and 12 go first
 abbrev verdicts : List Verdict
 verdicts =
-    requestVerdict (request 3999999995 1 square (tables 4))
-    ∷ requestVerdict (request 3999999996 1 square (tables 4))
-    ∷ requestVerdict (request 18446744073709551615 1 square (tables 4))
-    ∷ requestVerdict (request 4000000000 0 square (tables 4))
-    ∷ requestVerdict (request 4000000001 0 square (tables 4))
-    ∷ requestVerdict (request 4000000000 6 none (tables 0))
-    ∷ requestVerdict (request 18446744073709551615 0 none (tables 0))
-    ∷ requestVerdict (request 18446744073709551615 7 none (tables 0))
-    ∷ requestVerdict (request 18446744073709551615 2 square (tables 4))
-    ∷ requestVerdict (request 18446744073709551615 0 cube (tables 6))
+    requestVerdict (request 3999999995 1 square (tables 4) unasked)
+    ∷ requestVerdict (request 3999999996 1 square (tables 4) unasked)
+    ∷ requestVerdict (request 18446744073709551615 1 square (tables 4) unasked)
+    ∷ requestVerdict (request 4000000000 0 square (tables 4) unasked)
+    ∷ requestVerdict (request 4000000001 0 square (tables 4) unasked)
+    ∷ requestVerdict (request 4000000000 6 none (tables 0) unasked)
+    ∷ requestVerdict (request 18446744073709551615 0 none (tables 0) unasked)
+    ∷ requestVerdict (request 18446744073709551615 7 none (tables 0) unasked)
+    ∷ requestVerdict (request 18446744073709551615 2 square (tables 4) unasked)
+    ∷ requestVerdict (request 18446744073709551615 0 cube (tables 6) unasked)
     ∷ []
 
 judged : verdicts ≡ accepted ∷ refused 15 0 ∷ refused 15 0 ∷ accepted ∷ refused 15 0 ∷ accepted ∷ refused 15 0 ∷ refused 1 0 ∷ refused 4 0 ∷ refused 12 0 ∷ []
@@ -72,18 +80,33 @@ unfolding requestVerdict tallyVerdict newPoints steps step startNet split tabula
 judged = refl
 
 -- on 15 the outputs and the tally are as found, and the first 16G work numbers are zero; on 4 all is as found
-fifteen : outcome (request 3999999996 1 square (tables 4)) ≡ refusedOutcome 15 0 3999999996 (tables 4) (copies 0 64 ++ copies 7 2)
+fifteen : outcome (request 3999999996 1 square (tables 4) unasked) ≡ refusedOutcome 15 0 3999999996 (tables 4) unasked (copies 0 64 ++ copies 7 2)
 unfolding outcome requestVerdict tallyVerdict newPoints steps step startNet split tabulate firstFrom first any count iterate quads from to opposed mate firstMet edgeCount edge corner refined refinedMarks shapeOf verdict limitsVerdict tablesVerdict sizeVerdict roomVerdict netVerdict coordinatesVerdict shapeVerdict facesVerdict adjacencyVerdict vertexVerdict badCoordinate badMark badCorner isolated repeatedSide nonManifold badValence markedRing isBoundaryFrom boundaryFrom leaves valence turn start stops facesMet cleared filled
 fifteen = refl
 
-four : outcome (request 3999999996 2 square (tables 4)) ≡ refusedOutcome 4 0 3999999996 (tables 4) (copies 7 66)
+four : outcome (request 3999999996 2 square (tables 4) unasked) ≡ refusedOutcome 4 0 3999999996 (tables 4) unasked (copies 7 66)
 unfolding outcome requestVerdict tallyVerdict newPoints steps step startNet split tabulate firstFrom first any count iterate quads from to opposed mate firstMet edgeCount edge corner refined refinedMarks shapeOf verdict limitsVerdict tablesVerdict sizeVerdict roomVerdict netVerdict coordinatesVerdict shapeVerdict facesVerdict adjacencyVerdict vertexVerdict badCoordinate badMark badCorner isolated repeatedSide nonManifold badValence markedRing isBoundaryFrom boundaryFrom leaves valence turn start stops facesMet cleared filled
 four = refl
 
 -- the square twice, then for too many rounds, then once more
 abbrev calls : List Request
-calls = request 0 1 square (tables 4) ∷ request 0 1 square (tables 4) ∷ request 0 7 square (tables 4) ∷ request 0 1 square (tables 4) ∷ []
+calls = request 0 1 square (tables 4) unasked ∷ request 0 1 square (tables 4) unasked ∷ request 0 7 square (tables 4) unasked ∷ request 0 1 square (tables 4) unasked ∷ []
 
 series : tallyAfter 0 calls ∷ tallyAfter 3999999988 calls ∷ [] ≡ 15 ∷ 3999999998 ∷ []
 unfolding tallyAfter outcome requestVerdict tallyVerdict newPoints steps step startNet split tabulate firstFrom first any count iterate quads from to opposed mate firstMet edgeCount edge corner refined refinedMarks shapeOf verdict limitsVerdict tablesVerdict sizeVerdict roomVerdict netVerdict coordinatesVerdict shapeVerdict facesVerdict adjacencyVerdict vertexVerdict badCoordinate badMark badCorner isolated repeatedSide nonManifold badValence markedRing isBoundaryFrom boundaryFrom leaves valence turn start stops facesMet
 series = refl
+
+-- the letter table as the square refined once leaves it: asked for, not asked for, one byte too short, on 15 and on 12; and with no net
+abbrev letterTables : List (List ℕ)
+letterTables =
+    outcome (request 0 1 square (tables 4) (letterTable true (copies 7 18))) .letters
+    ∷ outcome (request 0 1 square (tables 4) (letterTable false (copies 7 18))) .letters
+    ∷ outcome (request 0 1 square (tables 4) (letterTable true (copies 7 15))) .letters
+    ∷ outcome (request 3999999996 1 square (tables 4) (letterTable true (copies 7 16))) .letters
+    ∷ outcome (request 0 0 cube (tables 6) (letterTable true (copies 7 24))) .letters
+    ∷ outcome (request 0 6 none (tables 0) (letterTable true (copies 7 1))) .letters
+    ∷ []
+
+letters-left : letterTables ≡ (86 ∷ 86 ∷ 86 ∷ 86 ∷ 65 ∷ 65 ∷ 65 ∷ 65 ∷ 69 ∷ copies 7 9) ∷ copies 7 18 ∷ copies 7 15 ∷ copies 7 16 ∷ copies 7 24 ∷ copies 7 1 ∷ []
+unfolding outcome requestVerdict tallyVerdict newPoints steps step startNet split tabulate firstFrom first any count iterate quads from to opposed mate firstMet edgeCount edge edgeAt across beyond corner refined refinedMarks shapeOf marked edgeRule inner fourInner faceRule newRule startOrigin originFrom originAfter letters verdict limitsVerdict tablesVerdict sizeVerdict roomVerdict netVerdict coordinatesVerdict shapeVerdict facesVerdict adjacencyVerdict vertexVerdict badCoordinate badMark badCorner isolated repeatedSide nonManifold badValence markedRing isBoundaryFrom boundaryFrom leaves valence turn start stops facesMet cleared filled
+letters-left = refl

@@ -8,3 +8,4 @@ pub mod Coordinates
 pub mod AsBefore
 pub mod SplitSegment
 pub mod Moved
+pub mod Traced

@@ -16,6 +16,8 @@ use Rattle.scheme.specs.Step.{steps}
 use Rattle.schemelaws.proofs.Moved.{steps-moved}
 use Rattle.splitting.specs.Splitting.{startNet}
 use Rattle.splitting.proofs.Moved.{start-moved}
+use Rattle.origins.specs.Origins.{letters}
+use Rattle.origins.proofs.Letters.{same-letters}
 use Rattle.verdict.specs.Call.{Call}
 use Rattle.verdict.specs.Verdict.{Verdict, accepted, refused, orElse, verdict, workAfter}
 use Rattle.verdict.proofs.Accepted.{or-both}
@@ -53,6 +55,9 @@ module _ (s : Point) (a : Request) (here : Within 1048576 (a .net .vertices)) (t
   one-figure : newPoints k (movedControl s (a .net)) ≡ newPoints k (a .net)
   one-figure = same-points k (movedVertices s (a .net .vertices)) (a .net .vertices) (a .net .faces) (a .net .sides) (a .net .marks)
 
+  one-letters : letters kobbelt (movedControl s (a .net)) k ≡ letters kobbelt (a .net) k
+  one-letters = same-letters kobbelt k (movedVertices s (a .net .vertices)) (a .net .vertices) (a .net .faces) (a .net .sides) (a .net .marks)
+
   one-verdict : requestVerdict (forRounds k (movedBy s a)) ≡ requestVerdict (forRounds k a)
   unfolding requestVerdict
   one-verdict = ap₂ (λ (v : Verdict) (d : ℕ). orElse v (tallyVerdict (a .tally) d)) one-check one-figure
@@ -62,7 +67,7 @@ module _ (s : Point) (a : Request) (here : Within 1048576 (a .net .vertices)) (t
 
   moved-given : (v : Verdict) → requestVerdict (forRounds k a) ≡ v → resultAfter (movedBy s a) k ≡ given a k v n′
   unfolding outcome
-  moved-given v e = λ i. outcomeBy ((one-verdict ∙ e) i) (a .tally) (one-figure i) n′ (a .buffers) (one-work i)
+  moved-given v e = λ i. outcomeBy ((one-verdict ∙ e) i) (a .tally) (one-figure i) n′ (one-letters i) (a .buffers) (a .letters) (one-work i)
 
   here-given : (v : Verdict) → requestVerdict (forRounds k a) ≡ v → resultAfter a k ≡ given a k v n
   unfolding outcome
@@ -85,6 +90,7 @@ module _ (s : Point) (a : Request) (here : Within 1048576 (a .net .vertices)) (t
         vertices = ap (λ (o : Outcome). o .buffers .vertices) p ∙ ap (λ (m : Net). filled (movedVertices s (m .vertices)) (a .buffers .vertices)) (sym (accepted-after a k e));
         faces = ap (λ (o : Outcome). o .buffers .faces) p ∙ sym (ap (λ (o : Outcome). o .buffers .faces) q);
         marks = ap (λ (o : Outcome). o .buffers .marks) p ∙ sym (ap (λ (o : Outcome). o .buffers .marks) q);
+        letters = ap (λ (o : Outcome). o .letters) p ∙ sym (ap (λ (o : Outcome). o .letters) q);
         work = ap (λ (o : Outcome). o .buffers .work) p ∙ sym (ap (λ (o : Outcome). o .buffers .work) q);
       }
   by (refused r p) e =
@@ -99,6 +105,7 @@ module _ (s : Point) (a : Request) (here : Within 1048576 (a .net .vertices)) (t
         vertices = ap (λ (t : Outcome). t .buffers .vertices) x ∙ sym (ap (λ (m : Net). filled (movedVertices s (m .vertices)) (a .buffers .vertices)) none ∙ none-filled s (a .buffers .vertices));
         faces = ap (λ (t : Outcome). t .buffers .faces) o;
         marks = ap (λ (t : Outcome). t .buffers .marks) o;
+        letters = ap (λ (t : Outcome). t .letters) o;
         work = ap (λ (t : Outcome). t .buffers .work) o;
       }
 

@@ -6,9 +6,10 @@ use native.Mathlib.Omega.{arith}
 use lib.ListN.{length}
 use Rattle.curve.specs.Weights.{kobbelt}
 use Rattle.nets.specs.Net.{ControlNet}
-use Rattle.nets.specs.Buffers.{Buffers}
+use Rattle.nets.specs.Buffers.{Buffers, Letters}
 use Rattle.scheme.specs.Step.{steps}
 use Rattle.splitting.specs.Splitting.{startNet}
+use Rattle.origins.specs.Origins.{letters}
 use Rattle.verdict.specs.Verdict.{Verdict, accepted, refused, verdict, workAfter}
 use Rattle.verdict.proofs.Accepted.{or-both}
 use Rattle.outcome.specs.Tally.{newPoints, tallyVerdict}
@@ -18,9 +19,9 @@ use Rattle.outcome.proofs.Counts.{control-among}
 use Rattle.outcome.proofs.Tally.{tally-le}
 
 -- ---- one call, by its verdict
-module _ (m : ControlNet) (k t : ℕ) (o : Buffers) (w : List ℕ) where
+module _ (m : ControlNet) (k t : ℕ) (o : Buffers) (l : Letters) (w : List ℕ) where
   abbrev by : Verdict → Outcome
-  by v = outcomeBy v t (newPoints k m) (steps kobbelt k (startNet m)) o w
+  by v = outcomeBy v t (newPoints k m) (steps kobbelt k (startNet m)) (letters kobbelt m k) o l w
 
   adds-by : (v : Verdict) (x y : ℕ) → by v .result ≡ refinedTo x y → by v .tally + length (m .marks) ≡ t + x
   unfolding newPoints
@@ -34,8 +35,8 @@ module _ (m : ControlNet) (k t : ℕ) (o : Buffers) (w : List ℕ) where
 pub tally-by-report : TallyByReport
 unfolding outcome
 tally-by-report = record {
-  adds = λ a v f e. adds-by (a .net) (a .rounds) (a .tally) (a .buffers) (workAfter (callOf a) (a .buffers .work)) (requestVerdict a) v f e;
-  keeps = λ a r p e. keeps-by (a .net) (a .rounds) (a .tally) (a .buffers) (workAfter (callOf a) (a .buffers .work)) (requestVerdict a) r p e;
+  adds = λ a v f e. adds-by (a .net) (a .rounds) (a .tally) (a .buffers) (a .letters) (workAfter (callOf a) (a .buffers .work)) (requestVerdict a) v f e;
+  keeps = λ a r p e. keeps-by (a .net) (a .rounds) (a .tally) (a .buffers) (a .letters) (workAfter (callOf a) (a .buffers .work)) (requestVerdict a) r p e;
 }
 
 -- ---- a series
@@ -44,7 +45,7 @@ module _ (t : ℕ) (a : Request) where
   b = fromTally t a
 
   abbrev given : Verdict → Outcome
-  given v = outcomeBy v t (toAdd a) (steps kobbelt (a .rounds) (startNet (a .net))) (a .buffers) (workAfter (callOf b) (a .buffers .work))
+  given v = outcomeBy v t (toAdd a) (steps kobbelt (a .rounds) (startNet (a .net))) (letters kobbelt (a .net) (a .rounds)) (a .buffers) (a .letters) (workAfter (callOf b) (a .buffers .work))
 
   -- the outcome by its verdict
   is-given : (v : Verdict) → requestVerdict b ≡ v → outcome (fromTally t a) ≡ given v

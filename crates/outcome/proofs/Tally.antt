@@ -1,6 +1,6 @@
 -- The new points of a net, and refusal 15. Assumes nothing.
 use mathlib.Core.Path.{_≡_, refl, ap₂, _∙_, sym}
-use mathlib.Core.List.{List, [], _∷_}
+use mathlib.Core.List.{List}
 use Prim.Native.Nat.{ℕ, _+_, _≤_, _<_}
 use native.Mathlib.Decide.{decLt}
 use native.Mathlib.Omega.{arith}
@@ -11,7 +11,8 @@ use Rattle.curve.specs.Weights.{kobbelt}
 use Rattle.nets.specs.Net.{ControlNet, controlNet}
 use Rattle.refinedfaces.specs.Refined.{verticesAfter}
 use Rattle.schemelaws.proofs.Steps.{steps-count}
-use Rattle.splitting.specs.Splitting.{split, startNet}
+use Rattle.splitting.specs.Splitting.{startNet}
+use Rattle.splitting.proofs.Split.{start-faces, start-marks}
 use Rattle.verdict.specs.Call.{Call}
 use Rattle.verdict.specs.Verdict.{Verdict, accepted, refused, orElse, verdict}
 use Rattle.verdict.proofs.Accepted.{never, or-accepted, accepted-limits, accepted-fewer}
@@ -44,22 +45,12 @@ unfolding newPoints
 fewer-points m j k h = let a = more-vertices (startNet m) j k h in omega arith
 
 -- coordinates do not matter
-same-marks : (v v′ : List ℤ) (l s marks : List ℕ) → length (startNet (controlNet v l s marks) .marks) ≡ length (startNet (controlNet v′ l s marks) .marks)
-unfolding startNet split
-same-marks v v′ l [] marks = refl
-same-marks v v′ l (c ∷ s) marks = refl
-
-same-faces : (v v′ : List ℤ) (l s marks : List ℕ) → startNet (controlNet v l s marks) .faces ≡ startNet (controlNet v′ l s marks) .faces
-unfolding startNet split
-same-faces v v′ l [] marks = refl
-same-faces v v′ l (c ∷ s) marks = refl
-
 pub same-points : (k : ℕ) (v v′ : List ℤ) (l s marks : List ℕ) → newPoints k (controlNet v l s marks) ≡ newPoints k (controlNet v′ l s marks)
 unfolding newPoints
 same-points k v v′ l s marks =
     let a = steps-count kobbelt (startNet (controlNet v l s marks)) k in
     let b = steps-count kobbelt (startNet (controlNet v′ l s marks)) k in
-    let c = ap₂ (verticesAfter k) (same-marks v v′ l s marks) (same-faces v v′ l s marks) in
+    let c = ap₂ (λ (ms fs : List ℕ). verticesAfter k (length ms) fs) (start-marks v v′ l s marks) (start-faces v v′ l s marks) in
     omega arith
 
 -- at most 4G

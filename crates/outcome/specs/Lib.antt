@@ -6,3 +6,4 @@ pub mod Coordinates
 pub mod AsBefore
 pub mod SplitSegment
 pub mod Moved
+pub mod Traced

@@ -10,7 +10,7 @@ use Rattle.outcome.specs.SharedSegment.{resultAfter, netAfter}
 
 -- the same request, its net moved by s. Paper 02: "P2 compares calls from equal tallies."
 abbrev pub movedBy : Point → Request → Request
-movedBy s a = request (a .tally) (a .rounds) (movedControl s (a .net)) (a .buffers)
+movedBy s a = request (a .tally) (a .rounds) (movedControl s (a .net)) (a .buffers) (a .letters)
 
 -- what the call on the moved net gives, after k rounds
 pub record MovedAfter (s : Point) (a : Request) (k : ℕ) : Type 0 where
@@ -24,6 +24,7 @@ pub record MovedAfter (s : Point) (a : Request) (k : ℕ) : Type 0 where
   pub vertices : resultAfter (movedBy s a) k .buffers .vertices ≡ filled (movedVertices s (netAfter a k .vertices)) (a .buffers .vertices)
   pub faces : resultAfter (movedBy s a) k .buffers .faces ≡ resultAfter a k .buffers .faces
   pub marks : resultAfter (movedBy s a) k .buffers .marks ≡ resultAfter a k .buffers .marks
+  pub letters : resultAfter (movedBy s a) k .letters ≡ resultAfter a k .letters
   pub work : resultAfter (movedBy s a) k .buffers .work ≡ resultAfter a k .buffers .work
 
 -- Paper 02: "Refining a net moved by whole counts must equal moving the refined net, wherever both are within the coordinate limit": both control nets

@@ -1,8 +1,9 @@
 -- Lines written one after another: what is stored so far, and what is left. Assumes nothing.
-use mathlib.Core.Path.{_≡_, refl, sym, ap, _∙_}
+use mathlib.Core.Path.{_≡_, refl, sym, ap, ap₂, _∙_}
+use mathlib.Core.Bool.{Bool, true, false}
 use mathlib.Core.List.{List, [], _∷_, _++_, append-nil, append-assoc}
 use Prim.Native.Nat.{ℕ, zero, suc, _+_, _*_, _≤_, _<_}
-use native.Mathlib.Nat.{add-zero, mul-suc}
+use native.Mathlib.Nat.{add-zero, mul-suc, mul-le-mul-left}
 use native.Mathlib.Numerals.{add-one}
 use native.Mathlib.Omega.{arith}
 use lib.IntN.{ℤ}
@@ -18,9 +19,9 @@ use Rattle.decimal.specs.Decimal.{integerText}
 use Rattle.decimal.specs.Answers.{Stored}
 use Rattle.decimal.proofs.Writing.{stored-then, length-integer}
 use Rattle.text.specs.Bytes.{bytes}
-use Rattle.text.specs.Form.{namesText, marked, corners}
-use Rattle.text.specs.Text.{field, texts, pairText, vertexText, faceText, answerText}
-use Rattle.printing.specs.Tables.{vertexAt, faceAt, verticesOf, facesOf, tablesText, roomFor}
+use Rattle.text.specs.Form.{Vertex, namesText, corners}
+use Rattle.text.specs.Text.{field, texts, pairText, numbersText, columnsText, endText, tracedText, faceText, answerText}
+use Rattle.printing.specs.Tables.{vertexAt, tracedAt, faceAt, tracedOf, facesOf, tablesText, endRoom, roomFor}
 use Rattle.printing.specs.Lines.{Printed, Written}
 
 -- ---- one byte after a text
@@ -53,6 +54,17 @@ printed-field s b m w h =
     let e = w .end in
     record { stored = w; within = omega (arith, length-append s (b ∷ [])) }
 
+-- ---- the end of a vertex line, with a letter or without
+module _ (rule : Bool) (d : List ℕ) (at letter : ℕ) where
+  pub end-letter : rule ≡ true → Printed d (set (set (set d at 32) (at + 1) letter) (at + 2) 10) at (at + 3) (endText rule letter) (endRoom rule)
+  end-letter e =
+      let a : at + 1 ≡ suc at = omega arith in
+      let b : at + 2 ≡ suc (suc at) = omega arith in
+      rw e (record { stored = record { bytes = rw (a, b); end = refl }; within = omega arith })
+
+  pub end-plain : rule ≡ false → Printed d (set d at 10) at (at + 1) (endText rule letter) (endRoom rule)
+  end-plain e = rw e (record { stored = record { bytes = refl; end = refl }; within = omega arith })
+
 -- ---- lines, one a turn
 texts-more : {A : Type 0} (text : A → List ℕ) (i : ℕ) (item : ℕ → A) → texts text (tabulate (suc i) item) ≡ texts text (tabulate i item) ++ text (item i)
 unfolding texts tabulate
@@ -68,6 +80,10 @@ module _ {A : Type 0} (text : A → List ℕ) (item : ℕ → A) (most : ℕ) wh
       → Printed d o at q (texts text (tabulate (i + 1) item)) (most * (i + 1))
   lines-more i v w = rw (add-one i, texts-more text i item, mul-suc most i) (in-row v w)
 
+-- line i has room where `count` lines of at most w bytes have it
+pub line-room : (w count i at to n : ℕ) → at + w * count ≤ n → to ≤ at + w * i → i < count → to + w ≤ n
+line-room w count i at to n h k l = let m : w * suc i ≤ w * count = mul-le-mul-left w l in omega (arith, mul-suc w i)
+
 -- ---- the whole text, from the front on
 pub at-front : (d o : List ℕ) (r : ℕ) (s : List ℕ) (m most : ℕ) → Printed d o 0 r s m → m ≤ most → most ≤ length d → Written d o r s most
 unfolding filled
@@ -78,12 +94,39 @@ at-front d o r s m most w h k =
     record { bytes = w .stored .bytes ∙ sets-eq s d 0 (omega arith) ∙ ap (λ (n : ℕ). s ++ drop n d) z; long = omega arith; fits = omega arith }
 
 -- the answer has the counts that were given
-pub answer-is : (v f : ℕ) (vs : List ℤ) (fs ms : List ℕ)
-    → tablesText v f vs fs ms
-    ≡ bytes "vertices faces\n" ++ pairText v f ++ namesText marked ++ texts vertexText (verticesOf v vs ms) ++ namesText corners ++ texts faceText (facesOf f fs)
-unfolding answerText verticesOf facesOf
-answer-is v f vs fs ms = rw (length-tabulate v (vertexAt vs ms), length-tabulate f (faceAt fs))
+pub answer-is : (rule : Bool) (v f : ℕ) (vs : List ℤ) (fs ms ls : List ℕ)
+    → tablesText rule v f vs fs ms ls
+    ≡ bytes "vertices faces\n" ++ pairText v f ++ columnsText rule ++ texts (tracedText rule) (tracedOf v vs ms ls) ++ namesText corners ++ texts faceText (facesOf f fs)
+unfolding answerText tracedOf facesOf
+answer-is rule v f vs fs ms ls = rw (length-tabulate v (tracedAt vs ms ls), length-tabulate f (faceAt fs))
 
--- Paper 01: "Its tables serve G up to 256 and V up to 1,024": a buffer of 52,302 bytes holds every answer and every refusal
-pub every-answer-fits : (v f : ℕ) → v ≤ 1024 → f ≤ 256 → roomFor v f ≤ 52302
-every-answer-fits v f h k = omega arith
+-- ---- tables with the same text
+texts-same : {A : Type 0} (text : A → List ℕ) (n : ℕ) (a b : ℕ → A) → ((i : ℕ) → i < n → text (a i) ≡ text (b i)) → texts text (tabulate n a) ≡ texts text (tabulate n b)
+unfolding texts tabulate
+texts-same text zero a b h = refl
+texts-same text (suc n) a b h = ap₂ _++_ (h 0 (omega arith)) (texts-same text n (λ (k : ℕ). a (suc k)) (λ (k : ℕ). b (suc k)) (λ i k. h (suc i) (omega arith)))
+
+line-same : (rule : Bool) (u v : Vertex) (l k : ℕ) → u ≡ v → (rule ≡ true → l ≡ k) → tracedText rule (record { vertex = u; letter = l }) ≡ tracedText rule (record { vertex = v; letter = k })
+unfolding tracedText
+line-same false u v l k e h = ap (λ (x : Vertex). numbersText x ++ (10 ∷ [])) e
+line-same true u v l k e h = ap₂ (λ (x : Vertex) (c : ℕ). numbersText x ++ (32 ∷ c ∷ 10 ∷ [])) e (h refl)
+
+-- the answer has the first v vertices and f faces, and letters only if they are asked for
+pub tables-same : (rule : Bool) (v f : ℕ) (vs us : List ℤ) (fs gs ms ns ls ks : List ℕ) → ((i : ℕ) → i < v → vertexAt vs ms i ≡ vertexAt us ns i) → ((i : ℕ) → i < f → faceAt fs i ≡ faceAt gs i)
+    → (rule ≡ true → (i : ℕ) → i < v → getD ls i 0 ≡ getD ks i 0) → tablesText rule v f vs fs ms ls ≡ tablesText rule v f us gs ns ks
+unfolding tracedOf facesOf
+tables-same rule v f vs us fs gs ms ns ls ks hv hf hl =
+    let a = texts-same (tracedText rule) v (tracedAt vs ms ls) (tracedAt us ns ks) (λ i b. line-same rule (vertexAt vs ms i) (vertexAt us ns i) (getD ls i 0) (getD ks i 0) (hv i b) (λ e. hl e i b)) in
+    let b = texts-same faceText f (faceAt fs) (faceAt gs) (λ i b. ap faceText (hf i b)) in
+    answer-is rule v f vs fs ms ls
+    ∙ ap₂ (λ (s t : List ℕ). bytes "vertices faces\n" ++ pairText v f ++ columnsText rule ++ s ++ namesText corners ++ t) a b
+    ∙ sym (answer-is rule v f us gs ns ks)
+
+-- the largest answers of the program, without letters and with them
+largest : roomFor false 1024 256 ∷ roomFor true 1024 256 ∷ [] ≡ 52302 ∷ 54355 ∷ []
+largest = refl
+
+-- Paper 01: "Its tables serve G up to 256 and V up to 1,024": a buffer of 54,355 bytes holds every answer and every refusal
+pub every-answer-fits : (rule : Bool) (v f : ℕ) → v ≤ 1024 → f ≤ 256 → roomFor rule v f ≤ 54355
+every-answer-fits false v f h k = omega arith
+every-answer-fits true v f h k = omega arith

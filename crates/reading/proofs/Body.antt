@@ -68,7 +68,7 @@ module _ {h : Head} {m j : List ℕ} (r : NamesRead h m j) where
 
   module _ (e : length (face-rows h j .values) ≡ h .counts .faces) where
     abbrev net : Net
-    net = record { counts = h .counts; vertices = vertex-rows h m .values; faces = face-rows h j .values }
+    net = record { rule = h .rule; counts = h .counts; vertices = vertex-rows h m .values; faces = face-rows h j .values }
 
     all-lines : ended (5 + h .counts .vertices + h .counts .faces) net (face-rows h j .rest) ≡ parseBody h m
     unfolding parseBody

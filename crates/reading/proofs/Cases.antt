@@ -25,13 +25,13 @@ module _ (text : List ℕ) (vs : List ℤ) (fs ms : List ℕ) where
   unfolding readNet
   not-the-form n short p = rw (le-ltb 32768 (length text) short, ← p)
 
--- the text has the form: its counts and marks, where its lines start, and the answer r to the counts
-pub record FormRead (text : List ℕ) (v f k : ℕ) (b : Bool) (i j r : ℕ) : Type 0 where
+-- the text has the form: its counts, whether letters are asked for and marks are given, where its lines start, and the answer r to the counts
+pub record FormRead (text : List ℕ) (v f k : ℕ) (q b : Bool) (i j r : ℕ) : Type 0 where
   pub short : length text ≤ 32768
-  pub form : parsed (netAt (headIs v f k b) text i j) [] ≡ parse text
+  pub form : parsed (netAt (headIs v f k q b) text i j) [] ≡ parse text
   pub verdict : countsVerdict (countsAre v f k) ≡ limitsOf r
 
-module _ {text : List ℕ} {v f k : ℕ} {b : Bool} {i j r : ℕ} (c : FormRead text v f k b i j r) where
+module _ {text : List ℕ} {v f k : ℕ} {q b : Bool} {i j r : ℕ} (c : FormRead text v f k q b i j r) where
   pub tables-serve : r ≡ 0 → Served v f
   tables-serve z = served v f k r (c .verdict) z
 
@@ -41,14 +41,14 @@ module _ {text : List ℕ} {v f k : ℕ} {b : Bool} {i j r : ℕ} (c : FormRead 
     counts-refused n = rw (le-ltb 32768 (length text) (c .short), ← c .form, c .verdict, ne-eqb r 0 n)
 
     module _ (z : r ≡ 0) where
-      net-there : stored vs fs ms (netAt (headIs v f k b) text i j) ≡ readNet text vs fs ms
+      net-there : stored vs fs ms (netAt (headIs v f k q b) text i j) ≡ readNet text vs fs ms
       unfolding readNet
       net-there = rw (le-ltb 32768 (length text) (c .short), ← c .form, c .verdict, eq-eqb r 0 z)
 
       pub net-read : Tables (length vs) (length fs) (length ms) → {u : List ℤ} {g o : List ℕ}
           → VerticesStored (rows (readVertex b) v (take (length text - i) (drop i text)) .values) vs u ms o
           → g ≡ sets fs 0 (cornersOf (rows readFace f (take (length text - j) (drop j text)) .values))
-          → loaded (netRead k v f) u g o ≡ readNet text vs fs ms
+          → loaded (netRead k q v f) u g o ≡ readNet text vs fs ms
       net-read room w e =
           let t = tables-serve z in
           let vertices = rows-length (readVertex b) v (drop i text) in

@@ -1,9 +1,14 @@
--- The refusals of counts, computed. Assumes nothing.
+-- The refusals of counts, and short texts, computed. Assumes nothing.
 use mathlib.Core.Path.{_≡_, refl}
+use mathlib.Core.Bool.{true, false}
 use mathlib.Core.List.{[], _∷_}
 use Prim.Native.Nat.{ℕ}
+use Prim.Native.String.{String}
 use Rattle.verdict.specs.Verdict.{Verdict, accepted, refused, limitsVerdict, tablesVerdict, sizeVerdict, roomVerdict}
-use Rattle.reading.specs.Loaded.{countsVerdict}
+use Rattle.decimal.specs.Decimal.{readDigits, readNatural}
+use Rattle.text.specs.Bytes.{bytes}
+use Rattle.text.specs.Form.{readNames, natural, readCounts, rows, parseHead, parseBody, parse}
+use Rattle.reading.specs.Loaded.{Answer, netRead, refusedWith, countsVerdict, readNet}
 
 -- V, F, rounds, and their order
 abbrev counted : ℕ → ℕ → ℕ → Verdict
@@ -13,3 +18,16 @@ refusals : counted 1024 256 0 ∷ counted 0 0 6 ∷ counted 4 1 4 ∷ counted 90
     ≡ accepted ∷ accepted ∷ accepted ∷ refused 1 0 ∷ refused 3 0 ∷ refused 3 0 ∷ refused 3 0 ∷ refused 4 0 ∷ refused 4 0 ∷ refused 4 0 ∷ []
 unfolding countsVerdict limitsVerdict tablesVerdict sizeVerdict roomVerdict
 refusals = refl
+
+-- a first line without `rule`, with it, and with another word; a refusal that letters do not change
+abbrev answer : String → Answer
+answer s = readNet (bytes s) [] [] [] .answer
+
+wishes : answer "vertices faces rounds\n0 0 2\nx y z\na b c d\n"
+    ∷ answer "vertices faces rounds rule\n0 0 2\nx y z\na b c d\n"
+    ∷ answer "vertices faces rounds rules\n0 0 2\nx y z\na b c d\n"
+    ∷ answer "vertices faces rounds rule\n0 0 7\nx y z\na b c d\n"
+    ∷ []
+    ≡ netRead 2 false 0 0 ∷ netRead 2 true 0 0 ∷ refusedWith 13 1 ∷ refusedWith 1 0 ∷ []
+unfolding readNet parse parseHead parseBody readNames readCounts natural rows readNatural readDigits bytes countsVerdict limitsVerdict tablesVerdict sizeVerdict roomVerdict
+wishes = refl

@@ -18,23 +18,23 @@ pub names-bad : (l : List ℕ) → only isInput (readNames l) ≡ bad → Gives 
 unfolding parseHead
 names-bad l e = record { reads = rw e; within = omega arith }
 
-pub counts-bad : (l : List ℕ) (i : ℕ) → readNames l ≡ found input (drop i l) → readCounts (drop i l) ≡ bad → Gives headOf headUsed (head.Bad 2) l (parseHead l)
+pub counts-bad : (l : List ℕ) (r : Bool) (i : ℕ) → readNames l ≡ found (input r) (drop i l) → readCounts (drop i l) ≡ bad → Gives headOf headUsed (head.Bad 2) l (parseHead l)
 unfolding parseHead
-counts-bad l i names e = record { reads = rw (names, e); within = omega arith }
+counts-bad l r i names e = record { reads = rw (names, e); within = omega arith }
 
 -- and the counts u bytes
-pub record CountsRead (l : List ℕ) (i v f k u : ℕ) : Type 0 where
-  pub names : readNames l ≡ found input (drop i l)
+pub record CountsRead (l : List ℕ) (r : Bool) (i v f k u : ℕ) : Type 0 where
+  pub names : readNames l ≡ found (input r) (drop i l)
   pub counts : readCounts (drop i l) ≡ found (countsAre v f k) (drop u (drop i l))
   pub within : i + u ≤ length l
 
-module _ {l : List ℕ} {i v f k u : ℕ} (c : CountsRead l i v f k u) where
+module _ {l : List ℕ} {r : Bool} {i v f k u : ℕ} (c : CountsRead l r i v f k u) where
   pub columns-bad : only isColumns (readNames (drop (i + u) l)) ≡ bad → Gives headOf headUsed (head.Bad 3) l (parseHead l)
   unfolding parseHead
   columns-bad e = record { reads = rw (c .names, c .counts, drop-drop u i l, e); within = omega arith }
 
   pub head-good : (m : Names) (n : ℕ) → isColumns m ≡ true → readNames (drop (i + u) l) ≡ found m (drop n (drop (i + u) l)) → i + u + n ≤ length l
-      → Gives headOf headUsed (head.Head v f k (isMarked m) (i + u + n)) l (parseHead l)
+      → Gives headOf headUsed (head.Head v f k r (isMarked m) (i + u + n)) l (parseHead l)
   unfolding parseHead
   head-good m n t e w = record { reads = rw (c .names, c .counts, drop-drop u i l, e, t, drop-drop n (i + u) l); within = w }
 
@@ -43,11 +43,11 @@ pub head-refused : {l : List ℕ} {n : ℕ} → parseHead l ≡ badLine n → Ch
 unfolding parse
 head-refused e = record { reads = rw e; vertices = omega arith; faces = omega arith }
 
-module _ {l : List ℕ} {v f k : ℕ} {b : Bool} (i : ℕ) (e : parseHead l ≡ parsed (headIs v f k b) (drop i l)) where
-  pub body-refused : {n : ℕ} → parseBody (headIs v f k b) (drop i l) ≡ badLine n → Checks (checked.Bad n) l
+module _ {l : List ℕ} {v f k : ℕ} {r b : Bool} (i : ℕ) (e : parseHead l ≡ parsed (headIs v f k r b) (drop i l)) where
+  pub body-refused : {n : ℕ} → parseBody (headIs v f k r b) (drop i l) ≡ badLine n → Checks (checked.Bad n) l
   unfolding parse
   body-refused d = record { reads = rw (e, d); vertices = omega arith; faces = omega arith }
 
-  pub body-read : {j : ℕ} → parseBody (headIs v f k b) (drop i l) ≡ parsed (netAt (headIs v f k b) l i j) [] → i ≤ length l → j ≤ length l → Checks (checked.Form v f k b i j) l
+  pub body-read : {j : ℕ} → parseBody (headIs v f k r b) (drop i l) ≡ parsed (netAt (headIs v f k r b) l i j) [] → i ≤ length l → j ≤ length l → Checks (checked.Form v f k r b i j) l
   unfolding parse
   body-read d h w = record { reads = rw (e, d); vertices = h; faces = w }

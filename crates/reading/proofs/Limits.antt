@@ -1,13 +1,14 @@
 -- What the refusals of counts leave to be read. Assumes nothing.
-use mathlib.Core.Path.{_≡_, _∙_}
+use mathlib.Core.Path.{_≡_, refl, ap, _∙_}
+use mathlib.Core.Bool.{Bool, true, false}
 use mathlib.Core.List.{[]}
 use Prim.Native.Nat.{ℕ, _*_, _/_, _^_, _≤_, _<_}
 use native.Mathlib.Nat.{one-le-pow, mul-le-mul-left}
 use native.Mathlib.Omega.{arith}
-use lib.Dec.{lit≤}
+use lib.Dec.{ltb, lit≤}
 use borrow.Author.Tests.{ltb-false, lt-ltb, le-ltb, eq-eqb, ne-eqb}
-use Rattle.verdict.specs.Call.{lengths}
-use Rattle.verdict.specs.Verdict.{accepted, limitsVerdict}
+use Rattle.verdict.specs.Call.{room, lengths}
+use Rattle.verdict.specs.Verdict.{Verdict, accepted, orElse, refusedIf, roomVerdict, limitsVerdict}
 use Rattle.verdict.proofs.Accepted.{or-both, if-false, within-if}
 use Rattle.limits.specs.Answer.{limitsOf}
 use Rattle.text.specs.Form.{Counts}
@@ -32,6 +33,22 @@ passed-served n e =
 
 pub served : (v f k r : ℕ) → countsVerdict (countsAre v f k) ≡ limitsOf r → r ≡ 0 → Served v f
 served v f k r e z = passed-served (countsAre v f k) (e ∙ rw (eq-eqb r 0 z))
+
+-- ---- letters have room where marks have it, so it makes no difference whether they are asked for
+twice : (b : Bool) (v : Verdict) → orElse (refusedIf 4 b) v ≡ orElse (refusedIf 4 b) (orElse (refusedIf 4 b) v)
+twice true v = refl
+twice false v = refl
+
+room-either : (rule : Bool) (g : ℕ) → roomVerdict g (room 3072 1024 1024 rule 1024 4096) ≡ roomVerdict g programRoom
+unfolding roomVerdict
+room-either true g = refl
+room-either false g =
+    ap (λ (v : Verdict). orElse (refusedIf 4 (ltb 3072 (12 * g))) (orElse (refusedIf 4 (ltb 1024 (4 * g))) v)) (twice (ltb 1024 (4 * g)) (refusedIf 4 (ltb 4096 (16 * g))))
+
+pub limits-either : (rule : Bool) (k coordinates corners marks : ℕ)
+    → limitsVerdict k [] (lengths coordinates corners marks (room 3072 1024 1024 rule 1024 4096)) ≡ limitsVerdict k [] (lengths coordinates corners marks programRoom)
+unfolding limitsVerdict
+limits-either rule k coordinates corners marks = rw (room-either rule (corners / 4 * 4 ^ k))
 
 -- the answers of `refusal`, where r is that of the limits
 module _ (v f k r : ℕ) (e : limitsVerdict k [] (lengths (3 * v) (4 * f) v programRoom) ≡ limitsOf r) where

@@ -91,7 +91,7 @@ line-at read l at g e h = record { reads = says-at read l at g e; within = took-
 
 -- ---- lines of other names
 not-input-tag : (r : NamesLine) (l : List ℕ) → OneOf (1 ∷ 2 ∷ 3 ∷ 4 ∷ []) (tagOf generated.the-type r) → only isInput (namesOf r l) ≡ bad
-not-input-tag (names.Input n) l h = absurd (miss (1 ∷ 2 ∷ 3 ∷ 4 ∷ []) 0 tt h)
+not-input-tag (names.Input r n) l h = absurd (miss (1 ∷ 2 ∷ 3 ∷ 4 ∷ []) 0 tt h)
 not-input-tag (names.Marked n) l h = refl
 not-input-tag (names.Unmarked n) l h = refl
 not-input-tag (names.Corners n) l h = refl
@@ -101,7 +101,7 @@ pub not-input : (r : NamesLine) (l : List ℕ) → Gives namesOf namesUsed r l (
 not-input r l e h = rw (← e .reads) (not-input-tag r l h)
 
 not-corners : (r : NamesLine) (l : List ℕ) → OneOf (0 ∷ 1 ∷ 2 ∷ 4 ∷ []) (tagOf generated.the-type r) → only isCorners (namesOf r l) ≡ bad
-not-corners (names.Input n) l h = refl
+not-corners (names.Input r n) l h = refl
 not-corners (names.Marked n) l h = refl
 not-corners (names.Unmarked n) l h = refl
 not-corners (names.Corners n) l h = absurd (miss (0 ∷ 1 ∷ 2 ∷ 4 ∷ []) 3 tt h)

@@ -28,21 +28,22 @@ pub record Counted {A : Type 0} (r : Block) (l : List ℕ) (w : Rows A) : Type 0
 abbrev pub countsAre : ℕ → ℕ → ℕ → Counts
 countsAre v f k = record { vertices = v; faces = f; rounds = k }
 
-abbrev pub headIs : ℕ → ℕ → ℕ → Bool → Head
-headIs v f k m = record { counts = countsAre v f k; marks = m }
+abbrev pub headIs : ℕ → ℕ → ℕ → Bool → Bool → Head
+headIs v f k r m = record { rule = r; counts = countsAre v f k; marks = m }
 
 abbrev pub headOf : HeadLines → List ℕ → Parsed Head
-headOf (head.Head v f k m n) l = parsed (headIs v f k m) (drop n l)
+headOf (head.Head v f k r m n) l = parsed (headIs v f k r m) (drop n l)
 headOf (head.Bad n) l = badLine n
 
 abbrev pub headUsed : HeadLines → ℕ
-headUsed (head.Head v f k m n) = n
+headUsed (head.Head v f k r m n) = n
 headUsed (head.Bad n) = 0
 
 -- the net of these counts whose vertex lines start at i and whose face lines start at j
 abbrev pub netAt : Head → List ℕ → ℕ → ℕ → Net
 netAt h l i j =
     record {
+      rule = h .rule;
       counts = h .counts;
       vertices = rows (readVertex (h .marks)) (h .counts .vertices) (drop i l) .values;
       faces = rows readFace (h .counts .faces) (drop j l) .values;
@@ -61,15 +62,15 @@ abbrev pub GivesBody : Head → ℕ → BodyLines → List ℕ → Type 0
 GivesBody h i r l = Gives (bodyOf h i) bodyUsed r l (parseBody h (drop i l))
 
 abbrev pub checkedOf : Checked → List ℕ → Parsed Net
-checkedOf (checked.Form v f k m i j) l = parsed (netAt (headIs v f k m) l i j) []
+checkedOf (checked.Form v f k r m i j) l = parsed (netAt (headIs v f k r m) l i j) []
 checkedOf (checked.Bad n) l = badLine n
 
 abbrev pub verticesAt : Checked → ℕ
-verticesAt (checked.Form v f k m i j) = i
+verticesAt (checked.Form v f k r m i j) = i
 verticesAt (checked.Bad n) = 0
 
 abbrev pub facesAt : Checked → ℕ
-facesAt (checked.Form v f k m i j) = j
+facesAt (checked.Form v f k r m i j) = j
 facesAt (checked.Bad n) = 0
 
 -- r says what the form says of l, and both blocks of lines start inside l
@@ -85,7 +86,7 @@ pub record VerticesStored (vs : List Vertex) (t u : List ℤ) (m o : List ℕ) :
 
 -- paper 01's number and place of a refusal, or what was read
 abbrev pub answerOf : Input → Answer
-answerOf (input.Net k v f) = netRead k v f
+answerOf (input.Net k r v f) = netRead k r v f
 answerOf (input.Refused reason place) = refusedWith reason place
 
 -- room for every net that the counts let pass

@@ -1,5 +1,5 @@
 -- What reading a text into the program's tables comes to, on every text.
-use mathlib.Core.Bool.{cond}
+use mathlib.Core.Bool.{Bool, cond}
 use mathlib.Core.List.{List, [], _∷_}
 use Prim.Native.Nat.{ℕ, _*_}
 use lib.Dec.{ltb}
@@ -11,9 +11,9 @@ use Rattle.verdict.specs.Call.{Room, needed, lengths}
 use Rattle.verdict.specs.Verdict.{Verdict, accepted, refused, orElse, refusedIf, limitsVerdict}
 use Rattle.text.specs.Form.{Counts, Vertex, Face, Net, Parsed, parsed, badLine, parse}
 
--- the net was read, with its rounds and its numbers of vertices and faces; or the number of the refusal, and its place
+-- the net was read, with its rounds, whether letters are asked for, and its numbers of vertices and faces; or the number of the refusal, and its place
 pub data Answer : Type 0 where
-  netRead : (rounds vertices faces : ℕ) → Answer
+  netRead : (rounds : ℕ) (rule : Bool) (vertices faces : ℕ) → Answer
   refusedWith : (number place : ℕ) → Answer
 
 -- the answer, and the tables as the reader leaves them
@@ -45,7 +45,7 @@ tablesOf n = record { vertices = coordinates (n .vertices); faces = cornersOf (n
 
 -- ---- refusals from the counts alone
 
--- Paper 01: "Its tables serve G up to 256"
+-- Paper 01: "Its tables serve G up to 256", the letter table among them; a text that asks for no letters gets the same refusals
 abbrev pub programRoom : Room
 programRoom = needed 256
 
@@ -60,7 +60,7 @@ module _ (vs : List ℤ) (fs ms : List ℕ) where
 
   abbrev pub stored : Net → Loaded
   stored n =
-      loaded (netRead (n .counts .rounds) (n .counts .vertices) (n .counts .faces))
+      loaded (netRead (n .counts .rounds) (n .rule) (n .counts .vertices) (n .counts .faces))
       (filled (coordinates (n .vertices)) vs)
       (filled (cornersOf (n .faces)) fs)
       (filled (marksOf (n .vertices)) ms)

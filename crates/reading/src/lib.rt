@@ -26,6 +26,7 @@ enum HeadLines {
         vertices: u32,
         faces: u32,
         rounds: u32,
+        rule: bool,
         marks: bool,
         used: usize,
     },
@@ -43,6 +44,7 @@ enum Checked {
         vertices: u32,
         faces: u32,
         rounds: u32,
+        rule: bool,
         marks: bool,
         vertices_at: usize,
         faces_at: usize,
@@ -50,10 +52,11 @@ enum Checked {
     Bad(usize),
 }
 
-// A net, with its counts, or the number of a refusal and its place.
+// A net, with its counts and whether letters are asked for, or the number of a refusal and its place.
 pub enum Input {
     Net {
         rounds: u32,
+        rule: bool,
         vertices: usize,
         faces: usize,
     },
@@ -108,7 +111,7 @@ fn count_faces(text: &[u8], count: usize) -> Block
 fn check_head(text: &[u8]) -> HeadLines
     ensures { λ r. ⌜ Gives headOf headUsed r (now (text .entry)) (parseHead (now (text .entry))) ⌝ }
 {
-    let NamesLine::Input(i) = text::read_names(text) else {
+    let NamesLine::Input { rule, used: i } = text::read_names(text) else {
         return HeadLines::Bad(1);
     };
     let CountsLine::Counts {
@@ -126,6 +129,7 @@ fn check_head(text: &[u8]) -> HeadLines
             vertices,
             faces,
             rounds,
+            rule,
             marks: true,
             used: j + n,
         },
@@ -133,10 +137,11 @@ fn check_head(text: &[u8]) -> HeadLines
             vertices,
             faces,
             rounds,
+            rule,
             marks: false,
             used: j + n,
         },
-        NamesLine::Input(_) => HeadLines::Bad(3),
+        NamesLine::Input { rule: _, used: _ } => HeadLines::Bad(3),
         NamesLine::Corners(_) => HeadLines::Bad(3),
         NamesLine::Other => HeadLines::Bad(3),
     }
@@ -148,10 +153,11 @@ fn check_body(
     vertices: u32,
     faces: u32,
     rounds: u32,
+    rule: bool,
     marks: bool,
 ) -> BodyLines
     requires { ⌜ at ≤ length (now text) ⌝ }
-    ensures { λ r. ⌜ GivesBody (headIs vertices faces rounds marks) at r (now (text .entry)) ⌝ }
+    ensures { λ r. ⌜ GivesBody (headIs vertices faces rounds rule marks) at r (now (text .entry)) ⌝ }
 {
     let v = vertices as usize;
     let f = faces as usize;
@@ -184,14 +190,16 @@ fn check(text: &[u8]) -> Checked
             vertices,
             faces,
             rounds,
+            rule,
             marks,
             used,
-        } => match check_body(text, used, vertices, faces, rounds, marks) {
+        } => match check_body(text, used, vertices, faces, rounds, rule, marks) {
             BodyLines::Bad(n) => Checked::Bad(n),
             BodyLines::Body(j) => Checked::Form {
                 vertices,
                 faces,
                 rounds,
+                rule,
                 marks,
                 vertices_at: used,
                 faces_at: j,
@@ -219,6 +227,8 @@ fn refusal(vertices: u32, faces: u32, rounds: u32) -> u32
             out_vertices: 3072,
             out_faces: 1024,
             out_marks: 1024,
+            with_letters: true,
+            letters: 1024,
             work: 4096,
         },
     );
@@ -290,6 +300,7 @@ pub fn read_net(text: &[u8], vertices: &mut [i32], faces: &mut [u32], marks: &mu
             vertices: v,
             faces: f,
             rounds: k,
+            rule: r,
             marks: m,
             vertices_at: i,
             faces_at: j,
@@ -304,6 +315,7 @@ pub fn read_net(text: &[u8], vertices: &mut [i32], faces: &mut [u32], marks: &mu
             let face_count = f as usize;
             Input::Net {
                 rounds: k,
+                rule: r,
                 vertices: vertex_count,
                 faces: face_count,
             }

@@ -1,5 +1,6 @@
 -- How the parts of the refining call fit together. Assumes nothing.
-use mathlib.Core.Path.{_≡_, refl, sym, ap, ap₂, _∙_}
+use mathlib.Core.Path.{_≡_, refl, sym, ap, ap₂, _∙_, subst}
+use mathlib.Core.Bool.{true}
 use mathlib.Core.List.{List, [], _∷_}
 use Prim.Native.Nat.{ℕ, _*_, _/_, _%_, _^_, _≤_}
 use native.Mathlib.Nat.{one-le-pow, mul-le-mul-left, mul-assoc}
@@ -22,18 +23,21 @@ use Rattle.schemelaws.specs.Nets.{Refinable}
 use Rattle.schemelaws.proofs.Steps.{refinable-steps}
 use Rattle.admission.specs.Admission.{AdmittedCall}
 use Rattle.admission.proofs.Laws.{admitted-faces, admitted-room}
-use Rattle.outcome.specs.Outcome.{roomOf}
-use Rattle.nets.specs.Buffers.{Buffers, front}
+use Rattle.origins.specs.Origins as origins
+use Rattle.letters.specs.Letters.{startLetter, WrittenIf}
+use Rattle.outcome.specs.Outcome.{roomOf, lettered}
+use Rattle.nets.specs.Buffers.{Buffers, front, Letters}
 use Rattle.splitting.specs.Splitting.{startNet}
 use Rattle.splitting.specs.Drawn.{Drawn}
-use Rattle.splitting.proofs.Split.{split-corners, start-none, start-split}
+use Rattle.splitting.proofs.Split.{split-corners, start-none, start-split, start-grows}
 use Rattle.splitting.proofs.Growth.{start-within}
 use Rattle.splitting.proofs.Room.{start-vertices-le}
 use Rattle.outcome.proofs.Accepted.{accepted-drawn, accepted-refinable}
 use Rattle.outcome.proofs.Counts.{zero-steps, more-vertices, corners-grown, start-four, start-corners}
 use Rattle.loading.specs.Loading.{Loadable, Loaded}
-use Rattle.rounds.specs.Rounds.{Prepared}
+use Rattle.rounds.specs.Rounds.{Prepared, LettersFit, Lettered}
 use Rattle.refine.specs.Run.{Ran, Finished, Finishing}
+use Rattle.refine.proofs.Naming.{lettered-all}
 
 -- corners are four to a face
 pub by-faces : (n p : ℕ) → n % 4 ≡ 0 → n * p ≡ 4 * (n / 4 * p)
@@ -44,9 +48,9 @@ corners-le [] n k = let f = k .fours refl in omega arith
 corners-le (c ∷ s) n k = omega arith
 
 -- ---- k rounds on the control net, from the tables o
-module _ (k : ℕ) (control : ControlNet) (o : Buffers) (last : ℕ) (ok : AdmittedCall (call k control (roomOf o)) last (o .work)) where
+module _ (k : ℕ) (control : ControlNet) (o : Buffers) (letters : Letters) (last : ℕ) (ok : AdmittedCall (call k control (roomOf o letters)) last (o .work)) where
   abbrev asked : Call
-  asked = call k control (roomOf o)
+  asked = call k control (roomOf o letters)
 
   abbrev m : Net
   m = startNet control
@@ -130,6 +134,18 @@ module _ (k : ℕ) (control : ControlNet) (o : Buffers) (last : ℕ) (ok : Admit
       let g = once in
       omega (arith, room-work, start-four control (limits .sided))
 
+  -- the letter table has room for all vertices, where letters are asked for
+  pub letters-fit : (n : ℕ) → n ≡ length (m .faces) → LettersFit (letters .asked) (n * 4 ^ k) (letters .table)
+  letters-fit n e a =
+      let r = limits .roomLetters a in
+      let s = size in
+      let f = ok .final in
+      let g : n * 4 ^ k ≡ length (m .faces) * 4 ^ k = ap (λ (j : ℕ). j * 4 ^ k) e in
+      omega arith
+
+  pub start-fits : letters .asked ≡ true → (length (control .marks) ≤ length (m .marks)) × (length (m .marks) ≤ length (letters .table))
+  start-fits a = (start-grows control, omega (arith, letters-fit _ refl a, once, vertices-le))
+
   module _ (t : Buffers) (r n : ℕ) (x : Loaded control o t r) (long : length (t .work) ≡ length (o .work)) (corners-are : n ≡ length (m .faces)) where
     front-is : front r n t ≡ m
     front-is =
@@ -177,6 +193,15 @@ module _ (k : ℕ) (control : ControlNet) (o : Buffers) (last : ℕ) (ok : Admit
     finishing = record { prepared = prepared; few = last-le; room = (let a = room-work in omega arith) }
 
     module _ (v : ℕ) (u : Buffers) (x₂ : Finished k r n last v t u) where
+      -- the letters of the vertices where refining begins, then those of the rounds
+      pub letters-ran : (s₁ s₂ : List ℕ) → length s₂ ≡ length (letters .table) → WrittenIf (letters .asked) 0 r (startLetter (length (control .marks))) (letters .table) s₁
+          → Lettered (letters .asked) k r v (front r n t) s₁ s₂ → s₂ ≡ lettered (origins.letters kobbelt control k) letters
+      letters-ran s₁ s₂ e y z =
+          let b = x₂ .after in
+          let c : v ≡ length (steps kobbelt k m .marks) = b .count ∙ ap (λ (y : Net). length (steps kobbelt k y .marks)) front-is in
+          let f = b .fewer in
+          lettered-all k control r v (x .count) c (letters .table) s₁ s₂ e (letters .asked) (λ a. omega (arith, letters-fit n corners-are a)) y (subst (λ (q : Net). Lettered (letters .asked) k r v q s₁ s₂) front-is z)
+
       pub ran : Ran k control o u last v
       ran =
           let b = x₂ .after in

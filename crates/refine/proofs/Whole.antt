@@ -20,8 +20,9 @@ use Rattle.admission.specs.Admission.{RefusedCall, AdmittedCall}
 use Rattle.admission.proofs.Laws.{admitted-cleared}
 use Rattle.growth.specs.Growth.{splits, countsOf, grownBy, Growable}
 use Rattle.growth.proofs.Laws.{vertices-after}
+use Rattle.origins.specs.Origins.{letters}
 use Rattle.outcome.specs.Tally.{newPoints, tallyVerdict}
-use Rattle.outcome.specs.Outcome.{refinedTo, refusedWith, Request, request, callOf, toAdd, requestVerdict, Outcome, refusedOutcome, outcomeBy, outcome}
+use Rattle.outcome.specs.Outcome.{refinedTo, refusedWith, Request, request, callOf, toAdd, requestVerdict, Outcome, lettered, refusedOutcome, outcomeBy, outcome}
 use Rattle.outcome.proofs.Accepted.{accepted-drawn}
 use Rattle.outcome.proofs.Counts.{control-among}
 use Rattle.outcome.proofs.Tally.{tally-if, tally-refused, few-points}
@@ -32,17 +33,17 @@ use Rattle.refine.proofs.Laws.{corners-limit, corners-room, corners-ste
 
 -- the request with another work table
 abbrev pub withWork : Request → List ℕ → Request
-withWork a u = request (a .tally) (a .rounds) (a .net) (buffers (a .buffers .vertices) (a .buffers .faces) (a .buffers .marks) u)
+withWork a u = request (a .tally) (a .rounds) (a .net) (buffers (a .buffers .vertices) (a .buffers .faces) (a .buffers .marks) u) (a .letters)
 
 module _ (a : Request) where
   -- ---- refused at the admission
-  pub refused-outcome : (r p : ℕ) (w : List ℕ) → RefusedCall (callOf a) (a .buffers .work) r p w → answered (record { answer = Refused r p; points = a .tally }) (withWork a w .buffers) ≡ outcome a
+  pub refused-outcome : (r p : ℕ) (w : List ℕ) → RefusedCall (callOf a) (a .buffers .work) r p w → answered (record { answer = Refused r p; points = a .tally }) (withWork a w .buffers) (a .letters .table) ≡ outcome a
   unfolding outcome requestVerdict
-  refused-outcome r p w x = rw (x .refuses) (λ i. record { result = refusedWith r p; tally = a .tally; buffers = withWork a (x .work i) .buffers })
+  refused-outcome r p w x = rw (x .refuses) (λ i. record { result = refusedWith r p; tally = a .tally; buffers = withWork a (x .work i) .buffers; letters = a .letters .table })
 
   -- the work table as it is found does not matter
   abbrev given : Buffers → List ℕ → Verdict → Outcome
-  given o w v = outcomeBy v (a .tally) (toAdd a) (steps kobbelt (a .rounds) (startNet (a .net))) o w
+  given o w v = outcomeBy v (a .tally) (toAdd a) (steps kobbelt (a .rounds) (startNet (a .net))) (letters kobbelt (a .net) (a .rounds)) o (a .letters) w
 
   same-given : (u w : List ℕ) (v : Verdict) → given (withWork a u .buffers) w v ≡ given (a .buffers) w v
   same-given u w accepted = refl
@@ -53,7 +54,7 @@ module _ (a : Request) where
     pub admitted-work : AdmittedCall (callOf (withWork a u)) last u
     admitted-work =
         let o = a .buffers in
-        subst (λ (n : ℕ). AdmittedCall (call (a .rounds) (a .net) (room (length (o .vertices)) (length (o .faces)) (length (o .marks)) n)) last u) (sym s) x
+        subst (λ (n : ℕ). AdmittedCall (call (a .rounds) (a .net) (room (length (o .vertices)) (length (o .faces)) (length (o .marks)) (a .letters .asked) (length (a .letters .table)) n)) last u) (sym s) x
 
     pub same-outcome : drop (16 * last) u ≡ drop (16 * last) (a .buffers .work) → outcome (withWork a u) ≡ outcome a
     unfolding outcome requestVerdict
@@ -63,7 +64,7 @@ module _ (a : Request) where
         let p : Buffers = withWork a u .buffers in
         let w : workAfter c u ≡ workAfter c (o .work) = sym (admitted-cleared c last u x u (cleared (16 * last) u) refl refl) ∙ admitted-cleared c last u x (o .work) (cleared (16 * last) u) d refl in
         let t = tallyVerdict (a .tally) (toAdd a) in
-        (λ i. let e = call (a .rounds) (a .net) (room (length (o .vertices)) (length (o .faces)) (length (o .marks)) (s i)) in given p (workAfter e u) (orElse (verdict e) t))
+        (λ i. let e = call (a .rounds) (a .net) (room (length (o .vertices)) (length (o .faces)) (length (o .marks)) (a .letters .asked) (length (a .letters .table)) (s i)) in given p (workAfter e u) (orElse (verdict e) t))
         ∙ ap (λ (l : List ℕ). given p l (orElse (verdict c) t)) w
         ∙ same-given u (workAfter c (o .work)) (orElse (verdict c) t)
 
@@ -81,9 +82,9 @@ module _ (a : Request) where
         record {
           rounds = w .few;
           sided = w .sided;
-          few = corners-limit (a .rounds) (a .net) (a .buffers) last ok;
+          few = corners-limit (a .rounds) (a .net) (a .buffers) (a .letters) last ok;
           vertices = drawn-vertices-le (a .net) drawn;
-          room = corners-room (a .rounds) (a .net) (a .buffers) last ok;
+          room = corners-room (a .rounds) (a .net) (a .buffers) (a .letters) last ok;
           mated = ok .mated;
         }
 
@@ -99,17 +100,18 @@ module _ (a : Request) where
     few-new = few-points (callOf a) (ok .accepts)
 
     -- ---- 15
-    pub refused-15 : 4000000000 < a .tally + toAdd a → (w : List ℕ) → w ≡ cleared (16 * last) (a .buffers .work) → answered (record { answer = Refused 15 0; points = a .tally }) (withWork a w .buffers) ≡ outcome a
+    pub refused-15 : 4000000000 < a .tally + toAdd a → (w : List ℕ) → w ≡ cleared (16 * last) (a .buffers .work) → answered (record { answer = Refused 15 0; points = a .tally }) (withWork a w .buffers) (a .letters .table) ≡ outcome a
     unfolding outcome requestVerdict
     refused-15 h w c =
         let e = admitted-cleared (callOf a) last (a .buffers .work) ok (a .buffers .work) w refl c in
-        rw (ok .accepts, tally-refused (a .tally) (toAdd a) h) (λ i. refusedOutcome 15 0 (a .tally) (a .buffers) (e i))
+        rw (ok .accepts, tally-refused (a .tally) (toAdd a) h) (λ i. refusedOutcome 15 0 (a .tally) (a .buffers) (a .letters) (e i))
 
     -- ---- the rounds
-    pub refined-outcome : a .tally + toAdd a ≤ 4000000000 → (r : ℕ) (o : Buffers) → Ran (a .rounds) (a .net) (a .buffers) o last r → answered (record { answer = Refined r last; points = a .tally + toAdd a }) o ≡ outcome a
+    pub refined-outcome : a .tally + toAdd a ≤ 4000000000 → (r : ℕ) (o : Buffers) → Ran (a .rounds) (a .net) (a .buffers) o last r
+        → (l : List ℕ) → l ≡ lettered (letters kobbelt (a .net) (a .rounds)) (a .letters) → answered (record { answer = Refined r last; points = a .tally + toAdd a }) o l ≡ outcome a
     unfolding outcome requestVerdict
-    refined-outcome h r o b =
-        let f : last ≡ length (n .faces) / 4 = (let c = corners-steps (a .rounds) (a .net) (a .buffers) last ok in omega arith) in
+    refined-outcome h r o b l q =
+        let f : last ≡ length (n .faces) / 4 = (let c = corners-steps (a .rounds) (a .net) (a .buffers) (a .letters) last ok in omega arith) in
         let e = admitted-cleared (callOf a) last (a .buffers .work) ok (a .buffers .work) (o .work) refl (b .work) in
         rw (ok .accepts, tally-if (a .tally) (toAdd a) h)
-        (λ i. record { result = refinedTo (b .count i) (f i); tally = a .tally + toAdd a; buffers = buffers (b .vertices i) (b .faces i) (b .marks i) (e i) })
+        (λ i. record { result = refinedTo (b .count i) (f i); tally = a .tally + toAdd a; buffers = buffers (b .vertices i) (b .faces i) (b .marks i) (e i); letters = q i })

@@ -1,4 +1,6 @@
 -- What the answers of a refining call mean.
+use mathlib.Core.List.{List}
+use Prim.Native.Nat.{ℕ}
 use Rattle.outcome.specs.Outcome.{Result, refinedTo, refusedWith, Outcome}
 use Rattle.nets.specs.Buffers.{Buffers}
 use Rattle.refine.specs.declared.Answer.{Answer}
@@ -11,5 +13,5 @@ resultOf (Refined vertices faces) = refinedTo vertices faces
 resultOf (Refused number place) = refusedWith number place
 
 -- the answer, and the caller's tally and tables as the call returns
-abbrev pub answered : Charged → Buffers → Outcome
-answered r o = record { result = resultOf (r .answer); tally = r .points; buffers = o }
+abbrev pub answered : Charged → Buffers → (letters : List ℕ) → Outcome
+answered r o letters = record { result = resultOf (r .answer); tally = r .points; buffers = o; letters = letters }

@@ -1,11 +1,15 @@
 // The refining call.
 use admission::Admission;
 ghost use mathlib.Core.Path.{_≡_};
-ghost use Rattle.nets.specs.Net.{controlNet};
+ghost use Prim.Native.Nat.{_*_, _^_};
+ghost use Rattle.curve.specs.Weights.{kobbelt};
+ghost use Rattle.nets.specs.Net.{frontNet, controlNet};
 ghost use Rattle.admission.specs.Admission.{AdmittedCall};
 ghost use Rattle.verdict.specs.Call.{call};
-ghost use Rattle.outcome.specs.Outcome.{request, roomOf, outcome};
-ghost use Rattle.nets.specs.Buffers.{buffers};
+ghost use Rattle.origins.specs.Origins as origins;
+ghost use Rattle.outcome.specs.Outcome.{request, roomOf, lettered, outcome};
+ghost use Rattle.nets.specs.Buffers.{buffers, letterTable};
+ghost use Rattle.rounds.specs.Rounds.{LettersFit, Lettered};
 ghost use Rattle.refine.specs.Answer.{answered};
 ghost use Rattle.refine.specs.Run.{Ran, Finished, Finishing};
 
@@ -29,6 +33,8 @@ fn finish(
     vertices: &mut [i32],
     faces: &mut [u32],
     marks: &mut [u8],
+    with_letters: bool,
+    letters: &mut [u8],
     work: &mut [u32],
     v: usize,
     n: usize,
@@ -36,13 +42,17 @@ fn finish(
     last: usize,
 ) -> usize
     requires { ⌜ Finishing rounds v n last (buffers (now vertices) (now faces) (now marks) (now work)) ⌝ }
+    requires { ⌜ LettersFit «with_letters» (n * 4 ^ rounds) (now letters) ⌝ }
     ensures { λ r. ⌜ Finished rounds v n last r (buffers (now (vertices .entry)) (now (faces .entry)) (now (marks .entry)) (now (work .entry)))
         (buffers (now (vertices .exit)) (now (faces .exit)) (now (marks .exit)) (now (work .exit))) ⌝ }
+    ensures { λ r. ⌜ Lettered «with_letters» rounds v r (frontNet v n (now (vertices .entry)) (now (faces .entry)) (now (marks .entry))) (now (letters .entry)) (now (letters .exit)) ⌝ }
 {
     let count = rounds::rounds(
         &mut *vertices,
         &mut *faces,
         &mut *marks,
+        with_letters,
+        &mut *letters,
         &mut *work,
         v,
         n,
@@ -63,13 +73,16 @@ fn run(
     out_vertices: &mut [i32],
     out_faces: &mut [u32],
     out_marks: &mut [u8],
+    with_letters: bool,
+    letters: &mut [u8],
     work: &mut [u32],
     last: usize,
 ) -> usize
-    requires { ⌜ AdmittedCall (call rounds (controlNet (now vertices) (now faces) (now sides) (now marks)) (roomOf (buffers (now «out_vertices») (now «out_faces») (now «out_marks») (now work)))) last (now work) ⌝ }
+    requires { ⌜ AdmittedCall (call rounds (controlNet (now vertices) (now faces) (now sides) (now marks)) (roomOf (buffers (now «out_vertices») (now «out_faces») (now «out_marks») (now work)) (letterTable «with_letters» (now letters)))) last (now work) ⌝ }
     ensures { λ r. ⌜ Ran rounds (controlNet (now (vertices .entry)) (now (faces .entry)) (now (sides .entry)) (now (marks .entry)))
         (buffers (now («out_vertices» .entry)) (now («out_faces» .entry)) (now («out_marks» .entry)) (now (work .entry)))
         (buffers (now («out_vertices» .exit)) (now («out_faces» .exit)) (now («out_marks» .exit)) (now (work .exit))) last r ⌝ }
+    ensures { λ _. ⌜ now (letters .exit) ≡ lettered (origins.letters kobbelt (controlNet (now (vertices .entry)) (now (faces .entry)) (now (sides .entry)) (now (marks .entry))) rounds) (letterTable «with_letters» (now (letters .entry))) ⌝ }
 {
     let start = loading::load(
         vertices,
@@ -81,11 +94,14 @@ fn run(
         &mut *out_marks,
         &mut *work,
     );
+    letters::name_start(with_letters, &mut *letters, marks.len(), start);
     if sides.len() == 0 {
         return finish(
             &mut *out_vertices,
             &mut *out_faces,
             &mut *out_marks,
+            with_letters,
+            &mut *letters,
             &mut *work,
             start,
             faces.len(),
@@ -97,6 +113,8 @@ fn run(
         &mut *out_vertices,
         &mut *out_faces,
         &mut *out_marks,
+        with_letters,
+        &mut *letters,
         &mut *work,
         start,
         4 * faces.len(),
@@ -116,13 +134,15 @@ fn refine_admitted(
     out_vertices: &mut [i32],
     out_faces: &mut [u32],
     out_marks: &mut [u8],
+    with_letters: bool,
+    letters: &mut [u8],
     work: &mut [u32],
     last: usize,
 ) -> Charged
-    requires { ⌜ AdmittedCall (call rounds (controlNet (now vertices) (now faces) (now sides) (now marks)) (roomOf (buffers (now «out_vertices») (now «out_faces») (now «out_marks») (now work)))) last (now work) ⌝ }
-    ensures { λ r. ⌜ answered r (buffers (now («out_vertices» .exit)) (now («out_faces» .exit)) (now («out_marks» .exit)) (now (work .exit))) ≡
+    requires { ⌜ AdmittedCall (call rounds (controlNet (now vertices) (now faces) (now sides) (now marks)) (roomOf (buffers (now «out_vertices») (now «out_faces») (now «out_marks») (now work)) (letterTable «with_letters» (now letters)))) last (now work) ⌝ }
+    ensures { λ r. ⌜ answered r (buffers (now («out_vertices» .exit)) (now («out_faces» .exit)) (now («out_marks» .exit)) (now (work .exit))) (now (letters .exit)) ≡
         outcome (request points rounds (controlNet (now (vertices .entry)) (now (faces .entry)) (now (sides .entry)) (now (marks .entry)))
-        (buffers (now («out_vertices» .entry)) (now («out_faces» .entry)) (now («out_marks» .entry)) (now (work .entry)))) ⌝ }
+        (buffers (now («out_vertices» .entry)) (now («out_faces» .entry)) (now («out_marks» .entry)) (now (work .entry))) (letterTable «with_letters» (now (letters .entry)))) ⌝ }
 {
     let v = marks.len();
     let new = (growth::final_vertices(rounds, faces, sides, v, &*work) - v) as u64;
@@ -142,6 +162,8 @@ fn refine_admitted(
         &mut *out_vertices,
         &mut *out_faces,
         &mut *out_marks,
+        with_letters,
+        &mut *letters,
         &mut *work,
         last,
     );
@@ -151,7 +173,7 @@ fn refine_admitted(
     }
 }
 
-// The net after all rounds and its new points added to `points`, or the first refusal that holds. The time is that of the check, and after it linear in the
+// The net after all rounds and its new points added to `points`, its letters where they are asked for; or the first refusal that holds. The time is that of the check, and after it linear in the
 // refined net.
 pub fn refine(
     points: u64,
@@ -163,11 +185,13 @@ pub fn refine(
     out_vertices: &mut [i32],
     out_faces: &mut [u32],
     out_marks: &mut [u8],
+    with_letters: bool,
+    letters: &mut [u8],
     work: &mut [u32],
 ) -> Charged
-    ensures { λ r. ⌜ answered r (buffers (now («out_vertices» .exit)) (now («out_faces» .exit)) (now («out_marks» .exit)) (now (work .exit))) ≡
+    ensures { λ r. ⌜ answered r (buffers (now («out_vertices» .exit)) (now («out_faces» .exit)) (now («out_marks» .exit)) (now (work .exit))) (now (letters .exit)) ≡
         outcome (request points rounds (controlNet (now (vertices .entry)) (now (faces .entry)) (now (sides .entry)) (now (marks .entry)))
-        (buffers (now («out_vertices» .entry)) (now («out_faces» .entry)) (now («out_marks» .entry)) (now (work .entry)))) ⌝ }
+        (buffers (now («out_vertices» .entry)) (now («out_faces» .entry)) (now («out_marks» .entry)) (now (work .entry))) (letterTable «with_letters» (now (letters .entry)))) ⌝ }
 {
     match admission::admit(
         rounds,
@@ -178,6 +202,8 @@ pub fn refine(
         out_vertices.len(),
         out_faces.len(),
         out_marks.len(),
+        with_letters,
+        letters.len(),
         &mut *work,
     ) {
         Admission::Admitted(last) => refine_admitted(
@@ -190,6 +216,8 @@ pub fn refine(
             &mut *out_vertices,
             &mut *out_faces,
             &mut *out_marks,
+            with_letters,
+            &mut *letters,
             &mut *work,
             last,
         ),

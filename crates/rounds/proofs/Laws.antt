@@ -28,6 +28,7 @@ use Rattle.roundmates.proofs.Round.{mates-in, mated-refined, mates-rest}
 use Rattle.classes.specs.Classes.{Classes}
 use Rattle.coordinates.specs.Entry.{entryOf, edgeOf}
 use Rattle.facepoints.specs.Faces.{faceCoordinates, FaceTable}
+use Rattle.letters.specs.Letters.{Nameable}
 use Rattle.edgetable.specs.EdgeTable.{Round, Edges}
 use Rattle.edgetable.proofs.Faces.{face-table, number-is}
 use Rattle.rounds.proofs.Points.{face-room, points-made}
@@ -127,6 +128,15 @@ module _ (v n at initial : ℕ) (t : Buffers) (c : Current v n at initial t) whe
         behind = omega arith;
         bounded = rw m (c .within);
       }
+
+  -- the letters of the new vertices can be written to s
+  pub nameable : (s : List ℕ) → 4 * n ≤ length s → Nameable l mk w s
+  nameable s f =
+      let e = corners in
+      let m = marked in
+      let q = c .vertices in
+      let d = vertices-refined (length mk) l (omega arith) in
+      record { net = ready .net .oriented; table = ready .table; room = omega arith }
 
   -- the net that the new points are made from
   made : frontNet (length mk) (length l) points l mk ≡ old

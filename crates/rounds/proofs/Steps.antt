@@ -1,5 +1,6 @@
 -- The tables from round to round. Assumes nothing.
 use mathlib.Core.Path.{_≡_, refl, sym, ap, _∙_, subst}
+use mathlib.Core.Bool.{Bool}
 use mathlib.Core.List.{List}
 use Prim.Native.Nat.{ℕ, suc, _+_, _*_, _^_, _≤_, _<_}
 use native.Mathlib.Nat.{pow-suc, pow-le-pow-right, mul-le-mul-left, one-le-pow, mul-assoc, mul-comm}
@@ -12,16 +13,18 @@ use Rattle.lists.proofs.Parts.{drop-later}
 use Rattle.curve.specs.Weights.{kobbelt}
 use Rattle.curve.proofs.Kobbelt.{tame}
 use Rattle.nets.specs.Net.{Net}
-use Rattle.tables.specs.Tables.{filled, SameOutside}
+use Rattle.tables.specs.Tables.{filled, Written, SameOutside}
+use Rattle.tables.proofs.Written.{written-none, written-on, written-as}
 use Rattle.tables.proofs.Laws.{length-filled, take-filled, filled-over, same-front, same-rest}
 use Rattle.nets.proofs.Laws.{same-net}
 use Rattle.topology.specs.Shape.{quads}
 use Rattle.topology.specs.Manifold.{Manifold}
 use Rattle.refinedfaces.specs.Refined.{refinedVertices, refined}
 use Rattle.refinedfaces.proofs.Corners.{length-refined}
+use Rattle.refinedfaces.proofs.Manifold.{vertices-after-ge}
 use Rattle.scheme.specs.Step.{step, steps}
 use Rattle.schemelaws.specs.Nets.{Refinable}
-use Rattle.schemelaws.proofs.Steps.{step-faces, step-count, refinable-steps, refinable-manifold}
+use Rattle.schemelaws.proofs.Steps.{step-faces, step-count, steps-count, refinable-steps, refinable-manifold}
 use Rattle.schemelaws.proofs.Growth.{steps-input}
 use Rattle.halfedges.specs.Tables.{MateTable}
 use Rattle.halfedges.proofs.Tables.{mates-cong}
@@ -29,9 +32,12 @@ use Rattle.classes.specs.Classes.{RingSizes, Classes, Countable}
 use Rattle.classes.proofs.Classes.{classes-counted, classes-same, classes-refined}
 use Rattle.refinedfaces.specs.Mates.{refinedMates}
 use Rattle.roundmates.specs.Mates.{MatesIn}
+use Rattle.origins.specs.Origins.{letterOf, originFrom}
+use Rattle.origins.proofs.Named.{origin-kept, origin-new}
+use Rattle.letters.specs.Letters.{newLetter, WrittenIf}
 use Rattle.rounds.specs.Round.{Current, Refines}
 use Rattle.nets.specs.Buffers.{Buffers, buffers, front}
-use Rattle.rounds.specs.Rounds.{Prepared, After}
+use Rattle.rounds.specs.Rounds.{Prepared, After, Lettered}
 use Rattle.rounds.proofs.Laws.{count-le, count-is, mates-ready, mates-next, mates-past}
 
 -- a list at the front of a table of its length is the whole
@@ -73,7 +79,7 @@ module _ (k v n last : ℕ) (t : Buffers) (ok : Prepared k v n last t) where
   classes-room : 8 * last + v ≤ length w
   classes-room = let o = once in let z = ok .size in let r = ok .roomWork in let q = ok .vertices in omega arith
 
-  sized : (i : ℕ) → i < k → 4 * (n * 4 ^ i) ≤ n * 4 ^ k
+  pub sized : (i : ℕ) → i < k → 4 * (n * 4 ^ i) ≤ n * 4 ^ k
   sized i h =
       let p : 4 ^ (i + 1) ≤ 4 ^ k = pow-le-pow-right {n = 4} (omega arith) (omega arith) in
       let g : n * 4 ^ (i + 1) ≤ n * 4 ^ k = mul-le-mul-left n p in
@@ -102,6 +108,12 @@ module _ (k v n last : ℕ) (t : Buffers) (ok : Prepared k v n last t) where
   pub classes-none : RingSizes v (8 * last) (take n faces) w → Classes v (8 * last) v (steps kobbelt 0 m .faces) w
   unfolding steps
   classes-none r = classes-counted v (8 * last) (take n faces) w classes-room r
+
+  vertices-here : length (m .marks) ≡ v
+  vertices-here = let o = once in let q = ok .vertices in let r = ok .roomMarks in length-take-le v marks (omega arith)
+
+  pub letters-none : (asked : Bool) (s : List ℕ) → Lettered asked 0 v v m s s
+  letters-none asked s o = record { all = λ _. written-none v (λ (i : ℕ). letterOf (originFrom kobbelt o m 0 i)) s; none = λ _. refl }
 
   pub mated-none : MateTable (steps kobbelt 0 m .faces) w
   unfolding steps
@@ -224,6 +236,28 @@ module _ (k v n last : ℕ) (t : Buffers) (ok : Prepared k v n last t) where
 
         pub after-next : After (i + 1) v n r₂ t t₂
         after-next = past w₂ refl refl
+
+        -- one round more of letters: old vertices keep theirs
+        pub letters-next : (asked : Bool) (s s₁ s₂ : List ℕ) → Lettered asked i v r m s s₁
+            → WrittenIf asked (length (take r marks₁)) (refinedVertices quads (length (take r marks₁)) (take (n * 4 ^ i) faces₁)) (newLetter (take (n * 4 ^ i) faces₁) (take r marks₁)) s₁ s₂
+            → Lettered asked (i + 1) v r₂ m s s₂
+        letters-next asked s s₁ s₂ x y o =
+            let old : Net = steps kobbelt i m in
+            let f : ℕ → ℕ = λ j. letterOf (originFrom kobbelt o m i j) in
+            let f₂ : ℕ → ℕ = λ j. letterOf (originFrom kobbelt o m (i + 1) j) in
+            let q : i + 1 ≡ suc i = omega arith in
+            let y₂ : WrittenIf asked (length (old .marks)) (refinedVertices quads (length (old .marks)) (old .faces)) (newLetter (old .faces) (old .marks)) s₁ s₂ =
+            subst (λ (b : Net). WrittenIf asked (length (b .marks)) (refinedVertices quads (length (b .marks)) (b .faces)) (newLetter (b .faces) (b .marks)) s₁ s₂) front-is y in
+            let c : refinedVertices quads (length (old .marks)) (old .faces) ≡ r₂ = sym (step-count kobbelt old) ∙ ap (λ (b : Net). length (step kobbelt b .marks)) (sym front-is) ∙ sym (e .count) in
+            let d = a .count in
+            let b : v ≤ r = omega (arith, vertices-here, steps-count kobbelt m i, vertices-after-ge (length (m .marks)) (m .faces) i) in
+            record {
+              all = λ u. written-on v r r₂ f₂ s s₁ s₂ b (omega arith)
+                  (written-as v r f f₂ s s₁ (λ j _ l. ap letterOf (sym (origin-kept kobbelt o m i j (omega arith)) ∙ ap (λ (h : ℕ). originFrom kobbelt o m h j) (sym q))) (x o .all u))
+                  (written-as r r₂ (newLetter (old .faces) (old .marks)) f₂ s₁ s₂ (λ j l _. ap letterOf (sym (origin-new kobbelt o m i j (omega arith)) ∙ ap (λ (h : ℕ). originFrom kobbelt o m h j) (sym q)))
+                  (subst (λ (j : ℕ). Written j r₂ (newLetter (old .faces) (old .marks)) s₁ s₂) (sym d) (subst (λ (j : ℕ). Written (length (old .marks)) j (newLetter (old .faces) (old .marks)) s₁ s₂) c (y₂ .all u))));
+              none = λ u. y₂ .none u ∙ x o .none u;
+            }
 
         pub ready-mates : MatesIn (n * 4 ^ i) w₂
         ready-mates = mates-ready r (n * 4 ^ i) (8 * last) v t₁ current w₂ z (e .mated)

@@ -1,5 +1,7 @@
 -- Rounds in the caller's tables.
 use mathlib.Core.Path.{_≡_}
+use mathlib.Core.Bool.{Bool, true}
+use mathlib.Core.List.{List}
 use Prim.Native.Nat.{ℕ, _*_, _^_, _≤_}
 use lib.ListN.{length, take, drop}
 use Rattle.curve.specs.Weights.{kobbelt}
@@ -8,7 +10,10 @@ use Rattle.scheme.specs.Step.{steps}
 use Rattle.schemelaws.specs.Nets.{Refinable}
 use Rattle.integers.specs.Within.{Within}
 use Rattle.halfedges.specs.Tables.{MateTable}
+use Rattle.nets.specs.Net.{Net}
 use Rattle.nets.specs.Buffers.{Buffers, front}
+use Rattle.origins.specs.Origins.{Origin, letterOf, originFrom}
+use Rattle.letters.specs.Letters.{WrittenIf}
 
 -- the net of v vertices and n corners at the front can be refined k times, to `last` faces, its mates stand in the work table, and all tables have room for the refined net
 pub record Prepared (k v n last : ℕ) (t : Buffers) : Type 0 where
@@ -35,3 +40,12 @@ pub record After (i v n r : ℕ) (t t′ : Buffers) : Type 0 where
   pub newMarks : t′ .marks ≡ filled (steps kobbelt i (front v n t) .marks) (t .marks)
   pub kept : length (t′ .work) ≡ length (t .work)
   pub rest : drop (3 * (n * 4 ^ i)) (t′ .work) ≡ drop (3 * (n * 4 ^ i)) (t .work)
+
+-- where letters are asked for, their table holds at least n
+abbrev pub LettersFit : Bool → (n : ℕ) → List ℕ → Type 0
+LettersFit asked n s = asked ≡ true → n ≤ length s
+
+-- the letter table s′ after k rounds on the net m, from s: where letters are asked for, those of the vertices from v up to r, which the rounds made; whatever the
+-- origins of the vertices of m
+abbrev pub Lettered : (asked : Bool) (k v r : ℕ) → Net → (s s′ : List ℕ) → Type 0
+Lettered asked k v r m s s′ = (o : ℕ → Origin) → WrittenIf asked v r (λ (i : ℕ). letterOf (originFrom kobbelt o m k i)) s s′

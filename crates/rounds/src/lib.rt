@@ -1,7 +1,9 @@
 // Rounds in the caller's tables: the net at their front is refined in place.
 ghost use Rattle.rounds.specs.Round.{Current, Refines};
+ghost use Prim.Native.Nat.{_*_, _^_};
+ghost use Rattle.nets.specs.Net.{frontNet};
 ghost use Rattle.nets.specs.Buffers.{buffers};
-ghost use Rattle.rounds.specs.Rounds.{Prepared, After};
+ghost use Rattle.rounds.specs.Rounds.{Prepared, After, LettersFit, Lettered};
 
 // One round on the net of v vertices and n corners at the front of the tables; the mates stay as they are, and the classes of the vertices, from `at` on.
 // The answer is the new number of vertices.
@@ -34,12 +36,14 @@ fn round(
     count
 }
 
-// k rounds, to `last` faces. The classes of the vertices are made once, past what rounds write; the mates are refined only where another round follows.
-// The answer is the final number of vertices.
+// k rounds, to `last` faces, with the letters of the new vertices where they are asked for. The classes of the vertices are made once, past what rounds write; the
+// mates are refined only where another round follows. The answer is the final number of vertices.
 pub fn rounds(
     points: &mut [i32],
     faces: &mut [u32],
     marks: &mut [u8],
+    with_letters: bool,
+    letters: &mut [u8],
     work: &mut [u32],
     v: usize,
     n: usize,
@@ -47,8 +51,10 @@ pub fn rounds(
     last: usize,
 ) -> usize
     requires { ⌜ Prepared k v n last (buffers (now points) (now faces) (now marks) (now work)) ⌝ }
+    requires { ⌜ LettersFit «with_letters» (n * 4 ^ k) (now letters) ⌝ }
     ensures { λ r. ⌜ After k v n r (buffers (now (points .entry)) (now (faces .entry)) (now (marks .entry)) (now (work .entry)))
         (buffers (now (points .exit)) (now (faces .exit)) (now (marks .exit)) (now (work .exit))) ⌝ }
+    ensures { λ r. ⌜ Lettered «with_letters» k v r (frontNet v n (now (points .entry)) (now (faces .entry)) (now (marks .entry))) (now (letters .entry)) (now (letters .exit)) ⌝ }
 {
     if k == 0 {
         return v;
@@ -59,6 +65,13 @@ pub fn rounds(
     let mut corners = n;
     let mut i = 0;
     while i < k {
+        letters::name_points(
+            with_letters,
+            &mut *letters,
+            &faces[..corners],
+            &marks[..count],
+            &*work,
+        );
         count = round(
             &mut *points,
             &mut *faces,

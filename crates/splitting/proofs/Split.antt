@@ -1,7 +1,7 @@
 -- The split net: its tables and their lengths, that drawn points and marks stay, and that it is refinable; and so the net where refining begins.
 use mathlib.Core.Path.{_≡_, refl, sym, ap, _∙_, subst}
 use mathlib.Core.List.{List, [], _∷_}
-use Prim.Native.Nat.{ℕ, _+_, _*_, _/_, _%_, _<_}
+use Prim.Native.Nat.{ℕ, _+_, _*_, _/_, _%_, _≤_, _<_}
 use native.Mathlib.Nat.{not-suc-le-zero}
 use native.Mathlib.Decide.{decLt}
 use native.Mathlib.Omega.{arith}
@@ -127,6 +127,21 @@ start-cases P m a b = go (decLt 0 (length (m .sides)))
     go : Dec (0 < length (m .sides)) → P (startNet m)
     go (yes c) = subst P (sym (start-split m c)) (b c)
     go (no c) = let e : length (m .sides) ≡ 0 = omega arith in subst P (sym (start-none m e)) (a e)
+
+-- the vertices of the control net are among its vertices
+pub start-grows : (m : ControlNet) → length (m .marks) ≤ length (startNet m .marks)
+start-grows m = start-cases (λ (n : Net). length (m .marks) ≤ length (n .marks)) m (λ _. omega arith) (λ _. omega (arith, split-count m))
+
+-- coordinates do not matter for its corners and marks
+pub start-faces : (v v′ : List ℤ) (l s marks : List ℕ) → startNet (controlNet v l s marks) .faces ≡ startNet (controlNet v′ l s marks) .faces
+unfolding startNet split
+start-faces v v′ l [] marks = refl
+start-faces v v′ l (c ∷ s) marks = refl
+
+pub start-marks : (v v′ : List ℤ) (l s marks : List ℕ) → startNet (controlNet v l s marks) .marks ≡ startNet (controlNet v′ l s marks) .marks
+unfolding startNet split
+start-marks v v′ l [] marks = refl
+start-marks v v′ l (c ∷ s) marks = refl
 
 pub start-refinable : (m : ControlNet) → Drawn m → Refinable (startNet m)
 start-refinable m ok = start-cases Refinable m (plain-refinable m ok) (λ b. split-refinable m ok)

@@ -1,4 +1,4 @@
--- Laws of tables written over in part, from the last place to the first, four numbers at a time. Assumes nothing.
+-- Laws of tables written over in part: a number or four at a time, from the first place on or from the last. Assumes nothing.
 use mathlib.Core.Path.{_≡_, refl, sym, ap, ap₂, _∙_}
 use mathlib.Core.List.{List}
 use Prim.Native.Nat.{ℕ, _+_, _-_, _*_, _/_, _%_, _≤_, _<_}
@@ -11,7 +11,7 @@ use Rattle.lists.proofs.Tabulate.{length-tabulate, getD-tabulate}
 use Rattle.lists.proofs.Parts.{joined}
 use Rattle.tables.specs.Tables.{filled, putFour, Written}
 
-written-none : (a : ℕ) (f : ℕ → ℕ) (w : List ℕ) → Written a a f w w
+pub written-none : (a : ℕ) (f : ℕ → ℕ) (w : List ℕ) → Written a a f w w
 written-none a f w = record {
   before = λ k h. refl;
   inside = λ k h g. let z : ⊥ = omega arith in absurd z;
@@ -30,6 +30,18 @@ written-then a b e f w w₁ w₂ ab be x y = record {
     go k h g (yes l) = y .inside k h l
     go k h g (no l) = y .behind k (omega arith) ∙ x .inside k (omega arith) g
 
+-- first up to b, then from b on
+pub written-on : (a b e : ℕ) (f : ℕ → ℕ) (w w₁ w₂ : List ℕ) → a ≤ b → b ≤ e → Written a b f w w₁ → Written b e f w₁ w₂ → Written a e f w w₂
+written-on a b e f w w₁ w₂ ab be x y = record {
+  before = λ k h. y .before k (omega arith) ∙ x .before k h;
+  inside = λ k h g. go k h g (decLt k b);
+  behind = λ k h. y .behind k h ∙ x .behind k (omega arith);
+}
+  where
+    go : (k : ℕ) → a ≤ k → k < e → Dec (k < b) → getD w₂ k 0 ≡ f k
+    go k h g (yes l) = y .before k l ∙ x .inside k h l
+    go k h g (no l) = y .inside k (omega arith) g
+
 pub written-as : (a e : ℕ) (f g : ℕ → ℕ) (w w′ : List ℕ) → ((k : ℕ) → a ≤ k → k < e → f k ≡ g k) → Written a e f w w′ → Written a e g w w′
 written-as a e f g w w′ s x = record {
   before = x .before;
@@ -37,7 +49,7 @@ written-as a e f g w w′ s x = record {
   behind = x .behind;
 }
 
-written-one : (i : ℕ) (f : ℕ → ℕ) (w : List ℕ) (x : ℕ) → i < length w → x ≡ f i → Written i (i + 1) f w (set w i x)
+pub written-one : (i : ℕ) (f : ℕ → ℕ) (w : List ℕ) (x : ℕ) → i < length w → x ≡ f i → Written i (i + 1) f w (set w i x)
 written-one i f w x h e = record {
   before = λ k l. getD-set-other w i k x 0 (omega arith);
   inside = λ k l g. let p : k ≡ i = omega arith in rw p (getD-set-same w i x 0 h ∙ e);
@@ -105,6 +117,15 @@ written-face G f w w₁ w₂ w₃ w₄ b p₁ p₂ p₃ p₄ =
     (written-then (16 * f + 4) (16 * f + 8) (16 * f + 16) g w w₂ w₃ (omega arith) (omega arith)
     (written-then (16 * f + 8) (16 * f + 12) (16 * f + 16) g w w₁ w₂ (omega arith) (omega arith) x₁ x₂) x₃) x₄
 
+-- from the front on
+pub written-all : (e : ℕ) (f : ℕ → ℕ) (w u : List ℕ) → e ≤ length w → length u ≡ length w → Written 0 e f w u → u ≡ filled (tabulate e f) w
+unfolding filled
+written-all e f w u h k x =
+    let t = length-tabulate e f in
+    joined 0 u (tabulate e f) w (omega arith) k
+    (λ i b. x .inside i (omega arith) (omega arith) ∙ sym (getD-tabulate e f i 0 (omega arith)))
+    (λ i b. x .behind i (omega arith))
+
 -- ---- a loop over faces, from the last to the first: of the 4n numbers of g over the front of w, those from 16f on are written in u
 pub record Refining (n : ℕ) (g : ℕ → ℕ) (w u : List ℕ) (f : ℕ) : Type 0 where
   pub le : 4 * f ≤ n
@@ -126,9 +147,4 @@ module _ (n : ℕ) (g : ℕ → ℕ) (w : List ℕ) where
       }
 
   pub refining-all : (u : List ℕ) (f : ℕ) → 4 * n ≤ length w → f ≤ 0 → Refining n g w u f → u ≡ filled (tabulate (4 * n) g) w
-  unfolding filled
-  refining-all u f h z x =
-      let t = length-tabulate (4 * n) g in
-      joined 0 u (tabulate (4 * n) g) w (omega arith) (x .kept)
-      (λ k b. x .written .inside k (omega arith) (omega arith) ∙ sym (getD-tabulate (4 * n) g k 0 (omega arith)))
-      (λ k b. x .written .behind k (omega arith))
+  refining-all u f h z x = let e : 16 * f ≡ 0 = omega arith in written-all (4 * n) g w u h (x .kept) (rw e at (x .written))

@@ -1,6 +1,6 @@
 -- Reading the text that a net is written as gives the net back. Assumes nothing.
 use mathlib.Core.Path.{_≡_, refl, ap, _∙_}
-use mathlib.Core.Bool.{true, false}
+use mathlib.Core.Bool.{Bool, true, false}
 use mathlib.Core.List.{List, [], _∷_, _++_, append-assoc, append-nil}
 use Prim.Native.Nat.{ℕ, _≤_}
 use lib.IntN.{ℤ}
@@ -11,7 +11,7 @@ use Rattle.decimal.specs.Decimal.{Read, found, isDigit, naturalText, integerTex
 use Rattle.decimal.proofs.Back.{natural-back, integer-back}
 use Rattle.text.specs.Bytes.{bytes}
 use Rattle.text.specs.Form.{Counts, Vertex, Face, Net, Names, input, marked, unmarked, corners, namesText, readNames, endedBy, coordinate, natural, readCounts, readVertex, readFace, rows, parsed, parseHead, parseBody, parse}
-use Rattle.text.specs.Text.{countsText, vertexText, faceText, texts, netText}
+use Rattle.text.specs.Text.{countsText, numbersText, vertexText, faceText, texts, netText}
 use Rattle.text.specs.Written.{CountsFit, VertexFits, FaceFits, Each, NetFits}
 
 -- ---- a number and the byte after it
@@ -30,7 +30,8 @@ module _ (e : ℕ) (d : isDigit e ≡ false) where
 -- ---- lines
 pub names-back : (n : Names) (rest : List ℕ) → readNames (namesText n ++ rest) ≡ found n rest
 unfolding readNames bytes
-names-back input rest = refl
+names-back (input false) rest = refl
+names-back (input true) rest = refl
 names-back marked rest = refl
 names-back unmarked rest = refl
 names-back corners rest = refl
@@ -42,7 +43,7 @@ counts-back n rest h =
     (rw (natural-field 32 refl 2147483647 (n .vertices) _ (h .vertices), natural-field 32 refl 2147483647 (n .faces) _ (h .faces), natural-field 10 refl 2147483647 (n .rounds) rest (h .rounds)))
 
 pub vertex-back : (v : Vertex) → VertexFits v → (rest : List ℕ) → readVertex true (vertexText v ++ rest) ≡ found v rest
-unfolding readVertex vertexText
+unfolding readVertex vertexText numbersText
 vertex-back v h rest =
     simp append-assoc
     (rw (integer-field 32 refl (v .x) _ (h .x), integer-field 32 refl (v .y) _ (h .y), integer-field 32 refl (v .z) _ (h .z), natural-field 10 refl 255 (v .mark) rest (h .mark)))
@@ -62,12 +63,13 @@ rows-back read text back (v ∷ vs) rest h =
     rw (append-assoc (text v) (texts text vs) rest, back v (h .0) (texts text vs ++ rest), rows-back read text back vs rest (h .1))
 
 -- ---- the whole text
-head-back : (n : Counts) (rest : List ℕ) → CountsFit n → parseHead (namesText input ++ (countsText n ++ (namesText marked ++ rest))) ≡ parsed (record { counts = n; marks = true }) rest
+head-back : (r : Bool) (n : Counts) (rest : List ℕ) → CountsFit n
+    → parseHead (namesText (input r) ++ (countsText n ++ (namesText marked ++ rest))) ≡ parsed (record { rule = r; counts = n; marks = true }) rest
 unfolding parseHead
-head-back n rest h = rw (names-back input (countsText n ++ (namesText marked ++ rest)), counts-back n (namesText marked ++ rest) h, names-back marked rest)
+head-back r n rest h = rw (names-back (input r) (countsText n ++ (namesText marked ++ rest)), counts-back n (namesText marked ++ rest) h, names-back marked rest)
 
 body-back : (n : Net) → NetFits n
-    → parseBody (record { counts = n .counts; marks = true }) (texts vertexText (n .vertices) ++ (namesText corners ++ (texts faceText (n .faces) ++ []))) ≡ parsed n []
+    → parseBody (record { rule = n .rule; counts = n .counts; marks = true }) (texts vertexText (n .vertices) ++ (namesText corners ++ (texts faceText (n .faces) ++ []))) ≡ parsed n []
 unfolding parseBody
 body-back n h =
     let k = namesText corners ++ (texts faceText (n .faces) ++ []) in
@@ -92,4 +94,4 @@ net-back n h =
     let f = append-nil (texts faceText (n .faces)) in
     rw (← f)
     (simp append-assoc
-    (rw (head-back (n .counts) (texts vertexText (n .vertices) ++ (namesText corners ++ (texts faceText (n .faces) ++ []))) (h .counts)) (body-back n h)))
+    (rw (head-back (n .rule) (n .counts) (texts vertexText (n .vertices) ++ (namesText corners ++ (texts faceText (n .faces) ++ []))) (h .counts)) (body-back n h)))

@@ -97,29 +97,34 @@ or-other n l other e = ap (λ (t : Bool). cond t (found n (drop (length (namesTe
 abbrev GivesNames : NamesLine → List ℕ → Type 0
 GivesNames r l = Gives namesOf namesUsed r l (readNames l)
 
-no-columns : (l : List ℕ) → startsWith (namesText input) l ≡ false → startsWith (namesText marked) l ≡ false → startsWith (namesText unmarked) l ≡ false → readNames l ≡ readOr corners l bad
+no-input : (l : List ℕ) → startsWith (namesText (input false)) l ≡ false → startsWith (namesText (input true)) l ≡ false → readNames l ≡ readOr marked l (readOr unmarked l (readOr corners l bad))
 unfolding readNames
-no-columns l e₁ e₂ e₃ = or-other input l _ e₁ ∙ or-other marked l _ e₂ ∙ or-other unmarked l _ e₃
+no-input l e₁ e₂ = or-other (input false) l _ e₁ ∙ or-other (input true) l _ e₂
 
 module _ {l : List ℕ} where
-  pub names-input : startsWith (namesText input) l ≡ true → GivesNames (names.Input 22) l
+  pub names-input : startsWith (namesText (input false)) l ≡ true → GivesNames (names.Input false 22) l
   unfolding bytes readNames
-  names-input e = record { reads = sym (or-found input l _ e); within = starts-length (namesText input) l e }
+  names-input e = record { reads = sym (or-found (input false) l _ e); within = starts-length (namesText (input false)) l e }
 
-  module _ (e₁ : startsWith (namesText input) l ≡ false) where
-    pub names-marked : startsWith (namesText marked) l ≡ true → GivesNames (names.Marked 13) l
+  module _ (e₁ : startsWith (namesText (input false)) l ≡ false) where
+    pub names-rule : startsWith (namesText (input true)) l ≡ true → GivesNames (names.Input true 27) l
     unfolding bytes readNames
-    names-marked e = record { reads = sym (or-other input l _ e₁ ∙ or-found marked l _ e); within = starts-length (namesText marked) l e }
+    names-rule e = record { reads = sym (or-other (input false) l _ e₁ ∙ or-found (input true) l _ e); within = starts-length (namesText (input true)) l e }
 
-    module _ (e₂ : startsWith (namesText marked) l ≡ false) where
-      pub names-unmarked : startsWith (namesText unmarked) l ≡ true → GivesNames (names.Unmarked 6) l
-      unfolding bytes readNames
-      names-unmarked e = record { reads = sym (or-other input l _ e₁ ∙ or-other marked l _ e₂ ∙ or-found unmarked l _ e); within = starts-length (namesText unmarked) l e }
+    module _ (e₂ : startsWith (namesText (input true)) l ≡ false) where
+      pub names-marked : startsWith (namesText marked) l ≡ true → GivesNames (names.Marked 13) l
+      unfolding bytes
+      names-marked e = record { reads = sym (no-input l e₁ e₂ ∙ or-found marked l _ e); within = starts-length (namesText marked) l e }
 
-      module _ (e₃ : startsWith (namesText unmarked) l ≡ false) where
-        pub names-corners : startsWith (namesText corners) l ≡ true → GivesNames (names.Corners 8) l
+      module _ (e₃ : startsWith (namesText marked) l ≡ false) where
+        pub names-unmarked : startsWith (namesText unmarked) l ≡ true → GivesNames (names.Unmarked 6) l
         unfolding bytes
-        names-corners e = record { reads = sym (no-columns l e₁ e₂ e₃ ∙ or-found corners l _ e); within = starts-length (namesText corners) l e }
+        names-unmarked e = record { reads = sym (no-input l e₁ e₂ ∙ or-other marked l _ e₃ ∙ or-found unmarked l _ e); within = starts-length (namesText unmarked) l e }
 
-        pub names-other : startsWith (namesText corners) l ≡ false → GivesNames names.Other l
-        names-other e = record { reads = sym (no-columns l e₁ e₂ e₃ ∙ or-other corners l _ e); within = omega arith }
+        module _ (e₄ : startsWith (namesText unmarked) l ≡ false) where
+          pub names-corners : startsWith (namesText corners) l ≡ true → GivesNames (names.Corners 8) l
+          unfolding bytes
+          names-corners e = record { reads = sym (no-input l e₁ e₂ ∙ or-other marked l _ e₃ ∙ or-other unmarked l _ e₄ ∙ or-found corners l _ e); within = starts-length (namesText corners) l e }
+
+          pub names-other : startsWith (namesText corners) l ≡ false → GivesNames names.Other l
+          names-other e = record { reads = sym (no-input l e₁ e₂ ∙ or-other marked l _ e₃ ∙ or-other unmarked l _ e₄ ∙ or-other corners l _ e); within = omega arith }

@@ -14,14 +14,14 @@ use Rattle.text.specs.declared.FaceLine.{FaceLine}
 use Rattle.text.specs.declared.FaceLine.the-variants as face
 
 abbrev pub namesOf : NamesLine → List ℕ → Read Names
-namesOf (names.Input n) l = found input (drop n l)
+namesOf (names.Input r n) l = found (input r) (drop n l)
 namesOf (names.Marked n) l = found marked (drop n l)
 namesOf (names.Unmarked n) l = found unmarked (drop n l)
 namesOf (names.Corners n) l = found corners (drop n l)
 namesOf names.Other l = bad
 
 abbrev pub namesUsed : NamesLine → ℕ
-namesUsed (names.Input n) = n
+namesUsed (names.Input r n) = n
 namesUsed (names.Marked n) = n
 namesUsed (names.Unmarked n) = n
 namesUsed (names.Corners n) = n

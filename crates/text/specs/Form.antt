@@ -27,18 +27,23 @@ pub record Face : Type 0 where
   pub c : ℕ
   pub d : ℕ
 
+-- a net, and whether its text asks for the letters of the answer
 pub record Net : Type 0 where
+  pub rule : Bool
   pub counts : Counts
   pub vertices : List Vertex
   pub faces : List Face
 
 -- ---- lines of names
 
+-- Paper 02: "prints the letter as a last column named `rule` if the first input line reads `vertices faces rounds rule`": that line is `input true`
 pub data Names : Type 0 where
-  input marked unmarked corners : Names
+  input : (rule : Bool) → Names
+  marked unmarked corners : Names
 
 abbrev pub namesText : Names → List ℕ
-namesText input = bytes "vertices faces rounds\n"
+namesText (input false) = bytes "vertices faces rounds\n"
+namesText (input true) = bytes "vertices faces rounds rule\n"
 namesText marked = bytes "x y z corner\n"
 namesText unmarked = bytes "x y z\n"
 namesText corners = bytes "a b c d\n"
@@ -53,28 +58,35 @@ abbrev pub readOr : Names → List ℕ → Read Names → Read Names
 readOr n l other = cond (startsWith (namesText n) l) (found n (drop (length (namesText n)) l)) other
 
 unfoldable pub readNames : List ℕ → Read Names
-readNames l = readOr input l (readOr marked l (readOr unmarked l (readOr corners l bad)))
+readNames l = readOr (input false) l (readOr (input true) l (readOr marked l (readOr unmarked l (readOr corners l bad))))
 
 abbrev pub isInput : Names → Bool
-isInput input = true
+isInput (input r) = true
 isInput marked = false
 isInput unmarked = false
 isInput corners = false
 
+-- the names ask for letters
+abbrev pub asksRule : Names → Bool
+asksRule (input r) = r
+asksRule marked = false
+asksRule unmarked = false
+asksRule corners = false
+
 abbrev pub isMarked : Names → Bool
-isMarked input = false
+isMarked (input r) = false
 isMarked marked = true
 isMarked unmarked = false
 isMarked corners = false
 
 abbrev pub isColumns : Names → Bool
-isColumns input = false
+isColumns (input r) = false
 isColumns marked = true
 isColumns unmarked = true
 isColumns corners = false
 
 abbrev pub isCorners : Names → Bool
-isCorners input = false
+isCorners (input r) = false
 isCorners marked = false
 isCorners unmarked = false
 isCorners corners = true
@@ -174,20 +186,22 @@ module _ {A : Type 0} where
   ended n v (b ∷ l) = badLine n
 
 pub record Head : Type 0 where
+  pub rule : Bool
   pub counts : Counts
   pub marks : Bool
 
+-- Paper 02: "the second line keeps its three numbers"
 unfoldable pub parseHead : List ℕ → Parsed Head
 parseHead l =
-    next (line 1 (only isInput (readNames l))) (λ _ l. next (line 2 (readCounts l)) (λ n l. next (line 3 (only isColumns (readNames l))) (λ c l.
-    parsed (record { counts = n; marks = isMarked c }) l)))
+    next (line 1 (only isInput (readNames l))) (λ i l. next (line 2 (readCounts l)) (λ n l. next (line 3 (only isColumns (readNames l))) (λ c l.
+    parsed (record { rule = asksRule i; counts = n; marks = isMarked c }) l)))
 
 unfoldable pub parseBody : Head → List ℕ → Parsed Net
 parseBody h l =
     next (lines 4 (h .counts .vertices) (rows (readVertex (h .marks)) (h .counts .vertices) l)) (λ vs l.
     next (line (4 + h .counts .vertices) (only isCorners (readNames l))) (λ _ l.
     next (lines (5 + h .counts .vertices) (h .counts .faces) (rows readFace (h .counts .faces) l)) (λ fs l.
-    ended (5 + h .counts .vertices + h .counts .faces) (record { counts = h .counts; vertices = vs; faces = fs }) l)))
+    ended (5 + h .counts .vertices + h .counts .faces) (record { rule = h .rule; counts = h .counts; vertices = vs; faces = fs }) l)))
 
 -- Paper 01: "It reads standard input: a line of names, then values in that order"
 unfoldable pub parse : List ℕ → Parsed Net

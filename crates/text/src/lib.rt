@@ -8,8 +8,9 @@ ghost use Rattle.decimal.specs.Answers.{Gives, GivesNumber, GivesInteger};
 ghost use Rattle.text.specs.Form.{startsWith, readNames, coordinate, natural, readCounts, readVertex, readFace};
 ghost use Rattle.text.specs.Answers.{namesOf, namesUsed, countsOf, countsUsed, vertexOf, vertexUsed, faceOf, faceUsed};
 
+// The first line with the word `rule` or without it; the names of the columns; those of the corners.
 pub enum NamesLine {
-    Input(usize),
+    Input { rule: bool, used: usize },
     Marked(usize),
     Unmarked(usize),
     Corners(usize),
@@ -69,7 +70,16 @@ pub fn read_names(text: &[u8]) -> NamesLine
     ensures { λ r. ⌜ Gives namesOf namesUsed r (now (text .entry)) (readNames (now (text .entry))) ⌝ }
 {
     if starts_with(text, b"vertices faces rounds\n") {
-        return NamesLine::Input(22);
+        return NamesLine::Input {
+            rule: false,
+            used: 22,
+        };
+    }
+    if starts_with(text, b"vertices faces rounds rule\n") {
+        return NamesLine::Input {
+            rule: true,
+            used: 27,
+        };
     }
     if starts_with(text, b"x y z corner\n") {
         return NamesLine::Marked(13);

@@ -1,6 +1,6 @@
 -- What an accepted call has, and that a call for fewer rounds is accepted too. Assumes nothing.
 use mathlib.Core.Path.{_≡_, refl}
-use mathlib.Core.Bool.{Bool, true, false, cond}
+use mathlib.Core.Bool.{Bool, true, false, cond, _&&_}
 use mathlib.Core.List.{List, [], _∷_}
 use Prim.Native.Nat.{ℕ, _*_, _/_, _%_, _^_, _≤_, _<_}
 use native.Mathlib.Nat.{pow-le-pow-right, mul-le-mul-left}
@@ -72,6 +72,7 @@ pub record WithinLimits (rounds : ℕ) (sides : List ℕ) (n : Lengths) : Type 0
   pub roomVertices : 12 * (quadrilaterals sides (n .corners) * 4 ^ rounds) ≤ n .room .vertices
   pub roomFaces : 4 * (quadrilaterals sides (n .corners) * 4 ^ rounds) ≤ n .room .faces
   pub roomMarks : 4 * (quadrilaterals sides (n .corners) * 4 ^ rounds) ≤ n .room .marks
+  pub roomLetters : n .room .asked ≡ true → 4 * (quadrilaterals sides (n .corners) * 4 ^ rounds) ≤ n .room .letters
   pub roomWork : 16 * (quadrilaterals sides (n .corners) * 4 ^ rounds) ≤ n .room .work
 
 -- corners by fours, or side counts that pass 14
@@ -90,6 +91,14 @@ sized-faces v f g e =
     let b = or-both (refusedIf 3 (ltb 4096 f)) (refusedIf 3 (ltb 262144 g)) (a .1) in
     ltb-false 4096 f (if-false 3 _ (b .0))
 
+-- letters that are asked for have room
+letters-if : (asked : Bool) (n least : ℕ) → (asked && ltb n least) ≡ false → asked ≡ true → least ≤ n
+letters-if asked n least e a = ltb-false n least (rw a at e)
+
+if-letters : (asked : Bool) (n least : ℕ) → (asked ≡ true → least ≤ n) → (asked && ltb n least) ≡ false
+if-letters true n least h = le-ltb n least (h refl)
+if-letters false n least h = refl
+
 module _ (k : ℕ) (s : List ℕ) (n : Lengths) where
   pub within-if : limitsVerdict k s n ≡ accepted → WithinLimits k s n
   unfolding limitsVerdict tablesVerdict sizeVerdict roomVerdict
@@ -105,6 +114,7 @@ module _ (k : ℕ) (s : List ℕ) (n : Lengths) where
       let d₁ = or-both _ _ (a₃ .1) in
       let d₂ = or-both _ _ (d₁ .1) in
       let d₃ = or-both _ _ (d₂ .1) in
+      let d₄ = or-both _ _ (d₃ .1) in
       record {
         few = ltb-false 6 k (if-false 1 _ (a₁ .0));
         points = eqb-true (n .coordinates % 3) 0 (not-false _ (if-false 2 _ (b₁ .0)));
@@ -116,7 +126,8 @@ module _ (k : ℕ) (s : List ℕ) (n : Lengths) where
         roomVertices = ltb-false (n .room .vertices) (12 * g) (if-false 4 _ (d₁ .0));
         roomFaces = ltb-false (n .room .faces) (4 * g) (if-false 4 _ (d₂ .0));
         roomMarks = ltb-false (n .room .marks) (4 * g) (if-false 4 _ (d₃ .0));
-        roomWork = ltb-false (n .room .work) (16 * g) (if-false 4 _ (d₃ .1));
+        roomLetters = letters-if (n .room .asked) (n .room .letters) (4 * g) (if-false 4 _ (d₄ .0));
+        roomWork = ltb-false (n .room .work) (16 * g) (if-false 4 _ (d₄ .1));
       }
 
   pub if-within : WithinLimits k s n → limitsVerdict k s n ≡ accepted
@@ -134,6 +145,7 @@ module _ (k : ℕ) (s : List ℕ) (n : Lengths) where
         le-ltb (n .room .vertices) (12 * g) (w .roomVertices),
         le-ltb (n .room .faces) (4 * g) (w .roomFaces),
         le-ltb (n .room .marks) (4 * g) (w .roomMarks),
+        if-letters (n .room .asked) (n .room .letters) (4 * g) (w .roomLetters),
         le-ltb (n .room .work) (16 * g) (w .roomWork),
       )
 
@@ -159,6 +171,7 @@ module _ (k : ℕ) (s : List ℕ) (n : Lengths) where
         roomVertices = omega arith;
         roomFaces = omega arith;
         roomMarks = omega arith;
+        roomLetters = λ a. let l = w .roomLetters a in omega arith;
         roomWork = omega arith;
       }
 

@@ -1,5 +1,6 @@
 -- Verdicts, computed: the cases of paper 01 on refusals. Assumes nothing.
 use mathlib.Core.Path.{_≡_, refl}
+use mathlib.Core.Bool.{Bool, true, false}
 use mathlib.Core.List.{List, [], _∷_}
 use Prim.Native.Nat.{ℕ, zero, suc}
 use lib.IntN.{ℤ, pos, negsuc}
@@ -15,7 +16,7 @@ use Rattle.verdict.specs.Call.{Room, room, lengths}
 use Rattle.verdict.specs.Verdict.{Verdict, accepted, refused, tablesVerdict, sizeVerdict, roomVerdict, limitsVerdict, badCoordinate, coordinatesVerdict, vertexVerdict, adjacencyVerdict, facesVerdict, shapeVerdict, netVerdict}
 
 abbrev ample : Room
-ample = room 4000000 4000000 4000000 5000000
+ample = room 4000000 4000000 4000000 false 0 5000000
 
 -- 64 faces at 6 rounds pass 3, 65 do not
 sixty-four : limitsVerdict 6 [] (lengths 300 256 100 ample) ≡ accepted
@@ -27,7 +28,7 @@ unfolding limitsVerdict tablesVerdict sizeVerdict roomVerdict
 sixty-five = refl
 
 -- the first that holds is given
-rounds-first : limitsVerdict 7 [] (lengths 301 257 5 (room 0 0 0 0)) ≡ refused 1 0
+rounds-first : limitsVerdict 7 [] (lengths 301 257 5 (room 0 0 0 true 0 0)) ≡ refused 1 0
 unfolding limitsVerdict tablesVerdict sizeVerdict roomVerdict
 rounds-first = refl
 
@@ -43,15 +44,23 @@ sided =
     ∷ limitsVerdict 0 (3 ∷ 5 ∷ []) (lengths 15 8 4 ample)
     ∷ limitsVerdict 6 (8 ∷ 8 ∷ 8 ∷ 8 ∷ 8 ∷ 8 ∷ 8 ∷ 8 ∷ []) (lengths 300 64 100 ample)
     ∷ limitsVerdict 6 (8 ∷ 8 ∷ 8 ∷ 8 ∷ 8 ∷ 8 ∷ 8 ∷ 5 ∷ 4 ∷ []) (lengths 300 65 100 ample)
-    ∷ limitsVerdict 0 (3 ∷ []) (lengths 9 3 3 (room 36 12 12 47))
+    ∷ limitsVerdict 0 (3 ∷ []) (lengths 9 3 3 (room 36 12 12 false 0 47))
     ∷ []
 
 sides : sided ≡ refused 14 0 ∷ refused 14 0 ∷ refused 14 0 ∷ refused 14 0 ∷ refused 1 0 ∷ refused 2 0 ∷ refused 2 0 ∷ accepted ∷ refused 3 0 ∷ refused 4 0 ∷ []
 unfolding limitsVerdict tablesVerdict sizeVerdict roomVerdict badSides badCount total firstFrom first any
 sides = refl
 
--- an empty net needs no room
-empty : limitsVerdict 6 [] (lengths 0 0 0 (room 0 0 0 0)) ≡ accepted
+-- a square, refined once: letters that are asked for need 4G bytes, and those that are not need none
+abbrev lettered : Bool → ℕ → Verdict
+lettered asked letters = limitsVerdict 1 [] (lengths 12 4 4 (room 48 16 16 asked letters 64))
+
+letters : lettered true 16 ∷ lettered true 15 ∷ lettered true 0 ∷ lettered false 15 ∷ lettered false 0 ∷ [] ≡ accepted ∷ refused 4 0 ∷ refused 4 0 ∷ accepted ∷ accepted ∷ []
+unfolding limitsVerdict tablesVerdict sizeVerdict roomVerdict
+letters = refl
+
+-- an empty net needs no room, with letters asked for too
+empty : limitsVerdict 6 [] (lengths 0 0 0 (room 0 0 0 true 0 0)) ≡ accepted
 unfolding limitsVerdict tablesVerdict sizeVerdict roomVerdict
 empty = refl
 

@@ -1,22 +1,25 @@
 -- A call as the caller makes it.
+use mathlib.Core.Bool.{Bool, true}
 use mathlib.Core.List.{List, [], _∷_}
 use Prim.Native.Nat.{ℕ, _*_, _/_, _^_}
 use lib.ListN.{length}
 use Rattle.nets.specs.Net.{Net, ControlNet}
 
--- how many numbers the output tables and the work table hold
+-- how many numbers the output tables and the work table hold; and whether letters are asked for, and how many bytes their table holds
 pub record Room : Type 0 where
   pub vertices : ℕ
   pub faces : ℕ
   pub marks : ℕ
+  pub asked : Bool
+  pub letters : ℕ
   pub work : ℕ
 
-abbrev pub room : (vertices faces marks work : ℕ) → Room
-room vertices faces marks work = record { vertices = vertices; faces = faces; marks = marks; work = work }
+abbrev pub room : (vertices faces marks : ℕ) (asked : Bool) (letters work : ℕ) → Room
+room vertices faces marks asked letters work = record { vertices = vertices; faces = faces; marks = marks; asked = asked; letters = letters; work = work }
 
--- "outputs of at least 12G coordinates, 4G corners and 4G marks, and a work table of at least 16G 32-bit numbers"
+-- "outputs of at least 12G coordinates, 4G corners and 4G marks, and a work table of at least 16G 32-bit numbers"; paper 02: "The lent letter table has 4G bytes"
 abbrev pub needed : (g : ℕ) → Room
-needed g = room (12 * g) (4 * g) (4 * g) (16 * g)
+needed g = room (12 * g) (4 * g) (4 * g) true (4 * g) (16 * g)
 
 -- the lengths of all tables of a call but that of the side counts, which is given whole where it matters
 pub record Lengths : Type 0 where

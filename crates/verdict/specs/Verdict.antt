@@ -1,6 +1,6 @@
 -- The verdict of the check on a call: refused with a number and a place, or accepted. The first refusal that holds is given, in this order: 1; 2 for the vertex
 -- table; 14 with side counts, without them 2 for the face table; 2 for the marks; 3; 4; 5 to 12. 15, which a refining call may get after them, is in `outcome`. "Places are the lowest number concerned."
-use mathlib.Core.Bool.{Bool, cond, not}
+use mathlib.Core.Bool.{Bool, cond, not, _&&_}
 use mathlib.Core.List.{List, [], _∷_}
 use Prim.Native.Nat.{ℕ, _*_, _/_, _%_, _^_}
 use lib.Dec.{eqb, ltb}
@@ -54,13 +54,14 @@ tablesVerdict coordinates corners sides marks =
 unfoldable pub sizeVerdict : (v f g : ℕ) → Verdict
 sizeVerdict v f g = orElse (refusedIf 3 (ltb 8192 v)) (orElse (refusedIf 3 (ltb 4096 f)) (refusedIf 3 (ltb 262144 g)))
 
--- 4: "an output or the work table shorter than stated"
+-- 4: "an output or the work table shorter than stated". Paper 02 on the letter table, where letters are asked for: "a shorter one counts among the outputs of 4"
 abbrev pub shorter : (room stated : Room) → Verdict
 shorter room stated =
     orElse (refusedIf 4 (ltb (room .vertices) (stated .vertices)))
     (orElse (refusedIf 4 (ltb (room .faces) (stated .faces)))
     (orElse (refusedIf 4 (ltb (room .marks) (stated .marks)))
-    (refusedIf 4 (ltb (room .work) (stated .work)))))
+    (orElse (refusedIf 4 (room .asked && ltb (room .letters) (stated .letters)))
+    (refusedIf 4 (ltb (room .work) (stated .work))))))
 
 unfoldable pub roomVerdict : (g : ℕ) → Room → Verdict
 roomVerdict g room = shorter room (needed g)

@@ -17,7 +17,7 @@ abbrev net : tie.Start → ControlNet
 net s = record { vertices = s .args .vertices .now; faces = s .args .faces .now; sides = s .args .sides .now; marks = s .args .marks .now }
 
 abbrev room : tie.Start → Room
-room s = record { vertices = s .args .out-vertices; faces = s .args .out-faces; marks = s .args .out-marks; work = length (s .args .work .now) }
+room s = record { vertices = s .args .out-vertices; faces = s .args .out-faces; marks = s .args .out-marks; asked = s .args .with-letters; letters = s .args .letters; work = length (s .args .work .now) }
 
 -- past the limits
 abbrev start : tie.Else1 → tie.Start

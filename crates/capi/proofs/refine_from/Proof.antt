@@ -23,9 +23,12 @@ same-length-3 c = search needs
 same-length-4 : tie.Need-same-length-4
 same-length-4 c = search needs
 
+same-length-5 : tie.Need-same-length-5
+same-length-5 c = search needs
+
 returns : tie.Need-returns
-returns c = rw (c .report-of .ensures) (ap refineExport (c .before .before .before .before .before .before .before .before .refine .ensures))
+returns c = rw (c .report-of .ensures) (ap refineExport (c .before .before .before .before .before .before .before .before .before .before .refine .ensures))
 
 pub refine-from-spec : {M : Type 1} → statement M
 refine-from-spec =
-    tie.close (tie.spec refine-requires report-of-requires same-length same-length-2 same-length-3 same-length-4 returns)
+    tie.close (tie.spec refine-requires report-of-requires same-length same-length-2 same-length-3 same-length-4 same-length-5 returns)

@@ -1,6 +1,6 @@
--- `printing::put_vertex` meets its contract: four fields in a row. Assumes nothing.
+-- `printing::put_vertex` meets its contract: four numbers in a row. Assumes nothing.
 use mir.Facts.{toZ-ofZ}
-use Rattle.text.specs.Text.{vertexText}
+use Rattle.text.specs.Text.{numbersText}
 use Rattle.printing.proofs.Writing.{in-row}
 use borrow.Author.Needs.{needs}
 use Rattle.printing.proofs.put_vertex.Statement.{statement}
@@ -15,14 +15,14 @@ put-i32-requires-2 c κs = search needs
 put-i32-requires-3 : tie.Need-put-i32-requires-3
 put-i32-requires-3 c κs = search needs
 
-put-u8-requires : tie.Need-put-u8-requires
-put-u8-requires c κs = search needs
+put-mark-requires : tie.Need-put-mark-requires
+put-mark-requires c κs = search needs
 
 same-length : tie.Need-same-length
 same-length c = search needs
 
 returns : tie.Need-returns
-unfolding vertexText
+unfolding numbersText
 returns c =
     let l = c .before .before in
     let k = l .before .before .before .before in
@@ -32,7 +32,7 @@ returns c =
     let fx = f .x in
     let fy = f .y in
     let fz = f .z in
-    simp toZ-ofZ at (in-row (in-row (in-row (i .put-i32 .ensures) (j .put-i322 .ensures)) (k .put-i323 .ensures)) (l .put-u8 .ensures))
+    simp toZ-ofZ at (in-row (in-row (in-row (i .put-i32 .ensures) (j .put-i322 .ensures)) (k .put-i323 .ensures)) (l .put-mark .ensures))
 
 pub put-vertex-spec : {M : Type 1} → statement M
-put-vertex-spec = tie.close (tie.spec put-i32-requires put-i32-requires-2 put-i32-requires-3 put-u8-requires same-length returns)
+put-vertex-spec = tie.close (tie.spec put-i32-requires put-i32-requires-2 put-i32-requires-3 put-mark-requires same-length returns)

@@ -1,6 +1,6 @@
 -- `printing::put_vertices` meets its contract. Assumes nothing.
 use mathlib.Core.Path.{_≡_, refl, _∙_}
-use Prim.Native.Nat.{_+_, _*_, _-_, _≤_}
+use Prim.Native.Nat.{_+_, _*_, _-_, _≤_, _<_}
 use native.Mathlib.Omega.{arith}
 use borrow.Author.Needs.{needs}
 use lib.IntN.{pos}
@@ -8,23 +8,33 @@ use mir.Syntax.{w32}
 use mir.Val.{SFits}
 use mir.Facts.{toZ-ofZ}
 use lib.ListN.{length, getD}
-use Rattle.text.specs.Text.{vertexText, texts}
-use Rattle.printing.specs.Tables.{vertexAt, verticesOf}
+use Rattle.text.specs.Text.{tracedText, texts}
+use Rattle.printing.specs.Tables.{tracedAt, tracedOf, endRoom}
 use Rattle.printing.specs.Lines.{Printed}
-use Rattle.printing.proofs.Writing.{lines-none, lines-more}
+use Rattle.printing.proofs.Writing.{in-row, lines-none, lines-more, line-room}
 use Rattle.printing.proofs.put_vertices.Statement.{statement}
 use Rattle.printing.proofs.put_vertices.Tie as tie
 
 -- the first i lines are printed
 abbrev Inv-loop : tie.InvT-loop
-Inv-loop out₀ at count vertices marks to₀ i₀ out to i = (i ≤ count) × (length out ≡ length out₀) × Printed out₀ out at to (texts vertexText (verticesOf i vertices marks)) (40 * i)
+Inv-loop out₀ at count vertices marks rule letters to₀ i₀ out to i = (i ≤ count) × (length out ≡ length out₀) × Printed out₀ out at to (texts (tracedText rule) (tracedOf i vertices marks letters)) ((39 + endRoom rule) * i)
 
 abbrev μ-loop : tie.MeasureT-loop
-μ-loop out₀ at count vertices marks to₀ i₀ out to i = count - i
+μ-loop out₀ at count vertices marks rule letters to₀ i₀ out to i = count - i
 
 loop-holds : tie.Need-loop-holds Inv-loop μ-loop
-unfolding verticesOf
-loop-holds c = let s = c .before .before in (omega arith, refl, lines-none vertexText (vertexAt (s .args .vertices .now) (s .args .marks .now)) 40 _ _)
+unfolding tracedOf
+loop-holds c =
+    let a = c .before .before .before .args in
+    (omega arith, refl, lines-none (tracedText (a .rule)) (tracedAt (a .vertices .now) (a .marks .now) (a .letters .now)) (39 + endRoom (a .rule)) _ _)
+
+-- room for line i
+room : (l : tie.At-loop Inv-loop μ-loop) → (let a = l .before .before .before .before .args in l .loop .i < a .count → l .loop .to + (39 + endRoom (a .rule)) ≤ length (l .loop .out))
+room l h =
+    let s = l .before .before .before .before in
+    let e = l .loop .inv .1 in
+    let r = line-room (39 + endRoom (s .args .rule)) (s .args .count) (l .loop .i) (s .args .at) (l .loop .to) _ (s .pre .0) (l .loop .inv .2 .within) h in
+    omega arith
 
 mul-x : tie.Need-mul-x Inv-loop μ-loop
 mul-x c = search needs
@@ -63,7 +73,20 @@ shared-slice-read-put-vertex : tie.Need-shared-slice-read-put-vertex Inv-loop μ
 shared-slice-read-put-vertex c = search needs
 
 put-vertex-requires : tie.Need-put-vertex-requires Inv-loop μ-loop
-put-vertex-requires c κs = search needs
+put-vertex-requires c κs =
+    let p = c .before .before .before .before .before in
+    let r = room (p .before) (p .loop-test .taken) in
+    omega arith
+
+put-end-requires : tie.Need-put-end-requires Inv-loop μ-loop
+put-end-requires c κs =
+    let v = c .before .before .before in
+    let p = v .before .before .before .before .before .before in
+    let s = p .before .before .before .before .before in
+    let r = room (p .before) (p .loop-test .taken) in
+    let w = v .put-vertex .ensures .within in
+    let k = v .put-vertex .kept .0 in
+    (omega arith, λ e. let h = s .pre .3 e in omega arith)
 
 add-i : tie.Need-add-i Inv-loop μ-loop
 add-i c = search needs
@@ -72,16 +95,19 @@ loop-less : tie.Need-loop-less Inv-loop μ-loop
 loop-less c = search needs
 
 loop-again : tie.Need-loop-again Inv-loop μ-loop
-unfolding verticesOf
+unfolding tracedOf tracedText
 loop-again c =
-    let p = c .before .before in
-    let l = p .before .before .before .before .before .before .before in
-    let s = l .before .before .before in
-    let fx : SFits w32 (getD (s .args .vertices .now) (3 * l .loop .i) (pos 0)) = search needs in
-    let fy : SFits w32 (getD (s .args .vertices .now) (3 * l .loop .i + 1) (pos 0)) = search needs in
-    let fz : SFits w32 (getD (s .args .vertices .now) (3 * l .loop .i + 2) (pos 0)) = search needs in
-    let w = simp toZ-ofZ at (p .put-vertex .ensures) in
-    (omega arith, p .put-vertex .kept .0 ∙ l .loop .inv .1, lines-more vertexText (vertexAt (s .args .vertices .now) (s .args .marks .now)) 40 (l .loop .i) (l .loop .inv .2) w)
+    let e = c .before .before in
+    let v = e .before .before .before .before in
+    let p = v .before .before .before .before .before .before in
+    let l = p .before in
+    let a = l .before .before .before .before .args in
+    let fx : SFits w32 (getD (a .vertices .now) (3 * l .loop .i) (pos 0)) = search needs in
+    let fy : SFits w32 (getD (a .vertices .now) (3 * l .loop .i + 1) (pos 0)) = search needs in
+    let fz : SFits w32 (getD (a .vertices .now) (3 * l .loop .i + 2) (pos 0)) = search needs in
+    let w = in-row (simp toZ-ofZ at (v .put-vertex .ensures)) (e .put-end .ensures) in
+    let more = lines-more (tracedText (a .rule)) (tracedAt (a .vertices .now) (a .marks .now) (a .letters .now)) (39 + endRoom (a .rule)) (l .loop .i) (l .loop .inv .2) w in
+    (omega (arith, p .loop-test .taken), e .put-end .kept .0 ∙ v .put-vertex .kept .0 ∙ l .loop .inv .1, more)
 
 same-length : tie.Need-same-length Inv-loop μ-loop
 same-length c = c .before .loop .inv .1
@@ -89,7 +115,7 @@ same-length c = c .before .loop .inv .1
 returns : tie.Need-returns Inv-loop μ-loop
 returns c =
     let l = c .before in
-    let e : l .loop .i ≡ l .before .before .before .args .count = omega arith in
+    let e : l .loop .i ≡ l .before .before .before .before .args .count = omega arith in
     rw (← e) (l .loop .inv .2)
 
 pub put-vertices-spec : {M : Type 1} → statement M
@@ -112,6 +138,7 @@ put-vertices-spec =
     shared-slice-copy-out-z
     shared-slice-read-put-vertex
     put-vertex-requires
+    put-end-requires
     add-i
     loop-less
     loop-again

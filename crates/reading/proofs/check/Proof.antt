@@ -29,7 +29,7 @@ returns c = head-refused (says (c .before .before .before .check-head .ensures) 
 returns-2 : tie.Need-returns-2
 returns-2 c =
     let v = c .before .before .before .before .before in
-    body-refused (v .vertices .given .0 .1 .1 .1 .1 .0) (says (v .before .before .check-head .ensures) (v .vertices .given .1)) (says (c .before .before .before .check-body .ensures) (c .before .n2 .given .1))
+    body-refused (v .vertices .given .0 .1 .1 .1 .1 .1 .0) (says (v .before .before .check-head .ensures) (v .vertices .given .1)) (says (c .before .before .before .check-body .ensures) (c .before .n2 .given .1))
 
 returns-3 : tie.Need-returns-3
 returns-3 c =

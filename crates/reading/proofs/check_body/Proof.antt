@@ -16,7 +16,7 @@ use Rattle.reading.proofs.check_body.Statement.{statement}
 use Rattle.reading.proofs.check_body.Tie as tie
 
 abbrev head : tie.Start → Head
-head s = headIs (s .args .vertices) (s .args .faces) (s .args .rounds) (s .args .marks)
+head s = headIs (s .args .vertices) (s .args .faces) (s .args .rounds) (s .args .rule) (s .args .marks)
 
 -- ---- the vertex lines, from `at` on
 abbrev begin : tie.After-count-vertices → tie.Start
@@ -89,8 +89,8 @@ part-count-vertices-end c = search needs
 count-vertices-requires : tie.Need-count-vertices-requires
 count-vertices-requires c κs = search needs
 
-add-t19 : tie.Need-add-t19
-add-t19 c =
+add-t20 : tie.Need-add-t20
+add-t20 c =
     let v = c .before .before .before in
     let a = begin v .args in
     let g = vertices-good v in
@@ -124,8 +124,8 @@ read-names-requires c κs = search needs
 enum-known-n : tie.Need-enum-known-n
 enum-known-n c = search needs
 
-add-t24 : tie.Need-add-t24
-add-t24 c = search needs
+add-t25 : tie.Need-add-t25
+add-t25 c = search needs
 
 returns-2 : tie.Need-returns-2
 returns-2 c =
@@ -151,11 +151,11 @@ part-count-faces-end c = search needs
 count-faces-requires : tie.Need-count-faces-requires
 count-faces-requires c κs = search needs
 
-add-t28 : tie.Need-add-t28
-add-t28 c = search needs
-
 add-t29 : tie.Need-add-t29
-add-t29 c =
+add-t29 c = search needs
+
+add-t30 : tie.Need-add-t30
+add-t30 c =
     let f = c .before .before .before in
     let s = args-of f in
     let g = faces-good f in
@@ -175,11 +175,11 @@ returns-3 c =
 add-if3 : tie.Need-add-if3
 add-if3 c = let w = faces-within (c .before .before .before) in omega arith
 
-add-t31 : tie.Need-add-t31
-add-t31 c = search needs
-
 add-t32 : tie.Need-add-t32
 add-t32 c = search needs
+
+add-t33 : tie.Need-add-t33
+add-t33 c = search needs
 
 returns-4 : tie.Need-returns-4
 returns-4 c =
@@ -209,7 +209,7 @@ check-body-spec =
     part-count-vertices-start
     part-count-vertices-end
     count-vertices-requires
-    add-t19
+    add-t20
     returns
     add-i
     sub-read-names
@@ -217,18 +217,18 @@ check-body-spec =
     part-read-names-end
     read-names-requires
     enum-known-n
-    add-t24
+    add-t25
     returns-2
     add-j
     sub-count-faces
     part-count-faces-start
     part-count-faces-end
     count-faces-requires
-    add-t28
     add-t29
+    add-t30
     returns-3
     add-if3
-    add-t31
     add-t32
+    add-t33
     returns-4
     returns-5)

@@ -15,22 +15,22 @@ use Rattle.reading.proofs.check_head.Statement.{statement}
 use Rattle.reading.proofs.check_head.Tie as tie
 
 -- the names line took i bytes
-abbrev begin : tie.After-i → tie.Start
+abbrev begin : tie.After-rule → tie.Start
 begin p = p .before .before .before .before
 
-names-given : (p : tie.After-i) → (let l = begin p .args .text .now in readNames l ≡ found input (drop (p .i .given .0 .0) l))
-names-given p = says (p .before .before .read-names .ensures) (p .i .given .1)
+names-given : (p : tie.After-rule) → (let l = begin p .args .text .now in let g = p .rule .given .0 in readNames l ≡ found (input (g .0)) (drop (g .1 .0) l))
+names-given p = says (p .before .before .read-names .ensures) (p .rule .given .1)
 
-names-within : (p : tie.After-i) → p .i .given .0 .0 ≤ length (begin p .args .text .now)
-names-within p = took (p .before .before .read-names .ensures) (p .i .given .1)
+names-within : (p : tie.After-rule) → p .rule .given .0 .1 .0 ≤ length (begin p .args .text .now)
+names-within p = took (p .before .before .read-names .ensures) (p .rule .given .1)
 
 -- and the line of counts more
-abbrev first : tie.After-vertices → tie.After-i
+abbrev first : tie.After-vertices → tie.After-rule
 first p = p .before .before .before .before .before
 
-counts : (p : tie.After-vertices) → (let i = first p in let g = p .vertices .given .0 in CountsRead (begin i .args .text .now) (i .i .given .0 .0) (g .0) (g .1 .0) (g .1 .1 .0) (g .1 .1 .1 .0))
+counts : (p : tie.After-vertices) → (let i = first p in let g = p .vertices .given .0 in CountsRead (begin i .args .text .now) (i .rule .given .0 .0) (i .rule .given .0 .1 .0) (g .0) (g .1 .0) (g .1 .1 .0) (g .1 .1 .1 .0))
 counts p =
-    let e = line-at readCounts (begin (first p) .args .text .now) (first p .i .given .0 .0) (p .before .before .read-counts .ensures) (p .vertices .given .1) (names-within (first p)) in
+    let e = line-at readCounts (begin (first p) .args .text .now) (first p .rule .given .0 .1 .0) (p .before .before .read-counts .ensures) (p .vertices .given .1) (names-within (first p)) in
     record { names = names-given (first p); counts = e .reads; within = e .within }
 
 -- the third line starts at j
@@ -38,7 +38,7 @@ abbrev second : tie.After-read-names2 → tie.After-vertices
 second p = p .before .before .before
 
 abbrev j : tie.After-read-names2 → ℕ
-j p = first (second p) .i .given .0 .0 + second p .vertices .given .0 .1 .1 .1 .0
+j p = first (second p) .rule .given .0 .1 .0 + second p .vertices .given .0 .1 .1 .1 .0
 
 columns : (p : tie.After-read-names2) {q : NamesLine} → p .read-names2 .result ≡ q → LineAt namesOf namesUsed readNames (begin (first (second p)) .args .text .now) (j p) q
 columns p e = line-at _ _ _ (p .read-names2 .ensures) e (counts (second p) .within)
@@ -46,8 +46,8 @@ columns p e = line-at _ _ _ (p .read-names2 .ensures) e (counts (second p) .with
 read-names-requires : tie.Need-read-names-requires
 read-names-requires c κs = search needs
 
-enum-known-i : tie.Need-enum-known-i
-enum-known-i c = search needs
+enum-known-rule : tie.Need-enum-known-rule
+enum-known-rule c = search needs
 
 returns : tie.Need-returns
 returns c = names-bad _ (not-input (c .before .read-names .result) _ (c .before .read-names .ensures) (c .match .keys2))
@@ -74,7 +74,7 @@ returns-2 : tie.Need-returns-2
 returns-2 c =
     let i = c .before .before .before .before .before in
     let r = c .before .before .read-counts .ensures in
-    counts-bad _ (i .i .given .0 .0) (names-given i) (says-at readCounts (begin i .args .text .now) (i .i .given .0 .0) r (c .enum-told .given .1))
+    counts-bad _ _ (i .rule .given .0 .1 .0) (names-given i) (says-at readCounts (begin i .args .text .now) (i .rule .given .0 .1 .0) r (c .enum-told .given .1))
 
 add-j : tie.Need-add-j
 add-j c = omega (arith, counts (c .before) .within)
@@ -94,14 +94,14 @@ read-names-requires-2 c κs = search needs
 enum-known-n : tie.Need-enum-known-n
 enum-known-n c = search needs
 
-add-t21 : tie.Need-add-t21
-add-t21 c = omega (arith, columns (c .before .before .before) (c .before .n .given .1) .within)
+add-t22 : tie.Need-add-t22
+add-t22 c = omega (arith, columns (c .before .before .before) (c .before .n .given .1) .within)
 
 enum-known-n-2 : tie.Need-enum-known-n-2
 enum-known-n-2 c = search needs
 
-add-t22 : tie.Need-add-t22
-add-t22 c = omega (arith, columns (c .before .before .before) (c .before .n2 .given .1) .within)
+add-t23 : tie.Need-add-t23
+add-t23 c = omega (arith, columns (c .before .before .before) (c .before .n2 .given .1) .within)
 
 enum-told-2 : tie.Need-enum-told-2
 enum-told-2 c = search needs
@@ -138,7 +138,7 @@ check-head-spec =
     tie.close
     (tie.spec
     read-names-requires
-    enum-known-i
+    enum-known-rule
     returns
     sub-read-counts
     part-read-counts-start
@@ -153,9 +153,9 @@ check-head-spec =
     part-read-names-end
     read-names-requires-2
     enum-known-n
-    add-t21
-    enum-known-n-2
     add-t22
+    enum-known-n-2
+    add-t23
     enum-told-2
     enum-told-3
     enum-told-4

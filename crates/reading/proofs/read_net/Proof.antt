@@ -22,16 +22,16 @@ pass p = form p .before .before
 
 read : (p : tie.After-refusal)
     → (let g = form p .v .given .0 in
-    FormRead (begin (pass p) .args .text .now) (g .0) (g .1 .0) (g .1 .1 .0) (g .1 .1 .1 .0) (g .1 .1 .1 .1 .0) (g .1 .1 .1 .1 .1 .0) (p .refusal .result))
+    FormRead (begin (pass p) .args .text .now) (g .0) (g .1 .0) (g .1 .1 .0) (g .1 .1 .1 .0) (g .1 .1 .1 .1 .0) (g .1 .1 .1 .1 .1 .0) (g .1 .1 .1 .1 .1 .1 .0) (p .refusal .result))
 read p =
     let l = begin (pass p) .args .text .now in
     let e = ap (λ (o : Checked). checkedOf o l) (form p .v .given .1) in
     record { short = pass p .before .if1 .left; form = sym e ∙ pass p .check .ensures .reads; verdict = p .refusal .ensures }
 
-vertices-start : (p : tie.After-refusal) → form p .v .given .0 .1 .1 .1 .1 .0 ≤ length (begin (pass p) .args .text .now)
+vertices-start : (p : tie.After-refusal) → form p .v .given .0 .1 .1 .1 .1 .1 .0 ≤ length (begin (pass p) .args .text .now)
 vertices-start p = subst (λ (o : Checked). verticesAt o ≤ length (begin (pass p) .args .text .now)) (form p .v .given .1) (pass p .check .ensures .vertices)
 
-faces-start : (p : tie.After-refusal) → form p .v .given .0 .1 .1 .1 .1 .1 .0 ≤ length (begin (pass p) .args .text .now)
+faces-start : (p : tie.After-refusal) → form p .v .given .0 .1 .1 .1 .1 .1 .1 .0 ≤ length (begin (pass p) .args .text .now)
 faces-start p = subst (λ (o : Checked). facesAt o ≤ length (begin (pass p) .args .text .now)) (form p .v .given .1) (pass p .check .ensures .faces)
 
 returns : tie.Need-returns

@@ -1,7 +1,11 @@
 -- `rounds::rounds` meets its contract: before each round the mates and the classes are those of its net. Assumes nothing.
-use mathlib.Core.Path.{_≡_, sym, _∙_}
+use mathlib.Core.Path.{_≡_, refl, sym, _∙_, subst}
 use Prim.Native.Nat.{ℕ, _+_, _-_, _*_, _^_, _≤_}
 use native.Mathlib.Omega.{arith}
+use lib.ListN.{length, take}
+use Rattle.topology.specs.Shape.{quads}
+use Rattle.refinedfaces.specs.Refined.{refinedVertices}
+use Rattle.letters.specs.Letters.{newLetter, WrittenIf}
 use Rattle.halfedges.specs.Tables.{MateTable}
 use Rattle.classes.specs.Classes.{Classes}
 use Rattle.curve.specs.Weights.{kobbelt}
@@ -9,26 +13,28 @@ use Rattle.scheme.specs.Step.{steps}
 use Rattle.nets.specs.Net.{frontNet}
 use Rattle.rounds.specs.Round.{Current, Refines}
 use Rattle.nets.specs.Buffers.{Buffers, buffers}
-use Rattle.rounds.specs.Rounds.{Prepared, After}
-use Rattle.rounds.proofs.Steps.{again, after-none, mated-none, classes-none, corners-room, corners-length, countable, prepared-classes, after-classes, kept-points, kept-faces, kept-marks, current, after-next, ready-mates, after-mates, mated-next, classes-next}
+use Rattle.rounds.specs.Rounds.{Prepared, After, Lettered}
+use Rattle.rounds.proofs.Laws.{corners, marked, nameable}
+use Rattle.rounds.proofs.Steps.{again, sized, after-none, letters-none, letters-next, mated-none, classes-none, corners-room, corners-length, countable, prepared-classes, after-classes, kept-points, kept-faces, kept-marks, current, after-next, ready-mates, after-mates, mated-next, classes-next}
 use Rattle.rounds.proofs.rounds.Statement.{statement}
 use Rattle.rounds.proofs.rounds.Tie as tie
 
 abbrev Inv-loop : tie.InvT-loop
-Inv-loop points₀ faces₀ marks₀ work₀ v n k last at count₀ corners₀ i₀ points faces marks work count corners i =
+Inv-loop points₀ faces₀ marks₀ asked letters₀ work₀ v n k last at count₀ corners₀ i₀ points faces marks letters work count corners i =
     (i ≤ k) × (corners ≡ n * 4 ^ i) × After i v n count (buffers points₀ faces₀ marks₀ work₀) (buffers points faces marks work)
     × MateTable (steps kobbelt i (frontNet v n points₀ faces₀ marks₀) .faces) work
     × Classes count (8 * last) v (steps kobbelt i (frontNet v n points₀ faces₀ marks₀) .faces) work
+    × Lettered asked i v count (frontNet v n points₀ faces₀ marks₀) letters₀ letters × (length letters ≡ length letters₀)
 
 abbrev μ-loop : tie.MeasureT-loop
-μ-loop points₀ faces₀ marks₀ work₀ v n k last at count₀ corners₀ i₀ points faces marks work count corners i = k - i
+μ-loop points₀ faces₀ marks₀ asked letters₀ work₀ v n k last at count₀ corners₀ i₀ points faces marks letters work count corners i = k - i
 
 abbrev lent : tie.Start Inv-loop μ-loop → Buffers
 lent s = buffers (s .args .points .now) (s .args .faces .now) (s .args .marks .now) (s .args .work .now)
 
 -- after the classes are made
 abbrev begun : tie.After-count-ring-sizes Inv-loop μ-loop → tie.Start Inv-loop μ-loop
-begun x = x .before .before .before .before .before .before .before
+begun x = x .before .before .before .before .before .before .before .before
 
 abbrev tables : tie.After-count-ring-sizes Inv-loop μ-loop → Buffers
 tables x = let s = begun x in buffers (s .args .points .now) (s .args .faces .now) (s .args .marks .now) (x .count-ring-sizes .last .1 .0)
@@ -36,14 +42,14 @@ tables x = let s = begun x in buffers (s .args .points .now) (s .args .faces .no
 ready : (x : tie.After-count-ring-sizes Inv-loop μ-loop) → (let s = begun x in Prepared (s .args .k) (s .args .v) (s .args .n) (s .args .last) (tables x))
 ready x =
     let s = begun x in
-    prepared-classes (s .args .k) (s .args .v) (s .args .n) (s .args .last) (lent s) (s .pre) _ (x .count-ring-sizes .kept .1 .0) (x .count-ring-sizes .ensures .1)
+    prepared-classes (s .args .k) (s .args .v) (s .args .n) (s .args .last) (lent s) (s .pre .0) _ (x .count-ring-sizes .kept .1 .0) (x .count-ring-sizes .ensures .1)
 
 -- all rounds made since then are all rounds
 since : (x : tie.After-count-ring-sizes Inv-loop μ-loop) (i r : ℕ) (t : Buffers) → i ≡ begun x .args .k
     → (let s = begun x in After i (s .args .v) (s .args .n) r (tables x) t → After (s .args .k) (s .args .v) (s .args .n) r (lent s) t)
 since x i r t e =
     let s = begun x in
-    after-classes (s .args .k) (s .args .v) (s .args .n) (s .args .last) (lent s) (s .pre) _ (x .count-ring-sizes .kept .1 .0) (x .count-ring-sizes .ensures .1) i r t e
+    after-classes (s .args .k) (s .args .v) (s .args .n) (s .args .last) (lent s) (s .pre .0) _ (x .count-ring-sizes .kept .1 .0) (x .count-ring-sizes .ensures .1) i r t e
 
 -- before a round
 abbrev counted : tie.At-loop Inv-loop μ-loop → tie.After-count-ring-sizes Inv-loop μ-loop
@@ -63,9 +69,12 @@ open-round y =
     let h = x .loop in
     current (s .args .k) (s .args .v) (s .args .n) (s .args .last) (tables (counted x)) (ready (counted x)) (h .i) (h .count) (held x) (h .inv .2) (h .inv .3) (h .inv .4) (y .loop-test .taken)
 
--- after it
+-- after its letters, and after it
+abbrev named : tie.After-round Inv-loop μ-loop → tie.After-name-points Inv-loop μ-loop
+named z = z .before .before .before .before .before .before .before
+
 abbrev turn : tie.After-round Inv-loop μ-loop → tie.In-loop Inv-loop μ-loop
-turn z = z .before .before .before .before .before
+turn z = named z .before .before .before .before .before
 
 abbrev top : tie.After-round Inv-loop μ-loop → tie.At-loop Inv-loop μ-loop
 top z = turn z .before
@@ -86,27 +95,43 @@ done z =
     after-next (s .args .k) (s .args .v) (s .args .n) (s .args .last) (tables (counted x)) (ready (counted x)) (h .i) (h .count) (held x) (h .inv .2) (h .inv .3) (h .inv .4) (turn z .loop-test .taken) _ (made z)
     (refined z) (z .round .kept .1 .1 .1 .0)
 
+-- the letters then
+lettered : (z : tie.After-round Inv-loop μ-loop)
+    → (let x = top z in let s = start x in Lettered (s .args .with-letters) (x .loop .i + 1) (s .args .v) (z .round .result) (frontNet (s .args .v) (s .args .n) (s .args .points .now) (s .args .faces .now) (s .args .marks .now)) (s .args .letters .now) (named z .name-points .last .1 .0))
+lettered z =
+    let x = top z in
+    let s = start x in
+    let h = x .loop in
+    let e : h .corners ≡ s .args .n * 4 ^ h .i = h .inv .1 in
+    letters-next (s .args .k) (s .args .v) (s .args .n) (s .args .last) (tables (counted x)) (ready (counted x)) (h .i) (h .count) (held x) (h .inv .2) (h .inv .3) (h .inv .4) (turn z .loop-test .taken) _ (made z)
+    (refined z) (z .round .kept .1 .1 .1 .0) (s .args .with-letters) (s .args .letters .now) (h .letters) _ (h .inv .5)
+    (subst (λ (j : ℕ). let l = take j (h .faces) in let ms = take (h .count) (h .marks) in WrittenIf (s .args .with-letters) (length ms) (refinedVertices quads (length ms) l) (newLetter l ms) (h .letters) (named z .name-points .last .1 .0)) e
+    (named z .name-points .ensures))
+
 returns : tie.Need-returns Inv-loop μ-loop
 returns c =
-    let s = c .before .before .before .before in
+    let s = c .before .before .before .before .before in
     let e : s .args .k ≡ 0 = c .if1 .taken in
-    rw e (after-none (s .args .k) (s .args .v) (s .args .n) (s .args .last) (lent s) (s .pre))
+    rw e (
+      after-none (s .args .k) (s .args .v) (s .args .n) (s .args .last) (lent s) (s .pre .0),
+      letters-none (s .args .k) (s .args .v) (s .args .n) (s .args .last) (lent s) (s .pre .0) (s .args .with-letters) (s .args .letters .now),
+    )
 
 mul-at : tie.Need-mul-at Inv-loop μ-loop
-mul-at c = let s = c .before .before .before .before in let z = s .pre .size in let e = s .pre .final in omega arith
+mul-at c = let s = c .before .before .before .before .before in let z = s .pre .0 .size in let e = s .pre .0 .final in omega arith
 
 slice-reshare-prefix-count-ring-sizes : tie.Need-slice-reshare-prefix-count-ring-sizes Inv-loop μ-loop
-slice-reshare-prefix-count-ring-sizes c = let s = c .before .before .before .before in corners-room (s .args .k) (s .args .v) (s .args .n) (s .args .last) (lent s) (s .pre)
+slice-reshare-prefix-count-ring-sizes c = let s = c .before .before .before .before .before in corners-room (s .args .k) (s .args .v) (s .args .n) (s .args .last) (lent s) (s .pre .0)
 
 slice-aggregate-count-ring-sizes : tie.Need-slice-aggregate-count-ring-sizes Inv-loop μ-loop
-slice-aggregate-count-ring-sizes c = let s = c .before .before .before .before .before in sym (corners-length (s .args .k) (s .args .v) (s .args .n) (s .args .last) (lent s) (s .pre))
+slice-aggregate-count-ring-sizes c = let s = c .before .before .before .before .before .before in sym (corners-length (s .args .k) (s .args .v) (s .args .n) (s .args .last) (lent s) (s .pre .0))
 
 count-ring-sizes-requires : tie.Need-count-ring-sizes-requires Inv-loop μ-loop
 count-ring-sizes-requires c κs =
     let y = c .before .before in
-    let s = y .before .before .before .before in
+    let s = y .before .before .before .before .before in
     let e = y .if1 .left in
-    countable (s .args .k) (s .args .v) (s .args .n) (s .args .last) (lent s) (s .pre) (omega arith)
+    countable (s .args .k) (s .args .v) (s .args .n) (s .args .last) (lent s) (s .pre .0) (omega arith)
 
 loop-holds : tie.Need-loop-holds Inv-loop μ-loop
 loop-holds c =
@@ -117,17 +142,50 @@ loop-holds c =
       after-none (s .args .k) (s .args .v) (s .args .n) (s .args .last) (tables x) (ready x),
       mated-none (s .args .k) (s .args .v) (s .args .n) (s .args .last) (tables x) (ready x),
       classes-none (s .args .k) (s .args .v) (s .args .n) (s .args .last) (tables x) (ready x) (x .count-ring-sizes .ensures .0),
+      letters-none (s .args .k) (s .args .v) (s .args .n) (s .args .last) (tables x) (ready x) (s .args .with-letters) (s .args .letters .now),
+      refl,
     )
+
+slice-reshare-prefix-name-points : tie.Need-slice-reshare-prefix-name-points Inv-loop μ-loop
+slice-reshare-prefix-name-points c = let y = c .before in let e = y .before .loop .inv .1 in omega (arith, open-round y .roomFaces)
+
+slice-aggregate-name-points : tie.Need-slice-aggregate-name-points Inv-loop μ-loop
+slice-aggregate-name-points c =
+    let y = c .before .before in
+    let x = y .before in
+    let h = x .loop in
+    let e : h .corners ≡ start x .args .n * 4 ^ h .i = h .inv .1 in
+    rw e (sym (corners (h .count) _ (8 * start x .args .last) (start x .args .v) (held x) (open-round y)))
+
+slice-reshare-prefix-name-points-2 : tie.Need-slice-reshare-prefix-name-points-2 Inv-loop μ-loop
+slice-reshare-prefix-name-points-2 c = let y = c .before .before in omega (arith, open-round y .roomMarks, open-round y .vertices)
+
+slice-aggregate-name-points-2 : tie.Need-slice-aggregate-name-points-2 Inv-loop μ-loop
+slice-aggregate-name-points-2 c =
+    let y = c .before .before .before in
+    let x = y .before in
+    sym (marked (x .loop .count) _ (8 * start x .args .last) (start x .args .v) (held x) (open-round y))
+
+name-points-requires : tie.Need-name-points-requires Inv-loop μ-loop
+name-points-requires c κs =
+    let y = c .before .before .before .before in
+    let x = y .before in
+    let s = start x in
+    let h = x .loop in
+    let e : h .corners ≡ s .args .n * 4 ^ h .i = h .inv .1 in
+    let r = sized (s .args .k) (s .args .v) (s .args .n) (s .args .last) (lent s) (s .pre .0) (h .i) (y .loop-test .taken) in
+    let l = h .inv .6 in
+    λ a. rw e (nameable (h .count) _ (8 * s .args .last) (s .args .v) (held x) (open-round y) (h .letters) (omega (arith, s .pre .1 a)))
 
 round-requires : tie.Need-round-requires Inv-loop μ-loop
 round-requires c κs =
-    let y = c .before .before .before .before in
+    let y = c .before .before .before .before .before .before .before .before .before .before .before in
     let x = y .before in
     let e : x .loop .corners ≡ start x .args .n * 4 ^ x .loop .i = x .loop .inv .1 in
     rw e (open-round y)
 
 add-i : tie.Need-add-i Inv-loop μ-loop
-add-i c = let y = turn (c .before .before .before .before .before .before .before) in let b = y .loop-test .taken in let q = start (y .before) .pre .few in omega arith
+add-i c = let y = turn (c .before .before .before .before .before .before .before) in let b = y .loop-test .taken in let q = start (y .before) .pre .0 .few in omega arith
 
 same-length : tie.Need-same-length Inv-loop μ-loop
 same-length c =
@@ -154,13 +212,17 @@ same-length-3 c =
     kept-marks (s .args .k) (s .args .v) (s .args .n) (s .args .last) (tables (counted x)) (ready (counted x)) _ _ (made z) (done z) (omega arith)
 
 same-length-4 : tie.Need-same-length-4 Inv-loop μ-loop
-same-length-4 c = let z = c .before .before .before .before .before .before .before .before in done z .kept ∙ counted (top z) .count-ring-sizes .kept .1 .0
+same-length-4 c = let z = c .before .before .before .before .before .before .before .before in named z .name-points .kept .1 .0 ∙ top z .loop .inv .6
+
+same-length-5 : tie.Need-same-length-5 Inv-loop μ-loop
+same-length-5 c = let z = c .before .before .before .before .before .before .before .before in done z .kept ∙ counted (top z) .count-ring-sizes .kept .1 .0
 
 returns-2 : tie.Need-returns-2 Inv-loop μ-loop
 returns-2 c =
     let z = c .before .before .before .before .before .before .before .before in
     let x = top z in
-    since (counted x) (x .loop .i + 1) (z .round .result) (made z) (let t = c .if2 .taken in omega arith) (done z)
+    let e : x .loop .i + 1 ≡ start x .args .k = let t = c .if2 .taken in omega arith in
+    (since (counted x) (x .loop .i + 1) (z .round .result) (made z) e (done z), rw (sym e) (lettered z))
 
 refine-mates-requires : tie.Need-refine-mates-requires Inv-loop μ-loop
 refine-mates-requires c κs =
@@ -204,38 +266,44 @@ loop-again c =
       after-mates (s .args .k) (s .args .v) (s .args .n) (s .args .last) (tables (counted x)) (ready (counted x)) (h .i) (h .count) (held x) (h .inv .2) (h .inv .3) (h .inv .4) b _ (made z) (refined z) k _ y d,
       mated-next (s .args .k) (s .args .v) (s .args .n) (s .args .last) (tables (counted x)) (ready (counted x)) (h .i) (h .count) (held x) (h .inv .2) (h .inv .3) (h .inv .4) b _ (made z) (refined z) k _ y d,
       classes-next (s .args .k) (s .args .v) (s .args .n) (s .args .last) (tables (counted x)) (ready (counted x)) (h .i) (h .count) (held x) (h .inv .2) (h .inv .3) (h .inv .4) b _ (made z) (refined z) k _ y d,
+      lettered z,
+      named z .name-points .kept .1 .0 ∙ h .inv .6,
     )
 
 -- after the last round
-same-length-5 : tie.Need-same-length-5 Inv-loop μ-loop
-same-length-5 c =
-    let x = c .before in
-    let s = start x in
-    let h = x .loop in
-    kept-points (s .args .k) (s .args .v) (s .args .n) (s .args .last) (tables (counted x)) (ready (counted x)) (h .i) (h .count) (held x) (h .inv .2) (h .inv .0)
-
 same-length-6 : tie.Need-same-length-6 Inv-loop μ-loop
 same-length-6 c =
     let x = c .before in
     let s = start x in
     let h = x .loop in
-    kept-faces (s .args .k) (s .args .v) (s .args .n) (s .args .last) (tables (counted x)) (ready (counted x)) (h .i) (h .count) (held x) (h .inv .2) (h .inv .0)
+    kept-points (s .args .k) (s .args .v) (s .args .n) (s .args .last) (tables (counted x)) (ready (counted x)) (h .i) (h .count) (held x) (h .inv .2) (h .inv .0)
 
 same-length-7 : tie.Need-same-length-7 Inv-loop μ-loop
 same-length-7 c =
     let x = c .before in
     let s = start x in
     let h = x .loop in
-    kept-marks (s .args .k) (s .args .v) (s .args .n) (s .args .last) (tables (counted x)) (ready (counted x)) (h .i) (h .count) (held x) (h .inv .2) (h .inv .0)
+    kept-faces (s .args .k) (s .args .v) (s .args .n) (s .args .last) (tables (counted x)) (ready (counted x)) (h .i) (h .count) (held x) (h .inv .2) (h .inv .0)
 
 same-length-8 : tie.Need-same-length-8 Inv-loop μ-loop
-same-length-8 c = let x = c .before in x .loop .inv .2 .kept ∙ counted x .count-ring-sizes .kept .1 .0
+same-length-8 c =
+    let x = c .before in
+    let s = start x in
+    let h = x .loop in
+    kept-marks (s .args .k) (s .args .v) (s .args .n) (s .args .last) (tables (counted x)) (ready (counted x)) (h .i) (h .count) (held x) (h .inv .2) (h .inv .0)
+
+same-length-9 : tie.Need-same-length-9 Inv-loop μ-loop
+same-length-9 c = c .before .loop .inv .6
+
+same-length-10 : tie.Need-same-length-10 Inv-loop μ-loop
+same-length-10 c = let x = c .before in x .loop .inv .2 .kept ∙ counted x .count-ring-sizes .kept .1 .0
 
 returns-3 : tie.Need-returns-3 Inv-loop μ-loop
 returns-3 c =
     let x = c .before in
     let h = x .loop in
-    since (counted x) (h .i) (h .count) (held x) (let a = h .inv .0 in let b = c .loop-test .left in omega arith) (h .inv .2)
+    let e : h .i ≡ start x .args .k = let a = h .inv .0 in let b = c .loop-test .left in omega arith in
+    (since (counted x) (h .i) (h .count) (held x) e (h .inv .2), rw (sym e) (h .inv .5))
 
 pub rounds-spec : {M : Type 1} → statement M
 rounds-spec =
@@ -249,19 +317,26 @@ rounds-spec =
     slice-aggregate-count-ring-sizes
     count-ring-sizes-requires
     loop-holds
+    slice-reshare-prefix-name-points
+    slice-aggregate-name-points
+    slice-reshare-prefix-name-points-2
+    slice-aggregate-name-points-2
+    name-points-requires
     round-requires
     add-i
     same-length
     same-length-2
     same-length-3
     same-length-4
+    same-length-5
     returns-2
     refine-mates-requires
     mul-corners
     loop-less
     loop-again
-    same-length-5
     same-length-6
     same-length-7
     same-length-8
+    same-length-9
+    same-length-10
     returns-3)

@@ -1,0 +1,80 @@
+-- Letters, computed. Assumes nothing.
+use mathlib.Core.Path.{_≡_, refl}
+use mathlib.Core.List.{List, [], _∷_, _++_}
+use Prim.Native.Nat.{ℕ, zero, suc, _+_, _*_, _/_, _%_}
+use lib.IntN.{ℤ, pos}
+use lib.ListN.{replicate}
+use Rattle.lists.specs.Tabulate.{tabulate}
+use Rattle.search.specs.Search.{firstFrom, first, count, iterate}
+use Rattle.curve.specs.Weights.{kobbelt}
+use Rattle.topology.specs.Shape.{quads}
+use Rattle.topology.specs.HalfEdge.{from, to, opposed, mate, firstMet, edgeCount, edge, edgeAt}
+use Rattle.topology.specs.Quads.{across, beyond}
+use Rattle.polygons.specs.Polygons.{sideAfter, sideBefore, faceThen, noFace, polygons, shapeOf}
+use Rattle.refinedfaces.specs.Refined.{corner, refined, refinedMarks}
+use Rattle.nets.specs.Net.{ControlNet, controlNet, marked}
+use Rattle.scheme.specs.Points.{edgeRule, inner, fourInner, faceRule}
+use Rattle.scheme.specs.Step.{step, steps}
+use Rattle.splitting.specs.Splitting.{split, startNet}
+use Rattle.origins.specs.Origins.{letterOf, madeBy, newRule, startOrigin, originFrom, originAfter, letters, faceOrigin}
+
+-- a square with these side counts and marks; letters see no coordinates
+abbrev square : (sides marks : List ℕ) → ControlNet
+square sides marks = controlNet (replicate 12 (pos 0)) (0 ∷ 1 ∷ 2 ∷ 3 ∷ []) sides marks
+
+-- "VVVVMMMME" and so on
+abbrev computed : List (List ℕ)
+computed =
+    letters kobbelt (square [] (replicate 4 1)) 1
+    ∷ letters kobbelt (square [] (replicate 4 0)) 1
+    ∷ letters kobbelt (square [] (1 ∷ 0 ∷ 0 ∷ 0 ∷ [])) 1
+    ∷ letters kobbelt (square (4 ∷ []) (replicate 4 1)) 0
+    ∷ letters kobbelt (square [] (replicate 4 1)) 0
+    ∷ []
+
+abbrev stated : List (List ℕ)
+stated =
+    (replicate 4 86 ++ (replicate 4 77 ++ (69 ∷ [])))
+    ∷ (replicate 4 86 ++ (replicate 4 65 ++ (69 ∷ [])))
+    ∷ (replicate 4 86 ++ (66 ∷ 65 ∷ 65 ∷ 66 ∷ 69 ∷ []))
+    ∷ (replicate 4 86 ++ replicate 5 83)
+    ∷ replicate 4 86
+    ∷ []
+
+squares : computed ≡ stated
+unfolding tabulate firstFrom first count iterate quads from to opposed mate firstMet edgeCount edge edgeAt across beyond sideAfter sideBefore faceThen noFace polygons shapeOf corner refined refinedMarks marked edgeRule inner fourInner faceRule step steps split startNet newRule startOrigin originFrom originAfter letters
+squares = refl
+
+-- after two rounds: old letters, then an end edge on each side of a marked corner, inner edges, and four faces without a direction of four inner edges
+twice : letters kobbelt (square [] (replicate 4 1)) 2 ≡ replicate 4 86 ++ (replicate 4 77 ++ (69 ∷ (66 ∷ 67 ∷ 67 ∷ 66 ∷ 66 ∷ 67 ∷ 66 ∷ 66 ∷ 67 ∷ 66 ∷ 66 ∷ 66 ∷ replicate 4 69)))
+unfolding tabulate firstFrom first count iterate quads from to opposed mate firstMet edgeCount edge edgeAt across beyond corner refined refinedMarks marked edgeRule inner fourInner faceRule step steps startNet newRule startOrigin originFrom originAfter letters
+twice = refl
+
+-- ---- D and E: the faces of a grid of a by b squares, row by row
+abbrev gridCorner : ℕ → ℕ → ℕ → ℕ
+gridCorner a f zero = f + f / a
+gridCorner a f (suc zero) = f + f / a + 1
+gridCorner a f (suc (suc zero)) = f + f / a + a + 2
+gridCorner a f (suc (suc (suc j))) = f + f / a + a + 1
+
+abbrev grid : (a b : ℕ) → List ℕ
+grid a b = tabulate (4 * (a * b)) (λ (g : ℕ). gridCorner a (g / 4) (g % 4))
+
+abbrev gridLetters : (a b : ℕ) → List ℕ
+gridLetters a b = tabulate (a * b) (λ (f : ℕ). letterOf (madeBy (faceOrigin (faceRule (grid a b) f))))
+
+-- a row with one D in its middle
+abbrev middle : List ℕ → List ℕ
+middle l = 69 ∷ 69 ∷ 68 ∷ 69 ∷ 69 ∷ l
+
+three-by-three : gridLetters 3 3 ≡ replicate 9 69
+unfolding tabulate firstFrom first quads from to opposed mate across beyond inner fourInner faceRule
+three-by-three = refl
+
+five-by-three : gridLetters 5 3 ≡ middle (middle (middle []))
+unfolding tabulate firstFrom first quads from to opposed mate across beyond inner fourInner faceRule
+five-by-three = refl
+
+five-by-five : gridLetters 5 5 ≡ middle (middle (replicate 5 68 ++ middle (middle [])))
+unfolding tabulate firstFrom first quads from to opposed mate across beyond inner fourInner faceRule
+five-by-five = refl

@@ -1,0 +1,3 @@
+mod Examples
+pub mod Named
+pub mod Letters

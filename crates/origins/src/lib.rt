@@ -1,0 +1,1 @@
+// Which rule made each refined point: definitions in specs/, laws in proofs/. No function.
