@@ -54,9 +54,9 @@ hold("side counts", r"(?m)^badCount .* = ltb \w+ N \|\| ltb N ", SPECS, [SIDES])
 hold("record of new points", r"refusedIf 15 \(ltb N ", SPECS, [(TALLY,)])
 hold("outcome", r"Within N ", read("crates/outcome/specs/Coordinates.antt"), [(REFINED,)])
 FACTORS = numbers(r"\bN \* g", "".join(re.findall(r"(?m)^needed g = .*", SPECS)))
-if len(FACTORS) != 4:
+if len(FACTORS) != 5:
     faults.append("the lengths to provide were not found in the definitions")
-for name, factor in zip(("out_vertices", "out_faces", "out_marks", "work"), FACTORS):
+for name, factor in zip(("out_vertices", "out_faces", "out_marks", "letters", "work"), FACTORS):
     hold("header", rf"{name} +N G\b", header, [factor])
 PROGRAM = read("crates/reading/specs/Loaded.antt")
 [(PROGRAM_G,)] = numbers(r"serve G up to N", PROGRAM)
