@@ -31,7 +31,7 @@ fn read_input(text: &mut [u8]) -> Input
 }
 
 fn print_answer(text: &[u8]) {
-    let mut out = [0u8; 52302];
+    let mut out = [0u8; 54355];
     let n = program::answer(text, &mut out);
     if !io::write_all(STDOUT_FILENO, &out[..n]) {
         os::fail(b"standard output");

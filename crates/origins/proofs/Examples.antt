@@ -3,20 +3,27 @@ use mathlib.Core.Path.{_≡_, refl}
 use mathlib.Core.List.{List, [], _∷_, _++_}
 use Prim.Native.Nat.{ℕ, zero, suc, _+_, _*_, _/_, _%_}
 use lib.IntN.{ℤ, pos}
-use lib.ListN.{replicate}
+use lib.ListN.{getD, replicate}
 use Rattle.lists.specs.Tabulate.{tabulate}
 use Rattle.search.specs.Search.{firstFrom, first, count, iterate}
+use Rattle.rounding.specs.Rounding.{round}
 use Rattle.curve.specs.Weights.{kobbelt}
+use Rattle.fractions.specs.Fraction.{toWhole, sumᶠ}
+use Rattle.rings.specs.Ring.{virtual}
+use Rattle.rules.specs.Rules.{interiorPoint, endPoint, midpoint, extrapolated, extrapolatedCorner}
 use Rattle.topology.specs.Shape.{quads}
 use Rattle.topology.specs.HalfEdge.{from, to, opposed, mate, firstMet, edgeCount, edge, edgeAt}
-use Rattle.topology.specs.Quads.{across, beyond}
+use Rattle.topology.specs.Boundary.{isBoundaryFrom, isBoundaryInto, boundaryFrom, boundaryInto, along, back}
+use Rattle.topology.specs.Vertex.{leaves, valence, turn}
+use Rattle.topology.specs.Quads.{oppositeCorner, fanEnd, fanPlace, across, beyond}
 use Rattle.polygons.specs.Polygons.{sideAfter, sideBefore, faceThen, noFace, polygons, shapeOf}
 use Rattle.refinedfaces.specs.Refined.{corner, refined, refinedMarks}
 use Rattle.nets.specs.Net.{ControlNet, controlNet, marked}
-use Rattle.scheme.specs.Points.{edgeRule, inner, fourInner, faceRule}
+use Rattle.scheme.specs.Rings.{extrapolatedAt, fanNeighbour, fanCorner, ringVirtual, fanVirtual, virtualAt}
+use Rattle.scheme.specs.Points.{edgeRule, edgeValue, edgePoint, direction, inner, fourInner, faceRule}
 use Rattle.scheme.specs.Step.{step, steps}
 use Rattle.splitting.specs.Splitting.{split, startNet}
-use Rattle.origins.specs.Origins.{letterOf, madeBy, newRule, startOrigin, originFrom, originAfter, letters, faceOrigin}
+use Rattle.origins.specs.Origins.{Rule, fourInnerEdges, otherFace, letterOf, madeBy, newRule, ruleValue, startOrigin, originFrom, originAfter, letters, faceOrigin}
 
 -- a square with these side counts and marks; letters see no coordinates
 abbrev square : (sides marks : List ℕ) → ControlNet
@@ -78,3 +85,18 @@ five-by-three = refl
 five-by-five : gridLetters 5 5 ≡ middle (middle (replicate 5 68 ++ middle (middle [])))
 unfolding tabulate firstFrom first quads from to opposed mate across beyond inner fourInner faceRule
 five-by-five = refl
+
+-- ---- rules taken at their word: three squares of two by two, none of whose faces has a direction of four inner edges, vertex 5 raised
+abbrev ell : List ℕ
+ell = 0 ∷ 1 ∷ 4 ∷ 3 ∷ 1 ∷ 2 ∷ 5 ∷ 4 ∷ 3 ∷ 4 ∷ 7 ∷ 6 ∷ []
+
+abbrev heights : List ℤ
+heights = pos 0 ∷ pos 0 ∷ pos 0 ∷ pos 0 ∷ pos 0 ∷ pos 720 ∷ pos 0 ∷ pos 0 ∷ []
+
+abbrev height : Rule → ℕ → ℤ
+height r i = toWhole (ruleValue kobbelt ell (replicate 8 0) (λ (v : ℕ). getD heights v (pos 0)) i r)
+
+-- the point of the raised face, vertex 19: by E the mean, by D the first direction
+at-their-word : height otherFace 19 ∷ height fourInnerEdges 19 ∷ [] ≡ pos 181 ∷ pos 180 ∷ []
+unfolding round sumᶠ virtual firstFrom first count iterate quads from to opposed mate firstMet edgeCount edge edgeAt isBoundaryFrom isBoundaryInto boundaryFrom boundaryInto along back leaves valence turn interiorPoint endPoint midpoint extrapolated extrapolatedCorner oppositeCorner fanEnd extrapolatedAt fanNeighbour fanCorner fanPlace ringVirtual fanVirtual virtualAt marked edgeRule edgeValue edgePoint across beyond direction inner fourInner ruleValue
+at-their-word = refl

@@ -13,7 +13,7 @@ use Rattle.text.specs.Bytes.{bytes}
 use Rattle.text.specs.Form.{readNames, coordinate, natural, readCounts, readVertex, readFace, rows, parseHead, parseBody, parse}
 use Rattle.text.specs.Text.{pairText, texts, answerText, refusalText}
 use Rattle.reading.specs.Loaded.{coordinates, marksOf, cornersOf, countsVerdict}
-use Rattle.printing.specs.Tables.{verticesOf, facesOf}
+use Rattle.printing.specs.Tables.{tracedOf, facesOf}
 use Rattle.program.specs.Answer.{programText}
 
 pub record Example : Type 0 where
@@ -23,7 +23,7 @@ pub record Example : Type 0 where
 abbrev example : String → String → Example
 example t a = record { text = t; answer = a }
 
--- no text; a form that ends too early; 13 before 1; 1 before 4; the empty net
+-- no text; a form that ends too early; 13 before 1; 1 before 4; the empty net; the same with letters, and their refusals
 abbrev examples : List Example
 examples =
     example "" "refusal place\n13 1\n"
@@ -31,6 +31,9 @@ examples =
     ∷ example "vertices faces rounds\n0 0 7\nx y z\na b c d\n\n" "refusal place\n13 5\n"
     ∷ example "vertices faces rounds\n0 0 7\nx y z\na b c d\n" "refusal place\n1 0\n"
     ∷ example "vertices faces rounds\n0 0 0\nx y z\na b c d\n" "vertices faces\n0 0\nx y z corner\na b c d\n"
+    ∷ example "vertices faces rounds rule\n0 0 0\nx y z\na b c d\n" "vertices faces\n0 0\nx y z corner rule\na b c d\n"
+    ∷ example "vertices faces rounds rule\n0 0 7\nx y z\na b c d\n" "refusal place\n1 0\n"
+    ∷ example "vertices faces rounds rules\n0 0 0\nx y z\na b c d\n" "refusal place\n13 1\n"
     ∷ []
 
 answersOf : List Example → List (List ℕ)
@@ -42,5 +45,5 @@ programOf [] = []
 programOf (e ∷ es) = programText (bytes (e .text)) ∷ programOf es
 
 all-examples : programOf examples ≡ answersOf examples
-unfolding programOf answersOf programText bytes parse parseHead parseBody readNames readCounts readVertex readFace coordinate natural rows readInteger readNatural readDigits naturalText pairText refusalText answerText texts countsVerdict limitsVerdict tablesVerdict sizeVerdict roomVerdict netVerdict coordinatesVerdict shapeVerdict facesVerdict adjacencyVerdict vertexVerdict shapeOf first firstFrom steps coordinates marksOf cornersOf verticesOf facesOf tabulate
+unfolding programOf answersOf programText bytes parse parseHead parseBody readNames readCounts readVertex readFace coordinate natural rows readInteger readNatural readDigits naturalText pairText refusalText answerText texts countsVerdict limitsVerdict tablesVerdict sizeVerdict roomVerdict netVerdict coordinatesVerdict shapeVerdict facesVerdict adjacencyVerdict vertexVerdict shapeOf first firstFrom steps coordinates marksOf cornersOf tracedOf facesOf tabulate
 all-examples = refl

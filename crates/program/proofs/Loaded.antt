@@ -15,45 +15,51 @@ use Rattle.verdict.specs.Call.{lengthsOf}
 use Rattle.verdict.specs.Verdict.{Verdict, accepted, refused, orElse, limitsVerdict, netVerdict}
 use Rattle.verdict.proofs.Accepted.{or-both}
 use Rattle.scheme.specs.Step.{steps}
+use Rattle.origins.specs.Origins.{letters}
 use Rattle.text.specs.Form.{Net, Parsed, parsed, badLine, parse}
 use Rattle.text.specs.Text.{refusalText}
 use Rattle.text.proofs.Counts.{Stated, text-stated}
 use Rattle.reading.specs.Loaded.{Answer, netRead, refusedWith, Loaded, loaded, coordinates, cornersOf, marksOf, tablesOf, programRoom, countsVerdict, untouched, stored, judged, ofParsed, readNet}
 use Rattle.reading.proofs.Storing.{length-coordinates, length-marks, length-corners}
 use Rattle.reading.proofs.Limits.{Served, passed-served}
-use Rattle.program.specs.Answer.{answerBy, answerTo, programText}
+use Rattle.program.specs.Answer.{answerBy, refinedText, answerTo, programText}
 
--- tables with a net of k rounds at their front, whose counts pass and whose answer is `answer`
-pub record Handed (k v f : ℕ) (vs : List ℤ) (fs ms : List ℕ) (answer : List ℕ) : Type 0 where
+-- tables with a net of k rounds at their front, whose counts pass and whose answer, with letters or not, is `answer`
+pub record Handed (k : ℕ) (rule : Bool) (v f : ℕ) (vs : List ℤ) (fs ms : List ℕ) (answer : List ℕ) : Type 0 where
   pub served : Served v f
   pub limits : limitsVerdict k [] (lengthsOf (nets.plain (frontNet v (4 * f) vs fs ms)) programRoom) ≡ accepted
-  pub text : answerBy (netVerdict (nets.plain (frontNet v (4 * f) vs fs ms))) (steps kobbelt k (frontNet v (4 * f) vs fs ms)) ≡ answer
+  pub text : refinedText k rule (frontNet v (4 * f) vs fs ms) ≡ answer
 
 -- ---- what an answer says
+abbrev wish : Answer → Bool
+wish (netRead k rule v f) = rule
+wish (refusedWith r p) = false
+
 abbrev firstNumber : Answer → ℕ
-firstNumber (netRead k v f) = k
+firstNumber (netRead k rule v f) = k
 firstNumber (refusedWith r p) = r
 
 abbrev secondNumber : Answer → ℕ
-secondNumber (netRead k v f) = v
+secondNumber (netRead k rule v f) = v
 secondNumber (refusedWith r p) = p
 
 abbrev thirdNumber : Answer → ℕ
-thirdNumber (netRead k v f) = f
+thirdNumber (netRead k rule v f) = f
 thirdNumber (refusedWith r p) = 0
 
 module _ (zv : List ℤ) (zf zm : List ℕ) where
   -- ---- a net
-  module _ (k v f : ℕ) (vs : List ℤ) (fs ms : List ℕ) where
-    by-counts : (d : Verdict) (n : Net) → loaded (netRead k v f) vs fs ms ≡ judged zv zf zm d n → (d ≡ accepted) × (loaded (netRead k v f) vs fs ms ≡ stored zv zf zm n)
+  module _ (k : ℕ) (rule : Bool) (v f : ℕ) (vs : List ℤ) (fs ms : List ℕ) where
+    by-counts : (d : Verdict) (n : Net) → loaded (netRead k rule v f) vs fs ms ≡ judged zv zf zm d n → (d ≡ accepted) × (loaded (netRead k rule v f) vs fs ms ≡ stored zv zf zm n)
     by-counts accepted n e = (refl, e)
-    by-counts (refused r p) n e = let a : netRead k v f ≡ refusedWith r p = ap (λ (x : Loaded). x .answer) e in let z : _≡_ {A = ℕ} 0 1 = cc in absurd (omega arith)
+    by-counts (refused r p) n e = let a : netRead k rule v f ≡ refusedWith r p = ap (λ (x : Loaded). x .answer) e in let z : _≡_ {A = ℕ} 0 1 = cc in absurd (omega arith)
 
-    of-net : (n : Net) → Stated (parsed n []) → countsVerdict (n .counts) ≡ accepted → loaded (netRead k v f) vs fs ms ≡ stored zv zf zm n
-        → Handed k v f vs fs ms (answerBy (netVerdict (nets.plain (tablesOf n))) (steps kobbelt (n .counts .rounds) (tablesOf n)))
+    of-net : (n : Net) → Stated (parsed n []) → countsVerdict (n .counts) ≡ accepted → loaded (netRead k rule v f) vs fs ms ≡ stored zv zf zm n
+        → Handed k rule v f vs fs ms (refinedText (n .counts .rounds) (n .rule) (tablesOf n))
     unfolding countsVerdict
     of-net n s a e =
         let ek : k ≡ n .counts .rounds = ap (λ (x : Loaded). firstNumber (x .answer)) e in
+        let er : rule ≡ n .rule = ap (λ (x : Loaded). wish (x .answer)) e in
         let ev : v ≡ n .counts .vertices = ap (λ (x : Loaded). secondNumber (x .answer)) e in
         let ef : f ≡ n .counts .faces = ap (λ (x : Loaded). thirdNumber (x .answer)) e in
         let lv = length-coordinates (n .vertices) in
@@ -71,22 +77,22 @@ module _ (zv : List ℤ) (zf zm : List ℕ) where
         record {
           served = rw (ev, ef) (passed-served (n .counts) a);
           limits = rw (ek, jv, jf, jm) (or-both _ _ a .0);
-          text = ap₂ (λ (j : ℕ) (m : nets.Net). answerBy (netVerdict (nets.plain m)) (steps kobbelt j m)) ek g;
+          text = λ i. refinedText (ek i) (er i) (g i);
         }
 
-    of-parsed : (q : Parsed Net) → Stated q → loaded (netRead k v f) vs fs ms ≡ ofParsed zv zf zm q → Handed k v f vs fs ms (answerTo q)
+    of-parsed : (q : Parsed Net) → Stated q → loaded (netRead k rule v f) vs fs ms ≡ ofParsed zv zf zm q → Handed k rule v f vs fs ms (answerTo q)
     of-parsed (parsed n l) s e =
         let j = by-counts (countsVerdict (n .counts)) n e in
         rw (j .0) (of-net n s (j .0) (j .1))
-    of-parsed (badLine n) s e = let a : netRead k v f ≡ refusedWith 13 n = ap (λ (x : Loaded). x .answer) e in let z : _≡_ {A = ℕ} 0 1 = cc in absurd (omega arith)
+    of-parsed (badLine n) s e = let a : netRead k rule v f ≡ refusedWith 13 n = ap (λ (x : Loaded). x .answer) e in let z : _≡_ {A = ℕ} 0 1 = cc in absurd (omega arith)
 
-    pub net-handed : (text : List ℕ) → loaded (netRead k v f) vs fs ms ≡ readNet text zv zf zm → Handed k v f vs fs ms (programText text)
+    pub net-handed : (text : List ℕ) → loaded (netRead k rule v f) vs fs ms ≡ readNet text zv zf zm → Handed k rule v f vs fs ms (programText text)
     unfolding readNet programText
     net-handed text e = go (ltb 32768 (length text)) e
       where
-        go : (b : Bool) → loaded (netRead k v f) vs fs ms ≡ cond b (untouched zv zf zm (refusedWith 13 0)) (ofParsed zv zf zm (parse text))
-            → Handed k v f vs fs ms (cond b (refusalText 13 0) (answerTo (parse text)))
-        go true e = let a : netRead k v f ≡ refusedWith 13 0 = ap (λ (x : Loaded). x .answer) e in let z : _≡_ {A = ℕ} 0 1 = cc in absurd (omega arith)
+        go : (b : Bool) → loaded (netRead k rule v f) vs fs ms ≡ cond b (untouched zv zf zm (refusedWith 13 0)) (ofParsed zv zf zm (parse text))
+            → Handed k rule v f vs fs ms (cond b (refusalText 13 0) (answerTo (parse text)))
+        go true e = let a : netRead k rule v f ≡ refusedWith 13 0 = ap (λ (x : Loaded). x .answer) e in let z : _≡_ {A = ℕ} 0 1 = cc in absurd (omega arith)
         go false e = of-parsed (parse text) (text-stated text) e
 
   -- ---- a refusal
@@ -94,8 +100,8 @@ module _ (zv : List ℤ) (zf zm : List ℕ) where
     same-text : (s q : ℕ) → loaded (refusedWith r p) vs fs ms ≡ untouched zv zf zm (refusedWith s q) → refusalText r p ≡ refusalText s q
     same-text s q e = ap₂ refusalText (ap (λ (x : Loaded). firstNumber (x .answer)) e) (ap (λ (x : Loaded). secondNumber (x .answer)) e)
 
-    of-counts : (d : Verdict) (n : Net) → loaded (refusedWith r p) vs fs ms ≡ judged zv zf zm d n → refusalText r p ≡ answerBy (orElse d (netVerdict (nets.plain (tablesOf n)))) (steps kobbelt (n .counts .rounds) (tablesOf n))
-    of-counts accepted n e = let a : refusedWith r p ≡ netRead (n .counts .rounds) (n .counts .vertices) (n .counts .faces) = ap (λ (x : Loaded). x .answer) e in let z : _≡_ {A = ℕ} 0 1 = cc in absurd (omega arith)
+    of-counts : (d : Verdict) (n : Net) → loaded (refusedWith r p) vs fs ms ≡ judged zv zf zm d n → refusalText r p ≡ answerBy (orElse d (netVerdict (nets.plain (tablesOf n)))) (n .rule) (steps kobbelt (n .counts .rounds) (tablesOf n)) (letters kobbelt (nets.plain (tablesOf n)) (n .counts .rounds))
+    of-counts accepted n e = let a : refusedWith r p ≡ netRead (n .counts .rounds) (n .rule) (n .counts .vertices) (n .counts .faces) = ap (λ (x : Loaded). x .answer) e in let z : _≡_ {A = ℕ} 0 1 = cc in absurd (omega arith)
     of-counts (refused s q) n e = same-text s q e
 
     of-lines : (q : Parsed Net) → loaded (refusedWith r p) vs fs ms ≡ ofParsed zv zf zm q → refusalText r p ≡ answerTo q

@@ -1,11 +1,11 @@
 -- The refining call over the program's tables, and the text of what it gives. Assumes nothing.
 use mathlib.Core.Path.{_≡_, refl, sym, ap, ap₂, _∙_}
+use mathlib.Core.Bool.{Bool, true, false}
 use mathlib.Core.List.{List, []}
-use Prim.Native.Nat.{ℕ, _+_, _*_, _/_, _^_, _≤_}
+use Prim.Native.Nat.{ℕ, _+_, _*_, _/_, _^_, _≤_, _<_}
 use native.Mathlib.Omega.{arith}
 use lib.IntN.{ℤ, pos}
-use lib.ListN.{length}
-use Rattle.lists.proofs.Tabulate.{tabulate-cong}
+use lib.ListN.{length, getD}
 use Rattle.curve.specs.Weights.{kobbelt}
 use Rattle.nets.specs.Net.{Net, plain}
 use Rattle.tables.specs.Tables.{filled}
@@ -18,39 +18,45 @@ use Rattle.splitting.proofs.Room.{refinable-vertices-le}
 use Rattle.schemelaws.specs.Nets.{Refinable}
 use Rattle.schemelaws.proofs.Steps.{refinable-steps}
 use Rattle.tables.proofs.Laws.{filled-at}
-use Rattle.outcome.specs.Outcome.{Result, refinedTo, refusedWith, Request, request, Outcome, callOf, toAdd, outcomeBy, outcome}
-use Rattle.nets.specs.Buffers.{Buffers}
+use Rattle.outcome.specs.Outcome.{Result, refinedTo, refusedWith, Request, request, Outcome, callOf, toAdd, lettered, outcomeBy, outcome}
+use Rattle.nets.specs.Buffers.{Buffers, letterTable}
+use Rattle.origins.specs.Origins.{letters}
+use Rattle.origins.proofs.Letters.{length-letters}
 use Rattle.outcome.proofs.Accepted.{by-result, accepted-refinable}
 use Rattle.outcome.proofs.Counts.{corners-grown}
 use Rattle.outcome.proofs.Tally.{untallied}
 use Rattle.refine.specs.declared.Answer.the-variants.{Refined, Refused}
 use Rattle.refine.specs.Answer.{answered}
 use Rattle.refine.proofs.Laws.{by-faces}
-use Rattle.text.specs.Text.{answerText, refusalText}
+use Rattle.text.specs.Text.{refusalText}
 use Rattle.reading.specs.Loaded.{programRoom}
+use Rattle.reading.proofs.Limits.{limits-either}
 use Rattle.printing.specs.Lines.{Written}
-use Rattle.printing.specs.Tables.{vertexAt, faceAt, verticesOf, facesOf}
-use Rattle.program.specs.Answer.{answerBy}
+use Rattle.printing.specs.Tables.{vertexAt, faceAt, tablesText}
+use Rattle.printing.proofs.Writing.{tables-same}
+use Rattle.program.specs.Answer.{answerBy, refinedText}
 
--- ---- the text of tables that a net was written to
+-- ---- the lines of tables that a net was written to
 module _ (n : Net) (vs : List ℤ) (fs ms : List ℕ) (e : length (n .vertices) ≡ 3 * length (n .marks)) where
-  vertices-same : verticesOf (length (n .marks)) (filled (n .vertices) vs) (filled (n .marks) ms) ≡ verticesOf (length (n .marks)) (n .vertices) (n .marks)
-  unfolding verticesOf
-  vertices-same = tabulate-cong (length (n .marks)) (vertexAt (filled (n .vertices) vs) (filled (n .marks) ms)) (vertexAt (n .vertices) (n .marks)) (λ i h.
+  vertex-same : (i : ℕ) → i < length (n .marks) → vertexAt (filled (n .vertices) vs) (filled (n .marks) ms) i ≡ vertexAt (n .vertices) (n .marks) i
+  vertex-same i h =
       let x = filled-at (n .vertices) vs (pos 0) (3 * i) (omega arith) in
       let y = filled-at (n .vertices) vs (pos 0) (3 * i + 1) (omega arith) in
       let z = filled-at (n .vertices) vs (pos 0) (3 * i + 2) (omega arith) in
       let m = filled-at (n .marks) ms 0 i h in
-      λ j. record { x = x j; y = y j; z = z j; mark = m j })
+      λ j. record { x = x j; y = y j; z = z j; mark = m j }
 
-  faces-same : facesOf (length (n .faces) / 4) (filled (n .faces) fs) ≡ facesOf (length (n .faces) / 4) (n .faces)
-  unfolding facesOf
-  faces-same = tabulate-cong (length (n .faces) / 4) (faceAt (filled (n .faces) fs)) (faceAt (n .faces)) (λ i h.
+  face-same : (i : ℕ) → i < length (n .faces) / 4 → faceAt (filled (n .faces) fs) i ≡ faceAt (n .faces) i
+  face-same i h =
       let a = filled-at (n .faces) fs 0 (4 * i) (omega arith) in
       let b = filled-at (n .faces) fs 0 (4 * i + 1) (omega arith) in
       let c = filled-at (n .faces) fs 0 (4 * i + 2) (omega arith) in
       let d = filled-at (n .faces) fs 0 (4 * i + 3) (omega arith) in
-      λ j. record { a = a j; b = b j; c = c j; d = d j })
+      λ j. record { a = a j; b = b j; c = c j; d = d j }
+
+letter-same : (rule : Bool) (s t : List ℕ) → rule ≡ true → (i : ℕ) → i < length s → getD (lettered s (letterTable rule t)) i 0 ≡ getD s i 0
+letter-same true s t e i h = filled-at s t 0 i h
+letter-same false s t e i h = let z : _≡_ {A = ℕ} 0 1 = cc in absurd (omega arith)
 
 -- ---- what a result says
 abbrev vertexNumber : Result → ℕ
@@ -61,41 +67,41 @@ abbrev faceNumber : Result → ℕ
 faceNumber (refinedTo v f) = f
 faceNumber (refusedWith r p) = p
 
-module _ (k : ℕ) (m : Net) (o : Buffers) (lv : length (o .vertices) ≡ 3072) (lf : length (o .faces) ≡ 1024) (lm : length (o .marks) ≡ 1024) (lw : length (o .work) ≡ 4096)
+module _ (k : ℕ) (rule : Bool) (m : Net) (o : Buffers) (l : List ℕ) (lv : length (o .vertices) ≡ 3072) (lf : length (o .faces) ≡ 1024) (lm : length (o .marks) ≡ 1024) (ll : length l ≡ 1024) (lw : length (o .work) ≡ 4096)
     (h : limitsVerdict k [] (lengthsOf (plain m) programRoom) ≡ accepted) where
   -- the call with a tally of its own, from zero
   abbrev asked : Request
-  asked = request 0 k (plain m) o
+  asked = request 0 k (plain m) o (letterTable rule l)
 
   abbrev called : Call
   called = callOf asked
 
   by-net : verdict called ≡ netVerdict (plain m)
   unfolding verdict
-  by-net = rw (lv, lf, lm, lw, h)
+  by-net = rw (lv, lf, lm, ll, lw, limits-either rule k (length (m .vertices)) (length (m .faces)) (length (m .marks)), h)
 
   abbrev given : Verdict → Outcome
-  given v = outcomeBy v 0 (toAdd asked) (steps kobbelt k m) o (workAfter (called) (o .work))
+  given v = outcomeBy v 0 (toAdd asked) (steps kobbelt k m) (letters kobbelt (plain m) k) o (letterTable rule l) (workAfter (called) (o .work))
 
   outcome-is : outcome asked ≡ given (netVerdict (plain m))
   unfolding outcome startNet
   outcome-is = ap given (untallied asked refl ∙ by-net)
 
   -- a refusal
-  by-refused : (v : Verdict) (r p : ℕ) → refusedWith r p ≡ given v .result → refusalText r p ≡ answerBy v (steps kobbelt k m)
+  by-refused : (v : Verdict) (r p : ℕ) → refusedWith r p ≡ given v .result → refusalText r p ≡ answerBy v rule (steps kobbelt k m) (letters kobbelt (plain m) k)
   by-refused accepted r p e = let z : _≡_ {A = ℕ} 0 1 = cc in absurd (omega arith)
   by-refused (refused s q) r p e = ap₂ refusalText (ap vertexNumber e) (ap faceNumber e)
 
-  module _ (t : Buffers) (points : ℕ) where
-    pub refused-text : (r p : ℕ) → answered (record { answer = Refused r p; points = points }) t ≡ outcome asked → refusalText r p ≡ answerBy (netVerdict (plain m)) (steps kobbelt k m)
+  module _ (t : Buffers) (t₂ : List ℕ) (points : ℕ) where
+    pub refused-text : (r p : ℕ) → answered (record { answer = Refused r p; points = points }) t t₂ ≡ outcome asked → refusalText r p ≡ refinedText k rule m
     refused-text r p e = by-refused (netVerdict (plain m)) r p (ap (λ (x : Outcome). x .result) (e ∙ outcome-is))
 
     -- a refined net
-    module _ (v f : ℕ) (e : answered (record { answer = Refined v f; points = points }) t ≡ outcome asked) where
+    module _ (v f : ℕ) (e : answered (record { answer = Refined v f; points = points }) t t₂ ≡ outcome asked) where
       accepts : netVerdict (plain m) ≡ accepted
-      accepts = by-result (netVerdict (plain m)) 0 (toAdd asked) (steps kobbelt k m) o (workAfter (called) (o .work)) v f (sym (ap (λ (x : Outcome). x .result) (e ∙ outcome-is)))
+      accepts = by-result (netVerdict (plain m)) 0 (toAdd asked) (steps kobbelt k m) (letters kobbelt (plain m) k) o (letterTable rule l) (workAfter (called) (o .work)) v f (sym (ap (λ (x : Outcome). x .result) (e ∙ outcome-is)))
 
-      is : answered (record { answer = Refined v f; points = points }) t ≡ given accepted
+      is : answered (record { answer = Refined v f; points = points }) t t₂ ≡ given accepted
       is = e ∙ outcome-is ∙ ap given accepts
 
       vertex-count : v ≡ length (steps kobbelt k m .marks)
@@ -120,15 +126,18 @@ module _ (k : ℕ) (m : Net) (o : Buffers) (lv : length (o .vertices) ≡ 3072) 
           let s = by-faces (length (m .faces)) (4 ^ k) q in
           (omega arith, omega arith)
 
-      pub refined-text : answerText (verticesOf v (t .vertices) (t .marks)) (facesOf f (t .faces)) ≡ answerBy (netVerdict (plain m)) (steps kobbelt k m)
+      pub refined-text : tablesText rule v f (t .vertices) (t .faces) (t .marks) t₂ ≡ refinedText k rule m
+      unfolding startNet
       refined-text =
           let n = steps kobbelt k m in
           let s = refinable-steps kobbelt m refinable k .threes in
-          let ev : verticesOf v (t .vertices) (t .marks) ≡ verticesOf (length (n .marks)) (n .vertices) (n .marks) =
-          (λ i. verticesOf (vertex-count i) (is i .buffers .vertices) (is i .buffers .marks)) ∙ vertices-same n (o .vertices) (o .faces) (o .marks) s in
-          let ef : facesOf f (t .faces) ≡ facesOf (length (n .faces) / 4) (n .faces) = (λ i. facesOf (face-count i) (is i .buffers .faces)) ∙ faces-same n (o .vertices) (o .faces) (o .marks) s in
-          ap₂ answerText ev ef ∙ ap (λ (x : Verdict). answerBy x n) (sym accepts)
+          let c : length (letters kobbelt (plain m) k) ≡ length (n .marks) = length-letters kobbelt (plain m) k in
+          (λ i. tablesText rule (vertex-count i) (face-count i) (is i .buffers .vertices) (is i .buffers .faces) (is i .buffers .marks) (is i .letters))
+          ∙ tables-same rule (length (n .marks)) (length (n .faces) / 4) (filled (n .vertices) (o .vertices)) (n .vertices) (filled (n .faces) (o .faces)) (n .faces) (filled (n .marks) (o .marks)) (n .marks)
+          (lettered (letters kobbelt (plain m) k) (letterTable rule l)) (letters kobbelt (plain m) k) (vertex-same n (o .vertices) (o .faces) (o .marks) s) (face-same n (o .vertices) (o .faces) (o .marks) s)
+          (λ e i h. letter-same rule (letters kobbelt (plain m) k) l e i (omega arith))
+          ∙ ap (λ (x : Verdict). answerBy x rule n (letters kobbelt (plain m) k)) (sym accepts)
 
 -- the same text, and a larger bound
-pub wider : (d o : List ℕ) (r : ℕ) (s t : List ℕ) (most : ℕ) → Written d o r s most → s ≡ t → most ≤ 52302 → Written d o r t 52302
+pub wider : (d o : List ℕ) (r : ℕ) (s t : List ℕ) (most : ℕ) → Written d o r s most → s ≡ t → most ≤ 54355 → Written d o r t 54355
 wider d o r s t most w e h = let f = w .fits in record { bytes = w .bytes ∙ ap (λ (x : List ℕ). filled x d) e; long = w .long ∙ ap length e; fits = omega arith }

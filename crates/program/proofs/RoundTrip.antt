@@ -1,5 +1,6 @@
 -- Reading what is written for a net gives that net back. Assumes nothing.
 use mathlib.Core.Path.{_≡_, refl, ap, _∙_}
+use mathlib.Core.Bool.{Bool}
 use mathlib.Core.List.{List, [], _∷_}
 use Prim.Native.Nat.{ℕ, zero, suc, _+_, _*_, _/_, _^_, _≤_, _<_}
 use native.Mathlib.Omega.{arith}
@@ -90,7 +91,7 @@ mag-small (pos n) h = omega arith
 mag-small (negsuc n) h = omega arith
 
 -- ---- a net whose numbers the form can write
-module _ (k : ℕ) (few : k ≤ 2147483647) (m : nets.Net) (ok : Refinable m) (near : Within 268435456 (m .vertices)) (v : length (m .marks) ≤ 2147483647) (f : length (m .faces) ≤ 2147483647) where
+module _ (k : ℕ) (few : k ≤ 2147483647) (rule : Bool) (m : nets.Net) (ok : Refinable m) (near : Within 268435456 (m .vertices)) (v : length (m .marks) ≤ 2147483647) (f : length (m .faces) ≤ 2147483647) where
   mark-small : (i : ℕ) → i < length (m .marks) → getD (m .marks) i 0 ≤ 255
   unfolding badMark
   mark-small i h = let e = ok .no6 in let a = ltb-false 1 (getD (m .marks) i 0) (first-before (badMark (m .marks)) (length (m .marks)) i (omega arith)) in omega arith
@@ -114,7 +115,7 @@ module _ (k : ℕ) (few : k ≤ 2147483647) (m : nets.Net) (ok : Refinable m) (n
       let q = ok .fours in
       record { a = corner-small (4 * i) (omega arith); b = corner-small (4 * i + 1) (omega arith); c = corner-small (4 * i + 2) (omega arith); d = corner-small (4 * i + 3) (omega arith) }
 
-  net-fits : NetFits (linesOf k m)
+  net-fits : NetFits (linesOf k rule m)
   unfolding verticesOf facesOf
   net-fits = record {
     counts = record { vertices = v; faces = omega arith; rounds = few };
@@ -124,7 +125,7 @@ module _ (k : ℕ) (few : k ≤ 2147483647) (m : nets.Net) (ok : Refinable m) (n
     faces = each-tabulate FaceFits (length (m .faces) / 4) (faceAt (m .faces)) face-fits;
   }
 
-  tables-back : tablesOf (linesOf k m) ≡ m
+  tables-back : tablesOf (linesOf k rule m) ≡ m
   unfolding verticesOf facesOf
   tables-back =
       let q = ok .fours in
@@ -133,13 +134,13 @@ module _ (k : ℕ) (few : k ≤ 2147483647) (m : nets.Net) (ok : Refinable m) (n
       let c = marks-tabulate (length (m .marks)) (vertexAt (m .vertices) (m .marks)) ∙ tabulate-getD (m .marks) 0 in
       λ i. record { vertices = a i; faces = b i; marks = c i }
 
-  pub reads-back : ReadsBack k m
+  pub reads-back : ReadsBack k rule m
   reads-back = record {
-    form = net-back (linesOf k m) net-fits;
+    form = net-back (linesOf k rule m) net-fits;
     tables = tables-back;
     read = λ vs fs ms short passes.
-        read-back (linesOf k m) vs fs ms net-fits short passes
-        ∙ ap (λ (n : nets.Net). loaded (netRead k (vertexCount m) (faceCount m)) (filled (n .vertices) vs) (filled (n .faces) fs) (filled (n .marks) ms)) tables-back;
+        read-back (linesOf k rule m) vs fs ms net-fits short passes
+        ∙ ap (λ (n : nets.Net). loaded (netRead k rule (vertexCount m) (faceCount m)) (filled (n .vertices) vs) (filled (n .faces) fs) (filled (n .marks) ms)) tables-back;
   }
 
 -- ---- an accepted call
@@ -157,14 +158,14 @@ module _ (c : Call) (e : verdict c ≡ accepted) (j : ℕ) (h : j ≤ c .rounds)
       let f = w .final in
       omega arith
 
-  pub accepted-back : (k : ℕ) → k ≤ 2147483647 → ReadsBack k (steps kobbelt j m)
-  accepted-back k few =
+  pub accepted-back : (k : ℕ) → k ≤ 2147483647 → (rule : Bool) → ReadsBack k rule (steps kobbelt j m)
+  accepted-back k few rule =
       let d = accepted-drawn c e in
       let ok = accepted-refinable c e in
       let near = steps-within kobbelt tame m ok (start-within (c .net) d 1048576 (record { at = accepted-coordinate c e })) j (let w = accepted-limits c e .few in omega arith) in
       let l = refinable-vertices-le (steps kobbelt j m) (refinable-steps kobbelt m ok j) in
       let n = corners-few in
-      reads-back k few (steps kobbelt j m) (refinable-steps kobbelt m ok j) near (omega arith) (omega arith)
+      reads-back k few rule (steps kobbelt j m) (refinable-steps kobbelt m ok j) near (omega arith) (omega arith)
 
 pub round-trip : RoundTrip
-round-trip = record { back = λ c e j h k few. accepted-back c e j h k few }
+round-trip = record { back = λ c e j h k few rule. accepted-back c e j h k few rule }

@@ -1,5 +1,5 @@
 -- What the program prints for a text.
-use mathlib.Core.Bool.{cond}
+use mathlib.Core.Bool.{Bool, cond}
 use mathlib.Core.List.{List}
 use Prim.Native.Nat.{ℕ}
 use lib.Dec.{ltb}
@@ -9,23 +9,26 @@ use Rattle.nets.specs.Net as nets
 use Rattle.verdict.specs.Call.{vertexCount, faceCount}
 use Rattle.verdict.specs.Verdict.{Verdict, accepted, refused, orElse, netVerdict}
 use Rattle.scheme.specs.Step.{steps}
+use Rattle.origins.specs.Origins.{letters}
 use Rattle.text.specs.Form.{Net, Parsed, parsed, badLine, parse}
 use Rattle.text.specs.Text.{refusalText}
 use Rattle.reading.specs.Loaded.{tablesOf, countsVerdict}
 use Rattle.printing.specs.Tables.{tablesText}
 
--- the refined net, or the refusal's number and place
-abbrev pub answerBy : Verdict → nets.Net → List ℕ
-answerBy accepted m = tablesText (vertexCount m) (faceCount m) (m .vertices) (m .faces) (m .marks)
-answerBy (refused r p) m = refusalText r p
+-- the refined net m, with its letters s if `rule` is asked for; or the refusal's number and place
+abbrev pub answerBy : Verdict → (rule : Bool) → nets.Net → (s : List ℕ) → List ℕ
+answerBy accepted rule m s = tablesText rule (vertexCount m) (faceCount m) (m .vertices) (m .faces) (m .marks) s
+answerBy (refused r p) rule m s = refusalText r p
 
 -- the net n after k rounds, or refusal 5 to 12; the text form has no side counts
-abbrev pub refinedText : ℕ → nets.Net → List ℕ
-refinedText k n = answerBy (netVerdict (nets.plain n)) (steps kobbelt k n)
+abbrev pub refinedText : ℕ → (rule : Bool) → nets.Net → List ℕ
+refinedText k rule n = answerBy (netVerdict (nets.plain n)) rule (steps kobbelt k n) (letters kobbelt (nets.plain n) k)
 
 -- Paper 01: 13 "is tested before 1"; then 1, 3 and 4 from the counts, then 5 to 12 from the net
 abbrev pub answerTo : Parsed Net → List ℕ
-answerTo (parsed n l) = answerBy (orElse (countsVerdict (n .counts)) (netVerdict (nets.plain (tablesOf n)))) (steps kobbelt (n .counts .rounds) (tablesOf n))
+answerTo (parsed n l) =
+    answerBy (orElse (countsVerdict (n .counts)) (netVerdict (nets.plain (tablesOf n)))) (n .rule) (steps kobbelt (n .counts .rounds) (tablesOf n))
+    (letters kobbelt (nets.plain (tablesOf n)) (n .counts .rounds))
 answerTo (badLine n) = refusalText 13 n
 
 -- Paper 01: "more than 32,768 bytes; the place is .. 0 for length, which goes first"

@@ -1,5 +1,6 @@
 -- Reading what is written for a net gives that net back.
 use mathlib.Core.Path.{_≡_}
+use mathlib.Core.Bool.{Bool}
 use mathlib.Core.List.{List, []}
 use Prim.Native.Nat.{ℕ, _≤_}
 use lib.IntN.{ℤ}
@@ -16,23 +17,24 @@ use Rattle.text.specs.Text.{netText}
 use Rattle.reading.specs.Loaded.{netRead, loaded, tablesOf, countsVerdict, readNet}
 use Rattle.printing.specs.Tables.{verticesOf, facesOf}
 
--- the lines that the program prints for the net m, with a header that states k rounds
-abbrev pub linesOf : ℕ → nets.Net → Net
-linesOf k m =
+-- the lines that the program prints for the net m, with a header that states k rounds, and asks for letters or not
+abbrev pub linesOf : ℕ → (rule : Bool) → nets.Net → Net
+linesOf k rule m =
     record {
+      rule = rule;
       counts = record { vertices = vertexCount m; faces = faceCount m; rounds = k };
       vertices = verticesOf (vertexCount m) (m .vertices) (m .marks);
       faces = facesOf (faceCount m) (m .faces);
     }
 
-pub record ReadsBack (k : ℕ) (m : nets.Net) : Type 0 where
+pub record ReadsBack (k : ℕ) (rule : Bool) (m : nets.Net) : Type 0 where
   -- the text has the form, the lines read are those written, and their tables are those of m
-  pub form : parse (netText (linesOf k m)) ≡ parsed (linesOf k m) []
-  pub tables : tablesOf (linesOf k m) ≡ m
+  pub form : parse (netText (linesOf k rule m)) ≡ parsed (linesOf k rule m) []
+  pub tables : tablesOf (linesOf k rule m) ≡ m
   -- a text of at most 32,768 bytes whose counts the program serves fills its tables with m
-  pub read : (vs : List ℤ) (fs ms : List ℕ) → length (netText (linesOf k m)) ≤ 32768 → countsVerdict (linesOf k m .counts) ≡ accepted
-      → readNet (netText (linesOf k m)) vs fs ms ≡ loaded (netRead k (vertexCount m) (faceCount m)) (filled (m .vertices) vs) (filled (m .faces) fs) (filled (m .marks) ms)
+  pub read : (vs : List ℤ) (fs ms : List ℕ) → length (netText (linesOf k rule m)) ≤ 32768 → countsVerdict (linesOf k rule m .counts) ≡ accepted
+      → readNet (netText (linesOf k rule m)) vs fs ms ≡ loaded (netRead k rule (vertexCount m) (faceCount m)) (filled (m .vertices) vs) (filled (m .faces) fs) (filled (m .marks) ms)
 
 -- of the net after any round of a call that the check accepts, the net where refining begins among them
 pub record RoundTrip : Type 0 where
-  pub back : (c : Call) → verdict c ≡ accepted → (j : ℕ) → j ≤ c .rounds → (k : ℕ) → k ≤ 2147483647 → ReadsBack k (steps kobbelt j (startNet (c .net)))
+  pub back : (c : Call) → verdict c ≡ accepted → (j : ℕ) → j ≤ c .rounds → (k : ℕ) → k ≤ 2147483647 → (rule : Bool) → ReadsBack k rule (steps kobbelt j (startNet (c .net)))

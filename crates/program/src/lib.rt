@@ -12,14 +12,22 @@ ghost use Rattle.reading.specs.Loaded.{programRoom};
 ghost use Rattle.printing.specs.Lines.{Written};
 ghost use Rattle.program.specs.Answer.{refinedText, programText};
 
-// The answer to a net whose counts pass.
-fn refine_net(rounds: u32, vertices: &[i32], faces: &[u32], marks: &[u8], out: &mut [u8]) -> usize
-    requires { ⌜ (limitsVerdict rounds [] (lengthsOf (plain (net (now vertices) (now faces) (now marks))) programRoom) ≡ accepted) × (52302 ≤ length (now out)) ⌝ }
-    ensures { λ r. ⌜ Written (now (out .entry)) (now (out .exit)) r (refinedText rounds (net (now (vertices .entry)) (now (faces .entry)) (now (marks .entry)))) 52302 ⌝ }
+// The answer to a net whose counts pass, with letters if `rule` is asked for.
+fn refine_net(
+    rounds: u32,
+    rule: bool,
+    vertices: &[i32],
+    faces: &[u32],
+    marks: &[u8],
+    out: &mut [u8],
+) -> usize
+    requires { ⌜ (limitsVerdict rounds [] (lengthsOf (plain (net (now vertices) (now faces) (now marks))) programRoom) ≡ accepted) × (54355 ≤ length (now out)) ⌝ }
+    ensures { λ r. ⌜ Written (now (out .entry)) (now (out .exit)) r (refinedText rounds rule (net (now (vertices .entry)) (now (faces .entry)) (now (marks .entry)))) 54355 ⌝ }
 {
     let mut out_vertices = [0i32; 3072];
     let mut out_faces = [0u32; 1024];
     let mut out_marks = [0u8; 1024];
+    let mut letters = [0u8; 1024];
     let mut work = [0u32; 4096];
     let none = [0u8; 0];
     let charged = refine::refine(
@@ -32,21 +40,30 @@ fn refine_net(rounds: u32, vertices: &[i32], faces: &[u32], marks: &[u8], out: &
         &mut out_vertices,
         &mut out_faces,
         &mut out_marks,
+        rule,
+        &mut letters,
         &mut work,
     );
     let answer = charged.answer;
     match answer {
-        Answer::Refined(v, f) => {
-            printing::write_net(out, &out_vertices, &out_faces, &out_marks, v, f)
-        }
+        Answer::Refined(v, f) => printing::write_net(
+            out,
+            &out_vertices,
+            &out_faces,
+            &out_marks,
+            rule,
+            &letters,
+            v,
+            f,
+        ),
         Answer::Refused(reason, place) => printing::write_refusal(out, reason, place),
     }
 }
 
 // Writes the answer to `text` into `out`, and gives its length.
 pub fn answer(text: &[u8], out: &mut [u8]) -> usize
-    requires { ⌜ 52302 ≤ length (now out) ⌝ }
-    ensures { λ r. ⌜ Written (now (out .entry)) (now (out .exit)) r (programText (now (text .entry))) 52302 ⌝ }
+    requires { ⌜ 54355 ≤ length (now out) ⌝ }
+    ensures { λ r. ⌜ Written (now (out .entry)) (now (out .exit)) r (programText (now (text .entry))) 54355 ⌝ }
 {
     let mut vertices = [0i32; 3072];
     let mut faces = [0u32; 1024];
@@ -54,10 +71,12 @@ pub fn answer(text: &[u8], out: &mut [u8]) -> usize
     match reading::read_net(text, &mut vertices, &mut faces, &mut marks) {
         Input::Net {
             rounds,
+            rule,
             vertices: v,
             faces: f,
         } => refine_net(
             rounds,
+            rule,
             &vertices[..3 * v],
             &faces[..4 * f],
             &marks[..v],

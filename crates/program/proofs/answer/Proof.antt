@@ -28,8 +28,8 @@ reader c = c .before .before .before .before .before .before
 
 handed : (c : tie.After-known-told)
     → (let g = c .before .rounds .given .0 in let o = reader c .read-net .last .1 in
-    Handed (g .0) (g .1 .0) (g .1 .1 .0) (o .0) (o .1 .0) (o .1 .1 .0) (programText (begin (reader c) .args .text .now)))
-handed c = let o = reader c .read-net .last .1 in net-handed _ _ _ _ _ _ (o .0) (o .1 .0) (o .1 .1 .0) _ (read (reader c) (c .before .rounds .given .1))
+    Handed (g .0) (g .1 .0) (g .1 .1 .0) (g .1 .1 .1 .0) (o .0) (o .1 .0) (o .1 .1 .0) (programText (begin (reader c) .args .text .now)))
+handed c = let o = reader c .read-net .last .1 in net-handed _ _ _ _ _ _ _ (o .0) (o .1 .0) (o .1 .1 .0) _ (read (reader c) (c .before .rounds .given .1))
 
 slice-aggregate-read-net : tie.Need-slice-aggregate-read-net
 slice-aggregate-read-net c = search needs
@@ -83,7 +83,7 @@ same-length : tie.Need-same-length
 same-length c = search needs
 
 returns : tie.Need-returns
-returns c = wider _ _ _ _ _ 52302 (c .before .before .refine-net .ensures) (handed (c .before .before .before .before .before .before .before) .text) (omega arith)
+returns c = wider _ _ _ _ _ 54355 (c .before .before .refine-net .ensures) (handed (c .before .before .before .before .before .before .before) .text) (omega arith)
 
 same-length-2 : tie.Need-same-length-2
 same-length-2 c = search needs
