@@ -563,6 +563,12 @@ MUTATIONS = {
     "quadrilaterals left whole": ("Split", "polygons-quads", "splitting/specs/Splitting.antt", [("startBy (c ∷ s) m = split m", "startBy (c ∷ s) m = drawnTables m")]),
     "the record passes its limit by one": ("Outcome", "polygons-stored-tally", "outcome/specs/Tally.antt", [("ltb 4000000000 ", "ltb 4000000001 ")]),
     "drawn vertices billed": ("Outcome", "polygons-stored-tally", "outcome/specs/Tally.antt", [("(startNet m)) - length (m .marks)", "(startNet m))")]),
+    "D only if both directions have four inner edges": ("Letters", "annulus", "origins/specs/Origins.antt", [("faceOrigin firstAlone = fourInnerEdges", "faceOrigin firstAlone = otherFace")]),
+    "an end edge called inside": ("Letters", "single", "origins/specs/Origins.antt", [("edgeOrigin endOfSegment = endEdge", "edgeOrigin endOfSegment = withinSegment")]),
+    "points of the split called drawn": ("Letters", "polygons-lone", "origins/specs/Origins.antt", [("(m .marks))) controlVertex splitPoint", "(m .marks))) controlVertex controlVertex")]),
+    "D without four inner edges taken as the mean": ("Letters", "ring", "origins/specs/Origins.antt", [("(meanOfBoth first second) second) first", "(meanOfBoth first second) second) (meanOfBoth first second)")]),
+    "a letter table measured that is not asked for": ("Verdict", "polygons-stored-letters-not-asked", "verdict/specs/Verdict.antt", [("room .asked && ltb (room .letters)", "ltb (room .letters)")]),
+    "letters filled that are not asked for": ("Outcome", "polygons-stored-letters-not-asked", "outcome/specs/Outcome.antt", [("cond (l .asked) (filled s (l .table)) (l .table)", "filled s (l .table)")]),
     "another end weight of the curve": ("Curve", "single", "curve/specs/Weights.antt", [("pos (w .near + w .far) *ℤ q", "pos (w .near) *ℤ q")]),
     "a loop followed backwards": ("Reading", "single", "topology/specs/Boundary.antt", [("step S l withSides h = along S l h", "step S l withSides h = back S l h")]),
 }
