@@ -18,8 +18,8 @@ lists/Tabulate nets/Net nets/Buffers tables/Tables search/Search
 topology/Shape topology/HalfEdge topology/Boundary topology/Vertex topology/Quads topology/Manifold
 polygons/Polygons refusals/Refusals verdict/Call verdict/Verdict
 rounding/Rounding curve/Weights curve/Curve curve/Near fractions/Fraction rings/Ring rules/Rules
-refinedfaces/Refined scheme/Rings scheme/Points scheme/Step splitting/Splitting outcome/Tally outcome/Outcome outcome/Series outcome/AsBefore
-seam/Reading outcome/SharedSegment seam/Split outcome/SplitSegment integers/Within outcome/Coordinates nets/Moved outcome/Moved schemelaws/Nets splitting/Drawn schemelaws/Agreement
+refinedfaces/Refined scheme/Rings scheme/Points scheme/Step splitting/Splitting origins/Origins origins/Named outcome/Tally outcome/Outcome outcome/Series outcome/AsBefore
+seam/Reading outcome/SharedSegment seam/Split outcome/SplitSegment integers/Within outcome/Coordinates nets/Moved outcome/Moved outcome/Traced schemelaws/Nets splitting/Drawn schemelaws/Agreement
 admission/Answer admission/Admission refine/Answer capi/Export capi/Version cases/Cases
 decimal/Decimal text/Bytes text/Form text/Text text/Written reading/Loaded printing/Tables printing/Lines
 program/Answer program/RoundTrip

@@ -1,9 +1,9 @@
 -- The table of letters: its length, what stands in it, and that coordinates do not matter. Assumes nothing.
-use mathlib.Core.Path.{_≡_, refl, sym, ap, ap₂, _∙_}
-use mathlib.Core.Bool.{cond}
+use mathlib.Core.Path.{_≡_, refl, sym, ap, ap₂, _∙_, subst}
 use mathlib.Core.List.{List}
 use Prim.Native.Nat.{ℕ, zero, suc, _<_}
-use lib.Dec.{ltb}
+use native.Mathlib.Decide.{decLt}
+use native.Mathlib.Omega.{arith}
 use lib.IntN.{ℤ}
 use lib.ListN.{length, getD}
 use Rattle.lists.specs.Tabulate.{tabulate}
@@ -17,6 +17,7 @@ use Rattle.schemelaws.proofs.Steps.{step-faces, step-marks}
 use Rattle.splitting.specs.Splitting.{startNet}
 use Rattle.splitting.proofs.Split.{start-faces, start-marks}
 use Rattle.origins.specs.Origins.{Origin, letterOf, madeBy, newRule, startOrigin, originFrom, originAfter, letters}
+use Rattle.origins.proofs.Named.{origin-kept, origin-new}
 
 module _ (w : Weights) (m : ControlNet) (k : ℕ) where
   pub length-letters : length (letters w m k) ≡ length (steps w k (startNet m) .marks)
@@ -42,10 +43,14 @@ module _ (w : Weights) (n n′ : Net) (f : n .faces ≡ n′ .faces) (g : n .mar
   same-origin : (s : ℕ → Origin) (k i : ℕ) → originFrom w s n k i ≡ originFrom w s n′ k i
   unfolding originFrom
   same-origin s zero i = refl
-  same-origin s (suc k) i =
-      let e = same-after k in
-      ap (λ (o : Origin). cond (ltb i (length (steps w k n .marks))) o (madeBy (newRule (steps w k n .faces) (steps w k n .marks) i))) (same-origin s k i)
-      ∙ ap₂ (λ (l ms : List ℕ). cond (ltb i (length ms)) (originFrom w s n′ k i) (madeBy (newRule l ms i))) (e .0) (e .1)
+  same-origin s (suc k) i = go (same-after k .0) (same-after k .1) (same-origin s k i) (decLt i (length (steps w k n .marks)))
+    where
+      go : steps w k n .faces ≡ steps w k n′ .faces → steps w k n .marks ≡ steps w k n′ .marks → originFrom w s n k i ≡ originFrom w s n′ k i → Dec (i < length (steps w k n .marks))
+          → originFrom w s n (suc k) i ≡ originFrom w s n′ (suc k) i
+      go a b e (yes c) = origin-kept w s n k i c ∙ e ∙ sym (origin-kept w s n′ k i (subst (λ (ms : List ℕ). i < length ms) b c))
+      go a b e (no c) =
+          let d = ap length b in
+          origin-new w s n k i (omega arith) ∙ ap₂ (λ (l ms : List ℕ). madeBy (newRule l ms i)) a b ∙ sym (origin-new w s n′ k i (omega arith))
 
 pub same-letters : (w : Weights) (k : ℕ) (v v′ : List ℤ) (l s marks : List ℕ) → letters w (controlNet v l s marks) k ≡ letters w (controlNet v′ l s marks) k
 unfolding letters originAfter startOrigin

@@ -6,14 +6,14 @@ use Prim.Native.Nat.{ℕ, zero, suc, _+_, _-_, _*_, _≤_, _<_}
 use native.Mathlib.Decide.{decLt}
 use native.Mathlib.Omega.{arith}
 use lib.Dec.{ltb}
-use lib.IntN.{ℤ, pos}
-use lib.ListN.{length, getD}
+use lib.IntN.{ℤ}
+use lib.ListN.{length}
 use borrow.Author.Tests.{lt-ltb, le-ltb}
 use Rattle.curve.specs.Weights.{Weights}
 use Rattle.fractions.specs.Fraction.{Fraction, toWhole}
 use Rattle.rules.specs.Rules.{meanOfBoth}
 use Rattle.topology.specs.Shape.{quads}
-use Rattle.topology.specs.HalfEdge.{from, to, mate, edgeCount, edgeAt}
+use Rattle.topology.specs.HalfEdge.{from, to, mate, edgeCount}
 use Rattle.polygons.specs.Polygons.{shapeOf}
 use Rattle.refinedfaces.specs.Refined.{refinedVertices}
 use Rattle.refinedfaces.proofs.Manifold.{vertices-after-ge}

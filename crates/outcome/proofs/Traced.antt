@@ -1,10 +1,9 @@
 -- Every letter of an accepted call names the origin of its vertex. Assumes nothing.
-use mathlib.Core.Path.{_≡_, sym, ap, _∙_, subst}
+use mathlib.Core.Path.{_≡_, ap, _∙_, subst}
 use mathlib.Core.Bool.{true}
 use mathlib.Core.List.{List}
 use Prim.Native.Nat.{ℕ, _≤_, _<_}
 use native.Mathlib.Omega.{arith}
-use lib.IntN.{ℤ}
 use lib.ListN.{length, getD, List·getD-append}
 use Rattle.curve.specs.Weights.{kobbelt}
 use Rattle.nets.specs.Net.{Net}
@@ -13,10 +12,10 @@ use Rattle.scheme.specs.Step.{steps}
 use Rattle.splitting.specs.Splitting.{startNet}
 use Rattle.verdict.specs.Verdict.{Verdict}
 use Rattle.origins.specs.Origins.{Rule, letterOf, originAfter, letters}
-use Rattle.origins.specs.Named.{MadeIn, MadeInSplit, MadeEarlier, HasOrigin}
+use Rattle.origins.specs.Named.{MadeEarlier}
 use Rattle.origins.proofs.Named.{origin-is}
 use Rattle.origins.proofs.Letters.{length-letters, letter-at}
-use Rattle.outcome.specs.Outcome.{Request, lettered, outcome}
+use Rattle.outcome.specs.Outcome.{Request, outcome}
 use Rattle.outcome.specs.SharedSegment.{AcceptedFor, netAfter}
 use Rattle.outcome.specs.Traced.{Traced, LettersName}
 use Rattle.outcome.proofs.Accepted.{given, accepted-after}

@@ -13,8 +13,7 @@ use Rattle.nets.specs.Net.{ControlNet}
 use Rattle.nets.specs.Buffers.{letterTable}
 use Rattle.scheme.specs.Step.{steps}
 use Rattle.splitting.specs.Splitting.{startNet}
-use Rattle.splitting.proofs.Split.{start-grows}
-use Rattle.origins.specs.Origins.{letterOf, startOrigin, originFrom, originAfter, letters}
+use Rattle.origins.specs.Origins.{letterOf, startOrigin, originAfter, letters}
 use Rattle.origins.proofs.Named.{origin-start}
 use Rattle.letters.specs.Letters.{startLetter, WrittenIf}
 use Rattle.outcome.specs.Outcome.{lettered}
