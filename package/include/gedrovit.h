@@ -69,8 +69,9 @@
  * Let a net be moved: one whole number is added to the x of every vertex, one to every y and one to
  * every z. If the coordinates of both nets are in the range above, and the records of new points are
  * equal, the call on the moved net reports the same, a refusal too, adds the same to the record,
- * gives the same faces and marks, and the same points moved by these numbers. This does not hold of
- * mirroring: where a half is rounded, a mirrored net may give other points than the mirrored ones.
+ * gives the same faces, marks and letters, and the same points moved by these numbers. This does not
+ * hold of mirroring: where a half is rounded, a mirrored net may give other points than the mirrored
+ * ones.
  *
  * A refined net may not be fit to be handed in again: its coordinates may lie beyond 1,048,576, and
  * it may have more than 8,192 vertices or 4,096 faces. Reasons 6 to 12 below never hold for it.

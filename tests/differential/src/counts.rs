@@ -80,18 +80,33 @@ struct Letters {
     tables: Counts<&'static str>,
     /// Reasons of calls that ask for letters, 0 for those accepted.
     answers: Counts<u32>,
+    /// Rounds of those accepted, but for empty nets.
+    rounds: Counts<u32>,
     /// The letters that accepted calls gave.
     given: Counts<char>,
 }
 
 impl Letters {
-    /// After the split no segment has one edge alone, and without side counts
-    /// nothing is split.
-    fn new(reasons: &[u32], given: &str, tables: impl IntoIterator<Item = LetterTable>) -> Self {
+    /// Nothing is split without side counts.
+    fn without_sides() -> Self {
         Self {
-            tables: Counts::new(tables.into_iter().map(LetterTable::name)),
-            answers: Counts::new([0].iter().chain(reasons).copied()),
-            given: Counts::new(given.chars()),
+            tables: Counts::new(LetterTable::ALL.map(LetterTable::name)),
+            answers: Counts::new([0].into_iter().chain(PLAIN_REASONS)),
+            rounds: Counts::new(0..=MAX_ROUNDS),
+            given: Counts::new("ABCDEMV".chars()),
+        }
+    }
+
+    /// No accepted net is empty, and after the split no segment has one edge
+    /// alone.
+    fn with_sides() -> Self {
+        let tables = LetterTable::ALL.into_iter();
+        let tables = tables.filter(|&table| table != LetterTable::NoFaces);
+        Self {
+            tables: Counts::new(tables.map(LetterTable::name)),
+            answers: Counts::new([0].into_iter().chain(POLYGON_REASONS)),
+            rounds: Counts::new(0..MAX_ROUNDS),
+            given: Counts::new("ABCDESV".chars()),
         }
     }
 
@@ -102,6 +117,9 @@ impl Letters {
         }
         if known.case.capacity.with_letters {
             self.answers.add(reason);
+            if reason == 0 && !known.case.faces.is_empty() {
+                self.rounds.add(known.case.rounds);
+            }
             let vertices = usize::try_from(known.report.vertices).expect("a count in memory");
             for &letter in &known.left.letters[..vertices] {
                 self.given.add(char::from(letter));
@@ -110,7 +128,10 @@ impl Letters {
     }
 
     fn is_complete(&self) -> bool {
-        self.tables.is_complete() && self.answers.is_complete() && self.given.is_complete()
+        self.tables.is_complete()
+            && self.answers.is_complete()
+            && self.rounds.is_complete()
+            && self.given.is_complete()
     }
 }
 
@@ -119,6 +140,7 @@ impl Display for Letters {
         writeln!(f, "{}", self.tables.line("letters"))?;
         let answers = "letters asked for, by reason, 0 if accepted";
         writeln!(f, "{}", self.answers.line(answers))?;
+        writeln!(f, "{}", self.rounds.line("letters given by rounds"))?;
         write!(f, "{}", self.given.line("letters given"))
     }
 }
@@ -130,21 +152,19 @@ impl Calls {
             rounds: Counts::new(0..=MAX_ROUNDS),
             sides: Counts::new([]),
             figures: Counts::new(Figure::ALL.map(Figure::name)),
-            letters: Letters::new(&PLAIN_REASONS, "ABCDEMV", LetterTable::ALL),
+            letters: Letters::without_sides(),
             empty: 0,
         }
     }
 
-    /// The largest nets are few and do not all have 6 rounds; no net is empty.
+    /// The largest nets are few and do not all have 6 rounds.
     pub fn with_sides() -> Self {
-        let tables = LetterTable::ALL.into_iter();
-        let tables = tables.filter(|&table| table != LetterTable::NoFaces);
         Self {
             refusals: Counts::new(POLYGON_REASONS),
             rounds: Counts::new(0..MAX_ROUNDS),
             sides: Counts::new(SIDE_COUNTS),
             figures: Counts::new(Figure::ALL.map(Figure::name)),
-            letters: Letters::new(&POLYGON_REASONS, "ABCDESV", tables),
+            letters: Letters::with_sides(),
             empty: 0,
         }
     }

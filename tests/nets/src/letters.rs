@@ -10,7 +10,7 @@ use crate::rng::Rng;
 named_cases! {
     /// A wish and the length of the letter table, where 4G bytes are due.
     pub enum LetterTable {
-        NoneAskedFor = "not asked for, no bytes",
+        NotAskedEmpty = "not asked for, no bytes",
         NotAskedShort = "not asked for, fewer than 4G bytes",
         NotAskedLong = "not asked for, 4G bytes or more",
         Exact = "4G bytes",
@@ -24,7 +24,7 @@ named_cases! {
 }
 
 impl LetterTable {
-    const NOT_ASKED: [Self; 3] = [Self::NoneAskedFor, Self::NotAskedShort, Self::NotAskedLong];
+    const NOT_ASKED: [Self; 3] = [Self::NotAskedEmpty, Self::NotAskedShort, Self::NotAskedLong];
     const SERVING: [Self; 4] = [Self::Exact, Self::Exact, Self::OneMore, Self::Longer];
     const SHORT: [Self; 3] = [Self::OneShort, Self::Shorter, Self::Empty];
 
@@ -40,7 +40,7 @@ impl LetterTable {
     /// The length of such a table where so many bytes are due.
     fn length(self, due: usize, rng: &mut Rng) -> usize {
         match self {
-            Self::NoneAskedFor | Self::Empty => 0,
+            Self::NotAskedEmpty | Self::Empty => 0,
             Self::NotAskedShort => rng.below(due.max(1)),
             Self::NotAskedLong | Self::NoFaces => due + rng.pick(&[0, 1, 9]),
             Self::Exact => due,
@@ -55,7 +55,7 @@ impl LetterTable {
     pub fn of(case: &Case) -> Self {
         let (due, length) = (4 * case.served_faces(), case.capacity.letters);
         match case.capacity.with_letters {
-            false if length == 0 => Self::NoneAskedFor,
+            false if length == 0 => Self::NotAskedEmpty,
             false if length < due => Self::NotAskedShort,
             false => Self::NotAskedLong,
             true if due == 0 => Self::NoFaces,
