@@ -112,8 +112,8 @@ fn examine_net(
     examine_shape(faces, sides, marks, &mut *work)
 }
 
-// Admits the net of a call, given the lengths of its output tables, the letters counted where they are asked for, and leaves its mates at the front of the
-// work table, and its shape where there are side counts; or refuses it.
+// Admits the net of a call, given the lengths of its output tables, that of the letter table too where letters are asked for, and leaves its mates at the front of
+// the work table, and its shape where there are side counts; or refuses it.
 // Beside clearing the work table on a refusal the time is linear in the tables for nets of bounded valence; with d faces at a vertex, finding
 // the mates there takes d * d steps at most.
 pub fn admit(

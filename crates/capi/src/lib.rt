@@ -187,7 +187,7 @@ pub extern "C" fn gedrovit_refine(
     charged.report
 }
 
-// The lengths that the output tables and the work table of a call must have at least, in elements; a letter table is as long as the marks.
+// The lengths that the output tables and the work table of a call must have at least, in elements; a letter table must be as long as the marks.
 #[repr(C)]
 pub struct Sizes {
     pub reason: u32,

@@ -210,6 +210,11 @@ letterCases =
     ∷ record { computed = squareLetters [] (1 ∷ 0 ∷ 0 ∷ 0 ∷ []) 1; stated = numbers (86 ∷ 86 ∷ 86 ∷ 86 ∷ 66 ∷ 65 ∷ 65 ∷ 66 ∷ 69 ∷ []) }
     -- split: VVVVSSSSS
     ∷ record { computed = squareLetters (4 ∷ []) (unmarked 4) 0; stated = numbers (86 ∷ 86 ∷ 86 ∷ 86 ∷ 83 ∷ 83 ∷ 83 ∷ 83 ∷ 83 ∷ []) }
+    -- five squares in a row: inner edges C, boundary edges A, and D for the middle face alone
+    ∷ record {
+      computed = numbers (drop 12 (letters kobbelt (controlNet (flat 12) (0 ∷ 1 ∷ 7 ∷ 6 ∷ 1 ∷ 2 ∷ 8 ∷ 7 ∷ 2 ∷ 3 ∷ 9 ∷ 8 ∷ 3 ∷ 4 ∷ 10 ∷ 9 ∷ 4 ∷ 5 ∷ 11 ∷ 10 ∷ []) [] (unmarked 12)) 1));
+      stated = numbers (65 ∷ 67 ∷ 65 ∷ 65 ∷ 65 ∷ 67 ∷ 65 ∷ 65 ∷ 67 ∷ 65 ∷ 65 ∷ 67 ∷ 65 ∷ 65 ∷ 65 ∷ 65 ∷ 69 ∷ 69 ∷ 68 ∷ 69 ∷ 69 ∷ []);
+    }
     ∷ []
 
 -- ---- the table

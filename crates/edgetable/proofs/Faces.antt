@@ -198,6 +198,9 @@ module _ (l marks : List ℕ) (p₀ : List ℤ) (w₀ : List ℕ) (at initial : 
   pub number-is : (h : ℕ) → h < n → edgeOf (entryOf n w h) ≡ edge quads l h
   number-is h b = let o = done .entries h b in ap edgeOf (o .is) ∙ entry-edge l h (o .flag) (edge quads l h) (few h b) (o .flagged)
 
+  pub inner-is : (h : ℕ) → h < n → ltb (entryOf n w h) boundaryFlag ≡ ltb (mate quads l h) n
+  inner-is h b = entry-inner l h (entryOf n w h) (few h b) (done .entries h b)
+
   pub face-table : FaceTable n w
   face-table =
       let r = ok .classes .room in
@@ -210,7 +213,7 @@ module _ (l marks : List ℕ) (p₀ : List ℤ) (w₀ : List ℕ) (at initial : 
         numbers = λ h b. let e = number-is h b in let c = edge-lt quads (length marks) l (ok .net .oriented) h b in let d = edges-le quads l in omega arith;
         boundary = λ h b c.
             let e = mate-now h b in
-            let m = ltb-true (mate quads l h) n (sym (entry-inner l h (entryOf n w h) (few h b) (done .entries h b)) ∙ lt-ltb (entryOf n w h) boundaryFlag c) in
+            let m = ltb-true (mate quads l h) n (sym (inner-is h b) ∙ lt-ltb (entryOf n w h) boundaryFlag c) in
             omega arith;
         high = λ a h c b. let s = done .stored a h c b in holds-high w (placeOf n (entryOf n w h) + 2 * a) (s .number) (s .holds);
         small = λ a h c b. let e = ap natAbs (exact-is a h c b) in let s = edge-small l marks p₀ w₀ at initial ok a h b in omega arith;

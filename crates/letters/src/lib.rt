@@ -1,17 +1,22 @@
-// Letters of refined vertices: which rule made each, by corners, marks and mates alone.
+// Letters of refined vertices: which rule made each, by corners, marks and mates alone. Most are those of inner edges and of faces away from the boundary.
 ghost use mathlib.Core.Path.{_≡_};
 ghost use mathlib.Core.Bool.{true};
-ghost use Prim.Native.Nat.{ℕ, _+_, _-_, _≤_, _<_};
-ghost use lib.ListN.{length};
+ghost use Prim.Native.Nat.{ℕ, _+_, _≤_, _<_};
+ghost use lib.ListN.{length, getD, set};
 ghost use Rattle.tables.specs.Tables.{Written};
 ghost use Rattle.topology.specs.Shape.{quads};
 ghost use Rattle.topology.specs.HalfEdge.{from, to, mate, edgeCount};
 ghost use Rattle.refinedfaces.specs.Refined.{refinedVertices};
 ghost use Rattle.scheme.specs.Points.{edgeRule, fourInner};
 ghost use Rattle.halfedges.specs.Tables.{Quadrilaterals, Connectivity};
-ghost use Rattle.origins.specs.Origins.{madeBy, letterOf, edgeOrigin};
-ghost use Rattle.letters.specs.Letters.{startLetter, newLetter, faceLetter, edgePlace, Nameable, WrittenIf};
+ghost use Rattle.coordinates.specs.Entry.{boundaryFlag};
+ghost use Rattle.origins.specs.Origins.{madeBy, letterOf, edgeCase};
+ghost use Rattle.letters.specs.Letters.{startLetter, newLetter, faceLetter, PutRight, Nameable, WrittenIf};
 use edgepoints::EdgeRule;
+
+const WIDE: usize = 536870912;
+
+const BOUNDARY: u32 = 1073741824;
 
 // Writes one letter from the place `first` up to `end`.
 fn fill(letters: &mut [u8], first: usize, end: usize, letter: u8)
@@ -26,13 +31,13 @@ fn fill(letters: &mut [u8], first: usize, end: usize, letter: u8)
 }
 
 // Writes the letters of the vertices where refining begins, where they are asked for: the first are drawn, and the others made by the split.
-pub fn name_start(asked: bool, letters: &mut [u8], drawn: usize, start: usize)
-    requires { ⌜ (asked ≡ true → (drawn ≤ start) × (start ≤ length (now letters))) ⌝ }
-    ensures { λ _. ⌜ WrittenIf asked 0 start (startLetter drawn) (now (letters .entry)) (now (letters .exit)) ⌝ }
+pub fn name_start(with_letters: bool, letters: &mut [u8], control: usize, start: usize)
+    requires { ⌜ («with_letters» ≡ true → (control ≤ start) × (start ≤ length (now letters))) ⌝ }
+    ensures { λ _. ⌜ WrittenIf «with_letters» 0 start (startLetter control) (now (letters .entry)) (now (letters .exit)) ⌝ }
 {
-    if asked {
-        fill(&mut *letters, 0, drawn, b'V');
-        fill(&mut *letters, drawn, start, b'S');
+    if with_letters {
+        fill(&mut *letters, 0, control, b'V');
+        fill(&mut *letters, control, start, b'S');
     }
 }
 
@@ -40,7 +45,7 @@ pub fn name_start(asked: bool, letters: &mut [u8], drawn: usize, start: usize)
 fn edge_letter(faces: &[u32], marks: &[u8], h: usize, m: usize) -> u8
     requires { ⌜ Quadrilaterals (length (now faces)) × (h < length (now faces)) × (m ≡ mate quads (now faces) h) ⌝ }
     requires { ⌜ (from (now faces) h < length (now marks)) × (to quads (now faces) h < length (now marks)) ⌝ }
-    ensures { λ r. ⌜ r ≡ letterOf (madeBy (edgeOrigin (edgeRule (now (faces .entry)) (now (marks .entry)) h))) ⌝ }
+    ensures { λ r. ⌜ r ≡ letterOf (madeBy (edgeCase (edgeRule (now (faces .entry)) (now (marks .entry)) h))) ⌝ }
 {
     let rule = edgepoints::edge_rule(faces, marks, h, m);
     match rule {
@@ -50,43 +55,6 @@ fn edge_letter(faces: &[u32], marks: &[u8], h: usize, m: usize) -> u8
         EdgeRule::EndOfSegment => b'B',
         EdgeRule::WholeSegment => b'M',
     }
-}
-
-// Writes the letter of the edge of half-edge h if the edge is first met there, to the place `at`; the answer is the place of the next edge.
-fn name_side(
-    letters: &mut [u8],
-    faces: &[u32],
-    marks: &[u8],
-    work: &[u32],
-    h: usize,
-    at: usize,
-) -> usize
-    requires { ⌜ Nameable (now faces) (now marks) (now work) (now letters) ⌝ }
-    requires { ⌜ (h < length (now faces)) × (at ≡ edgePlace (now faces) (now marks) h) ⌝ }
-    ensures { λ r. ⌜ r ≡ edgePlace (now (faces .entry)) (now (marks .entry)) (h + 1) ⌝ }
-    ensures { λ r. ⌜ Written at r (newLetter (now (faces .entry)) (now (marks .entry))) (now (letters .entry)) (now (letters .exit)) ⌝ }
-{
-    let m = halfedges::mate_side(faces, work, h);
-    if h < m {
-        letters[at] = edge_letter(faces, marks, h, m);
-        return at + 1;
-    }
-    at
-}
-
-// Writes the letters of all edges; the answer is the place of the first face.
-fn name_edges(letters: &mut [u8], faces: &[u32], marks: &[u8], work: &[u32]) -> usize
-    requires { ⌜ Nameable (now faces) (now marks) (now work) (now letters) ⌝ }
-    ensures { λ r. ⌜ r ≡ length (now (marks .entry)) + edgeCount quads (now (faces .entry)) ⌝ }
-    ensures { λ r. ⌜ Written (length (now (marks .entry))) r (newLetter (now (faces .entry)) (now (marks .entry))) (now (letters .entry)) (now (letters .exit)) ⌝ }
-{
-    let mut at = marks.len();
-    let mut h = 0;
-    while h < faces.len() {
-        at = name_side(&mut *letters, faces, marks, work, h, at);
-        h += 1;
-    }
-    at
 }
 
 // Whether the direction of the side h has four inner edges.
@@ -123,26 +91,96 @@ fn face_letter(faces: &[u32], work: &[u32], f: usize) -> u8
     b'E'
 }
 
-// Writes the letters of all faces, from the place `first` on.
-fn name_faces(letters: &mut [u8], faces: &[u32], work: &[u32], first: usize)
-    requires { ⌜ Connectivity (now faces) (now work) × (first + quads .faces (length (now faces)) ≤ length (now letters)) ⌝ }
-    ensures { λ _. ⌜ Written first (first + quads .faces (length (now (faces .entry)))) (λ (i : ℕ). faceLetter (now (faces .entry)) (i - first)) (now (letters .entry)) (now (letters .exit)) ⌝ }
+// Writes the letter of face f, where `first` is the place of the first face.
+fn name_face(letters: &mut [u8], faces: &[u32], work: &[u32], first: usize, f: usize)
+    requires { ⌜ Connectivity (now faces) (now work) × (f < quads .faces (length (now faces))) × (first + f < length (now letters)) ⌝ }
+    ensures { λ _. ⌜ now (letters .exit) ≡ set (now (letters .entry)) (first + f) (faceLetter (now (faces .entry)) f) ⌝ }
 {
-    let count = faces.len() / 4;
-    let mut f = 0;
-    while f < count {
-        letters[first + f] = face_letter(faces, work, f);
-        f += 1;
+    letters[first + f] = face_letter(faces, work, f);
+}
+
+// Puts right what the half-edge h touches if it lies on the boundary: the letter of its edge, of its face, and of the face beyond the opposite side.
+fn name_side(letters: &mut [u8], faces: &[u32], marks: &[u8], work: &[u32], first: usize, h: usize)
+    requires { ⌜ Nameable (now faces) (now marks) (now work) (now letters) ⌝ }
+    requires { ⌜ (first ≡ length (now marks) + edgeCount quads (now faces)) × (h < length (now faces)) ⌝ }
+    ensures { λ _. ⌜ PutRight (now (faces .entry)) (now (marks .entry)) h (h + 1) (now (letters .entry)) (now (letters .exit)) ⌝ }
+{
+    let n = faces.len();
+    let entry = work[n + h];
+    if entry < BOUNDARY {
+        return;
+    }
+    let place = marks.len() + entry as usize % WIDE;
+    letters[place] = edge_letter(faces, marks, h, n);
+    name_face(&mut *letters, faces, work, first, halfedges::face_of(h));
+    let g = halfedges::mate_side(faces, work, halfedges::across_side(h));
+    if g < n {
+        name_face(&mut *letters, faces, work, first, halfedges::face_of(g));
+    }
+}
+
+// Whether the four entries from the place i on are those of inner edges.
+fn inner_sides(work: &[u32], i: usize) -> bool
+    requires { ⌜ i + 4 ≤ length (now work) ⌝ }
+    ensures { λ r. ⌜ (r ≡ true → (k : ℕ) → i ≤ k → k < i + 4 → getD (now (work .entry)) k 0 < boundaryFlag) ⌝ }
+{
+    if BOUNDARY <= work[i] {
+        return false;
+    }
+    if BOUNDARY <= work[i + 1] {
+        return false;
+    }
+    if BOUNDARY <= work[i + 2] {
+        return false;
+    }
+    work[i + 3] < BOUNDARY
+}
+
+// Puts right what the four sides from h on touch; most faces have none on the boundary.
+fn name_sides(letters: &mut [u8], faces: &[u32], marks: &[u8], work: &[u32], first: usize, h: usize)
+    requires { ⌜ Nameable (now faces) (now marks) (now work) (now letters) ⌝ }
+    requires { ⌜ (first ≡ length (now marks) + edgeCount quads (now faces)) × (h + 4 ≤ length (now faces)) ⌝ }
+    ensures { λ _. ⌜ PutRight (now (faces .entry)) (now (marks .entry)) h (h + 4) (now (letters .entry)) (now (letters .exit)) ⌝ }
+{
+    if inner_sides(work, faces.len() + h) {
+        return;
+    }
+    name_side(&mut *letters, faces, marks, work, first, h);
+    name_side(&mut *letters, faces, marks, work, first, h + 1);
+    name_side(&mut *letters, faces, marks, work, first, h + 2);
+    name_side(&mut *letters, faces, marks, work, first, h + 3);
+}
+
+// Puts right what the boundary touches, where `first` is the place of the first face.
+fn name_boundary(letters: &mut [u8], faces: &[u32], marks: &[u8], work: &[u32], first: usize)
+    requires { ⌜ Nameable (now faces) (now marks) (now work) (now letters) ⌝ }
+    requires { ⌜ first ≡ length (now marks) + edgeCount quads (now faces) ⌝ }
+    ensures { λ _. ⌜ PutRight (now (faces .entry)) (now (marks .entry)) 0 (length (now (faces .entry))) (now (letters .entry)) (now (letters .exit)) ⌝ }
+{
+    let mut h = 0;
+    while h < faces.len() {
+        name_sides(&mut *letters, faces, marks, work, first, h);
+        h += 4;
     }
 }
 
 // Writes the letters of the new vertices of a round, where they are asked for: of the edges, then of the faces, behind those of the old vertices.
-pub fn name_points(asked: bool, letters: &mut [u8], faces: &[u32], marks: &[u8], work: &[u32])
-    requires { ⌜ (asked ≡ true → Nameable (now faces) (now marks) (now work) (now letters)) ⌝ }
-    ensures { λ _. ⌜ WrittenIf asked (length (now (marks .entry))) (refinedVertices quads (length (now (marks .entry))) (now (faces .entry))) (newLetter (now (faces .entry)) (now (marks .entry))) (now (letters .entry)) (now (letters .exit)) ⌝ }
+pub fn name_points(
+    with_letters: bool,
+    letters: &mut [u8],
+    faces: &[u32],
+    marks: &[u8],
+    work: &[u32],
+    edges: usize,
+)
+    requires { ⌜ («with_letters» ≡ true → Nameable (now faces) (now marks) (now work) (now letters) × (edges ≡ edgeCount quads (now faces))) ⌝ }
+    ensures { λ _. ⌜ WrittenIf «with_letters» (length (now (marks .entry))) (refinedVertices quads (length (now (marks .entry))) (now (faces .entry))) (newLetter (now (faces .entry)) (now (marks .entry))) (now (letters .entry)) (now (letters .exit)) ⌝ }
 {
-    if asked {
-        let first = name_edges(&mut *letters, faces, marks, work);
-        name_faces(&mut *letters, faces, work, first);
+    if with_letters {
+        let first = marks.len() + edges;
+        let end = first + faces.len() / 4;
+        fill(&mut *letters, marks.len(), first, b'C');
+        fill(&mut *letters, first, end, b'D');
+        name_boundary(&mut *letters, faces, marks, work, first);
     }
 }

@@ -12,7 +12,7 @@ use Rattle.limits.specs.declared.Room.{Room}
 abbrev pub limitsOf : ℕ → Verdict
 limitsOf r = cond (eqb r 0) accepted (refused r 0)
 
--- with letters asked for
+-- the least lengths, for a call that asks for letters
 abbrev pub roomIn : Room → call.Room
 roomIn r = call.room (r .vertices) (r .faces) (r .marks) true (r .letters) (r .work)
 

@@ -2,7 +2,7 @@
 use mathlib.Core.Path.{_≡_, refl}
 use mathlib.Core.List.{List, [], _∷_, _++_}
 use Prim.Native.Nat.{ℕ, zero, suc, _+_, _*_, _/_, _%_}
-use lib.IntN.{ℤ, pos}
+use lib.IntN.{ℤ, pos, negsuc}
 use lib.ListN.{getD, replicate}
 use Rattle.lists.specs.Tabulate.{tabulate}
 use Rattle.search.specs.Search.{firstFrom, first, count, iterate}
@@ -23,7 +23,7 @@ use Rattle.scheme.specs.Rings.{extrapolatedAt, fanNeighbour, fanCorner, ringVir
 use Rattle.scheme.specs.Points.{edgeRule, edgeValue, edgePoint, direction, inner, fourInner, faceRule}
 use Rattle.scheme.specs.Step.{step, steps}
 use Rattle.splitting.specs.Splitting.{split, startNet}
-use Rattle.origins.specs.Origins.{Rule, fourInnerEdges, otherFace, letterOf, madeBy, newRule, ruleValue, startOrigin, originFrom, originAfter, letters, faceOrigin}
+use Rattle.origins.specs.Origins.{Rule, withinSegment, endEdge, singleEdge, interiorEdge, fourInnerEdges, otherFace, letterOf, madeBy, newRule, ruleValue, startOrigin, originFrom, originAfter, letters, faceCase}
 
 -- a square with these side counts and marks; letters see no coordinates
 abbrev square : (sides marks : List ℕ) → ControlNet
@@ -68,7 +68,7 @@ abbrev grid : (a b : ℕ) → List ℕ
 grid a b = tabulate (4 * (a * b)) (λ (g : ℕ). gridCorner a (g / 4) (g % 4))
 
 abbrev gridLetters : (a b : ℕ) → List ℕ
-gridLetters a b = tabulate (a * b) (λ (f : ℕ). letterOf (madeBy (faceOrigin (faceRule (grid a b) f))))
+gridLetters a b = tabulate (a * b) (λ (f : ℕ). letterOf (madeBy (faceCase (faceRule (grid a b) f))))
 
 -- a row with one D in its middle
 abbrev middle : List ℕ → List ℕ
@@ -86,17 +86,31 @@ five-by-five : gridLetters 5 5 ≡ middle (middle (replicate 5 68 ++ middle (mid
 unfolding tabulate firstFrom first quads from to opposed mate across beyond inner fourInner faceRule
 five-by-five = refl
 
--- ---- rules taken at their word: three squares of two by two, none of whose faces has a direction of four inner edges, vertex 5 raised
-abbrev ell : List ℕ
-ell = 0 ∷ 1 ∷ 4 ∷ 3 ∷ 1 ∷ 2 ∷ 5 ∷ 4 ∷ 3 ∷ 4 ∷ 7 ∷ 6 ∷ []
+-- ---- rules taken at their word, each also where it is not the vertex's own
+abbrev value : (l marks : List ℕ) → List ℤ → ℕ → Rule → ℤ
+value l marks heights i r = toWhole (ruleValue kobbelt l marks (λ (v : ℕ). getD heights v (pos 0)) i r)
 
-abbrev heights : List ℤ
-heights = pos 0 ∷ pos 0 ∷ pos 0 ∷ pos 0 ∷ pos 0 ∷ pos 720 ∷ pos 0 ∷ pos 0 ∷ []
+-- the first side of a square, with all corners marked, and with none
+abbrev firstSide : (marks : List ℕ) → Rule → ℤ
+firstSide marks = value (0 ∷ 1 ∷ 2 ∷ 3 ∷ []) marks (pos 16 ∷ pos 0 ∷ pos 0 ∷ pos 160 ∷ []) 4
 
-abbrev height : Rule → ℕ → ℤ
-height r i = toWhole (ruleValue kobbelt ell (replicate 8 0) (λ (v : ℕ). getD heights v (pos 0)) i r)
-
--- the point of the raised face, vertex 19: by E the mean, by D the first direction
-at-their-word : height otherFace 19 ∷ height fourInnerEdges 19 ∷ [] ≡ pos 181 ∷ pos 180 ∷ []
+edges-at-their-word : firstSide (replicate 4 1) withinSegment ∷ firstSide (replicate 4 1) endEdge ∷ firstSide (replicate 4 1) singleEdge ∷ firstSide (replicate 4 0) endEdge ∷ firstSide (replicate 4 0) singleEdge ∷ firstSide (replicate 4 0) interiorEdge ∷ []
+    ≡ negsuc 0 ∷ pos 7 ∷ pos 8 ∷ pos 0 ∷ pos 8 ∷ pos 1 ∷ []
 unfolding round sumᶠ virtual firstFrom first count iterate quads from to opposed mate firstMet edgeCount edge edgeAt isBoundaryFrom isBoundaryInto boundaryFrom boundaryInto along back leaves valence turn interiorPoint endPoint midpoint extrapolated extrapolatedCorner oppositeCorner fanEnd extrapolatedAt fanNeighbour fanCorner fanPlace ringVirtual fanVirtual virtualAt marked edgeRule edgeValue edgePoint across beyond direction inner fourInner ruleValue
-at-their-word = refl
+edges-at-their-word = refl
+
+-- the middle one of five squares in a row, one of whose directions has four inner edges; vertex 2 raised, vertex 3 marked
+abbrev middleFace : Rule → ℤ
+middleFace = value (grid 5 1) (replicate 3 0 ++ (1 ∷ replicate 8 0)) (pos 0 ∷ pos 0 ∷ pos 1600 ∷ replicate 9 (pos 0)) 30
+
+face-at-its-word : middleFace otherFace ∷ middleFace fourInnerEdges ∷ [] ≡ pos 475 ∷ pos 450 ∷ []
+unfolding tabulate round sumᶠ virtual firstFrom first count iterate quads from to opposed mate firstMet edgeCount edge edgeAt isBoundaryFrom isBoundaryInto boundaryFrom boundaryInto along back leaves valence turn interiorPoint endPoint midpoint extrapolated extrapolatedCorner oppositeCorner fanEnd extrapolatedAt fanNeighbour fanCorner fanPlace ringVirtual fanVirtual virtualAt marked edgeRule edgeValue edgePoint across beyond direction inner fourInner ruleValue
+face-at-its-word = refl
+
+-- three of two by two squares, none of whose faces has a direction of four inner edges, vertex 5 raised: the point of the raised face by E, and by D the first direction
+abbrev raisedFace : Rule → ℤ
+raisedFace = value (0 ∷ 1 ∷ 4 ∷ 3 ∷ 1 ∷ 2 ∷ 5 ∷ 4 ∷ 3 ∷ 4 ∷ 7 ∷ 6 ∷ []) (replicate 8 0) (replicate 5 (pos 0) ++ (pos 720 ∷ pos 0 ∷ pos 0 ∷ [])) 19
+
+other-face-at-its-word : raisedFace otherFace ∷ raisedFace fourInnerEdges ∷ [] ≡ pos 181 ∷ pos 180 ∷ []
+unfolding round sumᶠ virtual firstFrom first count iterate quads from to opposed mate firstMet edgeCount edge edgeAt isBoundaryFrom isBoundaryInto boundaryFrom boundaryInto along back leaves valence turn interiorPoint endPoint midpoint extrapolated extrapolatedCorner oppositeCorner fanEnd extrapolatedAt fanNeighbour fanCorner fanPlace ringVirtual fanVirtual virtualAt marked edgeRule edgeValue edgePoint across beyond direction inner fourInner ruleValue
+other-face-at-its-word = refl

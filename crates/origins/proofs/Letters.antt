@@ -60,4 +60,4 @@ same-letters w k v v′ l s marks =
     let n : Net = startNet (controlNet v l s marks) in
     let n′ : Net = startNet (controlNet v′ l s marks) in
     ap (λ (ms : List ℕ). tabulate (length ms) (λ (i : ℕ). letterOf (originAfter w (controlNet v l s marks) k i))) (same-after w n n′ f g k .1)
-    ∙ tabulate-cong (length (steps w k n′ .marks)) _ _ (λ i b. ap letterOf (same-origin w n n′ f g (startOrigin (controlNet v l s marks)) k i))
+    ∙ tabulate-cong (length (steps w k n′ .marks)) _ _ (λ i b. ap letterOf (same-origin w n n′ f g (startOrigin (length marks)) k i))

@@ -21,10 +21,11 @@ use Rattle.nets.specs.Net.{Net, ControlNet, marked, axis}
 use Rattle.scheme.specs.Points.{startOfSegment, endOfSegment, edgeRule, edgeValue, edgePoint, direction, fourInner, faceRule, faceValue, facePoint}
 use Rattle.scheme.specs.Step.{refinedCoordinate, step, steps}
 use Rattle.schemelaws.proofs.Steps.{step-count, step-axis, step-kept, steps-count, steps-kept}
-use Rattle.splitting.specs.Splitting.{splitCoordinate, split, startNet}
+use Rattle.splitting.specs.Splitting.{split, startNet}
+use Rattle.splitting.proofs.Coordinates.{split-new}
 use Rattle.splitting.proofs.Split.{split-count, split-axis, start-none, start-split, start-grows}
-use Rattle.origins.specs.Origins.{Rule, endEdge, fourInnerEdges, Origin, controlVertex, splitPoint, madeBy, edgeOrigin, faceOrigin, sideOf, faceOf, newRule, ruleValue, startOrigin, originFrom, originAfter}
-use Rattle.origins.specs.Named.{MadeIn, splitValue, MadeInSplit, MadeEarlier, HasOrigin}
+use Rattle.origins.specs.Origins.{Rule, endEdge, fourInnerEdges, Origin, controlVertex, splitPoint, madeBy, edgeCase, faceCase, sideOf, faceOf, newRule, ruleValue, startOrigin, originFrom, originAfter}
+use Rattle.origins.specs.Named.{MadeIn, MadeInSplit, MadeEarlier, HasOrigin}
 
 -- ---- one round: the own rule of a new vertex gives its coordinate
 module _ (w : Weights) (l marks : List ℕ) (p : ℕ → ℤ) (i : ℕ) where
@@ -42,7 +43,7 @@ module _ (w : Weights) (l marks : List ℕ) (p : ℕ → ℤ) (i : ℕ) where
   directions-named a b x y = rw (x, y)
 
   edge-named : (a b c : Bool) → ltb (mate quads l (sideOf l marks i)) (length l) ≡ a → marked marks (from l (sideOf l marks i)) ≡ b → marked marks (to quads l (sideOf l marks i)) ≡ c
-      → edgePoint w l marks p (sideOf l marks i) ≡ ruleValue w l marks p i (edgeOrigin (edgeRule l marks (sideOf l marks i)))
+      → edgePoint w l marks p (sideOf l marks i) ≡ ruleValue w l marks p i (edgeCase (edgeRule l marks (sideOf l marks i)))
   unfolding edgePoint edgeRule ruleValue
   edge-named true b c x y z = rw x
   edge-named false true true x y z = rw (x, y, z)
@@ -51,7 +52,7 @@ module _ (w : Weights) (l marks : List ℕ) (p : ℕ → ℤ) (i : ℕ) where
   edge-named false false false x y z = rw (x, y, z)
 
   face-named : (a b : Bool) → fourInner l (4 * faceOf l marks i) ≡ a → fourInner l (4 * faceOf l marks i + 1) ≡ b
-      → facePoint w l marks p (faceOf l marks i) ≡ ruleValue w l marks p i (faceOrigin (faceRule l (faceOf l marks i)))
+      → facePoint w l marks p (faceOf l marks i) ≡ ruleValue w l marks p i (faceCase (faceRule l (faceOf l marks i)))
   unfolding facePoint faceRule faceValue ruleValue
   face-named true true x y = rw (x, y) (directions-named true true x y)
   face-named true false x y = rw (x, y) (directions-named true false x y)
@@ -92,9 +93,9 @@ module _ (w : Weights) (s : ℕ → Origin) (n : Net) where
   origin-start (suc k) i b = let c = steps-count w n k in let g = vertices-after-ge (length (n .marks)) (n .faces) k in origin-kept k i (omega arith) ∙ origin-start k i b
 
   -- any other was made in some round
-  data Traced (k i : ℕ) : Type 0 where
-    kept : i < length (n .marks) → originFrom w s n k i ≡ s i → Traced k i
-    made : (r : Rule) → originFrom w s n k i ≡ madeBy r → MadeEarlier w (λ (j : ℕ). steps w j n) k i r → Traced k i
+  data KeptOrMade (k i : ℕ) : Type 0 where
+    kept : i < length (n .marks) → originFrom w s n k i ≡ s i → KeptOrMade k i
+    made : (r : Rule) → originFrom w s n k i ≡ madeBy r → MadeEarlier w (λ (j : ℕ). steps w j n) k i r → KeptOrMade k i
 
   made-later : (k i : ℕ) → i < length (steps w k n .marks) → (r : Rule) → MadeEarlier w (λ (j : ℕ). steps w j n) k i r → MadeEarlier w (λ (j : ℕ). steps w j n) (suc k) i r
   unfolding steps axis
@@ -106,33 +107,31 @@ module _ (w : Weights) (s : ℕ → Origin) (n : Net) where
         made = record { new = m .new; among = m .among; own = m .own; point = λ a c. step-kept w (steps w k n) (3 * i + a) (omega arith) ∙ m .point a c };
       }
 
-  traced : (k i : ℕ) → i < length (steps w k n .marks) → Traced k i
+  traced : (k i : ℕ) → i < length (steps w k n .marks) → KeptOrMade k i
   unfolding originFrom steps
   traced zero i b = kept b refl
   traced (suc k) i b = go (traced k i) (decLt i (length (steps w k n .marks)))
     where
-      later : i < length (steps w k n .marks) → Traced k i → Traced (suc k) i
+      later : i < length (steps w k n .marks) → KeptOrMade k i → KeptOrMade (suc k) i
       later c (kept d e) = kept d (origin-kept k i c ∙ e)
       later c (made r e x) = made r (origin-kept k i c ∙ e) (made-later k i c r x)
 
-      go : (i < length (steps w k n .marks) → Traced k i) → Dec (i < length (steps w k n .marks)) → Traced (suc k) i
+      go : (i < length (steps w k n .marks) → KeptOrMade k i) → Dec (i < length (steps w k n .marks)) → KeptOrMade (suc k) i
       go before (yes c) = later c (before c)
       go before (no c) =
           let e = step-count w (steps w k n) in
           made _ (origin-new k i (omega arith)) (record { round = k; earlier = omega arith; made = made-new w (steps w k n) i (omega arith) (omega arith) })
 
 -- ---- the net where refining begins
-module _ (m : ControlNet) where
-  split-value : (p : ℕ → ℤ) (i : ℕ) → length (m .marks) ≤ i
-      → splitCoordinate (shapeOf (m .sides)) (length (m .marks)) (m .faces) p i ≡ toWhole (splitValue (shapeOf (m .sides)) (length (m .marks)) (m .faces) p i)
-  unfolding splitCoordinate splitValue
-  split-value p i b = go (le-ltb i (length (m .marks)) b) (decLt i (length (m .marks) + edgeCount (shapeOf (m .sides)) (m .faces)))
-    where
-      go : ltb i (length (m .marks)) ≡ false → Dec (i < length (m .marks) + edgeCount (shapeOf (m .sides)) (m .faces))
-          → splitCoordinate (shapeOf (m .sides)) (length (m .marks)) (m .faces) p i ≡ toWhole (splitValue (shapeOf (m .sides)) (length (m .marks)) (m .faces) p i)
-      go s (yes c) = let t = lt-ltb i (length (m .marks) + edgeCount (shapeOf (m .sides)) (m .faces)) c in rw (s, t)
-      go s (no c) = let t = le-ltb i (length (m .marks) + edgeCount (shapeOf (m .sides)) (m .faces)) (omega arith) in rw (s, t)
+pub start-control : (v i : ℕ) → i < v → startOrigin v i ≡ controlVertex
+unfolding startOrigin
+start-control v i b = let t = lt-ltb i v b in rw t
 
+pub start-split-point : (v i : ℕ) → v ≤ i → startOrigin v i ≡ splitPoint
+unfolding startOrigin
+start-split-point v i b = let t = le-ltb i v b in rw t
+
+module _ (m : ControlNet) where
   start-made : (i : ℕ) → length (m .marks) ≤ i → i < length (startNet m .marks) → MadeInSplit m (startNet m .vertices) i
   start-made i b c = go (decLt 0 (length (m .sides)))
     where
@@ -141,16 +140,8 @@ module _ (m : ControlNet) where
           let e = start-split m d in
           let n = ap (λ (x : Net). length (x .marks)) e ∙ split-count m in
           let q : i < refinedVertices (shapeOf (m .sides)) (length (m .marks)) (m .faces) = omega arith in
-          rw e (record { counted = d; new = b; among = q; point = λ a f. split-axis m a i f q ∙ split-value (axis (m .vertices) a) i b })
+          rw e (record { counted = d; new = b; among = q; point = λ a f. split-axis m a i f q ∙ split-new (shapeOf (m .sides)) (length (m .marks)) (m .faces) (axis (m .vertices) a) i b })
       go (no d) = let e = ap (λ (x : Net). length (x .marks)) (start-none m (omega arith)) in let z : ⊥ = omega arith in absurd z
-
-  start-control : (i : ℕ) → i < length (m .marks) → startOrigin m i ≡ controlVertex
-  unfolding startOrigin
-  start-control i b = let t = lt-ltb i (length (m .marks)) b in rw t
-
-  start-split-point : (i : ℕ) → length (m .marks) ≤ i → startOrigin m i ≡ splitPoint
-  unfolding startOrigin
-  start-split-point i b = let t = le-ltb i (length (m .marks)) b in rw t
 
 -- ---- the origin of each vertex
 no-split : {A : Type 0} → _≡_ {A = Origin} controlVertex splitPoint → A
@@ -200,12 +191,12 @@ module _ (w : Weights) (m : ControlNet) (k i : ℕ) (b : i < length (steps w k (
 
   pub origin-is : HasOrigin w m after k i o
   unfolding originAfter
-  origin-is = go (traced w (startOrigin m) (startNet m) k i b)
+  origin-is = go (traced w (startOrigin (length (m .marks))) (startNet m) k i b)
     where
-      starting : i < length (startNet m .marks) → o ≡ startOrigin m i → Dec (i < length (m .marks)) → HasOrigin w m after k i o
-      starting d e (yes c) = is-control c (e ∙ start-control m i c)
-      starting d e (no c) = is-split (omega arith) d (e ∙ start-split-point m i (omega arith))
+      starting : i < length (startNet m .marks) → o ≡ startOrigin (length (m .marks)) i → Dec (i < length (m .marks)) → HasOrigin w m after k i o
+      starting d e (yes c) = is-control c (e ∙ start-control (length (m .marks)) i c)
+      starting d e (no c) = is-split (omega arith) d (e ∙ start-split-point (length (m .marks)) i (omega arith))
 
-      go : Traced w (startOrigin m) (startNet m) k i → HasOrigin w m after k i o
+      go : KeptOrMade w (startOrigin (length (m .marks))) (startNet m) k i → HasOrigin w m after k i o
       go (kept d e) = starting d e (decLt i (length (m .marks)))
       go (made r e x) = is-made r e x

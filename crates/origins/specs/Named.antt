@@ -2,20 +2,17 @@
 -- to the net before its round (for S the drawn net), gives that point."
 use mathlib.Core.Path.{_≡_}
 use mathlib.Core.Logic.{_↔_}
-use mathlib.Core.Bool.{cond}
 use mathlib.Core.List.{List}
-use Prim.Native.Nat.{ℕ, _+_, _-_, _≤_, _<_}
-use lib.Dec.{ltb}
+use Prim.Native.Nat.{ℕ, _≤_, _<_}
 use lib.IntN.{ℤ}
 use lib.ListN.{length}
 use Rattle.curve.specs.Weights.{Weights}
-use Rattle.fractions.specs.Fraction.{Fraction, toWhole}
-use Rattle.topology.specs.Shape.{Shape, quads}
-use Rattle.topology.specs.HalfEdge.{edgeCount, edgeAt}
+use Rattle.fractions.specs.Fraction.{toWhole}
+use Rattle.topology.specs.Shape.{quads}
 use Rattle.polygons.specs.Polygons.{shapeOf}
 use Rattle.refinedfaces.specs.Refined.{refinedVertices}
 use Rattle.nets.specs.Net.{Net, ControlNet, axis}
-use Rattle.splitting.specs.Splitting.{sideMidpoint, firstSide, cornerMean}
+use Rattle.splitting.specs.Splitting.{splitValue}
 use Rattle.origins.specs.Origins.{Rule, Origin, controlVertex, splitPoint, madeBy, newRule, ruleValue}
 
 -- vertex i of a table is new in the round on the net n, r is its own case there, and the rule r gives its point, rounded once
@@ -24,12 +21,6 @@ pub record MadeIn (w : Weights) (n : Net) (r : Rule) (vertices : List ℤ) (i : 
   pub among : i < refinedVertices quads (length (n .marks)) (n .faces)
   pub own : r ≡ newRule (n .faces) (n .marks) i
   pub point : (a : ℕ) → a < 3 → axis vertices a i ≡ toWhole (ruleValue w (n .faces) (n .marks) (axis (n .vertices) a) i r)
-
--- the split's value for its new vertex i, on one coordinate p: the midpoint of a side, or the mean of the corners of a face
-unfoldable pub splitValue : Shape → ℕ → List ℕ → (ℕ → ℤ) → ℕ → Fraction
-splitValue S v l p i =
-    cond (ltb i (v + edgeCount S l)) (sideMidpoint S l p (edgeAt S l (i - v)))
-    (cornerMean S l p (firstSide S l (i - (v + edgeCount S l))))
 
 -- vertex i of a table is new in the split of the net m, which gives its point, rounded once
 pub record MadeInSplit (m : ControlNet) (vertices : List ℤ) (i : ℕ) : Type 0 where

@@ -38,19 +38,19 @@ letterOf (madeBy fourInnerEdges) = 68  -- D
 letterOf (madeBy otherFace) = 69  -- E
 
 -- ---- one round, on a net with corners l and marks: "its letter is that of its own case", by adjacency and marks alone
-abbrev pub edgeOrigin : EdgeRule → Rule
-edgeOrigin insideSegment = withinSegment
-edgeOrigin startOfSegment = endEdge
-edgeOrigin endOfSegment = endEdge
-edgeOrigin wholeSegment = singleEdge
-edgeOrigin innerRule = interiorEdge
+abbrev pub edgeCase : EdgeRule → Rule
+edgeCase insideSegment = withinSegment
+edgeCase startOfSegment = endEdge
+edgeCase endOfSegment = endEdge
+edgeCase wholeSegment = singleEdge
+edgeCase innerRule = interiorEdge
 
 -- "D one direction with four inner edges or both"
-abbrev pub faceOrigin : FaceRule → Rule
-faceOrigin firstAlone = fourInnerEdges
-faceOrigin secondAlone = fourInnerEdges
-faceOrigin bothInner = fourInnerEdges
-faceOrigin neitherInner = otherFace
+abbrev pub faceCase : FaceRule → Rule
+faceCase firstAlone = fourInnerEdges
+faceCase secondAlone = fourInnerEdges
+faceCase bothInner = fourInnerEdges
+faceCase neitherInner = otherFace
 
 -- the half-edge at which the edge of the new vertex i is first met, and the face of the new vertex i: "Refined vertices are the old ones, then one per edge, then one per face."
 abbrev pub sideOf : (l marks : List ℕ) → ℕ → ℕ
@@ -62,11 +62,12 @@ faceOf l marks i = i - (length marks + edgeCount quads l)
 -- the rule that makes the new vertex i
 unfoldable pub newRule : (l marks : List ℕ) → ℕ → Rule
 newRule l marks i =
-    cond (ltb i (length marks + edgeCount quads l)) (edgeOrigin (edgeRule l marks (sideOf l marks i)))
-    (faceOrigin (faceRule l (faceOf l marks i)))
+    cond (ltb i (length marks + edgeCount quads l)) (edgeCase (edgeRule l marks (sideOf l marks i)))
+    (faceCase (faceRule l (faceOf l marks i)))
 
 -- ---- what the rule that a letter names gives for the new vertex i, on one coordinate p; the letter is taken at its word
--- B: the end rule from the marked end. D: the direction with four inner edges, or the mean if both have them; E: the mean
+-- B: the end rule from the marked end. D: the direction with four inner edges, the mean if both have them, and where none has them the first, so that a D for an E is
+-- found out. E: the mean
 unfoldable pub ruleValue : Weights → (l marks : List ℕ) → (ℕ → ℤ) → ℕ → Rule → Fraction
 ruleValue w l marks p i withinSegment = edgeValue w l p (sideOf l marks i) insideSegment
 ruleValue w l marks p i endEdge = cond (marked marks (from l (sideOf l marks i))) (edgeValue w l p (sideOf l marks i) startOfSegment) (edgeValue w l p (sideOf l marks i) endOfSegment)
@@ -82,9 +83,9 @@ ruleValue w l marks p i otherFace =
     meanOfBoth (direction w l (edgePoint w l marks p) (4 * f)) (direction w l (edgePoint w l marks p) (4 * f + 1))
 
 -- ---- all rounds
--- vertex i where refining begins
-unfoldable pub startOrigin : ControlNet → ℕ → Origin
-startOrigin m i = cond (ltb i (length (m .marks))) controlVertex splitPoint
+-- vertex i where refining begins, of a net drawn with v vertices
+unfoldable pub startOrigin : (v : ℕ) → ℕ → Origin
+startOrigin v i = cond (ltb i v) controlVertex splitPoint
 
 -- vertex i of the net n after k rounds, whose own vertices have the origins s. "Points kept from an earlier round keep the letter they were made with."
 unfoldable pub originFrom : Weights → (ℕ → Origin) → Net → ℕ → ℕ → Origin
@@ -95,7 +96,7 @@ originFrom w s n (suc k) i =
 
 -- vertex i of the net m after k rounds
 unfoldable pub originAfter : Weights → ControlNet → ℕ → ℕ → Origin
-originAfter w m k i = originFrom w (startOrigin m) (startNet m) k i
+originAfter w m k i = originFrom w (startOrigin (length (m .marks))) (startNet m) k i
 
 -- the letters of all its vertices
 unfoldable pub letters : Weights → ControlNet → ℕ → List ℕ

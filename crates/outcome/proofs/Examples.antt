@@ -1,4 +1,4 @@
--- The tally and the letter table, computed on one square, one triangle and no net. Assumes nothing.
+-- The tally and the letter table, computed on a square, a triangle, a cube and no net. Assumes nothing.
 use mathlib.Core.Path.{_≡_, refl}
 use mathlib.Core.Bool.{true, false}
 use mathlib.Core.List.{List, [], _∷_, _++_}

@@ -19,7 +19,7 @@ pub data Result : Type 0 where
   refinedTo : (vertices faces : ℕ) → Result
   refusedWith : (number place : ℕ) → Result
 
--- what the caller's tally holds, the rounds asked for, the net as it is drawn, the caller's tables, and the letters if they are asked for
+-- what the caller's tally holds, the rounds asked for, the net as it is drawn, the caller's tables, whether letters are asked for, and their table
 pub record Request : Type 0 where
   pub tally : ℕ
   pub rounds : ℕ

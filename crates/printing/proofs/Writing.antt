@@ -20,8 +20,8 @@ use Rattle.decimal.specs.Answers.{Stored}
 use Rattle.decimal.proofs.Writing.{stored-then, length-integer}
 use Rattle.text.specs.Bytes.{bytes}
 use Rattle.text.specs.Form.{Vertex, namesText, corners}
-use Rattle.text.specs.Text.{field, texts, pairText, numbersText, columnsText, endText, tracedText, faceText, answerText}
-use Rattle.printing.specs.Tables.{vertexAt, tracedAt, faceAt, tracedOf, facesOf, tablesText, endRoom, roomFor}
+use Rattle.text.specs.Text.{field, texts, pairText, numbersText, columnsText, endText, letteredText, faceText, answerText}
+use Rattle.printing.specs.Tables.{vertexAt, letteredAt, faceAt, letteredOf, facesOf, tablesText, endRoom, roomFor}
 use Rattle.printing.specs.Lines.{Printed, Written}
 
 -- ---- one byte after a text
@@ -96,9 +96,9 @@ at-front d o r s m most w h k =
 -- the answer has the counts that were given
 pub answer-is : (rule : Bool) (v f : ℕ) (vs : List ℤ) (fs ms ls : List ℕ)
     → tablesText rule v f vs fs ms ls
-    ≡ bytes "vertices faces\n" ++ pairText v f ++ columnsText rule ++ texts (tracedText rule) (tracedOf v vs ms ls) ++ namesText corners ++ texts faceText (facesOf f fs)
-unfolding answerText tracedOf facesOf
-answer-is rule v f vs fs ms ls = rw (length-tabulate v (tracedAt vs ms ls), length-tabulate f (faceAt fs))
+    ≡ bytes "vertices faces\n" ++ pairText v f ++ columnsText rule ++ texts (letteredText rule) (letteredOf v vs ms ls) ++ namesText corners ++ texts faceText (facesOf f fs)
+unfolding answerText letteredOf facesOf
+answer-is rule v f vs fs ms ls = rw (length-tabulate v (letteredAt vs ms ls), length-tabulate f (faceAt fs))
 
 -- ---- tables with the same text
 texts-same : {A : Type 0} (text : A → List ℕ) (n : ℕ) (a b : ℕ → A) → ((i : ℕ) → i < n → text (a i) ≡ text (b i)) → texts text (tabulate n a) ≡ texts text (tabulate n b)
@@ -106,17 +106,17 @@ unfolding texts tabulate
 texts-same text zero a b h = refl
 texts-same text (suc n) a b h = ap₂ _++_ (h 0 (omega arith)) (texts-same text n (λ (k : ℕ). a (suc k)) (λ (k : ℕ). b (suc k)) (λ i k. h (suc i) (omega arith)))
 
-line-same : (rule : Bool) (u v : Vertex) (l k : ℕ) → u ≡ v → (rule ≡ true → l ≡ k) → tracedText rule (record { vertex = u; letter = l }) ≡ tracedText rule (record { vertex = v; letter = k })
-unfolding tracedText
+line-same : (rule : Bool) (u v : Vertex) (l k : ℕ) → u ≡ v → (rule ≡ true → l ≡ k) → letteredText rule (record { vertex = u; letter = l }) ≡ letteredText rule (record { vertex = v; letter = k })
+unfolding letteredText
 line-same false u v l k e h = ap (λ (x : Vertex). numbersText x ++ (10 ∷ [])) e
 line-same true u v l k e h = ap₂ (λ (x : Vertex) (c : ℕ). numbersText x ++ (32 ∷ c ∷ 10 ∷ [])) e (h refl)
 
 -- the answer has the first v vertices and f faces, and letters only if they are asked for
 pub tables-same : (rule : Bool) (v f : ℕ) (vs us : List ℤ) (fs gs ms ns ls ks : List ℕ) → ((i : ℕ) → i < v → vertexAt vs ms i ≡ vertexAt us ns i) → ((i : ℕ) → i < f → faceAt fs i ≡ faceAt gs i)
     → (rule ≡ true → (i : ℕ) → i < v → getD ls i 0 ≡ getD ks i 0) → tablesText rule v f vs fs ms ls ≡ tablesText rule v f us gs ns ks
-unfolding tracedOf facesOf
+unfolding letteredOf facesOf
 tables-same rule v f vs us fs gs ms ns ls ks hv hf hl =
-    let a = texts-same (tracedText rule) v (tracedAt vs ms ls) (tracedAt us ns ks) (λ i b. line-same rule (vertexAt vs ms i) (vertexAt us ns i) (getD ls i 0) (getD ks i 0) (hv i b) (λ e. hl e i b)) in
+    let a = texts-same (letteredText rule) v (letteredAt vs ms ls) (letteredAt us ns ks) (λ i b. line-same rule (vertexAt vs ms i) (vertexAt us ns i) (getD ls i 0) (getD ks i 0) (hv i b) (λ e. hl e i b)) in
     let b = texts-same faceText f (faceAt fs) (faceAt gs) (λ i b. ap faceText (hf i b)) in
     answer-is rule v f vs fs ms ls
     ∙ ap₂ (λ (s t : List ℕ). bytes "vertices faces\n" ++ pairText v f ++ columnsText rule ++ s ++ namesText corners ++ t) a b

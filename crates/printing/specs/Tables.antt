@@ -6,7 +6,7 @@ use lib.IntN.{ℤ, pos}
 use lib.ListN.{getD}
 use Rattle.lists.specs.Tabulate.{tabulate}
 use Rattle.text.specs.Form.{Vertex, Face}
-use Rattle.text.specs.Text.{Traced, answerText}
+use Rattle.text.specs.Text.{LetteredVertex, answerText}
 
 -- Paper 01: "The vertex table has three numbers per vertex, the face table four vertex numbers (32-bit, from 0) per face, the mark table one byte per vertex"
 abbrev pub vertexAt : List ℤ → List ℕ → ℕ → Vertex
@@ -22,15 +22,15 @@ unfoldable pub facesOf : ℕ → List ℕ → List Face
 facesOf n fs = tabulate n (faceAt fs)
 
 -- vertices with their letters. Paper 02: "a letter beside each refined point"
-abbrev pub tracedAt : List ℤ → List ℕ → List ℕ → ℕ → Traced
-tracedAt vs ms ls i = record { vertex = vertexAt vs ms i; letter = getD ls i 0 }
+abbrev pub letteredAt : List ℤ → List ℕ → List ℕ → ℕ → LetteredVertex
+letteredAt vs ms ls i = record { vertex = vertexAt vs ms i; letter = getD ls i 0 }
 
-unfoldable pub tracedOf : ℕ → List ℤ → List ℕ → List ℕ → List Traced
-tracedOf n vs ms ls = tabulate n (tracedAt vs ms ls)
+unfoldable pub letteredOf : ℕ → List ℤ → List ℕ → List ℕ → List LetteredVertex
+letteredOf n vs ms ls = tabulate n (letteredAt vs ms ls)
 
 -- the answer with v vertices and f faces from the front of the tables, with letters if `rule` is asked for
 abbrev pub tablesText : (rule : Bool) → ℕ → ℕ → List ℤ → List ℕ → List ℕ → List ℕ → List ℕ
-tablesText rule v f vs fs ms ls = answerText rule (tracedOf v vs ms ls) (facesOf f fs)
+tablesText rule v f vs fs ms ls = answerText rule (letteredOf v vs ms ls) (facesOf f fs)
 
 -- the bytes of the names of the columns, and those after the mark in a vertex line
 abbrev pub columnsRoom : (rule : Bool) → ℕ

@@ -5,8 +5,8 @@ ghost use Prim.Native.Nat.{_+_, _*_, _≤_, _<_};
 ghost use lib.ListN.{length, getD};
 ghost use Rattle.decimal.specs.Decimal.{naturalText, integerText};
 ghost use Rattle.decimal.specs.Answers.{Stored};
-ghost use Rattle.text.specs.Text.{field, pairText, numbersText, columnsText, endText, tracedText, faceText, texts, refusalText};
-ghost use Rattle.printing.specs.Tables.{tracedOf, facesOf, columnsRoom, endRoom, roomFor, tablesText};
+ghost use Rattle.text.specs.Text.{field, pairText, numbersText, columnsText, endText, letteredText, faceText, texts, refusalText};
+ghost use Rattle.printing.specs.Tables.{letteredOf, facesOf, columnsRoom, endRoom, roomFor, tablesText};
 ghost use Rattle.printing.specs.Lines.{vertexIs, faceIs, Printed, Written};
 
 fn put_bytes(out: &mut [u8], at: usize, s: &[u8]) -> usize
@@ -71,7 +71,7 @@ fn put_mark(out: &mut [u8], at: usize, mark: u8) -> usize
 }
 
 // The numbers of a vertex.
-fn put_vertex(out: &mut [u8], at: usize, x: i32, y: i32, z: i32, mark: u8) -> usize
+fn put_numbers(out: &mut [u8], at: usize, x: i32, y: i32, z: i32, mark: u8) -> usize
     requires { ⌜ at + 39 ≤ length (now out) ⌝ }
     ensures { λ r. ⌜ Printed (now (out .entry)) (now (out .exit)) at r (numbersText (vertexIs x y z mark)) 39 ⌝ }
 {
@@ -116,7 +116,7 @@ fn put_vertices(
     letters: &[u8],
 ) -> usize
     requires { ⌜ (at + (39 + endRoom rule) * count ≤ length (now out)) × (3 * count ≤ length (now vertices)) × (count ≤ length (now marks)) × (rule ≡ true → count ≤ length (now letters)) ⌝ }
-    ensures { λ r. ⌜ Printed (now (out .entry)) (now (out .exit)) at r (texts (tracedText rule) (tracedOf count (now (vertices .entry)) (now (marks .entry)) (now (letters .entry)))) ((39 + endRoom rule) * count) ⌝ }
+    ensures { λ r. ⌜ Printed (now (out .entry)) (now (out .exit)) at r (texts (letteredText rule) (letteredOf count (now (vertices .entry)) (now (marks .entry)) (now (letters .entry)))) ((39 + endRoom rule) * count) ⌝ }
 {
     let mut to = at;
     let mut i: usize = 0;
@@ -124,7 +124,7 @@ fn put_vertices(
         let x = vertices[3 * i];
         let y = vertices[3 * i + 1];
         let z = vertices[3 * i + 2];
-        let end = put_vertex(&mut *out, to, x, y, z, marks[i]);
+        let end = put_numbers(&mut *out, to, x, y, z, marks[i]);
         to = put_end(&mut *out, end, rule, letters, i);
         i += 1;
     }

@@ -4,16 +4,23 @@ use mathlib.Core.List.{List, [], _∷_}
 use Prim.Native.Nat.{ℕ}
 use Prim.Native.String.{String}
 use Rattle.lists.specs.Tabulate.{tabulate}
-use Rattle.search.specs.Search.{firstFrom, first}
-use Rattle.verdict.specs.Verdict.{limitsVerdict, tablesVerdict, sizeVerdict, roomVerdict, netVerdict, coordinatesVerdict, shapeVerdict, facesVerdict, adjacencyVerdict, vertexVerdict}
+use Rattle.search.specs.Search.{firstFrom, first, any, count, iterate}
+use Rattle.topology.specs.Shape.{quads}
+use Rattle.topology.specs.HalfEdge.{from, to, opposed, mate}
+use Rattle.topology.specs.Boundary.{isBoundaryFrom, boundaryFrom}
+use Rattle.topology.specs.Vertex.{leaves, valence, turn, start, stops, facesMet}
+use Rattle.refusals.specs.Refusals.{badMark, badCorner, isolated, repeatedSide, nonManifold, badValence, markedRing}
+use Rattle.splitting.specs.Splitting.{startNet}
+use Rattle.origins.specs.Origins.{startOrigin, originFrom, originAfter, letters}
+use Rattle.verdict.specs.Verdict.{limitsVerdict, tablesVerdict, sizeVerdict, roomVerdict, badCoordinate, netVerdict, coordinatesVerdict, shapeVerdict, facesVerdict, adjacencyVerdict, vertexVerdict}
 use Rattle.polygons.specs.Polygons.{shapeOf}
 use Rattle.scheme.specs.Step.{steps}
-use Rattle.decimal.specs.Decimal.{readDigits, readNatural, readInteger, naturalText}
+use Rattle.decimal.specs.Decimal.{readDigits, readNatural, readInteger, naturalText, integerText}
 use Rattle.text.specs.Bytes.{bytes}
 use Rattle.text.specs.Form.{readNames, coordinate, natural, readCounts, readVertex, readFace, rows, parseHead, parseBody, parse}
-use Rattle.text.specs.Text.{pairText, texts, answerText, refusalText}
+use Rattle.text.specs.Text.{pairText, texts, numbersText, letteredText, faceText, answerText, refusalText}
 use Rattle.reading.specs.Loaded.{coordinates, marksOf, cornersOf, countsVerdict}
-use Rattle.printing.specs.Tables.{tracedOf, facesOf}
+use Rattle.printing.specs.Tables.{letteredOf, facesOf}
 use Rattle.program.specs.Answer.{programText}
 
 pub record Example : Type 0 where
@@ -45,5 +52,10 @@ programOf [] = []
 programOf (e ∷ es) = programText (bytes (e .text)) ∷ programOf es
 
 all-examples : programOf examples ≡ answersOf examples
-unfolding programOf answersOf programText bytes parse parseHead parseBody readNames readCounts readVertex readFace coordinate natural rows readInteger readNatural readDigits naturalText pairText refusalText answerText texts countsVerdict limitsVerdict tablesVerdict sizeVerdict roomVerdict netVerdict coordinatesVerdict shapeVerdict facesVerdict adjacencyVerdict vertexVerdict shapeOf first firstFrom steps coordinates marksOf cornersOf tracedOf facesOf tabulate
+unfolding programOf answersOf programText bytes parse parseHead parseBody readNames readCounts readVertex readFace coordinate natural rows readInteger readNatural readDigits naturalText pairText refusalText answerText texts countsVerdict limitsVerdict tablesVerdict sizeVerdict roomVerdict netVerdict coordinatesVerdict shapeVerdict facesVerdict adjacencyVerdict vertexVerdict shapeOf first firstFrom steps coordinates marksOf cornersOf letteredOf facesOf tabulate
 all-examples = refl
+
+lettered-square : programText (bytes "vertices faces rounds rule\n4 1 0\nx y z corner\n0 0 0 1\n16 0 0 1\n16 16 0 1\n0 16 0 1\na b c d\n0 1 2 3\n")
+    ≡ bytes "vertices faces\n4 1\nx y z corner rule\n0 0 0 1 V\n16 0 0 1 V\n16 16 0 1 V\n0 16 0 1 V\na b c d\n0 1 2 3\n"
+unfolding programText bytes parse parseHead parseBody readNames readCounts readVertex readFace coordinate natural rows readInteger readNatural readDigits naturalText integerText pairText numbersText letteredText faceText refusalText answerText texts countsVerdict limitsVerdict tablesVerdict sizeVerdict roomVerdict badCoordinate netVerdict coordinatesVerdict shapeVerdict facesVerdict adjacencyVerdict vertexVerdict badMark badCorner isolated repeatedSide nonManifold badValence markedRing shapeOf first firstFrom any count iterate quads from to opposed mate isBoundaryFrom boundaryFrom leaves valence turn start stops facesMet startNet startOrigin originFrom originAfter letters steps coordinates marksOf cornersOf letteredOf facesOf tabulate
+lettered-square = refl

@@ -35,7 +35,7 @@ use Rattle.splitting.proofs.Room.{start-vertices-le}
 use Rattle.outcome.proofs.Accepted.{accepted-drawn, accepted-refinable}
 use Rattle.outcome.proofs.Counts.{zero-steps, more-vertices, corners-grown, start-four, start-corners}
 use Rattle.loading.specs.Loading.{Loadable, Loaded}
-use Rattle.rounds.specs.Rounds.{Prepared, LettersFit, Lettered}
+use Rattle.rounds.specs.Rounds.{Prepared, LettersFit, LettersAfter}
 use Rattle.refine.specs.Run.{Ran, Finished, Finishing}
 use Rattle.refine.proofs.Naming.{lettered-all}
 
@@ -195,12 +195,12 @@ module _ (k : ℕ) (control : ControlNet) (o : Buffers) (letters : Letters) (las
     module _ (v : ℕ) (u : Buffers) (x₂ : Finished k r n last v t u) where
       -- the letters of the vertices where refining begins, then those of the rounds
       pub letters-ran : (s₁ s₂ : List ℕ) → length s₂ ≡ length (letters .table) → WrittenIf (letters .asked) 0 r (startLetter (length (control .marks))) (letters .table) s₁
-          → Lettered (letters .asked) k r v (front r n t) s₁ s₂ → s₂ ≡ lettered (origins.letters kobbelt control k) letters
+          → LettersAfter (letters .asked) k r v (front r n t) s₁ s₂ → s₂ ≡ lettered (origins.letters kobbelt control k) letters
       letters-ran s₁ s₂ e y z =
           let b = x₂ .after in
           let c : v ≡ length (steps kobbelt k m .marks) = b .count ∙ ap (λ (y : Net). length (steps kobbelt k y .marks)) front-is in
           let f = b .fewer in
-          lettered-all k control r v (x .count) c (letters .table) s₁ s₂ e (letters .asked) (λ a. omega (arith, letters-fit n corners-are a)) y (subst (λ (q : Net). Lettered (letters .asked) k r v q s₁ s₂) front-is z)
+          lettered-all k control r v (x .count) c (letters .table) s₁ s₂ e (letters .asked) (λ a. omega (arith, letters-fit n corners-are a)) y (subst (λ (q : Net). LettersAfter (letters .asked) k r v q s₁ s₂) front-is z)
 
       pub ran : Ran k control o u last v
       ran =

@@ -18,7 +18,7 @@ use Rattle.origins.proofs.Named.{origin-start}
 use Rattle.letters.specs.Letters.{startLetter, WrittenIf}
 use Rattle.outcome.specs.Outcome.{lettered}
 use Rattle.outcome.proofs.Counts.{zero-steps, more-vertices}
-use Rattle.rounds.specs.Rounds.{Lettered}
+use Rattle.rounds.specs.Rounds.{LettersAfter}
 
 module _ (k : ℕ) (m : ControlNet) (start r : ℕ) (hs : start ≡ length (startNet m .marks)) (hr : r ≡ length (steps kobbelt k (startNet m) .marks)) (s s₁ s₂ : List ℕ) (long : length s₂ ≡ length s) where
   abbrev f : ℕ → ℕ
@@ -26,7 +26,7 @@ module _ (k : ℕ) (m : ControlNet) (start r : ℕ) (hs : start ≡ length (star
 
   begun : Written 0 start (startLetter (length (m .marks))) s s₁ → Written 0 start f s s₁
   unfolding originAfter startOrigin
-  begun x = written-as 0 start (startLetter (length (m .marks))) f s s₁ (λ i _ b. ap letterOf (sym (origin-start kobbelt (startOrigin m) (startNet m) k i (omega arith)))) x
+  begun x = written-as 0 start (startLetter (length (m .marks))) f s s₁ (λ i _ b. ap letterOf (sym (origin-start kobbelt (startOrigin (length (m .marks))) (startNet m) k i (omega arith)))) x
 
   all-written : r ≤ length s → Written 0 start (startLetter (length (m .marks))) s s₁ → Written start r f s₁ s₂ → s₂ ≡ filled (letters kobbelt m k) s
   unfolding letters
@@ -35,8 +35,8 @@ module _ (k : ℕ) (m : ControlNet) (start r : ℕ) (hs : start ≡ length (star
       written-all r f s s₂ b long (written-on 0 start r f s s₁ s₂ (omega arith) (omega (arith, zero-steps (startNet m))) (begun x) y)
       ∙ ap (λ (n : ℕ). filled (tabulate n f) s) hr
 
-  pub lettered-all : (asked : Bool) → (asked ≡ true → r ≤ length s) → WrittenIf asked 0 start (startLetter (length (m .marks))) s s₁ → Lettered asked k start r (startNet m) s₁ s₂
+  pub lettered-all : (asked : Bool) → (asked ≡ true → r ≤ length s) → WrittenIf asked 0 start (startLetter (length (m .marks))) s s₁ → LettersAfter asked k start r (startNet m) s₁ s₂
       → s₂ ≡ lettered (letters kobbelt m k) (letterTable asked s)
   unfolding originAfter
-  lettered-all true b x y = all-written (b refl) (x .all refl) (y (startOrigin m) .all refl)
-  lettered-all false b x y = y (startOrigin m) .none refl ∙ x .none refl
+  lettered-all true b x y = all-written (b refl) (x .all refl) (y (startOrigin (length (m .marks))) .all refl)
+  lettered-all false b x y = y (startOrigin (length (m .marks))) .none refl ∙ x .none refl

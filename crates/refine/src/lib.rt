@@ -9,7 +9,7 @@ ghost use Rattle.verdict.specs.Call.{call};
 ghost use Rattle.origins.specs.Origins as origins;
 ghost use Rattle.outcome.specs.Outcome.{request, roomOf, lettered, outcome};
 ghost use Rattle.nets.specs.Buffers.{buffers, letterTable};
-ghost use Rattle.rounds.specs.Rounds.{LettersFit, Lettered};
+ghost use Rattle.rounds.specs.Rounds.{LettersFit, LettersAfter};
 ghost use Rattle.refine.specs.Answer.{answered};
 ghost use Rattle.refine.specs.Run.{Ran, Finished, Finishing};
 
@@ -45,7 +45,7 @@ fn finish(
     requires { ⌜ LettersFit «with_letters» (n * 4 ^ rounds) (now letters) ⌝ }
     ensures { λ r. ⌜ Finished rounds v n last r (buffers (now (vertices .entry)) (now (faces .entry)) (now (marks .entry)) (now (work .entry)))
         (buffers (now (vertices .exit)) (now (faces .exit)) (now (marks .exit)) (now (work .exit))) ⌝ }
-    ensures { λ r. ⌜ Lettered «with_letters» rounds v r (frontNet v n (now (vertices .entry)) (now (faces .entry)) (now (marks .entry))) (now (letters .entry)) (now (letters .exit)) ⌝ }
+    ensures { λ r. ⌜ LettersAfter «with_letters» rounds v r (frontNet v n (now (vertices .entry)) (now (faces .entry)) (now (marks .entry))) (now (letters .entry)) (now (letters .exit)) ⌝ }
 {
     let count = rounds::rounds(
         &mut *vertices,
@@ -173,8 +173,8 @@ fn refine_admitted(
     }
 }
 
-// The net after all rounds and its new points added to `points`, its letters where they are asked for; or the first refusal that holds. The time is that of the check, and after it linear in the
-// refined net.
+// The net after all rounds and its new points added to `points`, its letters where they are asked for; or the first refusal that holds. The time is that of the
+// check, and after it linear in the refined net.
 pub fn refine(
     points: u64,
     rounds: u32,

@@ -1,8 +1,10 @@
 -- How the parts of a round fit together. Assumes nothing.
 use mathlib.Core.Path.{_≡_, sym, ap, _∙_, subst}
+use mathlib.Core.Bool.{Bool}
 use mathlib.Core.List.{List}
 use Prim.Native.Nat.{ℕ, _+_, _-_, _*_, _/_, _≤_}
 use native.Mathlib.Omega.{arith}
+use borrow.Author.Tests.{lt-ltb, le-ltb, ltb-true, ltb-false}
 use borrow.Rule.Slice.PartMut.{putMid}
 use lib.IntN.{ℤ}
 use lib.ListN.{length, getD, take, drop, length-drop}
@@ -13,7 +15,7 @@ use Rattle.nets.specs.Net.{Net, frontNet}
 use Rattle.tables.specs.Tables.{filled}
 use Rattle.nets.proofs.Laws.{same-net}
 use Rattle.topology.specs.Shape.{quads}
-use Rattle.topology.specs.HalfEdge.{edgeCount}
+use Rattle.topology.specs.HalfEdge.{mate, edgeCount}
 use Rattle.topology.specs.Manifold.{Oriented}
 use Rattle.refinedfaces.specs.Refined.{refinedVertices, refined, refinedMarks}
 use Rattle.refinedfaces.specs.Mates.{refinedMates}
@@ -28,9 +30,9 @@ use Rattle.roundmates.proofs.Round.{mates-in, mated-refined, mates-rest}
 use Rattle.classes.specs.Classes.{Classes}
 use Rattle.coordinates.specs.Entry.{entryOf, edgeOf}
 use Rattle.facepoints.specs.Faces.{faceCoordinates, FaceTable}
-use Rattle.letters.specs.Letters.{Nameable}
+use Rattle.letters.specs.Letters.{newLetter, Nameable, WrittenIf}
 use Rattle.edgetable.specs.EdgeTable.{Round, Edges}
-use Rattle.edgetable.proofs.Faces.{face-table, number-is}
+use Rattle.edgetable.proofs.Faces.{face-table, number-is, inner-is}
 use Rattle.rounds.proofs.Points.{face-room, points-made}
 use Rattle.rounds.specs.Round.{Current, Refines}
 use Rattle.nets.specs.Buffers.{Buffers, buffers, front}
@@ -129,15 +131,6 @@ module _ (v n at initial : ℕ) (t : Buffers) (c : Current v n at initial t) whe
         bounded = rw m (c .within);
       }
 
-  -- the letters of the new vertices can be written to s
-  pub nameable : (s : List ℕ) → 4 * n ≤ length s → Nameable l mk w s
-  nameable s f =
-      let e = corners in
-      let m = marked in
-      let q = c .vertices in
-      let d = vertices-refined (length mk) l (omega arith) in
-      record { net = ready .net .oriented; table = ready .table; room = omega arith }
-
   -- the net that the new points are made from
   made : frontNet (length mk) (length l) points l mk ≡ old
   made = same-net (ap (λ (k : ℕ). take (3 * k) points) marked) (take-all (length l) l (omega arith)) (take-all (length mk) mk (omega arith))
@@ -149,6 +142,33 @@ module _ (v n at initial : ℕ) (t : Buffers) (c : Current v n at initial t) whe
 
     rest₁ : drop (8 * n) w₁ ≡ drop (8 * n) w
     rest₁ = let e = corners in drop-same (8 * n) w₁ w (done .kept) (λ i h. done .behind i (omega arith))
+
+    -- the letters of the new vertices can be written to s
+    pub nameable : (s : List ℕ) → 4 * n ≤ length s → Nameable l mk w₁ s
+    nameable s f =
+        let e = corners in
+        let m = marked in
+        let q = c .vertices in
+        let r = c .roomWork in
+        let k = done .kept in
+        let d = vertices-refined (length mk) l (omega arith) in
+        record {
+          net = ready .net .oriented;
+          table = record { sides = sides; room = omega arith; mated = mated₁ };
+          entries = omega arith;
+          numbered = number-is l mk points w at initial ready p₁ w₁ done;
+          inner = λ g b h. ltb-true _ _ (inner-is l mk points w at initial ready p₁ w₁ done g b ∙ lt-ltb (mate quads l g) (length l) h);
+          boundary = λ g b h. ltb-false _ _ (inner-is l mk points w at initial ready p₁ w₁ done g b ∙ le-ltb (mate quads l g) (length l) (omega arith));
+          room = omega arith;
+        }
+
+    -- by the numbers of vertices before the round and after it
+    pub letters-made : (edge : ℕ) → edge ≡ edgeCount quads l → (asked : Bool) (s s′ : List ℕ) → WrittenIf asked (length mk) (refinedVertices quads (length mk) l) (newLetter l mk) s s′
+        → WrittenIf asked v (v + edge + n / 4) (newLetter l mk) s s′
+    unfolding quads
+    letters-made edge e asked s s′ x =
+        let r : refinedVertices quads (length mk) l ≡ v + edge + n / 4 = omega (arith, marked, corners) in
+        subst (λ (j : ℕ). WrittenIf asked j (v + edge + n / 4) (newLetter l mk) s s′) marked (subst (λ (j : ℕ). WrittenIf asked (length mk) j (newLetter l mk) s s′) r x)
 
     pub face-ready : FaceTable n w₁
     face-ready = subst (λ (k : ℕ). FaceTable k w₁) corners (face-table l mk points w at initial ready p₁ w₁ done)

@@ -13,7 +13,7 @@ use Rattle.lists.proofs.Parts.{drop-later}
 use Rattle.curve.specs.Weights.{kobbelt}
 use Rattle.curve.proofs.Kobbelt.{tame}
 use Rattle.nets.specs.Net.{Net}
-use Rattle.tables.specs.Tables.{filled, Written, SameOutside}
+use Rattle.tables.specs.Tables.{filled, SameOutside}
 use Rattle.tables.proofs.Written.{written-none, written-on, written-as}
 use Rattle.tables.proofs.Laws.{length-filled, take-filled, filled-over, same-front, same-rest}
 use Rattle.nets.proofs.Laws.{same-net}
@@ -37,7 +37,7 @@ use Rattle.origins.proofs.Named.{origin-kept, origin-new}
 use Rattle.letters.specs.Letters.{newLetter, WrittenIf}
 use Rattle.rounds.specs.Round.{Current, Refines}
 use Rattle.nets.specs.Buffers.{Buffers, buffers, front}
-use Rattle.rounds.specs.Rounds.{Prepared, After, Lettered}
+use Rattle.rounds.specs.Rounds.{Prepared, After, LettersAfter}
 use Rattle.rounds.proofs.Laws.{count-le, count-is, mates-ready, mates-next, mates-past}
 
 -- a list at the front of a table of its length is the whole
@@ -112,7 +112,7 @@ module _ (k v n last : ℕ) (t : Buffers) (ok : Prepared k v n last t) where
   vertices-here : length (m .marks) ≡ v
   vertices-here = let o = once in let q = ok .vertices in let r = ok .roomMarks in length-take-le v marks (omega arith)
 
-  pub letters-none : (asked : Bool) (s : List ℕ) → Lettered asked 0 v v m s s
+  pub letters-none : (asked : Bool) (s : List ℕ) → LettersAfter asked 0 v v m s s
   letters-none asked s o = record { all = λ _. written-none v (λ (i : ℕ). letterOf (originFrom kobbelt o m 0 i)) s; none = λ _. refl }
 
   pub mated-none : MateTable (steps kobbelt 0 m .faces) w
@@ -238,24 +238,20 @@ module _ (k v n last : ℕ) (t : Buffers) (ok : Prepared k v n last t) where
         after-next = past w₂ refl refl
 
         -- one round more of letters: old vertices keep theirs
-        pub letters-next : (asked : Bool) (s s₁ s₂ : List ℕ) → Lettered asked i v r m s s₁
-            → WrittenIf asked (length (take r marks₁)) (refinedVertices quads (length (take r marks₁)) (take (n * 4 ^ i) faces₁)) (newLetter (take (n * 4 ^ i) faces₁) (take r marks₁)) s₁ s₂
-            → Lettered asked (i + 1) v r₂ m s s₂
+        pub letters-next : (asked : Bool) (s s₁ s₂ : List ℕ) → LettersAfter asked i v r m s s₁ → WrittenIf asked r r₂ (newLetter (take (n * 4 ^ i) faces₁) (take r marks₁)) s₁ s₂ → LettersAfter asked (i + 1) v r₂ m s s₂
         letters-next asked s s₁ s₂ x y o =
             let old : Net = steps kobbelt i m in
             let f : ℕ → ℕ = λ j. letterOf (originFrom kobbelt o m i j) in
             let f₂ : ℕ → ℕ = λ j. letterOf (originFrom kobbelt o m (i + 1) j) in
             let q : i + 1 ≡ suc i = omega arith in
-            let y₂ : WrittenIf asked (length (old .marks)) (refinedVertices quads (length (old .marks)) (old .faces)) (newLetter (old .faces) (old .marks)) s₁ s₂ =
-            subst (λ (b : Net). WrittenIf asked (length (b .marks)) (refinedVertices quads (length (b .marks)) (b .faces)) (newLetter (b .faces) (b .marks)) s₁ s₂) front-is y in
+            let y₂ : WrittenIf asked r r₂ (newLetter (old .faces) (old .marks)) s₁ s₂ = subst (λ (b : Net). WrittenIf asked r r₂ (newLetter (b .faces) (b .marks)) s₁ s₂) front-is y in
             let c : refinedVertices quads (length (old .marks)) (old .faces) ≡ r₂ = sym (step-count kobbelt old) ∙ ap (λ (b : Net). length (step kobbelt b .marks)) (sym front-is) ∙ sym (e .count) in
             let d = a .count in
             let b : v ≤ r = omega (arith, vertices-here, steps-count kobbelt m i, vertices-after-ge (length (m .marks)) (m .faces) i) in
             record {
               all = λ u. written-on v r r₂ f₂ s s₁ s₂ b (omega arith)
                   (written-as v r f f₂ s s₁ (λ j _ l. ap letterOf (sym (origin-kept kobbelt o m i j (omega arith)) ∙ ap (λ (h : ℕ). originFrom kobbelt o m h j) (sym q))) (x o .all u))
-                  (written-as r r₂ (newLetter (old .faces) (old .marks)) f₂ s₁ s₂ (λ j l _. ap letterOf (sym (origin-new kobbelt o m i j (omega arith)) ∙ ap (λ (h : ℕ). originFrom kobbelt o m h j) (sym q)))
-                  (subst (λ (j : ℕ). Written j r₂ (newLetter (old .faces) (old .marks)) s₁ s₂) (sym d) (subst (λ (j : ℕ). Written (length (old .marks)) j (newLetter (old .faces) (old .marks)) s₁ s₂) c (y₂ .all u))));
+                  (written-as r r₂ (newLetter (old .faces) (old .marks)) f₂ s₁ s₂ (λ j l _. ap letterOf (sym (origin-new kobbelt o m i j (omega arith)) ∙ ap (λ (h : ℕ). originFrom kobbelt o m h j) (sym q))) (y₂ .all u));
               none = λ u. y₂ .none u ∙ x o .none u;
             }
 

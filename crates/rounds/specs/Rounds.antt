@@ -47,5 +47,5 @@ LettersFit asked n s = asked ≡ true → n ≤ length s
 
 -- the letter table s′ after k rounds on the net m, from s: where letters are asked for, those of the vertices from v up to r, which the rounds made; whatever the
 -- origins of the vertices of m
-abbrev pub Lettered : (asked : Bool) (k v r : ℕ) → Net → (s s′ : List ℕ) → Type 0
-Lettered asked k v r m s s′ = (o : ℕ → Origin) → WrittenIf asked v r (λ (i : ℕ). letterOf (originFrom kobbelt o m k i)) s s′
+abbrev pub LettersAfter : (asked : Bool) (k v r : ℕ) → Net → (s s′ : List ℕ) → Type 0
+LettersAfter asked k v r m s s′ = (o : ℕ → Origin) → WrittenIf asked v r (λ (i : ℕ). letterOf (originFrom kobbelt o m k i)) s s′

@@ -3,14 +3,18 @@ ghost use Rattle.rounds.specs.Round.{Current, Refines};
 ghost use Prim.Native.Nat.{_*_, _^_};
 ghost use Rattle.nets.specs.Net.{frontNet};
 ghost use Rattle.nets.specs.Buffers.{buffers};
-ghost use Rattle.rounds.specs.Rounds.{Prepared, After, LettersFit, Lettered};
+ghost use lib.ListN.{take};
+ghost use Rattle.letters.specs.Letters.{newLetter, WrittenIf};
+ghost use Rattle.rounds.specs.Rounds.{Prepared, After, LettersFit, LettersAfter};
 
-// One round on the net of v vertices and n corners at the front of the tables; the mates stay as they are, and the classes of the vertices, from `at` on.
-// The answer is the new number of vertices.
+// One round on the net of v vertices and n corners at the front of the tables, with the letters of its new vertices where they are asked for; the mates stay as they
+// are, and the classes of the vertices, from `at` on. The answer is the new number of vertices.
 fn round(
     points: &mut [i32],
     faces: &mut [u32],
     marks: &mut [u8],
+    with_letters: bool,
+    letters: &mut [u8],
     work: &mut [u32],
     v: usize,
     n: usize,
@@ -18,8 +22,10 @@ fn round(
     initial: usize,
 ) -> usize
     requires { ⌜ Current v n at initial (buffers (now points) (now faces) (now marks) (now work)) ⌝ }
+    requires { ⌜ LettersFit «with_letters» (4 * n) (now letters) ⌝ }
     ensures { λ r. ⌜ Refines v n r (buffers (now (points .entry)) (now (faces .entry)) (now (marks .entry)) (now (work .entry)))
         (buffers (now (points .exit)) (now (faces .exit)) (now (marks .exit)) (now (work .exit))) ⌝ }
+    ensures { λ r. ⌜ WrittenIf «with_letters» v r (newLetter (take n (now (faces .entry))) (take v (now (marks .entry)))) (now (letters .entry)) (now (letters .exit)) ⌝ }
 {
     let edges = edgetable::edge_points(
         &mut *points,
@@ -28,6 +34,14 @@ fn round(
         &mut *work,
         at,
         initial,
+    );
+    letters::name_points(
+        with_letters,
+        &mut *letters,
+        &faces[..n],
+        &marks[..v],
+        &*work,
+        edges,
     );
     let count = v + edges + n / 4;
     roundfaces::extend_marks(&mut *marks, v, count);
@@ -54,7 +68,7 @@ pub fn rounds(
     requires { ⌜ LettersFit «with_letters» (n * 4 ^ k) (now letters) ⌝ }
     ensures { λ r. ⌜ After k v n r (buffers (now (points .entry)) (now (faces .entry)) (now (marks .entry)) (now (work .entry)))
         (buffers (now (points .exit)) (now (faces .exit)) (now (marks .exit)) (now (work .exit))) ⌝ }
-    ensures { λ r. ⌜ Lettered «with_letters» k v r (frontNet v n (now (points .entry)) (now (faces .entry)) (now (marks .entry))) (now (letters .entry)) (now (letters .exit)) ⌝ }
+    ensures { λ r. ⌜ LettersAfter «with_letters» k v r (frontNet v n (now (points .entry)) (now (faces .entry)) (now (marks .entry))) (now (letters .entry)) (now (letters .exit)) ⌝ }
 {
     if k == 0 {
         return v;
@@ -65,17 +79,12 @@ pub fn rounds(
     let mut corners = n;
     let mut i = 0;
     while i < k {
-        letters::name_points(
-            with_letters,
-            &mut *letters,
-            &faces[..corners],
-            &marks[..count],
-            &*work,
-        );
         count = round(
             &mut *points,
             &mut *faces,
             &mut *marks,
+            with_letters,
+            &mut *letters,
             &mut *work,
             count,
             corners,

@@ -25,7 +25,7 @@ use Rattle.refinedfaces.specs.Refined.{corner, refined, refinedMarks}
 use Rattle.rules.specs.Rules.{interiorPoint, endPoint, midpoint}
 use Rattle.scheme.specs.Points.{edgeRule, edgeValue, edgePoint}
 use Rattle.scheme.specs.Step.{refinedCoordinate, step}
-use Rattle.splitting.specs.Splitting.{sideMidpoint, cornerMean, firstSide, splitCoordinate, split}
+use Rattle.splitting.specs.Splitting.{sideMidpoint, cornerMean, firstSide, splitValue, splitCoordinate, split}
 use Rattle.seam.specs.Reading.{nextVertex, vertexAt, points, Reads}
 use Rattle.seam.specs.Seam.{Admissible, Seam}
 use Rattle.seam.specs.Split.{halved, ReadsControl, AdmissibleControl, SplitShared}
@@ -209,7 +209,7 @@ list-halved = refl
 
 -- after the split, worked out on the net
 points-split : points quads (split up) withSides 0 6 ∷ points quads (split down) againstSides 0 6 ∷ [] ≡ split-list ∷ split-list ∷ []
-unfolding tabulate round midpoint firstFrom first count iterate sideAfter sideBefore faceThen noFace polygons shapeOf quads from to opposed mate firstMet edgeCount edge edgeAt isBoundaryFrom isBoundaryInto boundaryFrom boundaryInto corner refined refinedMarks sideMidpoint cornerMean firstSide splitCoordinate split axis pointOf nextVertex vertexAt points
+unfolding tabulate round midpoint firstFrom first count iterate sideAfter sideBefore faceThen noFace polygons shapeOf quads from to opposed mate firstMet edgeCount edge edgeAt isBoundaryFrom isBoundaryInto boundaryFrom boundaryInto corner refined refinedMarks sideMidpoint cornerMean firstSide splitValue splitCoordinate split axis pointOf nextVertex vertexAt points
 points-split = refl
 
 lawful-three : Lawful three 3

@@ -3,7 +3,7 @@
 use mathlib.Core.Path.{_≡_, refl, sym, ap, ap₂, _∙_}
 use mathlib.Core.Bool.{false}
 use mathlib.Core.List.{List}
-use Prim.Native.Nat.{ℕ, _+_, _-_, _*_, _<_, min}
+use Prim.Native.Nat.{ℕ, _+_, _-_, _*_, _≤_, _<_, min}
 use native.Mathlib.Decide.{decLt}
 use native.Mathlib.Omega.{arith}
 use lib.IntN.{ℤ, _+ℤ_, +ℤ-comm}
@@ -24,7 +24,7 @@ use Rattle.topology.specs.Manifold.{Oriented}
 use Rattle.topology.proofs.Mates.{mate-is, edge-lt, edgeAt-edge}
 use Rattle.polygons.specs.Polygons.{polygons, shapeOf, total, badSides}
 use Rattle.polygons.proofs.Counts.{FaceAt, FaceFits, face-fits, nexts-at, polygons-lawful, shape-some, faces-polygons}
-use Rattle.splitting.specs.Splitting.{sideMidpoint, cornerMean, firstSide, splitCoordinate}
+use Rattle.splitting.specs.Splitting.{sideMidpoint, cornerMean, firstSide, splitValue, splitCoordinate}
 
 -- ---- the three kinds of vertices
 module _ (S : Shape) (v : ℕ) (l : List ℕ) (p : ℕ → ℤ) where
@@ -32,8 +32,12 @@ module _ (S : Shape) (v : ℕ) (l : List ℕ) (p : ℕ → ℤ) where
   unfolding splitCoordinate
   split-old i b = let t = lt-ltb i v b in rw t
 
-  split-edge-at : (e : ℕ) → e < edgeCount S l → splitCoordinate S v l p (v + e) ≡ toWhole (sideMidpoint S l p (edgeAt S l e))
+  pub split-new : (i : ℕ) → v ≤ i → splitCoordinate S v l p i ≡ toWhole (splitValue S v l p i)
   unfolding splitCoordinate
+  split-new i b = let t = le-ltb i v b in rw t
+
+  split-edge-at : (e : ℕ) → e < edgeCount S l → splitCoordinate S v l p (v + e) ≡ toWhole (sideMidpoint S l p (edgeAt S l e))
+  unfolding splitCoordinate splitValue
   split-edge-at e b =
       let s = le-ltb (v + e) v (omega arith) in
       let t = lt-ltb (v + e) (v + edgeCount S l) (omega arith) in
@@ -41,7 +45,7 @@ module _ (S : Shape) (v : ℕ) (l : List ℕ) (p : ℕ → ℤ) where
       rw (s, t, d)
 
   split-face-at : (f : ℕ) → splitCoordinate S v l p (v + edgeCount S l + f) ≡ toWhole (cornerMean S l p (firstSide S l f))
-  unfolding splitCoordinate
+  unfolding splitCoordinate splitValue
   split-face-at f =
       let s = le-ltb (v + edgeCount S l + f) v (omega arith) in
       let t = le-ltb (v + edgeCount S l + f) (v + edgeCount S l) (omega arith) in

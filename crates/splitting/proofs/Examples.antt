@@ -12,7 +12,7 @@ use Rattle.topology.specs.HalfEdge.{from, to, opposed, mate, firstMet, edgeCoun
 use Rattle.polygons.specs.Polygons.{sideAfter, sideBefore, faceThen, noFace, polygons, shapeOf}
 use Rattle.refinedfaces.specs.Refined.{corner, refined, refinedMarks}
 use Rattle.nets.specs.Net.{Net, net, ControlNet, controlNet, axis}
-use Rattle.splitting.specs.Splitting.{sideMidpoint, cornerMean, firstSide, splitCoordinate, split, startNet}
+use Rattle.splitting.specs.Splitting.{sideMidpoint, cornerMean, firstSide, splitValue, splitCoordinate, split, startNet}
 
 abbrev plane : ℤ → ℤ → List ℤ → List ℤ
 plane x y l = x ∷ y ∷ pos 0 ∷ l
@@ -49,5 +49,5 @@ stated =
     ∷ []
 
 nets : computed ≡ stated
-unfolding tabulate firstFrom first count iterate round sumᶠ midpoint from to opposed mate firstMet edgeCount edge edgeAt sideAfter sideBefore faceThen noFace polygons shapeOf corner refined refinedMarks axis sideMidpoint cornerMean firstSide splitCoordinate split startNet
+unfolding tabulate firstFrom first count iterate round sumᶠ midpoint from to opposed mate firstMet edgeCount edge edgeAt sideAfter sideBefore faceThen noFace polygons shapeOf corner refined refinedMarks axis sideMidpoint cornerMean firstSide splitValue splitCoordinate split startNet
 nets = refl

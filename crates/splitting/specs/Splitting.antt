@@ -28,12 +28,15 @@ cornerMean S l p h = sumᶠ (S .sides h) (λ (k : ℕ). whole (p (from l (iterat
 unfoldable pub firstSide : Shape → List ℕ → ℕ → ℕ
 firstSide S l f = first (λ (h : ℕ). eqb (S .face h) f) (length l)
 
+-- the new vertex i: old vertices, then one per edge, then one per face
+unfoldable pub splitValue : Shape → ℕ → List ℕ → (ℕ → ℤ) → ℕ → Fraction
+splitValue S v l p i =
+    cond (ltb i (v + edgeCount S l)) (sideMidpoint S l p (edgeAt S l (i - v)))
+    (cornerMean S l p (firstSide S l (i - (v + edgeCount S l))))
+
 -- "rounded like any new point; drawn points stay"
 unfoldable pub splitCoordinate : Shape → ℕ → List ℕ → (ℕ → ℤ) → ℕ → ℤ
-splitCoordinate S v l p i =
-    cond (ltb i v) (p i)
-    (cond (ltb i (v + edgeCount S l)) (toWhole (sideMidpoint S l p (edgeAt S l (i - v))))
-    (toWhole (cornerMean S l p (firstSide S l (i - (v + edgeCount S l))))))
+splitCoordinate S v l p i = cond (ltb i v) (p i) (toWhole (splitValue S v l p i))
 
 -- "Four-sided faces are split too"
 unfoldable pub split : ControlNet → Net

@@ -9,7 +9,7 @@ use lib.IntN.{ℤ, pos, negsuc}
 use Rattle.decimal.specs.Decimal.{readDigits, readNatural, readInteger, naturalText, integerText}
 use Rattle.text.specs.Bytes.{bytes}
 use Rattle.text.specs.Form.{Vertex, Face, Net, Parsed, parsed, badLine, readNames, coordinate, natural, readCounts, readVertex, readFace, rows, parseHead, parseBody, parse}
-use Rattle.text.specs.Text.{countsText, pairText, numbersText, vertexText, faceText, texts, netText, Traced, tracedText, answerText, refusalText}
+use Rattle.text.specs.Text.{countsText, pairText, numbersText, vertexText, faceText, texts, netText, LetteredVertex, letteredText, answerText, refusalText}
 
 abbrev at : ℤ → ℤ → ℤ → ℕ → Vertex
 at x y z m = record { x = x; y = y; z = z; mark = m }
@@ -48,7 +48,7 @@ refinedText false =
 refinedText true =
     bytes "vertices faces\n9 4\nx y z corner rule\n0 0 0 1 V\n16 0 0 1 V\n16 16 0 1 V\n0 16 0 1 V\n8 0 0 0 M\n16 8 0 0 M\n8 16 0 0 M\n0 8 0 0 M\n8 8 0 0 E\na b c d\n0 4 8 7\n1 5 8 4\n2 6 8 5\n3 7 8 6\n"
 
-abbrev traced : ℤ → ℤ → ℤ → ℕ → ℕ → Traced
+abbrev traced : ℤ → ℤ → ℤ → ℕ → ℕ → LetteredVertex
 traced x y z m l = record { vertex = at x y z m; letter = l }
 
 refined-written : (r : Bool)
@@ -56,7 +56,7 @@ refined-written : (r : Bool)
     (traced (pos 0) (pos 0) (pos 0) 1 86 ∷ traced (pos 16) (pos 0) (pos 0) 1 86 ∷ traced (pos 16) (pos 16) (pos 0) 1 86 ∷ traced (pos 0) (pos 16) (pos 0) 1 86
     ∷ traced (pos 8) (pos 0) (pos 0) 0 77 ∷ traced (pos 16) (pos 8) (pos 0) 0 77 ∷ traced (pos 8) (pos 16) (pos 0) 0 77 ∷ traced (pos 0) (pos 8) (pos 0) 0 77 ∷ traced (pos 8) (pos 8) (pos 0) 0 69 ∷ [])
     (face 0 4 8 7 ∷ face 1 5 8 4 ∷ face 2 6 8 5 ∷ face 3 7 8 6 ∷ []) ≡ refinedText r
-unfolding answerText pairText numbersText tracedText faceText texts naturalText integerText bytes
+unfolding answerText pairText numbersText letteredText faceText texts naturalText integerText bytes
 refined-written false = refl
 refined-written true = refl
 

@@ -44,7 +44,7 @@ netText n = withBody (namesText (input (n .rule)) ++ countsText (n .counts)) (na
 -- ---- the answer, with letters if they are asked for
 
 -- a vertex and its letter
-pub record Traced : Type 0 where
+pub record LetteredVertex : Type 0 where
   pub vertex : Vertex
   pub letter : ℕ
 
@@ -55,12 +55,12 @@ columnsText rule = cond rule (bytes "x y z corner rule\n") (namesText marked)
 abbrev pub endText : (rule : Bool) (letter : ℕ) → List ℕ
 endText rule letter = cond rule (32 ∷ letter ∷ 10 ∷ []) (10 ∷ [])
 
-unfoldable pub tracedText : (rule : Bool) → Traced → List ℕ
-tracedText rule t = numbersText (t .vertex) ++ endText rule (t .letter)
+unfoldable pub letteredText : (rule : Bool) → LetteredVertex → List ℕ
+letteredText rule t = numbersText (t .vertex) ++ endText rule (t .letter)
 
 -- the text of a refined net
-unfoldable pub answerText : (rule : Bool) → List Traced → List Face → List ℕ
-answerText rule ts fs = withBody (bytes "vertices faces\n" ++ pairText (length ts) (length fs)) (columnsText rule) (texts (tracedText rule) ts) fs
+unfoldable pub answerText : (rule : Bool) → List LetteredVertex → List Face → List ℕ
+answerText rule ts fs = withBody (bytes "vertices faces\n" ++ pairText (length ts) (length fs)) (columnsText rule) (texts (letteredText rule) ts) fs
 
 -- Paper 01: "A refusal prints the line `refusal place`, then a line with both numbers and one blank between"
 unfoldable pub refusalText : ℕ → ℕ → List ℕ

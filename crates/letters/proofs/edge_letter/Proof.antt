@@ -4,7 +4,7 @@ use borrow.Author.Needs.{needs}
 use Rattle.scheme.specs.Points as points
 use Rattle.edgepoints.specs.declared.EdgeRule.{EdgeRule}
 use Rattle.edgepoints.specs.Edge.{ruleOf}
-use Rattle.origins.specs.Origins.{madeBy, letterOf, edgeOrigin}
+use Rattle.origins.specs.Origins.{madeBy, letterOf, edgeCase}
 use Rattle.letters.proofs.edge_letter.Statement.{statement}
 use Rattle.letters.proofs.edge_letter.Tie as tie
 
@@ -14,8 +14,8 @@ start x = x .before .before .before
 
 -- its letter is the edge's
 letter-is : (x : tie.After-edge-rule) (r : EdgeRule) → x .edge-rule .result ≡ r
-    → letterOf (madeBy (edgeOrigin (ruleOf r))) ≡ letterOf (madeBy (edgeOrigin (points.edgeRule (start x .args .faces .now) (start x .args .marks .now) (start x .args .h))))
-letter-is x r e = ap (λ (u : points.EdgeRule). letterOf (madeBy (edgeOrigin u))) (ap ruleOf (sym e) ∙ x .edge-rule .ensures)
+    → letterOf (madeBy (edgeCase (ruleOf r))) ≡ letterOf (madeBy (edgeCase (points.edgeRule (start x .args .faces .now) (start x .args .marks .now) (start x .args .h))))
+letter-is x r e = ap (λ (u : points.EdgeRule). letterOf (madeBy (edgeCase u))) (ap ruleOf (sym e) ∙ x .edge-rule .ensures)
 
 edge-rule-requires : tie.Need-edge-rule-requires
 edge-rule-requires c κs = search needs

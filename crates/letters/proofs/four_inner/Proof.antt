@@ -1,7 +1,6 @@
 -- `four_inner` meets its contract. Assumes nothing.
 use mathlib.Core.Path.{_≡_, refl, sym, ap, _∙_}
 use mathlib.Core.Bool.{_&&_}
-use mathlib.Core.List.{List}
 use Prim.Native.Nat.{ℕ, _<_}
 use native.Mathlib.Omega.{arith}
 use borrow.Author.Needs.{needs}
@@ -13,14 +12,9 @@ use Rattle.topology.specs.HalfEdge.{mate}
 use Rattle.topology.specs.Quads.{across}
 use Rattle.topology.proofs.Shape.{quads-lawful}
 use Rattle.scheme.specs.Points.{fourInner}
-use Rattle.halfedges.specs.Tables.{Quadrilaterals}
-use Rattle.letters.proofs.Letters.{four-by}
+use Rattle.letters.proofs.Letters.{four-by, across-lt}
 use Rattle.letters.proofs.four_inner.Statement.{statement}
 use Rattle.letters.proofs.four_inner.Tie as tie
-
-across-lt : (l : List ℕ) (h g : ℕ) → Quadrilaterals (length l) → h < length l → g ≡ across h → g < length l
-unfolding across
-across-lt l h g q k e = let s = quads-lawful (length l) (q .fours) in rw e (s .next-lt (quads .next h) (s .next-lt h k))
 
 -- where both sides have mates a and b
 abbrev start : tie.Else2 → tie.Start
@@ -65,7 +59,7 @@ across-side-requires c κs = search needs
 mate-side-requires-2 : tie.Need-mate-side-requires-2
 mate-side-requires-2 c κs =
     let s = c .before .before .before .before .before in
-    (s .pre .0, across-lt (s .args .faces .now) (s .args .h) _ (s .pre .0 .sides) (s .pre .1) (c .across-side .ensures))
+    (s .pre .0, across-lt _ (s .args .h) _ (quads-lawful _ (s .pre .0 .sides .fours)) (s .pre .1) (c .across-side .ensures))
 
 returns-2 : tie.Need-returns-2
 returns-2 c =
@@ -86,7 +80,7 @@ mate-side-requires-3 : tie.Need-mate-side-requires-3
 mate-side-requires-3 c κs =
     let x = c .before in
     let s = start x in
-    (s .pre .0, across-lt (s .args .faces .now) _ _ (s .pre .0 .sides) (beside x .near) (c .across-side2 .ensures))
+    (s .pre .0, across-lt _ _ _ (quads-lawful _ (s .pre .0 .sides .fours)) (beside x .near) (c .across-side2 .ensures))
 
 returns-3 : tie.Need-returns-3
 returns-3 c =
@@ -104,7 +98,7 @@ mate-side-requires-4 : tie.Need-mate-side-requires-4
 mate-side-requires-4 c κs =
     let x = c .before .before .before .before in
     let s = start x in
-    (s .pre .0, across-lt (s .args .faces .now) _ _ (s .pre .0 .sides) (beside x .far) (c .across-side3 .ensures))
+    (s .pre .0, across-lt _ _ _ (quads-lawful _ (s .pre .0 .sides .fours)) (beside x .far) (c .across-side3 .ensures))
 
 returns-4 : tie.Need-returns-4
 returns-4 c =

@@ -1,34 +1,74 @@
--- `name_side` meets its contract. Assumes nothing.
-use mathlib.Core.Path.{sym, ap, _∙_}
-use Prim.Native.Nat.{ℕ, _+_, _<_}
+-- `name_side` meets its contract: two letters, or three. Assumes nothing.
+use mathlib.Core.Path.{_≡_, sym, ap, _∙_}
+use mathlib.Core.List.{List}
+use Prim.Native.Nat.{ℕ, _+_, _%_}
 use native.Mathlib.Omega.{arith}
 use borrow.Author.Needs.{needs}
-use lib.ListN.{length}
+use lib.ListN.{length, getD, set, length-set}
 use Rattle.topology.specs.Shape.{quads}
-use Rattle.topology.specs.HalfEdge.{to, mate}
-use Rattle.tables.proofs.Written.{written-none, written-one}
-use Rattle.letters.specs.Letters.{newLetter}
-use Rattle.letters.proofs.Letters.{place-new, place-old, place-lt, edge-named}
+use Rattle.topology.specs.HalfEdge.{to, mate, edge}
+use Rattle.topology.specs.Boundary.{OnBoundary}
+use Rattle.topology.specs.Quads.{across}
+use Rattle.letters.proofs.Letters.{across-lt}
+use Rattle.letters.proofs.Boundary.{Put, off-boundary, on-boundary, edge-place, put-none, facePlace, edge-room, face-room, put-edge, put-face, side-alone, side-and-far}
 use Rattle.letters.proofs.name_side.Statement.{statement}
 use Rattle.letters.proofs.name_side.Tie as tie
 
--- where the edge is first met
-abbrev start : tie.Then1 → tie.Start
+-- where h lies on the boundary
+abbrev start : tie.Else1 → tie.Start
 start t = t .before .before .before .before .before .before
 
-first : (t : tie.Then1) → start t .args .h < mate quads (start t .args .faces .now) (start t .args .h)
-first t = let e = t .before .mate-side .ensures in let b = t .if1 .taken in omega arith
+boundary : (t : tie.Else1) → OnBoundary quads (start t .args .faces .now) (start t .args .h)
+boundary t = let s = start t in on-boundary _ _ _ _ (s .pre .0) _ (s .pre .1 .1) (let b = t .if1 .left in omega arith)
 
-in-table : (t : tie.Then1) → start t .args .at < length (start t .args .letters .now)
-in-table t =
-    let s = start t in
-    let p = s .pre .1 in
-    let r = s .pre .0 .room in
-    let k = place-lt (s .args .faces .now) (s .args .marks .now) (s .pre .0 .net) (s .args .h) (p .0) (first t) in
-    omega arith
+-- the letters with that of its edge
+abbrev one : tie.After-edge-letter → List ℕ
+one x =
+    let s = start (x .before) in
+    set (s .args .letters .now) (length (s .args .marks .now) + getD (s .args .work .now) (length (s .args .faces .now) + s .args .h) 0 % 536870912) (x .edge-letter .result)
 
-mate-side-requires : tie.Need-mate-side-requires
-mate-side-requires c κs = search needs
+one-long : (x : tie.After-edge-letter) → length (one x) ≡ length (start (x .before) .args .letters .now)
+one-long x =
+    let s = start (x .before) in
+    length-set (s .args .letters .now) (length (s .args .marks .now) + getD (s .args .work .now) (length (s .args .faces .now) + s .args .h) 0 % 536870912) (x .edge-letter .result)
+
+edged : (x : tie.After-edge-letter) → let s = start (x .before) in let l = s .args .faces .now in let m = s .args .marks .now in Put l m (s .args .h) (length m + edge quads l (s .args .h)) (s .args .letters .now) (one x)
+edged x = let s = start (x .before) in put-edge _ _ _ _ (s .pre .0) _ _ _ (boundary (x .before)) (edge-place _ _ _ _ (s .pre .0) _ (s .pre .1 .1)) (x .edge-letter .ensures)
+
+-- then with that of its face
+long : (y : tie.After-name-face) → length (y .name-face .last .0) ≡ length (start (y .before .before .before .before) .args .letters .now)
+long y = y .name-face .kept .0 ∙ one-long (y .before .before .before)
+
+faced : (y : tie.After-name-face) → let x = y .before .before .before in let s = start (x .before) in Put (s .args .faces .now) (s .args .marks .now) (s .args .h) (facePlace (s .args .faces .now) (s .args .marks .now) (s .args .h)) (one x) (y .name-face .last .0)
+faced y =
+    let x = y .before .before .before in
+    let s = start (x .before) in
+    put-face _ _ _ _ (s .pre .0) _ _ _ _ _ _ (s .pre .1 .0) (s .pre .1 .1) (y .before .face-of .ensures) (one-long x) (y .name-face .ensures)
+
+-- the half-edge beyond the opposite side
+far : (z : tie.After-mate-side) → let s = start (z .before .before .before .before .before .before .before .before) in z .mate-side .result ≡ mate quads (s .args .faces .now) (across (s .args .h))
+far z = z .mate-side .ensures ∙ ap (mate quads _) (z .before .across-side .ensures)
+
+add-entry : tie.Need-add-entry
+add-entry c = search needs
+
+mul-entry : tie.Need-mul-entry
+mul-entry c = search needs
+
+shared-slice-read-entry : tie.Need-shared-slice-read-entry
+shared-slice-read-entry c = let s = c .before .before .before .before .before in let e = s .pre .0 .entries in omega arith
+
+returns : tie.Need-returns
+returns c =
+    let s = c .before .before .before .before .before .before in
+    put-none _ _ _ _ _
+    (λ g a b o. let e : g ≡ s .args .h = omega arith in off-boundary _ _ _ _ (s .pre .0) (s .args .h) (s .pre .1 .1) (c .if1 .taken) (rw e at o))
+
+cast-place : tie.Need-cast-place
+cast-place c = let s = start c in omega (arith, c .before .shared-slice-known4 .given (length (s .args .faces .now) + s .args .h))
+
+add-place : tie.Need-add-place
+add-place c = search needs
 
 edge-letter-requires : tie.Need-edge-letter-requires
 unfolding to
@@ -36,45 +76,91 @@ edge-letter-requires c κs =
     let s = start c in
     let n = s .pre .0 .net in
     let h = s .args .h in
-    let k = s .pre .1 .0 in
-    ((s .pre .0 .table .sides, k, c .before .mate-side .ensures), (n .below h k, n .below (quads .next h) (n .shape .next-lt h k)))
+    let k = s .pre .1 .1 in
+    ((s .pre .0 .table .sides, k, sym (boundary c .none)), (n .below h k, n .below (quads .next h) (n .shape .next-lt h k)))
 
 slice-write-letters : tie.Need-slice-write-letters
-slice-write-letters c = in-table (c .before)
+slice-write-letters c =
+    let s = start (c .before) in
+    edge-room _ _ _ _ (s .pre .0) (s .args .h) _ (s .pre .1 .1) (edge-place _ _ _ _ (s .pre .0) (s .args .h) (s .pre .1 .1))
 
-add-result : tie.Need-add-result
-add-result c = let k = in-table (c .before) in omega arith
+face-of-requires : tie.Need-face-of-requires
+face-of-requires c κs = search needs
+
+name-face-requires : tie.Need-name-face-requires
+name-face-requires c κs =
+    let x = c .before .before in
+    let s = start (x .before) in
+    let e = c .face-of .ensures in
+    let f = s .pre .0 .net .shape .face-lt (s .args .h) (s .pre .1 .1) in
+    let k = face-room _ _ _ _ (s .pre .0) (s .args .first) (s .args .h) (c .face-of .result) (s .pre .1 .0) (s .pre .1 .1) e in
+    (s .pre .0 .table, omega arith, simp length-set k)
+
+across-side-requires : tie.Need-across-side-requires
+across-side-requires c κs = search needs
+
+mate-side-requires : tie.Need-mate-side-requires
+mate-side-requires c κs =
+    let s = start (c .before .before .before .before .before .before .before) in
+    (s .pre .0 .table, across-lt _ (s .args .h) _ (s .pre .0 .net .shape) (s .pre .1 .1) (c .across-side .ensures))
+
+face-of-requires-2 : tie.Need-face-of-requires-2
+face-of-requires-2 c κs = search needs
+
+name-face-requires-2 : tie.Need-name-face-requires-2
+name-face-requires-2 c κs =
+    let z = c .before .before in
+    let y = z .before .before .before .before .before in
+    let x = y .before .before .before in
+    let s = start (x .before) in
+    let e = c .face-of2 .ensures in
+    let b = z .if2 .taken in
+    let f = s .pre .0 .net .shape .face-lt (z .before .mate-side .result) b in
+    let k = face-room _ _ _ _ (s .pre .0) (s .args .first) (z .before .mate-side .result) (c .face-of2 .result) (s .pre .1 .0) b e in
+    let m = long y in
+    (s .pre .0 .table, omega arith, omega arith)
 
 same-length : tie.Need-same-length
-same-length c = search needs
-
-returns : tie.Need-returns
-returns c =
-    let t = c .before in
-    let s = start t in
-    let l = s .args .faces .now in
-    let marks = s .args .marks .now in
-    let p = s .pre .1 in
-    let n = edge-named l marks (s .pre .0 .net) (s .args .h) (p .0) (first t) in (
-      ap (λ (k : ℕ). k + 1) (p .1) ∙ place-new l marks (s .args .h) (first t),
-      written-one (s .args .at) (newLetter l marks) (s .args .letters .now) (c .edge-letter .result) (in-table t) (c .edge-letter .ensures ∙ sym n ∙ ap (newLetter l marks) (sym (p .1))),
-    )
+same-length c = let d = c .before .before in d .name-face2 .kept .0 ∙ long (d .before .before .before .before .before .before .before .before)
 
 returns-2 : tie.Need-returns-2
 returns-2 c =
-    let s = c .before .before .before .before .before .before in
-    let e = c .before .mate-side .ensures in
-    let b = c .if1 .left in
-    (s .pre .1 .1 ∙ place-old (s .args .faces .now) (s .args .marks .now) (s .args .h) (omega arith), written-none _ _ _)
+    let d = c .before .before in
+    let t = d .before .before .before in
+    let z = t .before in
+    let y = z .before .before .before .before in
+    let s = start (y .before .before .before .before) in
+    side-and-far _ _ _ _ _ _ (edged (y .before .before .before)) (faced y) (z .mate-side .result) _ (far z)
+    (put-face _ _ _ _ (s .pre .0) _ _ _ _ _ _ (s .pre .1 .0) (t .if2 .taken) (d .before .face-of2 .ensures) (long y) (d .name-face2 .ensures))
+
+same-length-2 : tie.Need-same-length-2
+same-length-2 c = long (c .before .before .before .before .before)
+
+returns-3 : tie.Need-returns-3
+returns-3 c =
+    let z = c .before in
+    let y = z .before .before .before .before in
+    side-alone _ _ _ _ _ _ (edged (y .before .before .before)) (faced y) (let e = far z in let b = c .if2 .left in omega arith)
 
 pub name-side-spec : {M : Type 1} → statement M
 name-side-spec =
     tie.close
     (tie.spec
-    mate-side-requires
+    add-entry
+    mul-entry
+    shared-slice-read-entry
+    returns
+    cast-place
+    add-place
     edge-letter-requires
     slice-write-letters
-    add-result
+    face-of-requires
+    name-face-requires
+    across-side-requires
+    mate-side-requires
+    face-of-requires-2
+    name-face-requires-2
     same-length
-    returns
-    returns-2)
+    returns-2
+    same-length-2
+    returns-3)

@@ -27,8 +27,8 @@ returns c =
     let x = y .before .before .before .before in
     let t = x .before .before in
     let s = start t in
-    if-asked (s .args .asked) _ _ _ _ _ (t .if1 .taken)
-    (start-named (s .args .drawn) (s .args .start) (s .args .letters .now) (x .fill .last .0) _ (s .pre (t .if1 .taken) .0) (x .fill .ensures) (y .fill2 .ensures))
+    if-asked (s .args .with-letters) _ _ _ _ _ (t .if1 .taken)
+    (start-named (s .args .control) (s .args .start) (s .args .letters .now) (x .fill .last .0) _ (s .pre (t .if1 .taken) .0) (x .fill .ensures) (y .fill2 .ensures))
 
 returns-2 : tie.Need-returns-2
 returns-2 c = if-not-asked _ _ _ _ _ (c .if1 .left)

@@ -8,8 +8,8 @@ use mir.Syntax.{w32}
 use mir.Val.{SFits}
 use mir.Facts.{toZ-ofZ}
 use lib.ListN.{length, getD}
-use Rattle.text.specs.Text.{tracedText, texts}
-use Rattle.printing.specs.Tables.{tracedAt, tracedOf, endRoom}
+use Rattle.text.specs.Text.{letteredText, texts}
+use Rattle.printing.specs.Tables.{letteredAt, letteredOf, endRoom}
 use Rattle.printing.specs.Lines.{Printed}
 use Rattle.printing.proofs.Writing.{in-row, lines-none, lines-more, line-room}
 use Rattle.printing.proofs.put_vertices.Statement.{statement}
@@ -17,16 +17,16 @@ use Rattle.printing.proofs.put_vertices.Tie as tie
 
 -- the first i lines are printed
 abbrev Inv-loop : tie.InvT-loop
-Inv-loop out₀ at count vertices marks rule letters to₀ i₀ out to i = (i ≤ count) × (length out ≡ length out₀) × Printed out₀ out at to (texts (tracedText rule) (tracedOf i vertices marks letters)) ((39 + endRoom rule) * i)
+Inv-loop out₀ at count vertices marks rule letters to₀ i₀ out to i = (i ≤ count) × (length out ≡ length out₀) × Printed out₀ out at to (texts (letteredText rule) (letteredOf i vertices marks letters)) ((39 + endRoom rule) * i)
 
 abbrev μ-loop : tie.MeasureT-loop
 μ-loop out₀ at count vertices marks rule letters to₀ i₀ out to i = count - i
 
 loop-holds : tie.Need-loop-holds Inv-loop μ-loop
-unfolding tracedOf
+unfolding letteredOf
 loop-holds c =
     let a = c .before .before .before .args in
-    (omega arith, refl, lines-none (tracedText (a .rule)) (tracedAt (a .vertices .now) (a .marks .now) (a .letters .now)) (39 + endRoom (a .rule)) _ _)
+    (omega arith, refl, lines-none (letteredText (a .rule)) (letteredAt (a .vertices .now) (a .marks .now) (a .letters .now)) (39 + endRoom (a .rule)) _ _)
 
 -- room for line i
 room : (l : tie.At-loop Inv-loop μ-loop) → (let a = l .before .before .before .before .args in l .loop .i < a .count → l .loop .to + (39 + endRoom (a .rule)) ≤ length (l .loop .out))
@@ -69,11 +69,11 @@ mul-z-2 c = search needs
 shared-slice-copy-out-z : tie.Need-shared-slice-copy-out-z Inv-loop μ-loop
 shared-slice-copy-out-z c = search needs
 
-shared-slice-read-put-vertex : tie.Need-shared-slice-read-put-vertex Inv-loop μ-loop
-shared-slice-read-put-vertex c = search needs
+shared-slice-read-put-numbers : tie.Need-shared-slice-read-put-numbers Inv-loop μ-loop
+shared-slice-read-put-numbers c = search needs
 
-put-vertex-requires : tie.Need-put-vertex-requires Inv-loop μ-loop
-put-vertex-requires c κs =
+put-numbers-requires : tie.Need-put-numbers-requires Inv-loop μ-loop
+put-numbers-requires c κs =
     let p = c .before .before .before .before .before in
     let r = room (p .before) (p .loop-test .taken) in
     omega arith
@@ -84,8 +84,8 @@ put-end-requires c κs =
     let p = v .before .before .before .before .before .before in
     let s = p .before .before .before .before .before in
     let r = room (p .before) (p .loop-test .taken) in
-    let w = v .put-vertex .ensures .within in
-    let k = v .put-vertex .kept .0 in
+    let w = v .put-numbers .ensures .within in
+    let k = v .put-numbers .kept .0 in
     (omega arith, λ e. let h = s .pre .3 e in omega arith)
 
 add-i : tie.Need-add-i Inv-loop μ-loop
@@ -95,7 +95,7 @@ loop-less : tie.Need-loop-less Inv-loop μ-loop
 loop-less c = search needs
 
 loop-again : tie.Need-loop-again Inv-loop μ-loop
-unfolding tracedOf tracedText
+unfolding letteredOf letteredText
 loop-again c =
     let e = c .before .before in
     let v = e .before .before .before .before in
@@ -105,9 +105,9 @@ loop-again c =
     let fx : SFits w32 (getD (a .vertices .now) (3 * l .loop .i) (pos 0)) = search needs in
     let fy : SFits w32 (getD (a .vertices .now) (3 * l .loop .i + 1) (pos 0)) = search needs in
     let fz : SFits w32 (getD (a .vertices .now) (3 * l .loop .i + 2) (pos 0)) = search needs in
-    let w = in-row (simp toZ-ofZ at (v .put-vertex .ensures)) (e .put-end .ensures) in
-    let more = lines-more (tracedText (a .rule)) (tracedAt (a .vertices .now) (a .marks .now) (a .letters .now)) (39 + endRoom (a .rule)) (l .loop .i) (l .loop .inv .2) w in
-    (omega (arith, p .loop-test .taken), e .put-end .kept .0 ∙ v .put-vertex .kept .0 ∙ l .loop .inv .1, more)
+    let w = in-row (simp toZ-ofZ at (v .put-numbers .ensures)) (e .put-end .ensures) in
+    let more = lines-more (letteredText (a .rule)) (letteredAt (a .vertices .now) (a .marks .now) (a .letters .now)) (39 + endRoom (a .rule)) (l .loop .i) (l .loop .inv .2) w in
+    (omega (arith, p .loop-test .taken), e .put-end .kept .0 ∙ v .put-numbers .kept .0 ∙ l .loop .inv .1, more)
 
 same-length : tie.Need-same-length Inv-loop μ-loop
 same-length c = c .before .loop .inv .1
@@ -136,8 +136,8 @@ put-vertices-spec =
     add-z
     mul-z-2
     shared-slice-copy-out-z
-    shared-slice-read-put-vertex
-    put-vertex-requires
+    shared-slice-read-put-numbers
+    put-numbers-requires
     put-end-requires
     add-i
     loop-less

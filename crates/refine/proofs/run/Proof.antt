@@ -10,7 +10,7 @@ use Rattle.curve.specs.Weights.{kobbelt}
 use Rattle.nets.specs.Buffers.{Buffers, buffers, front, Letters, letterTable}
 use Rattle.origins.specs.Origins.{letters}
 use Rattle.outcome.specs.Outcome.{lettered}
-use Rattle.rounds.specs.Rounds.{LettersFit, Lettered}
+use Rattle.rounds.specs.Rounds.{LettersFit, LettersAfter}
 use Rattle.refine.specs.Run.{Ran, Finished, Finishing}
 use Rattle.refine.proofs.Laws.{loadable, corners-plain, corners-split, corners-limit, letters-fit, start-fits, finishing, letters-ran, ran}
 use borrow.Author.Needs.{needs}
@@ -64,7 +64,7 @@ fit y n e =
 
 all-letters : (y : tie.After-name-start) (n : ℕ) → n ≡ length (startNet (control (start (from y))) .faces) → (v : ℕ) (u : Buffers)
     → (let x = from y in Finished (start x .args .rounds) (x .load .result) n (start x .args .last) v (loaded x) u) → (l : List ℕ) → length l ≡ length (y .name-start .last .1 .0)
-    → (let x = from y in Lettered (start x .args .with-letters) (start x .args .rounds) (x .load .result) v (front (x .load .result) n (loaded x)) (y .name-start .last .1 .0) l)
+    → (let x = from y in LettersAfter (start x .args .with-letters) (start x .args .rounds) (x .load .result) v (front (x .load .result) n (loaded x)) (y .name-start .last .1 .0) l)
     → (let s = start (from y) in l ≡ lettered (letters kobbelt (control s) (s .args .rounds)) (asked s))
 all-letters y n e v u f l k g =
     let x = from y in

@@ -3,7 +3,7 @@ use mathlib.Core.Path.{sym, subst}
 use Prim.Native.Nat.{ℕ, _+_, _-_, _*_, _/_, _≤_}
 use native.Mathlib.Omega.{arith}
 use Rattle.nets.specs.Buffers.{Buffers, buffers}
-use Rattle.rounds.proofs.Laws.{corners, marked, count-le, ready, face-ready, net-ready, part-start, part-room, refines}
+use Rattle.rounds.proofs.Laws.{corners, marked, count-le, ready, nameable, letters-made, face-ready, net-ready, part-start, part-room, refines}
 use borrow.Author.Needs.{needs}
 use Rattle.rounds.proofs.round.Statement.{statement}
 use Rattle.rounds.proofs.round.Tie as tie
@@ -13,70 +13,92 @@ tables s = buffers (s .args .points .now) (s .args .faces .now) (s .args .marks 
 
 -- after the pass over the edges
 abbrev start : tie.After-edge-points → tie.Start
-start x = x .before .before .before .before .before .before .before .before
+start x = x .before .before .before .before .before .before .before .before .before
 
 -- the new number of vertices
 few : (x : tie.After-edge-points) → (let s = start x in s .args .v + x .edge-points .result + s .args .n / 4 ≤ 4 * s .args .n)
 few x =
     let s = start x in
-    subst (λ (j : ℕ). s .args .v + j + s .args .n / 4 ≤ 4 * s .args .n) (sym (x .edge-points .ensures .0)) (count-le (s .args .v) (s .args .n) (s .args .at) (s .args .initial) (tables s) (s .pre))
+    subst (λ (j : ℕ). s .args .v + j + s .args .n / 4 ≤ 4 * s .args .n) (sym (x .edge-points .ensures .0)) (count-le (s .args .v) (s .args .n) (s .args .at) (s .args .initial) (tables s) (s .pre .0))
 
 slice-reshare-prefix-edge-points : tie.Need-slice-reshare-prefix-edge-points
-slice-reshare-prefix-edge-points c = search needs
+slice-reshare-prefix-edge-points c = let s = c .before .before .before .before .before in omega (arith, s .pre .0 .roomFaces)
 
 slice-aggregate-edge-points : tie.Need-slice-aggregate-edge-points
-slice-aggregate-edge-points c = let s = c .before .before .before .before .before in sym (corners (s .args .v) (s .args .n) (s .args .at) (s .args .initial) (tables s) (s .pre))
+slice-aggregate-edge-points c = let s = c .before .before .before .before .before .before in sym (corners (s .args .v) (s .args .n) (s .args .at) (s .args .initial) (tables s) (s .pre .0))
 
 slice-reshare-prefix-edge-points-2 : tie.Need-slice-reshare-prefix-edge-points-2
-slice-reshare-prefix-edge-points-2 c = search needs
+slice-reshare-prefix-edge-points-2 c = let s = c .before .before .before .before .before .before in omega (arith, s .pre .0 .roomMarks, s .pre .0 .vertices)
 
 slice-aggregate-edge-points-2 : tie.Need-slice-aggregate-edge-points-2
-slice-aggregate-edge-points-2 c = let s = c .before .before .before .before .before .before in sym (marked (s .args .v) (s .args .n) (s .args .at) (s .args .initial) (tables s) (s .pre))
+slice-aggregate-edge-points-2 c = let s = c .before .before .before .before .before .before .before in sym (marked (s .args .v) (s .args .n) (s .args .at) (s .args .initial) (tables s) (s .pre .0))
 
 edge-points-requires : tie.Need-edge-points-requires
-edge-points-requires c κs = let s = c .before .before .before .before .before .before .before in ready (s .args .v) (s .args .n) (s .args .at) (s .args .initial) (tables s) (s .pre)
+edge-points-requires c κs = let s = c .before .before .before .before .before .before .before .before in ready (s .args .v) (s .args .n) (s .args .at) (s .args .initial) (tables s) (s .pre .0)
+
+slice-reshare-prefix-name-points : tie.Need-slice-reshare-prefix-name-points
+slice-reshare-prefix-name-points c = let s = start (c .before .before .before .before) in omega (arith, s .pre .0 .roomFaces)
+
+slice-aggregate-name-points : tie.Need-slice-aggregate-name-points
+slice-aggregate-name-points c = let s = start (c .before .before .before .before .before) in sym (corners (s .args .v) (s .args .n) (s .args .at) (s .args .initial) (tables s) (s .pre .0))
+
+slice-reshare-prefix-name-points-2 : tie.Need-slice-reshare-prefix-name-points-2
+slice-reshare-prefix-name-points-2 c = let s = start (c .before .before .before .before .before) in omega (arith, s .pre .0 .roomMarks, s .pre .0 .vertices)
+
+slice-aggregate-name-points-2 : tie.Need-slice-aggregate-name-points-2
+slice-aggregate-name-points-2 c = let s = start (c .before .before .before .before .before .before) in sym (marked (s .args .v) (s .args .n) (s .args .at) (s .args .initial) (tables s) (s .pre .0))
+
+name-points-requires : tie.Need-name-points-requires
+name-points-requires c κs =
+    let x = c .before .before .before .before .before .before .before in
+    let s = start x in
+    λ a. (nameable (s .args .v) (s .args .n) (s .args .at) (s .args .initial) (tables s) (s .pre .0) _ _ (x .edge-points .ensures .1) (s .args .letters .now) (s .pre .1 a), x .edge-points .ensures .0)
+
+-- after the letters
+abbrev edged : tie.After-name-points → tie.After-edge-points
+edged y = y .before .before .before .before .before .before .before .before
 
 add-count : tie.Need-add-count
-add-count c = let x = c .before .before .before in let k = few x in let s = start x in let q = s .pre .small in omega arith
+add-count c = let x = c .before .before .before .before .before .before .before .before .before .before in let k = few x in let s = start x in let q = s .pre .0 .small in omega arith
 
 add-count-2 : tie.Need-add-count-2
-add-count-2 c = let x = c .before .before .before in let k = few x in let s = start x in let q = s .pre .small in omega arith
+add-count-2 c = let x = c .before .before .before .before .before .before .before .before .before .before in let k = few x in let s = start x in let q = s .pre .0 .small in omega arith
 
 extend-marks-requires : tie.Need-extend-marks-requires
 extend-marks-requires c κs =
-    let x = c .before .before .before .before in
+    let x = c .before .before .before .before .before .before .before .before .before .before .before in
     let k = few x in
     let s = start x in
-    let r = s .pre .roomMarks in
-    let q = s .pre .small in
+    let r = s .pre .0 .roomMarks in
+    let q = s .pre .0 .small in
     (omega arith, omega arith)
 
 add-first : tie.Need-add-first
-add-first c = let x = c .before .before .before .before .before .before .before in let k = few x in let s = start x in let q = s .pre .small in omega arith
+add-first c = let x = c .before .before .before .before .before .before .before .before .before .before .before .before .before .before in let k = few x in let s = start x in let q = s .pre .0 .small in omega arith
 
 mul-first : tie.Need-mul-first
-mul-first c = let x = c .before .before .before .before .before .before .before in let k = few x in let s = start x in let q = s .pre .small in omega arith
+mul-first c = let x = c .before .before .before .before .before .before .before .before .before .before .before .before .before .before in let k = few x in let s = start x in let q = s .pre .0 .small in omega arith
 
 mul-face-points : tie.Need-mul-face-points
-mul-face-points c = let x = c .before .before .before .before .before .before .before in let k = few x in let s = start x in let q = s .pre .small in omega arith
+mul-face-points c = let x = c .before .before .before .before .before .before .before .before .before .before .before .before .before .before in let k = few x in let s = start x in let q = s .pre .0 .small in omega arith
 
 sub-face-points : tie.Need-sub-face-points
-sub-face-points c = let x = c .before .before .before .before .before .before .before in let s = start x in part-start (s .args .v) (s .args .n) (s .args .at) (s .args .initial) (tables s) (s .pre) _ _ (x .edge-points .ensures .1) _ (x .edge-points .ensures .0)
+sub-face-points c = let x = c .before .before .before .before .before .before .before .before .before .before .before .before .before .before in let s = start x in part-start (s .args .v) (s .args .n) (s .args .at) (s .args .initial) (tables s) (s .pre .0) _ _ (x .edge-points .ensures .1) _ (x .edge-points .ensures .0)
 
 part-face-points-start : tie.Need-part-face-points-start
-part-face-points-start c = let x = c .before .before .before .before .before .before .before in let s = start x in part-start (s .args .v) (s .args .n) (s .args .at) (s .args .initial) (tables s) (s .pre) _ _ (x .edge-points .ensures .1) _ (x .edge-points .ensures .0)
+part-face-points-start c = let x = c .before .before .before .before .before .before .before .before .before .before .before .before .before .before in let s = start x in part-start (s .args .v) (s .args .n) (s .args .at) (s .args .initial) (tables s) (s .pre .0) _ _ (x .edge-points .ensures .1) _ (x .edge-points .ensures .0)
 
 part-face-points-end : tie.Need-part-face-points-end
 part-face-points-end c = search needs
 
 face-points-requires : tie.Need-face-points-requires
 face-points-requires c κs =
-    let x = c .before .before .before .before .before .before .before .before .before .before in
+    let x = c .before .before .before .before .before .before .before .before .before .before .before .before .before .before .before .before .before in
     let s = start x in
     let d = x .edge-points .ensures .1 in (
-      face-ready (s .args .v) (s .args .n) (s .args .at) (s .args .initial) (tables s) (s .pre) _ _ d,
-      net-ready (s .args .v) (s .args .n) (s .args .at) (s .args .initial) (tables s) (s .pre) _ _ d _ (x .edge-points .ensures .0),
-      part-room (s .args .v) (s .args .n) (s .args .at) (s .args .initial) (tables s) (s .pre) _ _ d _ (x .edge-points .ensures .0),
+      face-ready (s .args .v) (s .args .n) (s .args .at) (s .args .initial) (tables s) (s .pre .0) _ _ d,
+      net-ready (s .args .v) (s .args .n) (s .args .at) (s .args .initial) (tables s) (s .pre .0) _ _ d _ (x .edge-points .ensures .0),
+      part-room (s .args .v) (s .args .n) (s .args .at) (s .args .initial) (tables s) (s .pre .0) _ _ d _ (x .edge-points .ensures .0),
     )
 
 same-length : tie.Need-same-length
@@ -91,14 +113,21 @@ same-length-3 c = search needs
 same-length-4 : tie.Need-same-length-4
 same-length-4 c = search needs
 
+same-length-5 : tie.Need-same-length-5
+same-length-5 c = search needs
+
 returns : tie.Need-returns
 returns c =
     let f = c .before .before .before in
     let m = f .before .before .before .before .before .before in
-    let x = m .before .before .before .before .before in
+    let y = m .before .before .before .before in
+    let x = edged y in
     let s = start x in
-    refines (s .args .v) (s .args .n) (s .args .at) (s .args .initial) (tables s) (s .pre) _ _ (x .edge-points .ensures .1) _ (x .edge-points .ensures .0) _ _ _
-    (f .face-points .ensures .0) (f .face-points .ensures .1) (m .extend-marks .ensures)
+    let e = x .edge-points .ensures .0 in
+    let d = x .edge-points .ensures .1 in (
+      refines (s .args .v) (s .args .n) (s .args .at) (s .args .initial) (tables s) (s .pre .0) _ _ d _ e _ _ _ (f .face-points .ensures .0) (f .face-points .ensures .1) (m .extend-marks .ensures),
+      letters-made (s .args .v) (s .args .n) (s .args .at) (s .args .initial) (tables s) (s .pre .0) _ _ d _ e _ _ _ (y .name-points .ensures),
+    )
 
 pub round-spec : {M : Type 1} → statement M
 round-spec =
@@ -109,6 +138,11 @@ round-spec =
     slice-reshare-prefix-edge-points-2
     slice-aggregate-edge-points-2
     edge-points-requires
+    slice-reshare-prefix-name-points
+    slice-aggregate-name-points
+    slice-reshare-prefix-name-points-2
+    slice-aggregate-name-points-2
+    name-points-requires
     add-count
     add-count-2
     extend-marks-requires
@@ -123,4 +157,5 @@ round-spec =
     same-length-2
     same-length-3
     same-length-4
+    same-length-5
     returns)

@@ -3,8 +3,6 @@ use mathlib.Core.Path.{_≡_, refl, sym, _∙_, subst}
 use Prim.Native.Nat.{ℕ, _+_, _-_, _*_, _^_, _≤_}
 use native.Mathlib.Omega.{arith}
 use lib.ListN.{length, take}
-use Rattle.topology.specs.Shape.{quads}
-use Rattle.refinedfaces.specs.Refined.{refinedVertices}
 use Rattle.letters.specs.Letters.{newLetter, WrittenIf}
 use Rattle.halfedges.specs.Tables.{MateTable}
 use Rattle.classes.specs.Classes.{Classes}
@@ -13,8 +11,7 @@ use Rattle.scheme.specs.Step.{steps}
 use Rattle.nets.specs.Net.{frontNet}
 use Rattle.rounds.specs.Round.{Current, Refines}
 use Rattle.nets.specs.Buffers.{Buffers, buffers}
-use Rattle.rounds.specs.Rounds.{Prepared, After, Lettered}
-use Rattle.rounds.proofs.Laws.{corners, marked, nameable}
+use Rattle.rounds.specs.Rounds.{Prepared, After, LettersAfter}
 use Rattle.rounds.proofs.Steps.{again, sized, after-none, letters-none, letters-next, mated-none, classes-none, corners-room, corners-length, countable, prepared-classes, after-classes, kept-points, kept-faces, kept-marks, current, after-next, ready-mates, after-mates, mated-next, classes-next}
 use Rattle.rounds.proofs.rounds.Statement.{statement}
 use Rattle.rounds.proofs.rounds.Tie as tie
@@ -24,7 +21,7 @@ Inv-loop points₀ faces₀ marks₀ asked letters₀ work₀ v n k last at coun
     (i ≤ k) × (corners ≡ n * 4 ^ i) × After i v n count (buffers points₀ faces₀ marks₀ work₀) (buffers points faces marks work)
     × MateTable (steps kobbelt i (frontNet v n points₀ faces₀ marks₀) .faces) work
     × Classes count (8 * last) v (steps kobbelt i (frontNet v n points₀ faces₀ marks₀) .faces) work
-    × Lettered asked i v count (frontNet v n points₀ faces₀ marks₀) letters₀ letters × (length letters ≡ length letters₀)
+    × LettersAfter asked i v count (frontNet v n points₀ faces₀ marks₀) letters₀ letters × (length letters ≡ length letters₀)
 
 abbrev μ-loop : tie.MeasureT-loop
 μ-loop points₀ faces₀ marks₀ asked letters₀ work₀ v n k last at count₀ corners₀ i₀ points faces marks letters work count corners i = k - i
@@ -69,22 +66,19 @@ open-round y =
     let h = x .loop in
     current (s .args .k) (s .args .v) (s .args .n) (s .args .last) (tables (counted x)) (ready (counted x)) (h .i) (h .count) (held x) (h .inv .2) (h .inv .3) (h .inv .4) (y .loop-test .taken)
 
--- after its letters, and after it
-abbrev named : tie.After-round Inv-loop μ-loop → tie.After-name-points Inv-loop μ-loop
-named z = z .before .before .before .before .before .before .before
-
+-- after it
 abbrev turn : tie.After-round Inv-loop μ-loop → tie.In-loop Inv-loop μ-loop
-turn z = named z .before .before .before .before .before
+turn z = z .before .before .before .before .before .before
 
 abbrev top : tie.After-round Inv-loop μ-loop → tie.At-loop Inv-loop μ-loop
 top z = turn z .before
 
 abbrev made : tie.After-round Inv-loop μ-loop → Buffers
-made z = let o = z .round .last in buffers (o .0) (o .1 .0) (o .1 .1 .0) (o .1 .1 .1 .0)
+made z = let o = z .round .last in buffers (o .0) (o .1 .0) (o .1 .1 .0) (o .1 .1 .1 .1 .1 .0)
 
 refined : (z : tie.After-round Inv-loop μ-loop)
     → (let x = top z in Refines (x .loop .count) (start x .args .n * 4 ^ x .loop .i) (z .round .result) (held x) (made z))
-refined z = let x = top z in let e : x .loop .corners ≡ start x .args .n * 4 ^ x .loop .i = x .loop .inv .1 in rw e at (z .round .ensures)
+refined z = let x = top z in let e : x .loop .corners ≡ start x .args .n * 4 ^ x .loop .i = x .loop .inv .1 in rw e at (z .round .ensures .0)
 
 done : (z : tie.After-round Inv-loop μ-loop)
     → (let x = top z in let s = start x in After (x .loop .i + 1) (s .args .v) (s .args .n) (z .round .result) (tables (counted x)) (made z))
@@ -93,20 +87,19 @@ done z =
     let s = start x in
     let h = x .loop in
     after-next (s .args .k) (s .args .v) (s .args .n) (s .args .last) (tables (counted x)) (ready (counted x)) (h .i) (h .count) (held x) (h .inv .2) (h .inv .3) (h .inv .4) (turn z .loop-test .taken) _ (made z)
-    (refined z) (z .round .kept .1 .1 .1 .0)
+    (refined z) (z .round .kept .1 .1 .1 .1 .1 .0)
 
 -- the letters then
 lettered : (z : tie.After-round Inv-loop μ-loop)
-    → (let x = top z in let s = start x in Lettered (s .args .with-letters) (x .loop .i + 1) (s .args .v) (z .round .result) (frontNet (s .args .v) (s .args .n) (s .args .points .now) (s .args .faces .now) (s .args .marks .now)) (s .args .letters .now) (named z .name-points .last .1 .0))
+    → (let x = top z in let s = start x in LettersAfter (s .args .with-letters) (x .loop .i + 1) (s .args .v) (z .round .result) (frontNet (s .args .v) (s .args .n) (s .args .points .now) (s .args .faces .now) (s .args .marks .now)) (s .args .letters .now) (z .round .last .1 .1 .1 .1 .0))
 lettered z =
     let x = top z in
     let s = start x in
     let h = x .loop in
     let e : h .corners ≡ s .args .n * 4 ^ h .i = h .inv .1 in
     letters-next (s .args .k) (s .args .v) (s .args .n) (s .args .last) (tables (counted x)) (ready (counted x)) (h .i) (h .count) (held x) (h .inv .2) (h .inv .3) (h .inv .4) (turn z .loop-test .taken) _ (made z)
-    (refined z) (z .round .kept .1 .1 .1 .0) (s .args .with-letters) (s .args .letters .now) (h .letters) _ (h .inv .5)
-    (subst (λ (j : ℕ). let l = take j (h .faces) in let ms = take (h .count) (h .marks) in WrittenIf (s .args .with-letters) (length ms) (refinedVertices quads (length ms) l) (newLetter l ms) (h .letters) (named z .name-points .last .1 .0)) e
-    (named z .name-points .ensures))
+    (refined z) (z .round .kept .1 .1 .1 .1 .1 .0) (s .args .with-letters) (s .args .letters .now) (h .letters) _ (h .inv .5)
+    (subst (λ (j : ℕ). WrittenIf (s .args .with-letters) (h .count) (z .round .result) (newLetter (take j (h .faces)) (take (h .count) (h .marks))) (h .letters) (z .round .last .1 .1 .1 .1 .0)) e (z .round .ensures .1))
 
 returns : tie.Need-returns Inv-loop μ-loop
 returns c =
@@ -146,50 +139,23 @@ loop-holds c =
       refl,
     )
 
-slice-reshare-prefix-name-points : tie.Need-slice-reshare-prefix-name-points Inv-loop μ-loop
-slice-reshare-prefix-name-points c = let y = c .before in let e = y .before .loop .inv .1 in omega (arith, open-round y .roomFaces)
-
-slice-aggregate-name-points : tie.Need-slice-aggregate-name-points Inv-loop μ-loop
-slice-aggregate-name-points c =
-    let y = c .before .before in
-    let x = y .before in
-    let h = x .loop in
-    let e : h .corners ≡ start x .args .n * 4 ^ h .i = h .inv .1 in
-    rw e (sym (corners (h .count) _ (8 * start x .args .last) (start x .args .v) (held x) (open-round y)))
-
-slice-reshare-prefix-name-points-2 : tie.Need-slice-reshare-prefix-name-points-2 Inv-loop μ-loop
-slice-reshare-prefix-name-points-2 c = let y = c .before .before in omega (arith, open-round y .roomMarks, open-round y .vertices)
-
-slice-aggregate-name-points-2 : tie.Need-slice-aggregate-name-points-2 Inv-loop μ-loop
-slice-aggregate-name-points-2 c =
-    let y = c .before .before .before in
-    let x = y .before in
-    sym (marked (x .loop .count) _ (8 * start x .args .last) (start x .args .v) (held x) (open-round y))
-
-name-points-requires : tie.Need-name-points-requires Inv-loop μ-loop
-name-points-requires c κs =
-    let y = c .before .before .before .before in
+round-requires : tie.Need-round-requires Inv-loop μ-loop
+round-requires c κs =
+    let y = c .before .before .before .before .before in
     let x = y .before in
     let s = start x in
     let h = x .loop in
     let e : h .corners ≡ s .args .n * 4 ^ h .i = h .inv .1 in
     let r = sized (s .args .k) (s .args .v) (s .args .n) (s .args .last) (lent s) (s .pre .0) (h .i) (y .loop-test .taken) in
     let l = h .inv .6 in
-    λ a. rw e (nameable (h .count) _ (8 * s .args .last) (s .args .v) (held x) (open-round y) (h .letters) (omega (arith, s .pre .1 a)))
-
-round-requires : tie.Need-round-requires Inv-loop μ-loop
-round-requires c κs =
-    let y = c .before .before .before .before .before .before .before .before .before .before .before in
-    let x = y .before in
-    let e : x .loop .corners ≡ start x .args .n * 4 ^ x .loop .i = x .loop .inv .1 in
-    rw e (open-round y)
+    rw e (open-round y, λ a. omega (arith, s .pre .1 a))
 
 add-i : tie.Need-add-i Inv-loop μ-loop
-add-i c = let y = turn (c .before .before .before .before .before .before .before) in let b = y .loop-test .taken in let q = start (y .before) .pre .0 .few in omega arith
+add-i c = let y = turn (c .before .before .before .before .before .before .before .before .before) in let b = y .loop-test .taken in let q = start (y .before) .pre .0 .few in omega arith
 
 same-length : tie.Need-same-length Inv-loop μ-loop
 same-length c =
-    let z = c .before .before .before .before .before .before .before .before in
+    let z = c .before .before .before .before .before .before .before .before .before .before in
     let x = top z in
     let s = start x in
     let b = turn z .loop-test .taken in
@@ -197,7 +163,7 @@ same-length c =
 
 same-length-2 : tie.Need-same-length-2 Inv-loop μ-loop
 same-length-2 c =
-    let z = c .before .before .before .before .before .before .before .before in
+    let z = c .before .before .before .before .before .before .before .before .before .before in
     let x = top z in
     let s = start x in
     let b = turn z .loop-test .taken in
@@ -205,38 +171,38 @@ same-length-2 c =
 
 same-length-3 : tie.Need-same-length-3 Inv-loop μ-loop
 same-length-3 c =
-    let z = c .before .before .before .before .before .before .before .before in
+    let z = c .before .before .before .before .before .before .before .before .before .before in
     let x = top z in
     let s = start x in
     let b = turn z .loop-test .taken in
     kept-marks (s .args .k) (s .args .v) (s .args .n) (s .args .last) (tables (counted x)) (ready (counted x)) _ _ (made z) (done z) (omega arith)
 
 same-length-4 : tie.Need-same-length-4 Inv-loop μ-loop
-same-length-4 c = let z = c .before .before .before .before .before .before .before .before in named z .name-points .kept .1 .0 ∙ top z .loop .inv .6
+same-length-4 c = let z = c .before .before .before .before .before .before .before .before .before .before in z .round .kept .1 .1 .1 .1 .0 ∙ top z .loop .inv .6
 
 same-length-5 : tie.Need-same-length-5 Inv-loop μ-loop
-same-length-5 c = let z = c .before .before .before .before .before .before .before .before in done z .kept ∙ counted (top z) .count-ring-sizes .kept .1 .0
+same-length-5 c = let z = c .before .before .before .before .before .before .before .before .before .before in done z .kept ∙ counted (top z) .count-ring-sizes .kept .1 .0
 
 returns-2 : tie.Need-returns-2 Inv-loop μ-loop
 returns-2 c =
-    let z = c .before .before .before .before .before .before .before .before in
+    let z = c .before .before .before .before .before .before .before .before .before .before in
     let x = top z in
     let e : x .loop .i + 1 ≡ start x .args .k = let t = c .if2 .taken in omega arith in
     (since (counted x) (x .loop .i + 1) (z .round .result) (made z) e (done z), rw (sym e) (lettered z))
 
 refine-mates-requires : tie.Need-refine-mates-requires Inv-loop μ-loop
 refine-mates-requires c κs =
-    let z = c .before .before .before .before .before .before .before .before .before in
+    let z = c .before .before .before .before .before .before .before .before .before .before .before in
     let x = top z in
     let s = start x in
     let h = x .loop in
     let e : h .corners ≡ s .args .n * 4 ^ h .i = h .inv .1 in
     rw e (ready-mates (s .args .k) (s .args .v) (s .args .n) (s .args .last) (tables (counted x)) (ready (counted x)) (h .i) (h .count) (held x) (h .inv .2) (h .inv .3) (h .inv .4) (turn z .loop-test .taken) _ (made z)
-    (refined z) (z .round .kept .1 .1 .1 .0))
+    (refined z) (z .round .kept .1 .1 .1 .1 .1 .0))
 
 -- after the mates are refined
 abbrev rounded : tie.After-refine-mates Inv-loop μ-loop → tie.After-round Inv-loop μ-loop
-rounded t = t .before .before .before .before .before .before .before .before .before .before
+rounded t = t .before .before .before .before .before .before .before .before .before .before .before .before
 
 mul-corners : tie.Need-mul-corners Inv-loop μ-loop
 mul-corners c =
@@ -259,7 +225,7 @@ loop-again c =
     let e : h .corners ≡ s .args .n * 4 ^ h .i = h .inv .1 in
     let d = rw e at (t .refine-mates .ensures) in
     let b = turn z .loop-test .taken in
-    let k = z .round .kept .1 .1 .1 .0 in
+    let k = z .round .kept .1 .1 .1 .1 .1 .0 in
     let y = t .refine-mates .kept .0 in (
       omega arith,
       again (s .args .n) (h .i) _ e,
@@ -267,7 +233,7 @@ loop-again c =
       mated-next (s .args .k) (s .args .v) (s .args .n) (s .args .last) (tables (counted x)) (ready (counted x)) (h .i) (h .count) (held x) (h .inv .2) (h .inv .3) (h .inv .4) b _ (made z) (refined z) k _ y d,
       classes-next (s .args .k) (s .args .v) (s .args .n) (s .args .last) (tables (counted x)) (ready (counted x)) (h .i) (h .count) (held x) (h .inv .2) (h .inv .3) (h .inv .4) b _ (made z) (refined z) k _ y d,
       lettered z,
-      named z .name-points .kept .1 .0 ∙ h .inv .6,
+      z .round .kept .1 .1 .1 .1 .0 ∙ h .inv .6,
     )
 
 -- after the last round
@@ -317,11 +283,6 @@ rounds-spec =
     slice-aggregate-count-ring-sizes
     count-ring-sizes-requires
     loop-holds
-    slice-reshare-prefix-name-points
-    slice-aggregate-name-points
-    slice-reshare-prefix-name-points-2
-    slice-aggregate-name-points-2
-    name-points-requires
     round-requires
     add-i
     same-length

@@ -1,10 +1,10 @@
--- `printing::put_vertex` meets its contract: four numbers in a row. Assumes nothing.
+-- `printing::put_numbers` meets its contract: four numbers in a row. Assumes nothing.
 use mir.Facts.{toZ-ofZ}
 use Rattle.text.specs.Text.{numbersText}
 use Rattle.printing.proofs.Writing.{in-row}
 use borrow.Author.Needs.{needs}
-use Rattle.printing.proofs.put_vertex.Statement.{statement}
-use Rattle.printing.proofs.put_vertex.Tie as tie
+use Rattle.printing.proofs.put_numbers.Statement.{statement}
+use Rattle.printing.proofs.put_numbers.Tie as tie
 
 put-i32-requires : tie.Need-put-i32-requires
 put-i32-requires c κs = search needs
@@ -34,5 +34,5 @@ returns c =
     let fz = f .z in
     simp toZ-ofZ at (in-row (in-row (in-row (i .put-i32 .ensures) (j .put-i322 .ensures)) (k .put-i323 .ensures)) (l .put-mark .ensures))
 
-pub put-vertex-spec : {M : Type 1} → statement M
-put-vertex-spec = tie.close (tie.spec put-i32-requires put-i32-requires-2 put-i32-requires-3 put-mark-requires same-length returns)
+pub put-numbers-spec : {M : Type 1} → statement M
+put-numbers-spec = tie.close (tie.spec put-i32-requires put-i32-requires-2 put-i32-requires-3 put-mark-requires same-length returns)
