@@ -14,9 +14,11 @@ class Implementation {
 public:
     explicit Implementation(const char *n) : name(n) {}
     virtual ~Implementation() = default;
-    virtual Verdict refine(const Net &net, uint32_t rounds) = 0;
-    // Whether the last call gave this net.
+    // With letters or without.
+    virtual Verdict refine(const Net &net, uint32_t rounds, bool with_letters) = 0;
+    // Whether the last call gave this net, and whether these letters.
     virtual bool gave(const Net &net) const = 0;
+    virtual bool gave_letters(const std::vector<char> &letters) const = 0;
     const char *const name;
 };
 
@@ -25,13 +27,14 @@ class Product : public Implementation {
 public:
     Product() : Implementation("gedrovit") {}
 
-    Verdict refine(const Net &net, uint32_t rounds) override
+    Verdict refine(const Net &net, uint32_t rounds, bool with_letters) override
     {
         const bool splits = !net.sides.empty();
         tally.points = 0;
         last = gedrovit_refine(&tally, rounds, &net.points.data()->x, 3 * net.points.size(), net.corners.data(), net.corners.size(),
                                splits ? net.sides.data() : net.marks.data(), net.sides.size(), net.marks.data(), net.marks.size(), vertices.data(),
-                               vertices.size(), faces.data(), faces.size(), marks.data(), marks.size(), work.data(), work.size());
+                               vertices.size(), faces.data(), faces.size(), marks.data(), marks.size(), with_letters, letters.data(), letters.size(),
+                               work.data(), work.size());
         return {last.reason, last.place};
     }
 
@@ -43,12 +46,17 @@ public:
                std::equal(net.corners.begin(), net.corners.end(), faces.begin());
     }
 
+    bool gave_letters(const std::vector<char> &due) const override
+    {
+        return last.vertices == due.size() && std::equal(due.begin(), due.end(), letters.begin());
+    }
+
 private:
     gedrovit_report last = {};
     gedrovit_tally tally = {};
     std::vector<int32_t> vertices = std::vector<int32_t>(12 * MOST_REFINED, 1);
     std::vector<uint32_t> faces = std::vector<uint32_t>(4 * MOST_REFINED, 1), work = std::vector<uint32_t>(16 * MOST_REFINED, 1);
-    std::vector<uint8_t> marks = std::vector<uint8_t>(4 * MOST_REFINED, 1);
+    std::vector<uint8_t> marks = std::vector<uint8_t>(4 * MOST_REFINED, 1), letters = marks;
 };
 
 // Straightforward C++; its vectors keep their memory from call to call.
@@ -56,7 +64,10 @@ class Straight : public Implementation {
 public:
     Straight(const char *n, bool carries) : Implementation(n), refiner(carries) {}
 
-    Verdict refine(const Net &net, uint32_t rounds) override { return refiner.refine(net, rounds, refined); }
+    Verdict refine(const Net &net, uint32_t rounds, bool with_letters) override
+    {
+        return refiner.refine(net, rounds, refined, with_letters ? &letters : nullptr);
+    }
 
     bool gave(const Net &net) const override
     {
@@ -65,7 +76,10 @@ public:
                std::equal(refined.points.begin(), refined.points.end(), net.points.begin(), net.points.end(), same);
     }
 
+    bool gave_letters(const std::vector<char> &due) const override { return letters == due; }
+
     Net refined;
+    std::vector<char> letters;
 
 private:
     straight::Refiner refiner;

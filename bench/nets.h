@@ -124,19 +124,21 @@ static inline void make_net(struct bench_net *net, enum bench_kind kind)
     }
 }
 
-/* What is measured. */
+/* What is measured; with letters where that is 1. */
 struct bench_row {
     enum bench_kind kind;
     uint32_t rounds;
+    int letters;
 };
 
-enum { ROW_COUNT = 17 };
+enum { ROW_COUNT = 21 };
 
 static inline struct bench_row row(int which)
 {
-    static const struct bench_row rows[ROW_COUNT] = {{GRID_8, 0}, {GRID_8, 1}, {GRID_8, 6}, {GRID_64, 1}, {GRID_64, 3}, {CUBE, 0},
-                                                     {CUBE, 1}, {CUBE, 6}, {RINGS, 1}, {RINGS, 3}, {STRIP, 1}, {STRIP, 3},
-                                                     {FANS, 1}, {FANS, 3}, {TRIANGLES, 0}, {TRIANGLES, 1}, {TRIANGLES, 3}};
+    static const struct bench_row rows[ROW_COUNT] = {
+        {GRID_8, 0, 0}, {GRID_8, 1, 0}, {GRID_8, 6, 0}, {GRID_8, 6, 1},    {GRID_64, 1, 0},   {GRID_64, 3, 0},   {GRID_64, 3, 1},
+        {CUBE, 0, 0},   {CUBE, 1, 0},   {CUBE, 6, 0},   {RINGS, 1, 0},     {RINGS, 3, 0},     {RINGS, 3, 1},     {STRIP, 1, 0},
+        {STRIP, 3, 0},  {FANS, 1, 0},   {FANS, 3, 0},   {TRIANGLES, 0, 0}, {TRIANGLES, 1, 0}, {TRIANGLES, 3, 0}, {TRIANGLES, 3, 1}};
     return rows[which];
 }
 

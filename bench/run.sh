@@ -34,7 +34,7 @@ build() {
     local folder=$out/$1 source
     shift
     mkdir -p "$folder"
-    for source in straight straight_check straight_split; do
+    for source in straight straight_check straight_split straight_letters; do
         compile "$folder/$source.o" "$source" "$@" || return 1
     done
     g++ -o "$folder/agree" "$folder"/straight*.o "$out"/{agree,samples}.o "$archive" &&
@@ -107,7 +107,7 @@ REFINEMENT
 Both sides check refusals 5 to 12, split faces with side counts, then make all rounds with exact arithmetic and one rounding for each coordinate, in one
 thread. Gedrovit also checks the table lengths, allocates nothing and clears the work table at the end; C++ keeps its vectors from call to call.
 Nets: rings of eight has 4,096 faces, every vertex in eight; strip is one row of 4,095 faces; fans of six has 4,080 faces, every vertex on the boundary and
-in six; triangles are 1,365 with side counts, which become 4,095 quadrilaterals.
+in six; triangles are 1,365 with side counts, which become 4,095 quadrilaterals. Rows with "letters" make a letter for each refined vertex too.
 C++: "anew" builds the adjacency anew in each round, "carried" carries it over from the round before.
 Tables: touched by a call before, not cleared between calls. Times: processor time, the best of 100 turns of all implementations in one process for each
 compiler; calls on small nets are timed many at once.

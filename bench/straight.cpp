@@ -245,7 +245,7 @@ void Refiner::step(Net &net)
 }
 
 // The check leaves the adjacency for the first round, unless the net is split.
-Verdict Refiner::refine(const Net &net, uint32_t rounds, Net &refined)
+Verdict Refiner::refine(const Net &net, uint32_t rounds, Net &refined, std::vector<char> *letters)
 {
     bool splits = !net.sides.empty();
     Verdict verdict = splits ? drawn.check(net) : adjacency.check(net);
@@ -255,11 +255,17 @@ Verdict Refiner::refine(const Net &net, uint32_t rounds, Net &refined)
         split(net, refined);
     else
         refined = net;
+    if (letters) {
+        letters->assign(net.points.size(), 'V');
+        letters->resize(refined.points.size(), 'S');
+    }
     for (uint32_t k = 0; k < rounds; k++) {
         if (k > 0 && carries)
             adjacency.carry(refined);
         else if (k > 0 || splits)
             adjacency.build(refined);
+        if (letters)
+            name_points(refined, *letters);
         step(refined);
     }
     return verdict;

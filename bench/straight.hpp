@@ -120,11 +120,12 @@ private:
 class Refiner {
 public:
     explicit Refiner(bool carry) : carries(carry) {}
-    // The refined net, unless there is a refusal from 5 to 12.
-    Verdict refine(const Net &net, uint32_t rounds, Net &refined);
+    // The refined net, with a letter for each of its vertices if a table for them is given, unless there is a refusal from 5 to 12.
+    Verdict refine(const Net &net, uint32_t rounds, Net &refined, std::vector<char> *letters);
 
 private:
     void split(const Net &net, Net &refined) const;
+    void name_points(const Net &net, std::vector<char> &letters) const;
     void step(Net &net);
 
     bool carries;

@@ -99,16 +99,24 @@ def square(*x):
 def both_ways():
     """Every third accepted stored net with vertices and marks: text, OBJ, text."""
     names = [path for path in sorted(CASES.glob("*.txt")) if path.with_suffix(".out").read_text(encoding="ascii").startswith("vertices")]
-    texts = [text for text in (path.read_text(encoding="ascii") for path in names) if "corner" in text and text.split()[3] != "0"][::3]
-    if len(texts) < 15:
-        faults.append(f"only {len(texts)} stored nets")
+    texts = [text for text in (path.read_text(encoding="ascii") for path in names) if "corner" in text and not text.splitlines()[1].startswith("0")][::3]
+    asking = [text for text in texts if text.startswith("vertices faces rounds rule\n")]
+    if len(texts) < 15 or not asking or len(asking) == len(texts):
+        faults.append(f"only {len(texts)} stored nets, {len(asking)} with letters")
     for text in texts:
-        rounds = text.split()[5]
+        rounds, wish = text.splitlines()[1].split()[2], ["--letters"] * (text in asking)
         net = convert("obj", "--scale", "32", text=text).stdout.decode()
-        gives("text to OBJ and back", text, "text", "--scale=32", "--rounds", rounds, text=net)
+        gives("text to OBJ and back", text, "text", "--scale=32", "--rounds", rounds, *wish, text=net)
         gives("a text stays", text, "text", text=text)
     answer = (CASES / "paper-sample.out").read_text(encoding="ascii")
-    gives("an answer to refine again", answer.replace("faces\n9 4\n", "faces rounds\n9 4 3\n"), "text", "--rounds=3", text=answer)
+    again = answer.replace("faces\n9 4\n", "faces rounds\n9 4 3\n")
+    gives("an answer to refine again", again, "text", "--rounds=3", text=answer)
+    lettered = (CASES / "rule-sample.out").read_text(encoding="ascii")
+    gives("an answer with letters to refine again", again, "text", "--rounds=3", text=lettered)
+    gives("the same with letters", again.replace("rounds", "rounds rule"), "text", "--rounds=3", "--letters", text=lettered)
+    gives("letters asked for", SAMPLE.replace("rounds", "rounds rule"), "text", "--letters", text=SAMPLE)
+    if convert("obj", text=lettered).stdout != convert("obj", text=answer).stdout:
+        faults.append("an answer with letters gives another OBJ file")
 
 
 def cures(folder):
@@ -172,10 +180,16 @@ def refusals():
     fails("line 10: a surplus line", "text", text=SAMPLE + "0 1 2 3\n")
     fails("line 4: a mark is 0 or 1", "text", text=SAMPLE.replace("0 0 0 1", "0 0 0 2"))
     fails("line 2: ", "text", text="vertices faces rounds\n4\n")
+    fails("line 3: x y z, with or without corner", "text", text=(CASES / "rule-names-of-an-answer.txt").read_text(encoding="ascii"))
+    fails("line 1: 'vertices'", "text", text=(CASES / "rule-rules.txt").read_text(encoding="ascii"))
+    lettered = (CASES / "rule-sample.out").read_text(encoding="ascii")
+    fails("line 4: X is no letter", "obj", text=lettered.replace("0 0 0 1 V", "0 0 0 1 X"))
+    fails("line 4: a vertex has 5 words", "obj", text=lettered.replace("0 0 0 1 V", "0 0 0 1"))
+    fails("line 4: a mark is 0 or 1", "obj", text=lettered.replace("0 0 0 1 V", "0 0 0 2 V"))
     fails("only that is written as OBJ", "obj", text=CUBE)
     fails("No such file", "text", "nowhere", text="")
     fails("Is a directory", "text", "/", text="")
-    for words in ("ply",), ("text", "--scale=0"), ("text", "--scale=x"), ("text", "--rounds=7"), ("obj", "--weld"), (), ("text", "a", "b"):
+    for words in ("ply",), ("text", "--scale=0"), ("text", "--scale=x"), ("text", "--rounds=7"), ("obj", "--weld"), ("obj", "--letters"), (), ("text", "a", "b"):
         fails("usage", *words, text=SAMPLE, status=2)
 
 

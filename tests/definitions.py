@@ -30,6 +30,10 @@ LISTED_FACES = 24
 ROUND_CORNERS = 16
 # Up to so many corners of a net the lists of the crate `seam` are stated; they are slow.
 SEAM_CORNERS = 24
+# Up to so many faces all letters after one round are stated as a table of the drawn net; above, those of the new vertices alone. After two rounds so many less.
+LETTER_FACES = 8
+# Up to so many faces the points that letters name are stated.
+WORD_FACES = 5
 # The estimated seconds of processor time, and the nets, of a chunk.
 CHUNK_SECONDS = 30.0
 CHUNK_CASES = 20
@@ -46,7 +50,7 @@ GROUPS = {
         **DRAWN,
         "topology.Vertex": "",
         "refusals.Refusals": "",
-        "verdict.Call": "Call, Room, lengths",
+        "verdict.Call": "Call, Room, room, lengths",
         "verdict.Verdict": "Verdict, accepted, refused",
     },
     "Round": {
@@ -86,13 +90,24 @@ GROUPS = {
         "seam.Reading": "",
     },
 }
-GROUPS["Outcome"] = {**GROUPS["Round"], **GROUPS["Verdict"], **GROUPS["Split"], "tables.Tables": "", "outcome.Tally": "", "outcome.Outcome": "refinedTo, refusedWith, request"}
+RULES = {"A": "withinSegment", "B": "endEdge", "M": "singleEdge", "C": "interiorEdge", "D": "fourInnerEdges", "E": "otherFace"}
+GROUPS["Letters"] = {**GROUPS["Round"], **GROUPS["Split"], "fractions.Fraction": "toWhole", "origins.Origins": "letterOf, madeBy, " + ", ".join(RULES.values())}
+GROUPS["Outcome"] = {
+    **GROUPS["Round"],
+    **GROUPS["Verdict"],
+    **GROUPS["Split"],
+    "nets.Buffers": "letterTable",
+    "origins.Origins": "",
+    "tables.Tables": "",
+    "outcome.Tally": "",
+    "outcome.Outcome": "refinedTo, refusedWith, request",
+}
 # Names that two modules of a group have; the group does not need the first module's.
-LEFT_OUT = {("Round", "topology.Boundary", "step"), ("Outcome", "topology.Boundary", "step"), ("Seam", "topology.Boundary", "step"), ("Seam", "curve.Curve", "step"), ("Seam", "curve.Curve", "steps")}
+LEFT_OUT = {("Round", "topology.Boundary", "step"), ("Letters", "topology.Boundary", "step"), ("Outcome", "topology.Boundary", "step"), ("Seam", "topology.Boundary", "step"), ("Seam", "curve.Curve", "step"), ("Seam", "curve.Curve", "steps")}
 LIBRARY = """use mathlib.Core.Path.{_≡_, refl, ap, _∙_}
 use mathlib.Core.Bool.{Bool, true, false}
 use mathlib.Core.List.{List, [], _∷_}
-use Prim.Native.Nat.{ℕ}
+use Prim.Native.Nat.{ℕ, _+_}
 use lib.IntN.{ℤ, pos, negsuc}
 """
 POINTS = """abbrev at : ℤ → ℤ → ℤ → Point
@@ -157,10 +172,14 @@ def drawn(label, case):
     return label if "sides" in case else f"(plain {label})"
 
 
+def truth(value):
+    return "true" if value else "false"
+
+
 def verdict_facts(label, case):
     call = case["call"]
-    fields = ("vertices", "faces", "marks", "work")
-    room = "record { " + "; ".join(f"{f} = {n}" for f, n in zip(fields, call["room"])) + " }"
+    vertices, faces, marks, work = call["room"]
+    room = f"room {vertices} {faces} {marks} {truth(call['asked'])} {call['letters']} {work}"
     stated = verdict_text(call["verdict"])
     if "net" not in case:
         lengths = " ".join(map(str, call["lengths"]))
@@ -168,13 +187,13 @@ def verdict_facts(label, case):
         yield "Verdict", "limits", f"limitsVerdict {call['rounds']} ({naturals(sides)}) (lengths {lengths} ({room}))", stated, 0.05 + 0.001 * len(sides)
         return
     cost = 0.3 + 0.0004 * len(case["net"][1]) ** 2
-    yield "Verdict", "call", f"verdict (record {{ rounds = {call['rounds']}; net = {drawn(label, case)}; room = {room} }})", stated, cost
+    yield "Verdict", "call", f"verdict (record {{ rounds = {call['rounds']}; net = {drawn(label, case)}; room = ({room}) }})", stated, cost
     if call.get("net_verdict", call["verdict"]) != call["verdict"]:
         yield "Verdict", "net", f"netVerdict {drawn(label, case)}", verdict_text(call["net_verdict"]), cost
 
 
 def outcome_facts(label, case):
-    """What the call reports, and the record and every lent table as it returns."""
+    """What the call reports, and the record and every lent table, the letters too, as it returns."""
     call = case["call"]
     if "lent" not in call:
         return
@@ -182,8 +201,36 @@ def outcome_facts(label, case):
     result = f"refinedTo {counts[0]} {counts[1]}" if counts else f"refusedWith {refusal[0]} {refusal[1]}"
     size = len(case["net"][1]) // (1 if "sides" in case else 4)
     cost = 0.3 + (0.1 * size**2 if rounds else 0)
-    asked = f"request {before} {rounds} {drawn(label, case)} (record {{ {lent_text(call['lent'])} }})"
-    yield "Outcome", "outcome", f"outcome ({asked})", f"record {{ result = {result}; tally = {after}; buffers = record {{ {lent_text(call['left'])} }} }}", cost
+    letters = f"letterTable {truth(call['asked'])} ({naturals(call['lent_letters'])})"
+    asked = f"request {before} {rounds} {drawn(label, case)} (record {{ {lent_text(call['lent'])} }}) ({letters})"
+    left = f"buffers = record {{ {lent_text(call['left'])} }}; letters = {naturals(call['left_letters'])}"
+    yield "Outcome", "outcome", f"outcome ({asked})", f"record {{ result = {result}; tally = {after}; {left} }}", cost
+
+
+def letter_facts(label, case, seed):
+    """The letters after each number of rounds: of all vertices as a table, or of the new ones by their rules; and on one axis the points that letters name."""
+    size, nets = len(case["net"][1]) // 4, [case["net"], *case["steps"]]
+    for rounds, letters in enumerate(case["letters"]):
+        net, name = nets[max(rounds - 1, 0)], f"{label}-after{rounds - 1}" if rounds > 1 else label
+        if rounds == 0 or size <= LETTER_FACES // rounds**2:
+            yield "Letters", f"letters{rounds}", f"letters kobbelt (plain {label}) {rounds}", naturals(letters), 0.1 + 0.02 * rounds * size**2
+        if rounds > 0:
+            old = len(net[2])
+            rule = f"letterOf (madeBy (newRule ({name} .faces) ({name} .marks) ({old} + i)))"
+            yield "Letters", f"rules{rounds}", f"tabulate {len(letters) - old} (λ (i : ℕ). {rule})", naturals(letters[old:]), 0.1 + 0.0005 * (len(net[1]) // 4) ** 2 * rounds
+    if size <= WORD_FACES:
+        axis = (seed + int(label[1:])) % 3
+        for vertex, byte, *point in case["words"]:
+            named = f"ruleValue kobbelt ({label} .faces) ({label} .marks) (axis ({label} .vertices) {axis}) {vertex} {RULES[chr(byte)]}"
+            yield "Letters", f"word{vertex}-{chr(byte)}", f"toWhole ({named})", integer(point[axis]), 0.02 * size
+
+
+def split_letter_facts(label, case):
+    """The letters of a net with side counts: after its split, and after the round then."""
+    corners = len(case["net"][1])
+    for rounds, letters in enumerate(case["letters"]):
+        if rounds == 0 or corners <= ROUND_CORNERS:
+            yield "Letters", f"letters{rounds}", f"letters kobbelt {label} {rounds}", naturals(letters), 0.1 + 0.003 * (1 + rounds) * corners**2
 
 
 def moved_facts(label, case):
@@ -270,11 +317,13 @@ def all_facts(label, number, case, options):
     yield from moved_facts(label, case)
     if "split" in case:
         yield from split_facts(label, case, options.seed, options.whole)
+        yield from split_letter_facts(label, case)
     if "steps" not in case:
         return
     yield from round_facts(label, label, [case["net"], case["steps"][0]], options.seed, options.whole)
     if len(case["steps"]) > 1:
         yield from second_round_facts(label, case)
+    yield from letter_facts(label, case, options.seed)
     for place, reading in enumerate(chosen_readings(case["readings"], number)):
         yield from curve_facts(place, reading)
         yield from reading_facts(label, place, reading, case, options.seam)
@@ -514,6 +563,12 @@ MUTATIONS = {
     "quadrilaterals left whole": ("Split", "polygons-quads", "splitting/specs/Splitting.antt", [("startBy (c ∷ s) m = split m", "startBy (c ∷ s) m = drawnTables m")]),
     "the record passes its limit by one": ("Outcome", "polygons-stored-tally", "outcome/specs/Tally.antt", [("ltb 4000000000 ", "ltb 4000000001 ")]),
     "drawn vertices billed": ("Outcome", "polygons-stored-tally", "outcome/specs/Tally.antt", [("(startNet m)) - length (m .marks)", "(startNet m))")]),
+    "D only if both directions have four inner edges": ("Letters", "annulus", "origins/specs/Origins.antt", [("faceOrigin firstAlone = fourInnerEdges", "faceOrigin firstAlone = otherFace")]),
+    "an end edge called inside": ("Letters", "single", "origins/specs/Origins.antt", [("edgeOrigin endOfSegment = endEdge", "edgeOrigin endOfSegment = withinSegment")]),
+    "points of the split called drawn": ("Letters", "polygons-lone", "origins/specs/Origins.antt", [("(m .marks))) controlVertex splitPoint", "(m .marks))) controlVertex controlVertex")]),
+    "D without four inner edges taken as the mean": ("Letters", "ring", "origins/specs/Origins.antt", [("(meanOfBoth first second) second) first", "(meanOfBoth first second) second) (meanOfBoth first second)")]),
+    "a letter table measured that is not asked for": ("Verdict", "polygons-stored-letters-not-asked", "verdict/specs/Verdict.antt", [("room .asked && ltb (room .letters)", "ltb (room .letters)")]),
+    "letters filled that are not asked for": ("Outcome", "polygons-stored-letters-not-asked", "outcome/specs/Outcome.antt", [("cond (l .asked) (filled s (l .table)) (l .table)", "filled s (l .table)")]),
     "another end weight of the curve": ("Curve", "single", "curve/specs/Weights.antt", [("pos (w .near + w .far) *ℤ q", "pos (w .near) *ℤ q")]),
     "a loop followed backwards": ("Reading", "single", "topology/specs/Boundary.antt", [("step S l withSides h = along S l h", "step S l withSides h = back S l h")]),
 }
@@ -555,6 +610,7 @@ def cases_from_generator(options):
     for case in cases:
         if "steps" in case:
             case["steps"] = case["steps"][:options.rounds]
+            case["letters"] = case["letters"][:options.rounds + 1]
     return cases[options.first:]
 
 
@@ -607,6 +663,9 @@ def print_coverage(cases, options):
     calls = collections.Counter(re.sub(r"-(?!refused|damaged|random|limits|stored).*", "", case["kind"]) for case in cases if "steps" not in case and "split" not in case)
     print("calls for their verdict alone: " + ", ".join(f"{kind} {count}" for kind, count in calls.items()))
     print(f"{len(readings)} readings with their curves after 1 and 2 steps: " + ", ".join(f"{way} {count}" for way, count in sorted(ways.items())))
+    letters = collections.Counter(chr(byte) for case in nets + splits for byte in case["letters"][-1])
+    words = sum(len(case["words"]) for case in nets if len(case["net"][1]) // 4 <= WORD_FACES)
+    print("letters after the last of these rounds: " + ", ".join(f"{letter} {letters[letter]}" for letter in sorted(letters)) + f"; {words} points that letters name")
     kinds = collections.Counter(case["kind"] for case in nets + splits)
     print("kinds: " + ", ".join(f"{kind} {count}" for kind, count in kinds.items()))
     traits = collections.Counter(trait for case in cases for trait in case["traits"])

@@ -93,6 +93,7 @@ flags() {
 outputs() {
     diff "$root/tests/nets/cases/paper-raised-centre.out" <("$1/panel") \
         && diff "$root/tests/package/triangles.out" <("$1/triangles" && "$1/triangles" 1) \
+        && diff "$root/tests/package/letters.out" <("$1/letters" && "$1/letters" 2 && "$1/letters" 1 24) \
         && diff "$root/tests/package/seam.out" <("$1/seam") \
         && ! "$1/panel" 7 2>"$1/refused" && diff <(echo 'panel: refusal 1, place 0: more than 6 rounds') "$1/refused"
 }
@@ -102,6 +103,7 @@ by_pkg_config() {
     rm -rf "$to" && mkdir "$to" \
         && "${c[@]}" $(flags --cflags) "$root/package/examples/panel.c" $(flags --libs) -o "$to/panel" \
         && "${c[@]}" $(flags --cflags) "$root/package/examples/triangles.c" $(flags --libs) -o "$to/triangles" \
+        && "${c[@]}" $(flags --cflags) "$root/package/examples/letters.c" $(flags --libs) -o "$to/letters" \
         && "${cxx[@]}" $(flags --cflags) "$root/package/examples/seam.cpp" $(flags --libs) -o "$to/seam" \
         && outputs "$to"
 }
@@ -136,7 +138,7 @@ cmake_finds() {
         && cmake -S "$scratch/find" -B "$scratch/find/build" -DCMAKE_PREFIX_PATH="$prefix" "${@:2}"
 }
 
-# of version 0.4.0, say
+# of version 0.5.0, say
 cmake_versions() {
     local major minor patch
     IFS=. read -r major minor patch <<<"$version"
@@ -197,6 +199,10 @@ wrong_constants() {
         wrong_header "s/^(    GEDROVIT_.* = )$reason,/\\1@,/; s/^(    GEDROVIT_.* = )$next(,?)$/\\1$reason\\2/; s/@/$next/" || return
         reason=$next
     done
+    local letters=VABMSCDE i
+    for i in {0..6}; do
+        wrong_header "s/^(    GEDROVIT_LETTER_.* = ')${letters:i:1}'/\\1@'/; s/^(    GEDROVIT_LETTER_.* = ')${letters:i+1:1}'/\\1${letters:i:1}'/; s/@/${letters:i+1:1}/" || return
+    done
 }
 
 # not_linked FOLDER COMPILER ..: a program compiled with the headers in this folder does not link, by the symbol with the version
@@ -218,6 +224,15 @@ version_guard() {
 types_only() {
     printf '#define GEDROVIT_TYPES_ONLY\n#include <gedrovit.h>\nint main(void) { return gedrovit_reason_text(GEDROVIT_ACCEPTED)[0] == 0; }\n' >"$scratch/types.c"
     "${c[@]}" -I "$prefix/include" "$scratch/types.c" -o "$scratch/types" && "$scratch/types"
+}
+
+# A source that was written for tables without letters compiles as it is, and asks for none; with the field set it asks. In C and in C++.
+old_source() {
+    printf '#include <gedrovit.h>\n%s\n{\n    gedrovit_tables t = gedrovit_tables_of(NULL, 0, NULL, 0, NULL, 0, NULL, 0);\n%s\n}\n' \
+        'int main(void)' '    return t.letters != NULL || t.letters_length != 0;' >"$scratch/old.c"
+    for compiler in "${CC:-cc} -std=c11 -x c" "${CXX:-c++} -std=c++17 -x c++"; do
+        $compiler "${strict[@]}" -I "$prefix/include" "$scratch/old.c" -x none -L "$prefix/lib" -lgedrovit -o "$scratch/old" && "$scratch/old" || return
+    done
 }
 
 # A refining call without the record of new points does not compile, in C and in C++.
@@ -299,6 +314,7 @@ check "constants of the header" constants
 check "wrong constants are seen" wrong_constants
 check "header and archive of different versions" version_guard
 check "types without an archive" types_only
+check "tables started by their function ask for no letters" old_source
 check "a refining call without the record" no_record
 check "two plug-ins with archives" plugins
 check "archive in a shared object" shared_object

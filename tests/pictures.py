@@ -118,7 +118,7 @@ def picture_faults():
 
 
 def same_picture_faults(folder):
-    """Files or a command, from here or elsewhere: the same picture."""
+    """Files or a command, from here or elsewhere, with letters or without: the same picture."""
     nets = [ROOT / "examples" / f"{name}.txt" for name in ("topside", "bottom")]
     answers = [folder / net.name for net in nets]
     for net, answer in zip(nets, answers):
@@ -127,6 +127,12 @@ def same_picture_faults(folder):
     by_files = run(sys.executable, ROOT / "tools" / "draw.py", "--view=-6,-5,-1", *files, folder=folder)
     if by_files.stdout != (ROOT / "docs" / "pictures" / "seam.svg").read_text(encoding="ascii"):
         yield f"draw.py draws the seam otherwise from files: {by_files.stderr}"
+    asking = [folder / f"letters-{net.name}" for net in nets]
+    for net, text in zip(nets, asking):
+        text.write_text(net.read_text(encoding="ascii").replace("rounds\n", "rounds rule\n", 1), encoding="ascii")
+    with_letters = run(*DRAW, "--view=-6,-5,-1", "--refine", REFINE, *asking)
+    if with_letters.stdout != by_files.stdout:
+        yield f"draw.py draws the seam otherwise from answers with letters: {with_letters.stderr}"
     if run("bash", ROOT / "tools" / "pictures.sh", "--check", folder=folder).returncode:
         yield "tools/pictures.sh --check fails in another folder"
 

@@ -3,8 +3,9 @@
 
 usage: program.py [--count N] [--seed S]
 
-The stored texts of tests/nets/cases, N seeded ones (2,000) and those of the named nets go through ./refine's program and through the reference;
-then come inputs that no file can give: in small pieces, without end, unreadable. The exit status is 1 if an answer differs.
+The stored texts of tests/nets/cases, N seeded ones (2,000) and those of the named nets, about half of which ask for letters, go through ./refine's
+program and through the reference; then come inputs that no file can give: in small pieces, without end, unreadable. The exit status is 1 if an answer
+differs, or if some letter of a text occurs in no answer.
 """
 import argparse
 import os
@@ -20,6 +21,10 @@ CASES = ROOT / 'tests/nets/cases'
 CARGO = ['cargo', 'run', '--release', '--offline', '--quiet', '--manifest-path', str(ROOT / 'tests/Cargo.toml'), '-p']
 SAMPLE = (CASES / 'paper-sample.txt').read_bytes()
 ANSWER = (CASES / 'paper-sample.out').read_bytes()
+# the same with letters
+LETTERED = [(CASES / f'rule-sample.{part}').read_bytes() for part in ('txt', 'out')]
+# all but S, which needs side counts
+LETTERS = set('VABMCDE')
 LIMIT = 32768
 
 
@@ -41,14 +46,24 @@ def answered(folder, *texts):
     return len((folder / 'list').read_text().splitlines())
 
 
+def letters(folder):
+    """How many stored answers have letters, and which."""
+    with_letters = [lines for lines in (path.read_text().splitlines() for path in folder.glob('*.out')) if lines[2:3] == ['x y z corner rule']]
+    return len(with_letters), {line[-1] for lines in with_letters for line in lines[3:lines.index('a b c d')]}
+
+
 def in_pieces():
-    """A text that arrives in pieces of a few bytes."""
+    """A text that arrives in pieces of a few bytes, with letters and without."""
+    return all(pieces(text) == due for text, due in ((SAMPLE, ANSWER), LETTERED))
+
+
+def pieces(text):
     program = subprocess.Popen([PROGRAM], stdin=subprocess.PIPE, stdout=subprocess.PIPE)
-    for at in range(0, len(SAMPLE), 7):
-        program.stdin.write(SAMPLE[at:at + 7])
+    for at in range(0, len(text), 7):
+        program.stdin.write(text[at:at + 7])
         program.stdin.flush()
         time.sleep(0.002)
-    return program.communicate(timeout=20)[0] == ANSWER
+    return program.communicate(timeout=20)[0]
 
 
 def endless():
@@ -60,8 +75,8 @@ def endless():
 
 def long_texts():
     """The longest text is read to its last line; one byte more is too long, whatever it says."""
-    padded = SAMPLE + b'0' * (LIMIT - len(SAMPLE))
-    return answer(padded) == b'refusal place\n13 10\n' and answer(padded + b'\n') == b'refusal place\n13 0\n'
+    padded = [text + b'0' * (LIMIT - len(text)) for text in (SAMPLE, LETTERED[0])]
+    return all(answer(text) == b'refusal place\n13 10\n' and answer(text + b'\n') == b'refusal place\n13 0\n' for text in padded)
 
 
 def unreadable():
@@ -93,17 +108,21 @@ def main():
     options.add_argument('--seed', type=int, default=1)
     options = options.parse_args()
     failures = [f'stored text {name}' for name in different(CASES)]
-    seed, made = str(options.seed), []
+    seed, made, lettered = str(options.seed), [], [letters(CASES)]
     for texts in (['batch', '--seed', seed, '--count', str(options.count)], ['named', '--seed', seed]):
         with tempfile.TemporaryDirectory() as name:
             made.append(answered(pathlib.Path(name), *texts))
+            lettered.append(letters(pathlib.Path(name)))
             failures += [f'nets {" ".join(texts)}, text {name}' for name in different(pathlib.Path(name))]
+    failures += [f'letters in answers: {"".join(sorted(met))}' for _, met in lettered if met != LETTERS]
     checks = [in_pieces, endless, long_texts, unreadable, unwritable, command]
     failures += [check.__doc__.split('\n')[0] for check in checks if not check()]
     for failure in failures[:20]:
         print(f'program: NOT as it must be: {failure}')
     stored = len(list(CASES.glob('*.txt')))
-    print(f'program: {stored} stored and {made[0]} seeded texts, {made[1]} of named nets, {len(checks)} ways of input and output: {len(failures)} failures')
+    counts = ' and '.join(str(count) for count, _ in lettered)
+    print(f'program: {stored} stored and {made[0]} seeded texts, {made[1]} of named nets, {counts} answers with letters, '
+          f'{len(checks)} ways of input and output: {len(failures)} failures')
     return 1 if failures else 0
 
 

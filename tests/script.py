@@ -58,6 +58,7 @@ def inputs(folder):
     check('a link to a file', run(REFINE, 'link', cwd=folder), 0, ANSWER)
     check('a pipe with a name', shell('{} <(cat {})'), 0, ANSWER)
     check('a file, standard input closed', shell('{} {} <&-'), 0, ANSWER)
+    check('a text that asks for letters', run(REFINE, NET.with_name('rule-sample.txt')), 0, NET.with_name('rule-sample.out').read_bytes())
     check('a refusal is an answer', run(REFINE), 0, b'refusal place\n13 1\n')
     check('no such file', run(REFINE, 'nowhere', cwd=folder), 1, err='refine: nowhere: no such file')
     check('an empty name', run(REFINE, ''), 1, err='no such file')
@@ -93,7 +94,7 @@ def uses(folder):
     check('--version', run(REFINE, '--version'), 0, f'gedrovit {version}\n'.encode())
     told = run(REFINE, '--help')
     check('--help', told, 0, told.stdout)
-    if not all(word in told.stdout for word in (b'usage: refine [FILE]', b'Exit status', b'refusal', b'--version')):
+    if not all(word in told.stdout for word in (b'usage: refine [FILE]', b'Exit status', b'refusal', b'--version', b'vertices faces rounds rule')):
         faults.append(f'--help says {told.stdout}')
     for words in ('-x',), ('--halp',), ('a', 'b'), ('--help', 'a'), ('--', 'a', 'b'):
         check(f'wrong use {words}', run(REFINE, *words), 2, err='refine --help')
@@ -184,9 +185,12 @@ def documents():
     for name in re.findall(r'\b(?:bench|crates|docs|examples|package|tests|tools)/[\w./-]*\w', readme):
         if not (ROOT / name).exists():
             faults.append(f'README.md: no {name}')
-    shown = re.findall(r'```\n(.*?)```', readme, re.S)
-    if [text.encode() for text in shown] != [TEXT, ANSWER]:
+    shown = [text.encode() for text in re.findall(r'```\n(.*?)```', readme, re.S)]
+    if shown[:2] != [TEXT, ANSWER]:
         faults.append('README.md shows another text than tests/nets/cases/paper-sample')
+    lettered = [NET.with_name(f'rule-sample.{part}').read_bytes() for part in ('txt', 'out')]
+    if len(shown) != 4 or not all(whole.startswith(part) for whole, part in zip(lettered, shown[2:])):
+        faults.append('README.md shows another text than tests/nets/cases/rule-sample')
     for path in ROOT / 'README.md', *sorted(ROOT.glob('docs/*.md')):
         for link in re.findall(r'\]\(([^)#]+)', path.read_text(encoding='utf-8')):
             if '://' not in link and not (path.parent / link).exists():

@@ -1,12 +1,13 @@
 #!/usr/bin/env python3
 """Converts nets between OBJ files and the text that ./refine reads and prints; the result goes to standard output.
 
-    convert.py text [--scale S] [--rounds K] [--weld] [--drop] [--corners] [FILE]    writes the text that ./refine reads
-    convert.py obj [--scale S] [FILE]                                                writes an OBJ file
+    convert.py text [--scale S] [--rounds K] [--letters] [--weld] [--drop] [--corners] [FILE]    writes the text that ./refine reads
+    convert.py obj [--scale S] [FILE]                                                            writes an OBJ file
 
 FILE is of either kind, and standard input is read without FILE or with -. Line ends of any system, a byte order mark, surplus blanks, plus signs
 and leading zeros are cured. In an OBJ file the points of `p` lines are the corner marks. S is the number of counts in a unit of the file:
 coordinates times S are worked out exactly and rounded once to whole counts, halves upward; an OBJ file gets counts divided by S, exactly.
+With --letters the text asks ./refine for a letter beside each vertex, and a text that asks already still does; letters in an answer are left out.
 """
 import argparse
 import os
@@ -30,10 +31,10 @@ class Fault(Exception):
 
 
 class Net:
-    """Points with their lines, marked vertices, faces as corners with their lines, and rounds where the file tells them."""
+    """Points with their lines, marked vertices, faces as corners with their lines, and rounds and the wish for letters where the file tells them."""
 
-    def __init__(self, rounds=None):
-        self.points, self.marked, self.faces, self.rounds = [], set(), [], rounds
+    def __init__(self, rounds=None, letters=False):
+        self.points, self.marked, self.faces, self.rounds, self.letters = [], set(), [], rounds, letters
 
 
 def coordinate(word, line):
@@ -70,17 +71,21 @@ def read_text(lines):
             raise Fault(number, "a line is missing here")
         return lines[number - 1]
 
+    is_answer = lines[0] == ["vertices", "faces"]
     vertices, faces, *rounds = wholes(at(2), 2, (2, 3), "two or three counts stand here")
-    net = Net(*rounds)
-    if at(3) not in (["x", "y", "z"], ["x", "y", "z", "corner"]):
+    net = Net(*rounds, letters=lines[0][3:] == ["rule"])
+    if at(3) not in (["x", "y", "z"], ["x", "y", "z", "corner"]) and not (is_answer and at(3) == ["x", "y", "z", "corner", "rule"]):
         raise Fault(3, "x y z, with or without corner, stands here")
     for line in range(4, 4 + vertices):
-        if len(at(line)) != len(lines[2]):
-            raise Fault(line, f"a vertex has {len(lines[2])} numbers here")
-        net.points.append(([coordinate(word, line) for word in at(line)[:3]], line))
-        if at(line)[3:] not in ([], ["0"], ["1"]):
+        words = at(line)
+        if len(words) != len(lines[2]):
+            raise Fault(line, f"a vertex has {len(lines[2])} words here")
+        net.points.append(([coordinate(word, line) for word in words[:3]], line))
+        if words[3:4] not in ([], ["0"], ["1"]):
             raise Fault(line, "a mark is 0 or 1")
-        if at(line)[3:] == ["1"]:
+        if words[4:] and words[4] not in set("VABMSCDE"):
+            raise Fault(line, f"{words[4]} is no letter of an answer")
+        if words[3:4] == ["1"]:
             net.marked.add(line - 4)
     if at(4 + vertices) != ["a", "b", "c", "d"]:
         raise Fault(4 + vertices, "a b c d stands here")
@@ -139,7 +144,7 @@ def read(data):
     lines = lines_of(data)
     if lines[:1] == [["refusal", "place"]]:
         raise Fault(1, f"a refusal, number and place {' '.join(sum(lines[1:], []))}, and no net")
-    is_text = lines[:1] in ([["vertices", "faces"]], [["vertices", "faces", "rounds"]])
+    is_text = bool(lines) and " ".join(lines[0]) in ("vertices faces", "vertices faces rounds", "vertices faces rounds rule")
     net = read_text(lines) if is_text else read_obj(lines)
     for corners, line in net.faces:
         for corner in corners:
@@ -192,8 +197,8 @@ def mark_corners(net):
     net.marked.update(v for v, count in times.items() if count == 1)
 
 
-def write_text(net, rounds):
-    yield "vertices faces rounds"
+def write_text(net, rounds, letters):
+    yield "vertices faces rounds rule" if letters else "vertices faces rounds"
     yield f"{len(net.points)} {len(net.faces)} {rounds}"
     yield "x y z corner"
     for v, (point, _) in enumerate(net.points):
@@ -236,7 +241,7 @@ def converted(data, given):
         if wanted:
             step(net)
     rounds = given.rounds if given.rounds is not None else net.rounds
-    return write_text(net, 2 if rounds is None else rounds)
+    return write_text(net, 2 if rounds is None else rounds, net.letters or given.letters)
 
 
 def scale_of(word):
@@ -257,12 +262,13 @@ def arguments():
     options.add_argument("file", nargs="?", default="-", metavar="FILE")
     options.add_argument("--scale", type=scale_of, default=Fraction(1), metavar="S", help="counts in a unit (1)")
     options.add_argument("--rounds", type=rounds_of, metavar="K", help="rounds to ask for (those of the text; otherwise 2)")
+    options.add_argument("--letters", action="store_true", help="ask for a letter beside each refined vertex")
     options.add_argument("--weld", action="store_true", help="vertices with equal counts become one")
     options.add_argument("--drop", action="store_true", help="vertices in no face go")
     options.add_argument("--corners", action="store_true", help="mark each vertex that is in one face only")
     given = options.parse_intermixed_args()
-    if given.form == "obj" and (given.weld or given.drop or given.corners or given.rounds is not None):
-        options.error("--rounds, --weld, --drop and --corners are for text")
+    if given.form == "obj" and (given.letters or given.weld or given.drop or given.corners or given.rounds is not None):
+        options.error("--rounds, --letters, --weld, --drop and --corners are for text")
     return given
 
 

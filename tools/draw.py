@@ -44,7 +44,8 @@ def parse(text, name):
         raise ValueError(f"{name}: refused, number and place {' '.join(sum(lines[1:], []))}")
     try:
         vertices, faces, *rounds = map(int, lines[1])
-        rows = [tuple(map(int, line)) for line in lines[3:3 + vertices]]
+        width = 4 if lines[2] == ["x", "y", "z", "corner", "rule"] else None
+        rows = [tuple(map(int, line[:width])) for line in lines[3:3 + vertices]]
         corners = [tuple(map(int, line)) for line in lines[4 + vertices:]]
     except (IndexError, ValueError):
         raise ValueError(f"{name}: not the text of a net") from None

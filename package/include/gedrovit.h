@@ -69,11 +69,33 @@
  * Let a net be moved: one whole number is added to the x of every vertex, one to every y and one to
  * every z. If the coordinates of both nets are in the range above, and the records of new points are
  * equal, the call on the moved net reports the same, a refusal too, adds the same to the record,
- * gives the same faces and marks, and the same points moved by these numbers. This does not hold of
- * mirroring: where a half is rounded, a mirrored net may give other points than the mirrored ones.
+ * gives the same faces, marks and letters, and the same points moved by these numbers. This does not
+ * hold of mirroring: where a half is rounded, a mirrored net may give other points than the mirrored
+ * ones.
  *
  * A refined net may not be fit to be handed in again: its coordinates may lie beyond 1,048,576, and
  * it may have more than 8,192 vertices or 4,096 faces. Reasons 6 to 12 below never hold for it.
+ *
+ *
+ * Letters
+ *
+ * A call may ask for a letter beside each refined vertex, which tells how its point was made:
+ *
+ *   V   drawn
+ *   A   on a boundary edge, both ends unmarked: inside an open segment, or anywhere on a closed one
+ *   B   on a boundary edge with one marked end: an end edge of an open segment
+ *   M   on a boundary edge with two marked ends: a segment of one edge
+ *   S   made by the split, on an edge or in a face
+ *   C   on an inner edge, that is an edge of two faces
+ *   D   in a face one or both of whose directions have four inner edges
+ *   E   in any other face
+ *
+ * A face has two directions; each takes two opposite sides of the face and, beyond each, the opposite
+ * edge of the neighbour there, if there is one. The byte is that of the letter in ASCII. Faces, side
+ * counts and marks decide it, coordinates never do. V stands for exactly the drawn vertices, which are
+ * the first ones. A vertex keeps its letter in later steps. Only drawn vertices have marks, so a segment
+ * of one edge gives one M, and in the next step two B. After the split no segment has one edge alone:
+ * M and S do not meet in one answer.
  *
  *
  * The record of new points
@@ -95,20 +117,23 @@
  *   out_faces       4 G   uint32_t
  *   out_marks       4 G   uint8_t
  *   work           16 G   uint32_t
+ *   letters         4 G   uint8_t    only if letters are asked for
  *
- * which is 132 bytes for each refined face. gedrovit_sizes_for works these numbers out. What the four
- * tables hold before the call does not matter. What they hold after it:
+ * which is 132 bytes for each refined face without letters, and 136 bytes for each refined face with
+ * them. gedrovit_sizes_for works these numbers out; out_marks is the length of the letters too. What
+ * the tables hold before the call does not matter. What they hold after it:
  *
  *   reason     output tables                                  work
  *   0          from the front, the refined vertices, faces    the first 16 G are 0
- *              and marks
+ *              and marks, and the letters if asked for
  *   1 to 4     as before                                      as before
  *   and 14
  *   5 to 12    as before                                      the first 16 G are 0
  *   and 15
  *
- * Output elements beyond the refined net and work elements beyond 16 G are never written. The
- * tables of the net are only read.
+ * Output elements beyond the refined net and work elements beyond 16 G are never written. Where no
+ * letters are asked for, their table is neither read nor written and may have any length. The tables
+ * of the net are only read.
  *
  * Your duties, which no call can check:
  *
@@ -172,13 +197,16 @@
 #error "gedrovit is built for x86-64 Linux with 64-bit pointers"
 #endif
 
+#ifndef __cplusplus
+#include <stdbool.h>
+#endif
 #include <stddef.h>
 #include <stdint.h>
 
 /* The version of this header. */
-#define GEDROVIT_VERSION "0.4.0"
+#define GEDROVIT_VERSION "0.5.0"
 #define GEDROVIT_VERSION_MAJOR 0
-#define GEDROVIT_VERSION_MINOR 4
+#define GEDROVIT_VERSION_MINOR 5
 #define GEDROVIT_VERSION_PATCH 0
 
 /* The same as a number, to be compared with gedrovit_version(), and at the end of a name. */
@@ -239,7 +267,7 @@ enum gedrovit_reason {
     GEDROVIT_INVALID_LENGTHS = 2,
     /* V above 8,192, F above 4,096 or G above 262,144 */
     GEDROVIT_NET_TOO_LARGE = 3,
-    /* an output or the work table shorter than stated above */
+    /* an output or the work table shorter than stated above, or the letters where they are asked for */
     GEDROVIT_TABLE_TOO_SHORT = 4,
 
     /* The net can cause these. The place is a vertex, or for 7 and 9 a face. */
@@ -293,6 +321,34 @@ GEDROVIT_INLINE const char *gedrovit_reason_text(uint32_t reason) GEDROVIT_NOEXC
     }
 }
 
+/* How a point was made: the bytes of the letters above. */
+enum gedrovit_letter {
+    GEDROVIT_LETTER_DRAWN = 'V',
+    GEDROVIT_LETTER_INSIDE_SEGMENT = 'A',
+    GEDROVIT_LETTER_END_EDGE = 'B',
+    GEDROVIT_LETTER_ONE_EDGE_SEGMENT = 'M',
+    GEDROVIT_LETTER_SPLIT = 'S',
+    GEDROVIT_LETTER_INNER_EDGE = 'C',
+    GEDROVIT_LETTER_FACE_FOUR_INNER = 'D',
+    GEDROVIT_LETTER_OTHER_FACE = 'E'
+};
+
+/* What a letter says, in English. */
+GEDROVIT_INLINE const char *gedrovit_letter_text(uint8_t letter) GEDROVIT_NOEXCEPT
+{
+    switch (letter) {
+    case GEDROVIT_LETTER_DRAWN: return "drawn";
+    case GEDROVIT_LETTER_INSIDE_SEGMENT: return "on a boundary edge inside a segment or on a closed one";
+    case GEDROVIT_LETTER_END_EDGE: return "on an end edge of a boundary segment";
+    case GEDROVIT_LETTER_ONE_EDGE_SEGMENT: return "on a boundary segment of one edge";
+    case GEDROVIT_LETTER_SPLIT: return "made by the split";
+    case GEDROVIT_LETTER_INNER_EDGE: return "on an inner edge";
+    case GEDROVIT_LETTER_FACE_FOUR_INNER: return "in a face with four inner edges in one direction or both";
+    case GEDROVIT_LETTER_OTHER_FACE: return "in a face without four inner edges in either direction";
+    default: return "a letter that this version does not know";
+    }
+}
+
 /* The record of new points. A fresh one is {0}; what it holds after a call is told above. */
 typedef struct {
     uint64_t points;
@@ -317,7 +373,7 @@ typedef struct {
     uint32_t reason; /* 0; or 1, 2, 3 or 14 if no call with these lengths and side counts is accepted, whatever tables it gets */
     uint64_t out_vertices;
     uint64_t out_faces;
-    uint64_t out_marks;
+    uint64_t out_marks; /* of the letters too, where they are asked for */
     uint64_t work;
 } gedrovit_sizes;
 
@@ -353,7 +409,12 @@ GEDROVIT_INLINE gedrovit_net gedrovit_net_of(const int32_t *vertices, size_t ver
     return net;
 }
 
-/* The tables that a call fills, with its workspace. Start them by gedrovit_tables_of, as a net. */
+/*
+ * The tables that a call fills, with its workspace. Start them by gedrovit_tables_of, as a net. They
+ * ask for no letters then; set `letters` and `letters_length` afterwards to ask for them. A null
+ * pointer there asks for none, whatever the length. Any other pointer asks, also with length 0, which
+ * is too short unless G is 0.
+ */
 typedef struct {
     int32_t *vertices;
     size_t vertices_length;
@@ -363,6 +424,8 @@ typedef struct {
     size_t marks_length;
     uint32_t *work;
     size_t work_length;
+    uint8_t *letters; /* null: no letters */
+    size_t letters_length;
 } gedrovit_tables;
 
 GEDROVIT_INLINE gedrovit_tables gedrovit_tables_of(int32_t *vertices, size_t vertices_length,
@@ -379,6 +442,8 @@ GEDROVIT_INLINE gedrovit_tables gedrovit_tables_of(int32_t *vertices, size_t ver
     tables.marks_length = marks_length;
     tables.work = work;
     tables.work_length = work_length;
+    tables.letters = NULL;
+    tables.letters_length = 0;
     return tables;
 }
 
@@ -401,7 +466,10 @@ GEDROVIT_API uint32_t GEDROVIT_VERSIONED(gedrovit_version)(void) GEDROVIT_NOEXCE
 GEDROVIT_KEPT static uint32_t (*const gedrovit_same_version)(void) = GEDROVIT_VERSIONED(gedrovit_version);
 #undef GEDROVIT_KEPT
 
-/* Refines a net into the output tables and adds its new points to the record, or says why not. */
+/*
+ * Refines a net into the output tables and adds its new points to the record, or says why not.
+ * `with_letters` asks for letters. Without it pass the address of any byte, and length 0, for them.
+ */
 GEDROVIT_API gedrovit_report gedrovit_refine(gedrovit_tally *tally, uint32_t rounds,
                                              const int32_t *vertices, size_t vertices_length,
                                              const uint32_t *faces, size_t faces_length,
@@ -410,6 +478,7 @@ GEDROVIT_API gedrovit_report gedrovit_refine(gedrovit_tally *tally, uint32_t rou
                                              int32_t *out_vertices, size_t out_vertices_length,
                                              uint32_t *out_faces, size_t out_faces_length,
                                              uint8_t *out_marks, size_t out_marks_length,
+                                             bool with_letters, uint8_t *letters, size_t letters_length,
                                              uint32_t *work, size_t work_length) GEDROVIT_NOEXCEPT;
 
 /*
@@ -424,6 +493,7 @@ GEDROVIT_API gedrovit_finding gedrovit_check(uint32_t rounds,
                                              const uint8_t *marks, size_t marks_length,
                                              size_t out_vertices_length, size_t out_faces_length,
                                              size_t out_marks_length,
+                                             bool with_letters, size_t letters_length,
                                              uint32_t *work, size_t work_length) GEDROVIT_NOEXCEPT;
 
 /* The lengths of tables that serve a net of these lengths, with these side counts. */
@@ -433,7 +503,8 @@ GEDROVIT_API gedrovit_sizes gedrovit_sizes_for(uint32_t rounds, size_t vertices_
 
 /*
  * The same over records. A pointer may be null where its length is 0; the other duties stay.
- * gedrovit_check_net looks at the work table and at the lengths of the others alone.
+ * gedrovit_check_net looks at the work table, at the lengths of the others, and at whether `letters`
+ * is null alone.
  */
 GEDROVIT_INLINE gedrovit_report gedrovit_refine_net(gedrovit_tally *tally, uint32_t rounds, const gedrovit_net *net,
                                                     const gedrovit_tables *tables) GEDROVIT_NOEXCEPT
@@ -441,6 +512,8 @@ GEDROVIT_INLINE gedrovit_report gedrovit_refine_net(gedrovit_tally *tally, uint3
     int32_t coordinate = 0;
     uint32_t number = 0;
     uint8_t byte = 0;
+    const bool with_letters = tables->letters != NULL;
+    const size_t letters_length = with_letters ? tables->letters_length : 0;
     return gedrovit_refine(tally, rounds,
                            net->vertices_length == 0 ? &coordinate : net->vertices, net->vertices_length,
                            net->faces_length == 0 ? &number : net->faces, net->faces_length,
@@ -449,6 +522,7 @@ GEDROVIT_INLINE gedrovit_report gedrovit_refine_net(gedrovit_tally *tally, uint3
                            tables->vertices_length == 0 ? &coordinate : tables->vertices, tables->vertices_length,
                            tables->faces_length == 0 ? &number : tables->faces, tables->faces_length,
                            tables->marks_length == 0 ? &byte : tables->marks, tables->marks_length,
+                           with_letters, letters_length == 0 ? &byte : tables->letters, letters_length,
                            tables->work_length == 0 ? &number : tables->work, tables->work_length);
 }
 
@@ -464,6 +538,7 @@ GEDROVIT_INLINE gedrovit_finding gedrovit_check_net(uint32_t rounds, const gedro
                           net->sides_length == 0 ? &byte : net->sides, net->sides_length,
                           net->marks_length == 0 ? &byte : net->marks, net->marks_length,
                           tables->vertices_length, tables->faces_length, tables->marks_length,
+                          tables->letters != NULL, tables->letters != NULL ? tables->letters_length : 0,
                           tables->work_length == 0 ? &number : tables->work, tables->work_length);
 }
 

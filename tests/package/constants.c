@@ -13,7 +13,7 @@ enum { VERTICES = 40000, FACES = 20000, REFINED = 300000 };
 
 static int32_t vertices[3 * VERTICES], out_vertices[12 * REFINED];
 static uint32_t faces[4 * FACES], out_faces[4 * REFINED], work[16 * REFINED];
-static uint8_t marks[VERTICES], sides[VERTICES], out_marks[4 * REFINED];
+static uint8_t marks[VERTICES], sides[VERTICES], out_marks[4 * REFINED], letters[4 * REFINED];
 static size_t vertex_count, face_count;
 static int faults;
 
@@ -227,6 +227,7 @@ static void lengths(void)
     const uint64_t bytes = least.out_vertices * sizeof *out_vertices + least.out_faces * sizeof *out_faces
         + least.out_marks * sizeof *out_marks + least.work * sizeof *work;
     expect("bytes for each refined face", bytes, 4 * 132);
+    expect("bytes for each refined face with letters", bytes + least.out_marks * sizeof *letters, 4 * 136);
     const gedrovit_tables t = gedrovit_tables_of(out_vertices, least.out_vertices, out_faces, least.out_faces, out_marks,
                                                  least.out_marks, work, least.work);
     answer_by("least tables", 1, n, t, GEDROVIT_ACCEPTED, 0);
@@ -237,6 +238,107 @@ static void lengths(void)
     less[3].work_length--;
     for (int i = 0; i < 4; i++)
         answer_by("one short", 1, n, less[i], GEDROVIT_TABLE_TOO_SHORT, 0);
+}
+
+/* Letters are asked for by a pointer that is not null, and then need as many bytes as the marks. */
+static void lengths_of_letters(void)
+{
+    square();
+    const gedrovit_net n = net(), none = gedrovit_net_of(NULL, 0, NULL, 0, NULL, 0);
+    const uint64_t least = gedrovit_sizes_for_net(1, &n).out_marks;
+    gedrovit_tables t = tables();
+    t.letters = letters;
+    t.letters_length = least;
+    answer_by("letters", 1, n, t, GEDROVIT_ACCEPTED, 0);
+    t.letters_length = least + 1;
+    answer_by("letters, one more", 1, n, t, GEDROVIT_ACCEPTED, 0);
+    t.letters_length = least - 1;
+    answer_by("letters, one short", 1, n, t, GEDROVIT_TABLE_TOO_SHORT, 0);
+    t.letters_length = 0;
+    answer_by("letters, no bytes", 1, n, t, GEDROVIT_TABLE_TOO_SHORT, 0);
+    answer_by("letters, no bytes and no faces", 1, none, t, GEDROVIT_ACCEPTED, 0);
+    t.letters = NULL;
+    answer_by("no letters", 1, n, t, GEDROVIT_ACCEPTED, 0);
+    t.letters_length = 1;
+    answer_by("a null pointer with a length", 1, n, t, GEDROVIT_ACCEPTED, 0);
+}
+
+/* The letters of an accepted call on the net that was drawn, with or without side counts; what is beyond them stays. */
+static void lettered(const char *what, uint32_t rounds, gedrovit_net n, const char *due)
+{
+    gedrovit_tables t = tables();
+    gedrovit_tally tally = {0};
+    t.letters = memset(letters, '-', sizeof letters);
+    t.letters_length = sizeof letters;
+    const gedrovit_report report = gedrovit_refine_net(&tally, rounds, &n, &t);
+    expect(what, report.reason, GEDROVIT_ACCEPTED);
+    expect(what, report.vertices, strlen(due));
+    expect(what, memcmp(letters, due, strlen(due)) == 0, 1);
+    expect(what, letters[strlen(due)] == '-' && letters[sizeof letters - 1] == '-', 1);
+    memset(letters, '-', sizeof letters);
+    t.letters = NULL;
+    expect(what, gedrovit_refine_net(&tally, rounds, &n, &t).vertices, report.vertices);
+    for (size_t i = 0; i < 4 * REFINED; i++)
+        expect("a letter that was not asked for", letters[i], '-');
+}
+
+/* Flat squares, vertices and faces row by row. */
+static void grid(size_t columns, size_t rows)
+{
+    clear((columns + 1) * (rows + 1));
+    for (size_t v = 0; v < vertex_count; v++) {
+        vertices[3 * v] = (int32_t)(16 * (v % (columns + 1)));
+        vertices[3 * v + 1] = (int32_t)(16 * (v / (columns + 1)));
+    }
+    for (size_t f = 0; f < columns * rows; f++) {
+        const size_t v = f / columns * (columns + 1) + f % columns;
+        face(v, v + 1, v + columns + 2, v + columns + 1);
+    }
+}
+
+/* How many of these letters the last call gave. */
+static size_t count(uint8_t letter)
+{
+    size_t n = 0;
+    for (size_t i = 0; i < sizeof letters; i++)
+        n += letters[i] == letter;
+    return n;
+}
+
+/* Each letter of the header is got by a call. */
+static void letters_of_points(void)
+{
+    char due[10] = {0};
+    square();
+    memset(due, GEDROVIT_LETTER_DRAWN, 4);
+    lettered("drawn", 0, net(), due);
+    memset(due + 4, GEDROVIT_LETTER_INSIDE_SEGMENT, 4);
+    due[8] = GEDROVIT_LETTER_OTHER_FACE;
+    lettered("an unmarked loop", 1, net(), due);
+    marks[0] = marks[2] = 1;
+    memset(due + 4, GEDROVIT_LETTER_END_EDGE, 4);
+    lettered("end edges", 1, net(), due);
+    marks[1] = marks[3] = 1;
+    memset(due + 4, GEDROVIT_LETTER_ONE_EDGE_SEGMENT, 4);
+    lettered("segments of one edge", 1, net(), due);
+    gedrovit_net counted = net();
+    counted.sides = sides;
+    counted.sides_length = 1;
+    sides[0] = 4;
+    memset(due + 4, GEDROVIT_LETTER_SPLIT, 5);
+    lettered("the split", 0, counted, due);
+
+    grid(5, 3);
+    gedrovit_tables t = tables();
+    gedrovit_tally tally = {0};
+    const gedrovit_net n = net();
+    t.letters = memset(letters, '-', sizeof letters);
+    t.letters_length = sizeof letters;
+    expect("five by three", gedrovit_refine_net(&tally, 1, &n, &t).vertices, 77);
+    expect("inner edges", count(GEDROVIT_LETTER_INNER_EDGE), 22);
+    expect("faces with four inner edges", count(GEDROVIT_LETTER_FACE_FOUR_INNER), 3);
+    expect("other faces", count(GEDROVIT_LETTER_OTHER_FACE), 12);
+    expect("boundary edges", count(GEDROVIT_LETTER_INSIDE_SEGMENT), 16);
 }
 
 static void reasons_of_nets(void)
@@ -284,6 +386,13 @@ static void texts(void)
         for (uint32_t other = 0; other < reason; other++)
             expect("two reasons with one text", strcmp(gedrovit_reason_text(reason), gedrovit_reason_text(other)) == 0, 0);
     }
+    const char *no_letter = gedrovit_letter_text(0);
+    for (unsigned letter = 0; letter <= UINT8_MAX; letter++) {
+        const char *text = gedrovit_letter_text((uint8_t)letter);
+        expect("letter without a text", strcmp(text, no_letter) == 0, letter == 0 || strchr("VABMSCDE", (int)letter) == NULL);
+        for (unsigned other = 0; other < letter; other++)
+            expect("two letters with one text", strcmp(text, no_letter) != 0 && strcmp(text, gedrovit_letter_text((uint8_t)other)) == 0, 0);
+    }
 }
 
 int main(void)
@@ -296,6 +405,8 @@ int main(void)
     limit_of_record();
     order();
     lengths();
+    lengths_of_letters();
+    letters_of_points();
     reasons_of_nets();
     empty();
     texts();

@@ -54,9 +54,9 @@ hold("side counts", r"(?m)^badCount .* = ltb \w+ N \|\| ltb N ", SPECS, [SIDES])
 hold("record of new points", r"refusedIf 15 \(ltb N ", SPECS, [(TALLY,)])
 hold("outcome", r"Within N ", read("crates/outcome/specs/Coordinates.antt"), [(REFINED,)])
 FACTORS = numbers(r"\bN \* g", "".join(re.findall(r"(?m)^needed g = .*", SPECS)))
-if len(FACTORS) != 4:
+if len(FACTORS) != 5:
     faults.append("the lengths to provide were not found in the definitions")
-for name, factor in zip(("out_vertices", "out_faces", "out_marks", "work"), FACTORS):
+for name, factor in zip(("out_vertices", "out_faces", "out_marks", "letters", "work"), FACTORS):
     hold("header", rf"{name} +N G\b", header, [factor])
 PROGRAM = read("crates/reading/specs/Loaded.antt")
 [(PROGRAM_G,)] = numbers(r"serve G up to N", PROGRAM)
@@ -97,7 +97,7 @@ LIMITS = [
     (r"faces of N to N sides", [SIDES], 1),
     (r"sides? it has, from N to N", [SIDES], 1),
     (r"(?:would be|never) above N", [(TALLY,)], 3),
-    (r"N bytes for each refined face", [(132,)], 1),
+    (r"N bytes for each refined face", [(132,), (136,)], 2),
     (r"more than N bytes", [(TEXT,)], 0),
 ]
 texts = {str(path.relative_to(ROOT)): running(path.read_text(encoding="utf-8"))

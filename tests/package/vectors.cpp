@@ -5,6 +5,7 @@
 #include <array>
 #include <cstdint>
 #include <iostream>
+#include <string>
 #include <utility>
 #include <variant>
 #include <vector>
@@ -31,11 +32,13 @@ void empty_tables()
     std::uint32_t number = 7;
     std::uint8_t byte = 7;
     const gedrovit_sizes sizes = gedrovit_sizes_for(6, 0, 0, &byte, 0, 0);
-    const gedrovit_finding finding = gedrovit_check(6, &coordinate, 0, &number, 0, &byte, 0, &byte, 0, 0, 0, 0, &number, 0);
-    const gedrovit_report report =
-        gedrovit_refine(&tally, 6, &coordinate, 0, &number, 0, &byte, 0, &byte, 0, &coordinate, 0, &number, 0, &byte, 0, &number, 0);
     expect("empty: lengths", sizes.reason == 0 && sizes.out_vertices + sizes.out_faces + sizes.out_marks + sizes.work == 0);
-    expect("empty: accepted", finding.reason == 0 && report.reason == 0 && report.vertices + report.faces == 0);
+    for (const bool with_letters : {false, true}) {
+        const gedrovit_finding finding = gedrovit_check(6, &coordinate, 0, &number, 0, &byte, 0, &byte, 0, 0, 0, 0, with_letters, 0, &number, 0);
+        const gedrovit_report report = gedrovit_refine(&tally, 6, &coordinate, 0, &number, 0, &byte, 0, &byte, 0, &coordinate, 0, &number, 0, &byte, 0,
+                                                       with_letters, &byte, 0, &number, 0);
+        expect("empty: accepted", finding.reason == 0 && report.reason == 0 && report.vertices + report.faces == 0);
+    }
     expect("empty: untouched", tally.points == 7 && coordinate == 7 && number == 7 && byte == 7);
 }
 
@@ -45,6 +48,9 @@ void empty_vectors()
     const auto result = gedrovit::refine(bill, 6, gedrovit::net());
     const auto *fine = std::get_if<gedrovit::net>(&result);
     expect("empty vectors: refined", fine != nullptr && fine->vertices.empty() && fine->faces.empty() && fine->marks.empty() && bill.points == 0);
+    const auto lettered = gedrovit::refine_with_letters(bill, 6, gedrovit::net());
+    const auto *none = std::get_if<gedrovit::net_with_letters>(&lettered);
+    expect("empty vectors: letters", none != nullptr && none->refined.marks.empty() && none->letters.empty());
     expect("empty vectors: checked", !gedrovit::check(6, gedrovit::net()));
 }
 
@@ -54,6 +60,9 @@ void refused(std::uint32_t rounds, const gedrovit::net &net, std::uint32_t reaso
     gedrovit::tally bill{11};
     const auto result = gedrovit::refine(bill, rounds, net);
     const auto *refusal = std::get_if<gedrovit::refusal>(&result);
+    const auto lettered = gedrovit::refine_with_letters(bill, rounds, net);
+    const auto *same = std::get_if<gedrovit::refusal>(&lettered);
+    expect("with letters", same != nullptr && refusal != nullptr && same->reason == refusal->reason && same->place == refusal->place);
     expect("a refused call adds nothing", bill.points == 11);
     const auto finding = gedrovit::check(rounds, net);
     expect(gedrovit_reason_text(reason), refusal != nullptr && refusal->reason == reason && refusal->place == place);
@@ -85,6 +94,28 @@ void other_faces()
     expect("triangle: faces", split != nullptr && split->faces == std::vector<std::uint32_t>{0, 3, 6, 5, 1, 4, 6, 3, 2, 5, 6, 4});
     expect("triangle: marks", split != nullptr && split->marks == std::vector<std::uint8_t>{1, 0, 0, 0, 0, 0, 0} && split->sides.empty());
     expect("triangle: bill", bill.points == 4);
+}
+
+// The same net with letters as without, and a letter for each of its vertices.
+void letters_of(const char *what, std::uint32_t rounds, const gedrovit::net &coarse, const std::string &due)
+{
+    gedrovit::tally bill{}, other{};
+    const auto plain = std::get<gedrovit::net>(gedrovit::refine(bill, rounds, coarse));
+    const auto fine = std::get<gedrovit::net_with_letters>(gedrovit::refine_with_letters(other, rounds, coarse));
+    expect(what, fine.refined.vertices == plain.vertices && fine.refined.faces == plain.faces && fine.refined.marks == plain.marks);
+    expect(what, std::string(fine.letters.begin(), fine.letters.end()) == due);
+    expect(what, fine.letters.size() == plain.marks.size() && bill.points == other.points);
+}
+
+void letters()
+{
+    letters_of("letters: unmarked", 1, square, "VVVVAAAAE");
+    gedrovit::net marked = square;
+    marked.marks = {1, 1, 1, 0};
+    letters_of("letters: marked", 1, marked, "VVVVMMBBE");
+    marked.sides = {4};
+    letters_of("letters: split", 0, marked, "VVVVSSSSS");
+    expect("letters: text", gedrovit_letter_text(GEDROVIT_LETTER_DRAWN) == std::string("drawn"));
 }
 
 // Two calls on one record, the second up to the limit, and a third beyond it, which the check does not judge.
@@ -126,6 +157,7 @@ int main()
     empty_vectors();
     refusals();
     other_faces();
+    letters();
     bill_of_a_series();
     closed_and_open();
     return faults == 0 ? 0 : 1;

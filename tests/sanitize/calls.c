@@ -10,14 +10,14 @@
 
 #include "../../package/include/gedrovit.h"
 
-enum { VERTICES, FACES, SIDES, MARKS, OUT_VERTICES, OUT_FACES, OUT_MARKS, WORK, TABLES };
-static const char *const names[] = {"vertices", "faces", "sides", "marks", "out vertices", "out faces", "out marks", "work"};
-static const size_t entry[] = {4, 4, 1, 1, 4, 4, 1, 4};
+enum { VERTICES, FACES, SIDES, MARKS, OUT_VERTICES, OUT_FACES, OUT_MARKS, LETTERS, WORK, TABLES };
+static const char *const names[] = {"vertices", "faces", "sides", "marks", "out vertices", "out faces", "out marks", "letters", "work"};
+static const size_t entry[] = {4, 4, 1, 1, 4, 4, 1, 1, 4};
 
 typedef enum { AS_DUMPED, UNINITIALISED, SHORT_WORK } manner;
 typedef enum { CHECK, REFINE } function;
 
-typedef struct { uint64_t rounds, length[TABLES], reason, place, vertices, faces, tally_before, tally_after; } head;
+typedef struct { uint64_t rounds, length[TABLES], with_letters, reason, place, vertices, faces, tally_before, tally_after; } head;
 typedef struct { head head; void *before[TABLES], *after[TABLES]; } call;
 
 static void *block(size_t bytes)
@@ -78,6 +78,8 @@ static size_t known(const head *h, int table)
         return 0;
     if (table == WORK)
         return 64 * refined_faces(h);
+    if (table == LETTERS && !h->with_letters)
+        return 0;
     return table == OUT_VERTICES ? 12 * h->vertices : table == OUT_FACES ? 16 * h->faces : h->vertices;
 }
 
@@ -96,7 +98,7 @@ static int tables_agree(const call *c, manner how, function which, void **lent)
 {
     for (int t = 0; t < TABLES; t++) {
         size_t compared = how == UNINITIALISED ? known(&c->head, t) : bytes_of(&c->head, t);
-        if (which == CHECK && t >= OUT_VERTICES && t <= OUT_MARKS)
+        if (which == CHECK && t >= OUT_VERTICES && t <= LETTERS)
             continue;
         if (memcmp(lent[t], c->after[t], compared) != 0) {
             printf("%s differ\n", names[t]);
@@ -110,7 +112,8 @@ static gedrovit_report refine(const head *h, gedrovit_tally *tally, void **lent)
 {
     const uint64_t *n = h->length;
     return gedrovit_refine(tally, (uint32_t)h->rounds, lent[VERTICES], n[VERTICES], lent[FACES], n[FACES], lent[SIDES], n[SIDES], lent[MARKS], n[MARKS],
-                           lent[OUT_VERTICES], n[OUT_VERTICES], lent[OUT_FACES], n[OUT_FACES], lent[OUT_MARKS], n[OUT_MARKS], lent[WORK], n[WORK]);
+                           lent[OUT_VERTICES], n[OUT_VERTICES], lent[OUT_FACES], n[OUT_FACES], lent[OUT_MARKS], n[OUT_MARKS], h->with_letters != 0,
+                           lent[LETTERS], n[LETTERS], lent[WORK], n[WORK]);
 }
 
 /* the check gives the same reason and place, but for 15 */
@@ -118,7 +121,7 @@ static int check_agrees(const head *h, void **lent)
 {
     const uint64_t *n = h->length;
     const gedrovit_finding f = gedrovit_check((uint32_t)h->rounds, lent[VERTICES], n[VERTICES], lent[FACES], n[FACES], lent[SIDES], n[SIDES], lent[MARKS],
-                                              n[MARKS], n[OUT_VERTICES], n[OUT_FACES], n[OUT_MARKS], lent[WORK], n[WORK]);
+                                              n[MARKS], n[OUT_VERTICES], n[OUT_FACES], n[OUT_MARKS], h->with_letters != 0, n[LETTERS], lent[WORK], n[WORK]);
     return f.reason == (h->reason == 15 ? 0 : h->reason) && f.place == h->place;
 }
 

@@ -1,11 +1,11 @@
 //! The functions of the archive over slices.
 
 use crate::foreign::{
-    gedrovit_check, gedrovit_refine, gedrovit_sizes_for, gedrovit_version, gedrovit_version_0_4_0,
+    gedrovit_check, gedrovit_refine, gedrovit_sizes_for, gedrovit_version, gedrovit_version_0_5_0,
 };
 use crate::{NetView, Refusal, Tables, Tally};
 
-/// The version of the archive: 0.4.0 is 4000.
+/// The version of the archive: 0.5.0 is 5000.
 #[must_use]
 pub fn version() -> u32 {
     // SAFETY: the function takes nothing.
@@ -16,7 +16,7 @@ pub fn version() -> u32 {
 /// another version does not link.
 fn same_version() {
     // SAFETY: the function takes nothing.
-    unsafe { gedrovit_version_0_4_0() };
+    unsafe { gedrovit_version_0_5_0() };
 }
 
 /// How many vertices and faces a refined net has.
@@ -28,8 +28,10 @@ pub struct Counts {
     pub faces: usize,
 }
 
-/// Lengths of the tables that a call fills, in elements.
-#[derive(Clone, Copy, Debug, PartialEq, Eq)]
+/// Lengths of the tables that a call fills, in elements, made by [`lengths`] or by default, all 0;
+/// later versions add fields.
+#[derive(Clone, Copy, Debug, Default, PartialEq, Eq)]
+#[non_exhaustive]
 pub struct Lengths {
     /// Of the refined vertices.
     pub vertices: usize,
@@ -39,10 +41,23 @@ pub struct Lengths {
     pub marks: usize,
     /// Of the workspace.
     pub work: usize,
+    /// Of the letters; none if they are not asked for.
+    pub letters: Option<usize>,
 }
 
-/// The least lengths of the tables that serve a net, by the lengths of its own tables and its side
-/// counts alone.
+impl Lengths {
+    /// The same with letters asked for, in a table as long as the marks.
+    #[must_use]
+    pub fn with_letters(self) -> Self {
+        Self {
+            letters: Some(self.marks),
+            ..self
+        }
+    }
+}
+
+/// The least lengths of the tables that serve a net without letters, by the lengths of its own tables
+/// and its side counts alone. [`Lengths::with_letters`] adds the letters.
 ///
 /// # Errors
 ///
@@ -66,17 +81,18 @@ pub fn lengths(rounds: u32, net: NetView<'_>) -> Result<Lengths, Refusal> {
         faces: sizes.out_faces as usize,
         marks: sizes.out_marks as usize,
         work: sizes.work as usize,
+        letters: None,
     })
 }
 
 /// Refines a net into the tables, from their front, adds its new points to the record, and tells its
-/// numbers of vertices and faces. Elements beyond the refined net stay as they are. The first 16 G work numbers are 0 afterwards,
-/// G being the number of refined faces.
+/// numbers of vertices and faces. If there is a table for letters, it gets one for each refined vertex. Elements beyond the refined net stay as
+/// they are. The first 16 G work numbers are 0 afterwards, G being the number of refined faces.
 ///
 /// # Errors
 ///
-/// Every reason. The record, the vertices, faces and marks stay as they are, and on reasons 1 to 4
-/// and 14 the work numbers too.
+/// Every reason. The record, the vertices, faces, marks and letters stay as they are, and on reasons
+/// 1 to 4 and 14 the work numbers too.
 pub fn refine(
     tally: &mut Tally,
     rounds: u32,
@@ -84,6 +100,8 @@ pub fn refine(
     tables: Tables<'_>,
 ) -> Result<Counts, Refusal> {
     same_version();
+    let with_letters = tables.letters.is_some();
+    let letters = tables.letters.unwrap_or_default();
     // SAFETY: references and slices are non-null, aligned and of at most isize::MAX bytes; mutable
     // ones overlap no other.
     let report = unsafe {
@@ -104,6 +122,9 @@ pub fn refine(
             tables.faces.len(),
             tables.marks.as_mut_ptr(),
             tables.marks.len(),
+            with_letters,
+            letters.as_mut_ptr(),
+            letters.len(),
             tables.work.as_mut_ptr(),
             tables.work.len(),
         )
@@ -144,6 +165,8 @@ pub fn check(
             lengths.vertices,
             lengths.faces,
             lengths.marks,
+            lengths.letters.is_some(),
+            lengths.letters.unwrap_or(0),
             work.as_mut_ptr(),
             work.len(),
         )

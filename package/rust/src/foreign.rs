@@ -38,7 +38,7 @@ pub struct Sizes {
 unsafe extern "C" {
     pub fn gedrovit_version() -> u32;
 
-    pub fn gedrovit_version_0_4_0() -> u32;
+    pub fn gedrovit_version_0_5_0() -> u32;
 
     pub fn gedrovit_refine(
         tally: *mut Tally,
@@ -57,6 +57,9 @@ unsafe extern "C" {
         out_faces_length: usize,
         out_marks: *mut u8,
         out_marks_length: usize,
+        with_letters: bool,
+        letters: *mut u8,
+        letters_length: usize,
         work: *mut u32,
         work_length: usize,
     ) -> Report;
@@ -74,6 +77,8 @@ unsafe extern "C" {
         out_vertices_length: usize,
         out_faces_length: usize,
         out_marks_length: usize,
+        with_letters: bool,
+        letters_length: usize,
         work: *mut u32,
         work_length: usize,
     ) -> Finding;

@@ -36,12 +36,32 @@
 //! # Ok::<(), gedrovit::Refusal>(())
 //! ```
 //!
+//! [`Net::traced`] gives a [`Letter`] beside each refined vertex, which tells how its point was made:
+//!
+//! ```
+//! use gedrovit::Letter;
+//!
+//! let square = gedrovit::Net::new(
+//!     vec![0, 0, 0, 16, 0, 0, 16, 16, 0, 0, 16, 0],
+//!     vec![0, 1, 2, 3],
+//!     vec![1, 1, 1, 0],
+//! );
+//! let traced = square.traced(&mut gedrovit::Tally::new(), 1)?;
+//! let letters: String = traced.letters.iter().map(Letter::to_string).collect();
+//! assert_eq!(letters, "VVVVMMBBE");
+//! assert_eq!(traced.letters[4].text(), "on a boundary segment of one edge");
+//! let drawn = traced.letters.iter().filter(|&&letter| letter == Letter::Drawn);
+//! assert_eq!(drawn.count(), 4);
+//! # Ok::<(), gedrovit::Refusal>(())
+//! ```
+//!
 //! The build takes the archive from the folder that the environment variable `GEDROVIT_LIB_DIR`
 //! names; without it, from where `pkg-config` finds this version of the package, or else from the
 //! repository that this crate is part of.
 
 mod call;
 mod foreign;
+mod letter;
 mod limits;
 mod net;
 mod refusal;
@@ -49,6 +69,7 @@ mod tally;
 
 pub use call::{check, lengths, refine, version, Counts, Lengths};
 pub use foreign::Tally;
+pub use letter::Letter;
 pub use limits::*;
-pub use net::{Net, NetView, Tables};
+pub use net::{Net, NetView, Tables, Traced};
 pub use refusal::{Reason, Refusal};

@@ -1,6 +1,6 @@
 //! Nets and the tables that a call fills.
 
-use crate::{lengths, refine, Refusal, Tally};
+use crate::{lengths, refine, Counts, Letter, Refusal, Tally};
 
 /// A net in tables of its own, made by [`Net::new`]; later versions add fields.
 #[derive(Clone, Debug, Default, PartialEq, Eq)]
@@ -43,6 +43,20 @@ pub struct Tables<'a> {
     pub marks: &'a mut [u8],
     /// The workspace.
     pub work: &'a mut [u32],
+    /// The letters, as bytes; none if they are not asked for. [`Letter::from`] gives the letter of a
+    /// byte.
+    pub letters: Option<&'a mut [u8]>,
+}
+
+/// A refined net with a letter for each of its vertices, which tells how its point was made. Later
+/// versions add fields.
+#[derive(Clone, Debug, Default, PartialEq, Eq)]
+#[non_exhaustive]
+pub struct Traced {
+    /// The refined net.
+    pub net: Net,
+    /// For each vertex its letter.
+    pub letters: Vec<Letter>,
 }
 
 impl Net {
@@ -79,6 +93,15 @@ impl Net {
     pub fn refined(&self, tally: &mut Tally, rounds: u32) -> Result<Net, Refusal> {
         self.view().refined(tally, rounds)
     }
+
+    /// As [`Net::refined`], with a letter for each vertex.
+    ///
+    /// # Errors
+    ///
+    /// Every reason but 4.
+    pub fn traced(&self, tally: &mut Tally, rounds: u32) -> Result<Traced, Refusal> {
+        self.view().traced(tally, rounds)
+    }
 }
 
 impl<'a> NetView<'a> {
@@ -105,20 +128,35 @@ impl<'a> NetView<'a> {
     ///
     /// Every reason but 4.
     pub fn refined(self, tally: &mut Tally, rounds: u32) -> Result<Net, Refusal> {
-        let n = lengths(rounds, self)?;
-        let mut net = Net::new(vec![0; n.vertices], vec![0; n.faces], vec![0; n.marks]);
-        let mut work = vec![0; n.work];
+        let (mut net, mut work) = allocated(rounds, self)?;
         let tables = Tables::new(&mut net.vertices, &mut net.faces, &mut net.marks, &mut work);
         let counts = refine(tally, rounds, self, tables)?;
-        cut(&mut net.vertices, 3 * counts.vertices);
-        cut(&mut net.faces, 4 * counts.faces);
-        cut(&mut net.marks, counts.vertices);
+        net.cut(counts);
         Ok(net)
+    }
+
+    /// As [`Net::traced`].
+    ///
+    /// # Errors
+    ///
+    /// Every reason but 4.
+    pub fn traced(self, tally: &mut Tally, rounds: u32) -> Result<Traced, Refusal> {
+        let (mut net, mut work) = allocated(rounds, self)?;
+        let mut letters = vec![0; net.marks.len()];
+        let tables = Tables::new(&mut net.vertices, &mut net.faces, &mut net.marks, &mut work)
+            .with_letters(&mut letters);
+        let counts = refine(tally, rounds, self, tables)?;
+        net.cut(counts);
+        let letters = letters[..counts.vertices].iter().copied();
+        Ok(Traced {
+            net,
+            letters: letters.map(Letter::from).collect(),
+        })
     }
 }
 
 impl<'a> Tables<'a> {
-    /// These tables.
+    /// These tables, and no letters.
     #[must_use]
     pub fn new(
         vertices: &'a mut [i32],
@@ -131,7 +169,34 @@ impl<'a> Tables<'a> {
             faces,
             marks,
             work,
+            letters: None,
         }
+    }
+
+    /// The same with letters asked for, in a table as long as the marks; a shorter one is refused as
+    /// they are.
+    #[must_use]
+    pub fn with_letters(self, letters: &'a mut [u8]) -> Self {
+        Self {
+            letters: Some(letters),
+            ..self
+        }
+    }
+}
+
+/// Tables for the refined net and the workspace.
+fn allocated(rounds: u32, net: NetView<'_>) -> Result<(Net, Vec<u32>), Refusal> {
+    let n = lengths(rounds, net)?;
+    let tables = Net::new(vec![0; n.vertices], vec![0; n.faces], vec![0; n.marks]);
+    Ok((tables, vec![0; n.work]))
+}
+
+impl Net {
+    /// Leaves the refined net of its tables.
+    fn cut(&mut self, counts: Counts) {
+        cut(&mut self.vertices, 3 * counts.vertices);
+        cut(&mut self.faces, 4 * counts.faces);
+        cut(&mut self.marks, counts.vertices);
     }
 }
 

@@ -14,7 +14,8 @@ pub enum Reason {
     InvalidLengths,
     /// More than 8,192 vertices, 4,096 faces (with side counts, corners) or 262,144 refined faces.
     NetTooLarge,
-    /// An output or the work table is shorter than [`lengths`](crate::lengths) says.
+    /// An output or the work table is shorter than [`lengths`](crate::lengths) says, or the letters
+    /// where they are asked for.
     TableTooShort,
     /// A coordinate outside -1,048,576 to 1,048,576. The place is the vertex.
     CoordinateOutOfRange,

@@ -1,6 +1,8 @@
 //! Calls through the safe functions: answers, refusals, and what they leave in the tables.
 
-use gedrovit::{check, lengths, Counts, Lengths, Net, NetView, Reason, Refusal, Tables, Tally};
+use gedrovit::{
+    check, lengths, Counts, Lengths, Letter, Net, NetView, Reason, Refusal, Tables, Tally,
+};
 
 /// What the tables hold before a call.
 const FILL: u8 = 0xA5;
@@ -12,6 +14,7 @@ struct Owned {
     faces: Vec<u32>,
     marks: Vec<u8>,
     work: Vec<u32>,
+    letters: Option<Vec<u8>>,
 }
 
 impl Owned {
@@ -21,16 +24,21 @@ impl Owned {
             faces: vec![FILL.into(); n.faces],
             marks: vec![FILL; n.marks],
             work: vec![FILL.into(); n.work],
+            letters: n.letters.map(|length| vec![FILL; length]),
         }
     }
 
     fn lend(&mut self) -> Tables<'_> {
-        Tables::new(
+        let tables = Tables::new(
             &mut self.vertices,
             &mut self.faces,
             &mut self.marks,
             &mut self.work,
-        )
+        );
+        match &mut self.letters {
+            Some(letters) => tables.with_letters(letters),
+            None => tables,
+        }
     }
 }
 
@@ -106,67 +114,107 @@ fn steps_can_be_done_one_by_one() {
 
 #[test]
 fn an_empty_net_needs_no_tables() {
-    let none = Lengths {
-        vertices: 0,
-        faces: 0,
-        marks: 0,
-        work: 0,
-    };
+    let none = Lengths::default();
     let empty = Net::default();
     assert_eq!(lengths(6, empty.view()), Ok(none));
-    assert_eq!(
-        refine(6, empty.view(), Owned::new(none).lend()),
-        Ok(Counts {
-            vertices: 0,
-            faces: 0
-        })
-    );
+    for n in [none, none.with_letters()] {
+        assert_eq!(
+            refine(6, empty.view(), Owned::new(n).lend()),
+            Ok(Counts {
+                vertices: 0,
+                faces: 0
+            })
+        );
+        assert_eq!(check(6, empty.view(), n, &mut []), Ok(()));
+    }
     assert_eq!(refined(empty.view(), 6), Ok(Net::default()));
+    let traced = empty.traced(&mut Tally::new(), 6).unwrap();
+    assert_eq!((traced.net, traced.letters), (Net::default(), vec![]));
 }
 
 #[test]
 fn elements_beyond_the_refined_net_stay() {
-    let mut n = lengths(1, square().view()).unwrap();
-    n.work += 5;
-    let mut tables = Owned::new(n);
-    assert_eq!(
-        refine(1, square().view(), tables.lend()),
-        Ok(Counts {
-            vertices: 9,
-            faces: 4
-        })
-    );
+    for surplus in [None, Some(0), Some(1), Some(9)] {
+        let mut n = lengths(1, square().view()).unwrap();
+        n.work += 5;
+        n.letters = surplus.map(|bytes| n.marks + bytes);
+        let mut tables = Owned::new(n);
+        assert_eq!(
+            refine(1, square().view(), tables.lend()),
+            Ok(Counts {
+                vertices: 9,
+                faces: 4
+            })
+        );
 
-    let refined = refined_square();
-    let mut expected = Owned::new(n);
-    expected.vertices[..27].copy_from_slice(&refined.vertices);
-    expected.faces[..16].copy_from_slice(&refined.faces);
-    expected.marks[..9].copy_from_slice(&refined.marks);
-    expected.work[..64].fill(0);
-    assert_eq!(tables, expected);
+        let refined = refined_square();
+        let mut expected = Owned::new(n);
+        expected.vertices[..27].copy_from_slice(&refined.vertices);
+        expected.faces[..16].copy_from_slice(&refined.faces);
+        expected.marks[..9].copy_from_slice(&refined.marks);
+        expected.work[..64].fill(0);
+        if let Some(letters) = &mut expected.letters {
+            letters[..9].copy_from_slice(b"VVVVMMMME");
+        }
+        assert_eq!(tables, expected);
+    }
+}
+
+fn letters(net: &Net, rounds: u32) -> String {
+    let mut tally = Tally::new();
+    let traced = net.traced(&mut tally, rounds).unwrap();
+    assert_eq!(net.refined(&mut Tally::new(), rounds), Ok(traced.net));
+    traced.letters.iter().map(Letter::to_string).collect()
+}
+
+#[test]
+fn letters_tell_how_points_were_made() {
+    assert_eq!(letters(&square(), 0), "VVVV");
+    assert_eq!(letters(&square(), 1), "VVVVMMMME");
+    let mut unmarked = square();
+    unmarked.marks.fill(0);
+    assert_eq!(letters(&unmarked, 1), "VVVVAAAAE");
+    assert_eq!(letters(&unmarked.with_sides(vec![4]), 0), "VVVVSSSSS");
+    // A segment of one edge gives M once and two end edges in the next step.
+    let twice = letters(&square(), 2);
+    assert!(twice.starts_with("VVVVMMMME"));
+    assert_eq!(twice.matches('B').count(), 8);
+}
+
+/// A flat grid without marks.
+fn grid(columns: u32, rows: u32) -> Net {
+    let across = columns + 1;
+    let vertices =
+        (0..=rows).flat_map(|y| (0..=columns).flat_map(move |x| [x as i32, y as i32, 0]));
+    let first = (0..rows).flat_map(|y| (0..columns).map(move |x| y * across + x));
+    Net::new(
+        vertices.collect(),
+        first
+            .flat_map(|v| [v, v + 1, v + across + 1, v + across])
+            .collect(),
+        vec![0; (across * (rows + 1)) as usize],
+    )
+}
+
+#[test]
+fn faces_with_four_inner_edges_are_told_from_others() {
+    for (columns, rows, due) in [(3, 3, 0), (5, 3, 3), (5, 5, 9)] {
+        let all = letters(&grid(columns, rows), 1);
+        assert_eq!(all.matches('D').count(), due);
+        assert_eq!(all.matches('E').count(), (columns * rows) as usize - due);
+    }
 }
 
 #[test]
 fn short_tables_are_refused_and_left_alone() {
     let enough = lengths(1, square().view()).unwrap();
-    let short = [
-        Lengths {
-            vertices: enough.vertices - 1,
-            ..enough
-        },
-        Lengths {
-            faces: enough.faces - 1,
-            ..enough
-        },
-        Lengths {
-            marks: enough.marks - 1,
-            ..enough
-        },
-        Lengths {
-            work: enough.work - 1,
-            ..enough
-        },
-    ];
+    let mut short = [enough; 6];
+    short[0].vertices -= 1;
+    short[1].faces -= 1;
+    short[2].marks -= 1;
+    short[3].work -= 1;
+    short[4].letters = Some(enough.marks - 1);
+    short[5].letters = Some(0);
     for n in short {
         let mut tables = Owned::new(n);
         let expected = Err(refusal(Reason::TableTooShort, 0));
@@ -183,7 +231,7 @@ fn short_tables_are_refused_and_left_alone() {
 fn a_refused_net_clears_the_workspace_only() {
     let mut net = square();
     net.vertices[7] = 1_048_577;
-    let n = lengths(2, net.view()).unwrap();
+    let n = lengths(2, net.view()).unwrap().with_letters();
     let mut tables = Owned::new(n);
     assert_eq!(
         refine(2, net.view(), tables.lend()),
@@ -349,12 +397,7 @@ fn side_counts_are_tested_after_the_vertices_and_before_the_marks() {
     for (rounds, vertices, count, reason) in refused {
         let view = NetView::new(&short.vertices[..vertices], &short.faces, &short.marks);
         let view = view.with_sides(std::slice::from_ref(&count));
-        let mut tables = Owned::new(Lengths {
-            vertices: 1,
-            faces: 1,
-            marks: 1,
-            work: 1,
-        });
+        let mut tables = Owned::new(Lengths::default().with_letters());
         let before = tables.clone();
         assert_eq!(refine(rounds, view, tables.lend()), Err(refusal(reason, 0)));
         assert_eq!(tables, before);
@@ -398,13 +441,15 @@ fn places_are_those_of_drawn_faces() {
 
 #[test]
 fn lengths_follow_the_refined_faces() {
-    let expected = Lengths {
-        vertices: 12 * 4096,
-        faces: 4 * 4096,
-        marks: 4 * 4096,
-        work: 16 * 4096,
-    };
-    assert_eq!(lengths(6, square().view()), Ok(expected));
+    let mut expected = Lengths::default();
+    expected.vertices = 12 * 4096;
+    expected.faces = 4 * 4096;
+    expected.marks = 4 * 4096;
+    expected.work = 16 * 4096;
+    let least = lengths(6, square().view());
+    assert_eq!(least, Ok(expected));
+    expected.letters = Some(4 * 4096);
+    assert_eq!(least.map(Lengths::with_letters), Ok(expected));
 }
 
 #[test]
@@ -454,7 +499,7 @@ fn a_record_beyond_its_limit_is_refused() {
         (1, u64::MAX - 4, false),
     ];
     for (rounds, points, is_accepted) in cases {
-        let n = lengths(rounds, square().view()).unwrap();
+        let n = lengths(rounds, square().view()).unwrap().with_letters();
         let (mut tally, mut tables) = (Tally::with_points(points), Owned::new(n));
         let answer = gedrovit::refine(&mut tally, rounds, square().view(), tables.lend());
         assert_eq!(answer.err(), (!is_accepted).then_some(refused));

@@ -1,5 +1,6 @@
 //! Version, constants, reasons and texts are those of `gedrovit.h`.
 
+use gedrovit::Letter;
 use gedrovit::Reason::{self, *};
 
 const HEADER: &str = include_str!("../../include/gedrovit.h");
@@ -41,8 +42,8 @@ fn constant(name: &str) -> u64 {
 }
 
 /// `TooManyRounds` is `TOO_MANY_ROUNDS` there.
-fn name(reason: Reason) -> String {
-    let camel = format!("{reason:?}");
+fn name(case: impl std::fmt::Debug) -> String {
+    let camel = format!("{case:?}");
     let words = camel.split_inclusive(|letter: char| letter.is_ascii_lowercase());
     let spaced = words.fold(String::new(), |mut all, part| {
         if all.ends_with(|letter: char| letter.is_ascii_lowercase())
@@ -87,7 +88,8 @@ fn constants_are_the_headers() {
 
 #[test]
 fn reasons_are_the_headers() {
-    let numbers: Vec<_> = between("    GEDROVIT_", " = ").collect();
+    let names = between("    GEDROVIT_", " = ");
+    let numbers: Vec<_> = names.filter(|name| !name.starts_with("LETTER_")).collect();
     assert_eq!(numbers.len(), REASONS.len() + 1);
     for (index, reason) in REASONS.into_iter().enumerate() {
         let name = name(reason);
@@ -105,6 +107,30 @@ fn reasons_are_the_headers() {
         assert_eq!(text, format!("{:?}", reason.text()));
     }
     assert!(HEADER.contains(&format!("default: return {:?};", Unknown(99).text())));
+}
+
+#[test]
+fn letters_are_the_headers() {
+    let known = (0..=255).map(Letter::from);
+    let known: Vec<Letter> = known
+        .filter(|letter| !matches!(letter, Letter::Unknown(_)))
+        .collect();
+    let names: Vec<_> = between("    GEDROVIT_LETTER_", " = ").collect();
+    assert_eq!(names.len(), known.len());
+    for letter in known {
+        let name = name(letter);
+        let line = format!("    GEDROVIT_LETTER_{name} = '");
+        let byte = between(&line, "'").next().map(str::to_owned);
+        assert_eq!(byte, Some(letter.to_string()), "{name}");
+        let text = between("    case GEDROVIT_LETTER_", ";")
+            .find_map(|case| case.strip_prefix(&format!("{name}: return ")))
+            .unwrap();
+        assert_eq!(text, format!("{:?}", letter.text()));
+    }
+    assert!(HEADER.contains(&format!(
+        "default: return {:?};",
+        Letter::Unknown(99).text()
+    )));
 }
 
 #[test]

@@ -84,6 +84,9 @@ pub struct Outputs {
     pub vertices: Lent<i32>,
     pub faces: Lent<u32>,
     pub marks: Lent<u8>,
+    /// Whether letters are asked for; their table is given in any case.
+    pub with_letters: bool,
+    pub letters: Lent<u8>,
     pub work: Lent<u32>,
 }
 
@@ -93,6 +96,8 @@ impl Outputs {
             vertices: Lent::new(&found.vertices, zones.of(3)),
             faces: Lent::new(&found.faces, zones.of(4)),
             marks: Lent::new(&found.marks, zones.of(5)),
+            with_letters: found.with_letters,
+            letters: Lent::new(&found.letters, zones.of(9)),
             work: Self::work(found, zones),
         }
     }
@@ -108,6 +113,7 @@ impl Outputs {
             self.vertices.difference("out vertices", &expected.vertices),
             self.faces.difference("out faces", &expected.faces),
             self.marks.difference("out marks", &expected.marks),
+            self.letters.difference("letters", &expected.letters),
             self.work.difference("work", &expected.workspace),
         ]
         .into_iter()
@@ -115,16 +121,28 @@ impl Outputs {
         .collect()
     }
 
-    /// The refined net that a call reports.
-    pub fn net(&self, report: &Report) -> Net {
+    /// The refined net that a call reports, with its letters if they are asked
+    /// for.
+    pub fn refined(&self, report: &Report) -> Refined {
         let count = |number: u64| usize::try_from(number).expect("a count of entries in memory");
         let (vertices, faces) = (count(report.vertices), count(report.faces));
-        Net::from_tables(
+        let net = Net::from_tables(
             &self.vertices.table()[..3 * vertices],
             &self.faces.table()[..4 * faces],
             &self.marks.table()[..vertices],
-        )
+        );
+        let letters = &self.letters.table()[..if self.with_letters { vertices } else { 0 }];
+        Refined {
+            net,
+            letters: self.with_letters.then(|| letters.to_vec()),
+        }
     }
+}
+
+/// What an accepted call gives.
+pub struct Refined {
+    pub net: Net,
+    pub letters: Option<Vec<u8>>,
 }
 
 /// The record of new points with this figure.
@@ -149,6 +167,8 @@ pub fn check(inputs: &Inputs, room: &Capacity, work: &mut Lent<u32>) -> Finding 
             room.vertices,
             room.faces,
             room.marks,
+            room.with_letters,
+            room.letters,
             work.pointer(),
             work.length(),
         )
@@ -176,6 +196,9 @@ pub fn refine(record: &mut Lent<u64>, inputs: &Inputs, outputs: &mut Outputs) ->
             outputs.faces.length(),
             outputs.marks.pointer(),
             outputs.marks.length(),
+            outputs.with_letters,
+            outputs.letters.pointer(),
+            outputs.letters.length(),
             outputs.work.pointer(),
             outputs.work.length(),
         )

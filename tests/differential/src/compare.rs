@@ -3,11 +3,10 @@
 use nets::case::Case;
 use nets::rng::Rng;
 use reference::call::{Outcome, Tables};
-use reference::net::Net;
 use reference::refusal::{Capacity, check_call};
 
 use crate::capi::{
-    Finding, Inputs, Outputs, Report, Sizes, Zones, check, record, refine, sizes_for,
+    Finding, Inputs, Outputs, Refined, Report, Sizes, Zones, check, record, refine, sizes_for,
 };
 use crate::lent::Lent;
 
@@ -48,14 +47,14 @@ impl Known {
 
     /// The functions for C give the same answer and leave the same tables and
     /// record, wherever these lie: each touches either zone in turn. The result
-    /// is the net that the refining call gave, if any.
-    pub fn compare(&self, rng: &mut Rng) -> Result<Option<Net>, String> {
+    /// is what the refining call gave, if anything.
+    pub fn compare(&self, rng: &mut Rng) -> Result<Option<Refined>, String> {
         let drawn = Zones(rng.next_u64());
         self.compare_at(drawn)?;
         self.compare_at(drawn.opposite())
     }
 
-    fn compare_at(&self, zones: Zones) -> Result<Option<Net>, String> {
+    fn compare_at(&self, zones: Zones) -> Result<Option<Refined>, String> {
         let inputs = Inputs::new(&self.case, zones);
         self.compare_sizes(&inputs)?;
         self.compare_check(&inputs, zones)?;
@@ -101,14 +100,14 @@ impl Known {
         record: &mut Lent<u64>,
         inputs: &Inputs,
         zones: Zones,
-    ) -> Result<Option<Net>, String> {
+    ) -> Result<Option<Refined>, String> {
         let mut outputs = Outputs::new(&self.found, zones);
         let report = refine(record, inputs, &mut outputs);
         agree("refine", &report, &self.report)?;
         as_expected("refine", record.difference("record", &[self.tally]))?;
         as_expected("refine", inputs.differences(&self.case))?;
         as_expected("refine", outputs.differences(&self.left))?;
-        Ok((self.report.reason == 0).then(|| outputs.net(&self.report)))
+        Ok((self.report.reason == 0).then(|| outputs.refined(&self.report)))
     }
 }
 

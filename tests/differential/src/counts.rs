@@ -3,6 +3,7 @@
 use std::collections::BTreeMap;
 use std::fmt::{self, Display, Formatter};
 
+use nets::letters::LetterTable;
 use nets::refused::{PLAIN_REASONS, POLYGON_REASONS};
 use nets::tally::{Figure, new_points};
 use reference::refusal::{MAX_ROUNDS, SIDE_COUNTS};
@@ -69,7 +70,79 @@ pub struct Calls {
     sides: Counts<u8>,
     /// What nets that are accepted, but for 15, find in the record.
     figures: Counts<&'static str>,
+    letters: Letters,
     empty: u64,
+}
+
+/// What the letter tables of the compared calls were.
+struct Letters {
+    /// Wishes and lengths where no reason before 4 holds.
+    tables: Counts<&'static str>,
+    /// Reasons of calls that ask for letters, 0 for those accepted.
+    answers: Counts<u32>,
+    /// Rounds of those accepted, but for empty nets.
+    rounds: Counts<u32>,
+    /// The letters that accepted calls gave.
+    given: Counts<char>,
+}
+
+impl Letters {
+    /// Nothing is split without side counts.
+    fn without_sides() -> Self {
+        Self {
+            tables: Counts::new(LetterTable::ALL.map(LetterTable::name)),
+            answers: Counts::new([0].into_iter().chain(PLAIN_REASONS)),
+            rounds: Counts::new(0..=MAX_ROUNDS),
+            given: Counts::new("ABCDEMV".chars()),
+        }
+    }
+
+    /// No accepted net is empty, and after the split no segment has one edge
+    /// alone.
+    fn with_sides() -> Self {
+        let tables = LetterTable::ALL.into_iter();
+        let tables = tables.filter(|&table| table != LetterTable::NoFaces);
+        Self {
+            tables: Counts::new(tables.map(LetterTable::name)),
+            answers: Counts::new([0].into_iter().chain(POLYGON_REASONS)),
+            rounds: Counts::new(0..MAX_ROUNDS),
+            given: Counts::new("ABCDESV".chars()),
+        }
+    }
+
+    fn add(&mut self, known: &Known) {
+        let reason = known.report.reason;
+        if !matches!(reason, 1..=3 | 14) {
+            self.tables.add(LetterTable::of(&known.case).name());
+        }
+        if known.case.capacity.with_letters {
+            self.answers.add(reason);
+            if reason == 0 && !known.case.faces.is_empty() {
+                self.rounds.add(known.case.rounds);
+            }
+            let vertices = usize::try_from(known.report.vertices).expect("a count in memory");
+            for &letter in &known.left.letters[..vertices] {
+                self.given.add(char::from(letter));
+            }
+        }
+    }
+
+    fn is_complete(&self) -> bool {
+        self.tables.is_complete()
+            && self.answers.is_complete()
+            && self.rounds.is_complete()
+            && self.given.is_complete()
+    }
+}
+
+impl Display for Letters {
+    fn fmt(&self, f: &mut Formatter) -> fmt::Result {
+        writeln!(f, "{}", self.tables.line("letters"))?;
+        let answers = "letters asked for, by reason, 0 if accepted";
+        writeln!(f, "{}", self.answers.line(answers))?;
+        writeln!(f, "{}", self.rounds.line("letters given by rounds"))?;
+        write!(f, "{}", self.given.line("letters given"))
+    }
 }
 
 impl Calls {
@@ -79,6 +152,7 @@ impl Calls {
             rounds: Counts::new(0..=MAX_ROUNDS),
             sides: Counts::new([]),
             figures: Counts::new(Figure::ALL.map(Figure::name)),
+            letters: Letters::without_sides(),
             empty: 0,
         }
     }
@@ -90,11 +164,13 @@ impl Calls {
             rounds: Counts::new(0..MAX_ROUNDS),
             sides: Counts::new(SIDE_COUNTS),
             figures: Counts::new(Figure::ALL.map(Figure::name)),
+            letters: Letters::with_sides(),
             empty: 0,
         }
     }
 
     pub fn add(&mut self, known: &Known) {
+        self.letters.add(known);
         if matches!(known.report.reason, 0 | 15) {
             let figure = Figure::of(known.case.tally, new_points(&known.case));
             self.figures.add(figure.name());
@@ -114,6 +190,7 @@ impl Calls {
             && self.rounds.is_complete()
             && self.sides.is_complete()
             && self.figures.is_complete()
+            && self.letters.is_complete()
     }
 }
 
@@ -130,6 +207,7 @@ impl Display for Calls {
             writeln!(f, "{}", self.sides.line("accepted faces by sides"))?;
         }
         writeln!(f, "{}", self.figures.line("the record goes"))?;
+        writeln!(f, "{}", self.letters)?;
         write!(f, "{}", self.refusals.line("refused by reason"))
     }
 }

@@ -5,6 +5,7 @@ use nets::build::to_u32;
 use nets::case::{Case, Expected};
 use nets::change::{PLACINGS, mark, place, renumber};
 use nets::damaged::{damaged_call, damaged_tables, random_tables};
+use nets::letters::{LetterTable, any_letters, with_letter_table};
 use nets::refused::{PLAIN_REASONS, refused_call};
 use nets::rng::Rng;
 use nets::shapes;
@@ -74,6 +75,7 @@ impl Kind {
             kinds.extend(Shape::ALL.map(|shape| Kind::Accepted(shape, size)));
         }
         kinds.extend(Table::RESULTS.map(Kind::Short));
+        kinds.push(Kind::Short(Table::Letters));
         kinds.extend(PLAIN_REASONS.map(Kind::Refused));
         kinds.extend([Kind::Large, Kind::Large, Kind::DamagedLarge, Kind::Brink]);
         kinds.extend([Kind::RefusedTwice, Kind::Damaged, Kind::Random].repeat(6));
@@ -84,8 +86,8 @@ impl Kind {
     pub fn draw(self, rng: &mut Rng) -> Case {
         let case = self.draw_net(rng);
         match self {
-            Kind::Largest(_) => with_figure(case, Figure::ToLimit, rng),
-            _ => any_tally(case, rng),
+            Kind::Largest(_) => with_all(case, rng),
+            _ => any_letters(any_tally(case, rng), rng),
         }
     }
 
@@ -113,6 +115,12 @@ impl Kind {
         fit_room(&mut case, rng);
         case
     }
+}
+
+/// A call up to the limit of the record, with letters.
+pub fn with_all(case: Case, rng: &mut Rng) -> Case {
+    let case = with_figure(case, Figure::ToLimit, rng);
+    with_letter_table(case, LetterTable::Exact, rng)
 }
 
 /// Other lengths for the results that leave the answer as it is.
@@ -186,8 +194,11 @@ fn sound_call(rng: &mut Rng) -> Case {
     Case::new(&net, rng.between(0, 2).unsigned_abs(), Expected::Accepted)
 }
 
-/// The same with one table too short for it.
+/// The same with one table too short for it, of which letters are asked for.
 pub fn short(mut case: Case, table: Table, rng: &mut Rng) -> Case {
+    if table == Table::Letters {
+        case = with_letter_table(case, LetterTable::Exact, rng);
+    }
     let least = table.length(&case);
     lengthen(&mut case, rng);
     table.resize(&mut case, least - 1);

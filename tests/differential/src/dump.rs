@@ -1,9 +1,9 @@
 //! Calls and what the reference says of them, written for a harness in C.
 //!
-//! A call is 15 numbers of 64 bits (rounds, the lengths of its eight tables,
-//! reason, place, both counts, the record before and after), the tables of the
-//! net, those for the results as found, and those for the results as left; all
-//! in the machine's order.
+//! A call is 17 numbers of 64 bits (rounds, the lengths of its nine tables,
+//! whether letters are asked for, reason, place, both counts, the record before
+//! and after), the tables of the net, those for the results as found, and those
+//! for the results as left; all in the machine's order.
 
 use std::fs::File;
 use std::io::{self, BufWriter, Write};
@@ -34,11 +34,13 @@ impl Dump {
             case.capacity.vertices,
             case.capacity.faces,
             case.capacity.marks,
+            case.capacity.letters,
             case.capacity.workspace,
         ];
         self.numbers([u64::from(case.rounds)])?;
         self.numbers(lengths.map(|length| length as u64))?;
         self.numbers([
+            u64::from(case.capacity.with_letters),
             u64::from(report.reason),
             report.place,
             report.vertices,
@@ -62,6 +64,7 @@ impl Dump {
         self.bytes(tables.vertices.iter().map(|entry| entry.to_ne_bytes()))?;
         self.bytes(tables.faces.iter().map(|entry| entry.to_ne_bytes()))?;
         self.file.write_all(&tables.marks)?;
+        self.file.write_all(&tables.letters)?;
         self.bytes(tables.workspace.iter().map(|entry| entry.to_ne_bytes()))
     }
 

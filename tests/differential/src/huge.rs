@@ -2,6 +2,7 @@
 //! behind the surplus: whoever looks at it ends the process.
 
 use nets::case::{Case, Expected};
+use nets::letters::fit_letters;
 use nets::rng::Rng;
 use nets::shapes;
 use reference::net::PolygonNet;
@@ -17,7 +18,7 @@ type Claim = fn(&mut Inputs, &mut Outputs);
 /// The tables of a square told too long, and the reasons given then, without
 /// side counts and with them. After the one count that there is come bytes that
 /// make the sum too large, so nothing beyond is looked at.
-const CLAIMS: [(&str, [Option<u32>; 2], Claim); 10] = [
+const CLAIMS: [(&str, [Option<u32>; 2], Claim); 11] = [
     ("vertices", [Some(2); 2], |inputs, _| {
         inputs.vertices.claim(3 * (BEYOND + 4));
     }),
@@ -43,6 +44,9 @@ const CLAIMS: [(&str, [Option<u32>; 2], Claim); 10] = [
     ("out marks", [Some(0); 2], |_, outputs| {
         outputs.marks.claim(BEYOND);
     }),
+    ("letters", [Some(0); 2], |_, outputs| {
+        outputs.letters.claim(BEYOND);
+    }),
     ("work", [Some(0); 2], |_, outputs| {
         outputs.work.claim(BEYOND)
     }),
@@ -50,6 +54,7 @@ const CLAIMS: [(&str, [Option<u32>; 2], Claim); 10] = [
         outputs.vertices.claim(BEYOND + 1);
         outputs.faces.claim(BEYOND + 1);
         outputs.marks.claim(BEYOND + 1);
+        outputs.letters.claim(BEYOND + 1);
         outputs.work.claim(BEYOND + 1);
     }),
 ];
@@ -83,7 +88,7 @@ pub fn compare(number: u64, rng: &mut Rng) -> Result<(), String> {
     } else {
         Case::with_sides(&PolygonNet::from(&square), 1, Expected::Accepted)
     };
-    let known = Known::new(case, rng)?;
+    let known = Known::new(fit_letters(case, rng), rng)?;
     match reasons[at % 2] {
         Some(reason) => {
             compare_claim(&known, reason, claim).map_err(|fault| format!("{name}: {fault}"))
@@ -114,6 +119,8 @@ fn compare_claim(known: &Known, reason: u32, claim: Claim) -> Result<(), String>
         vertices: usize::MAX,
         faces: usize::MAX - 1,
         marks: usize::MAX - 2,
+        with_letters: checked.with_letters,
+        letters: usize::MAX - 3,
         workspace: checked.work.length(),
     };
     let due = if reason == 0 {

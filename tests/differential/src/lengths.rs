@@ -2,11 +2,12 @@
 
 use nets::build::to_u32;
 use nets::case::{Case, Expected};
+use nets::letters::fit_letters;
 use nets::rng::Rng;
 use reference::refusal::{Capacity, refined_faces};
 
 /// A table of a call.
-#[derive(Clone, Copy, Debug)]
+#[derive(Clone, Copy, Debug, PartialEq, Eq)]
 pub enum Table {
     Vertices,
     Faces,
@@ -14,24 +15,27 @@ pub enum Table {
     OutVertices,
     OutFaces,
     OutMarks,
+    Letters,
     Work,
     Sides,
 }
 
 impl Table {
+    /// The tables for the results without letters.
     pub const RESULTS: [Self; 4] = [
         Self::OutVertices,
         Self::OutFaces,
         Self::OutMarks,
         Self::Work,
     ];
-    const ALL: [Self; 8] = [
+    const ALL: [Self; 9] = [
         Self::Vertices,
         Self::Faces,
         Self::Marks,
         Self::OutVertices,
         Self::OutFaces,
         Self::OutMarks,
+        Self::Letters,
         Self::Work,
         Self::Sides,
     ];
@@ -50,6 +54,7 @@ impl Table {
             Self::OutVertices => case.capacity.vertices,
             Self::OutFaces => case.capacity.faces,
             Self::OutMarks => case.capacity.marks,
+            Self::Letters => case.capacity.letters,
             Self::Work => case.capacity.workspace,
             Self::Sides => case.sides.len(),
         }
@@ -65,14 +70,17 @@ impl Table {
             Self::OutVertices => case.capacity.vertices = length,
             Self::OutFaces => case.capacity.faces = length,
             Self::OutMarks => case.capacity.marks = length,
+            Self::Letters => case.capacity.letters = length,
             Self::Work => case.capacity.workspace = length,
             Self::Sides => case.sides.resize(length, 4),
         }
     }
 }
 
-/// The same call with one to three tables of another length.
-pub fn other_lengths(mut case: Case, rng: &mut Rng) -> Case {
+/// The same call, with letters or without, and one to three tables of another
+/// length.
+pub fn other_lengths(case: Case, rng: &mut Rng) -> Case {
+    let mut case = fit_letters(case, rng);
     for _ in 0..rng.between(1, 3) {
         let table = rng.pick(Table::of(&case));
         let length = table.length(&case);
@@ -122,6 +130,7 @@ fn noise_lengths(mut case: Case, rng: &mut Rng) -> Case {
         return other_lengths(case, rng);
     }
     if rng.one_in(4) {
+        case.capacity.with_letters = rng.one_in(2);
         for table in Table::of(&case) {
             table.resize(&mut case, rng.below(40));
         }

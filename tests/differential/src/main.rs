@@ -15,6 +15,7 @@ mod moves;
 mod named;
 mod options;
 mod polygons;
+mod retrace;
 mod run;
 mod seams;
 mod series;

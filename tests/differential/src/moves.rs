@@ -87,6 +87,7 @@ fn compare_pair(pair: &MovedPair, plain: &Known, moved: &Known) -> Result<(), St
     same("out vertices", &moved.left.vertices, &due.vertices)?;
     same("out faces", &moved.left.faces, &due.faces)?;
     same("out marks", &moved.left.marks, &due.marks)?;
+    same("letters", &moved.left.letters, &due.letters)?;
     same("work", &moved.left.workspace, &due.workspace)
 }
 

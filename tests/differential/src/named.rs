@@ -5,15 +5,18 @@ use std::fmt::{self, Display, Formatter};
 
 use nets::case::{Case, Drawn};
 use nets::features::Met;
+use nets::letters::fit_letters;
 use nets::named::{Dressing, Family, NAMED, Named, by_turns, crowd};
 use nets::rng::Rng;
-use nets::tally::{Figure, accepted_tally, with_figure};
+use nets::tally::accepted_tally;
+use reference::net::Net;
 use reference::refusal::MAX_ROUNDS;
 
 use crate::compare::Known;
 use crate::counts::Counts;
 use crate::coverage::Coverage;
-use crate::draw::most_rounds;
+use crate::draw::{most_rounds, with_all};
+use crate::retrace::Retraced;
 use crate::run::shown;
 
 /// Most refined faces of a named net.
@@ -36,7 +39,7 @@ pub fn crowd_call(number: u64, rng: &mut Rng) -> (String, Case) {
     let (rounds, has_sides) = CROWDS[at];
     let drawn = crowd(262_144 >> (2 * rounds), has_sides, rng);
     let sides = if has_sides { "with" } else { "without" };
-    let case = with_figure(drawn.accepted_case(rounds), Figure::ToLimit, rng);
+    let case = with_all(drawn.accepted_case(rounds), rng);
     (format!("crowd {sides} side counts"), case)
 }
 
@@ -57,7 +60,13 @@ fn named(number: u64, rng: &mut Rng) -> (&'static Named, String, Drawn) {
 pub fn named_call(number: u64, rng: &mut Rng) -> (String, Case) {
     let (_, name, drawn) = named(number, rng);
     let rounds = most_rounds(drawn.quadrilaterals(), MAX_ROUNDS, MOST_FACES);
-    (name, accepted_tally(drawn.accepted_case(rounds), rng))
+    (name, dressed_case(&drawn, rounds, rng))
+}
+
+/// An accepted call with any figure in its record, with letters or without.
+fn dressed_case(drawn: &Drawn, rounds: u32, rng: &mut Rng) -> Case {
+    let case = accepted_tally(drawn.accepted_case(rounds), rng);
+    fit_letters(case, rng)
 }
 
 /// Most refined faces of a net of the series.
@@ -84,28 +93,35 @@ impl NamedNets {
         self.families.total() >= due as u64 && self.rounds.is_complete()
     }
 
-    /// Compares a net after each number of rounds.
+    /// Compares a net after each number of rounds; its new points are worked out
+    /// again from their letters, where there are some, and from the net that was
+    /// given for one round less.
     pub fn compare(
         &mut self,
         number: u64,
         coverage: &mut Coverage,
+        retraced: &mut Retraced,
         rng: &mut Rng,
     ) -> Result<(), String> {
         let (named, name, drawn) = named(number, rng);
         let most_faces = most_faces(number, named);
         let most = most_rounds(drawn.quadrilaterals(), MAX_ROUNDS, most_faces);
         let mut later = BTreeSet::new();
+        let mut before: Option<Net> = None;
         for rounds in 0..=most {
-            let case = accepted_tally(drawn.accepted_case(rounds), rng);
+            let case = dressed_case(&drawn, rounds, rng);
             let fault = |fault| format!("{name}, {rounds} rounds, {fault}\n{}", shown(&case));
             let known = Known::new(case.clone(), rng).map_err(fault)?;
-            let net = known.compare(rng).map_err(fault)?;
-            let net = net.ok_or_else(|| fault("an accepted net is missing".to_owned()))?;
+            let given = known.compare(rng).map_err(fault)?;
+            let given = given.ok_or_else(|| fault("an accepted net is missing".to_owned()))?;
+            let compared = retraced.compare_last(&case, before.as_ref(), &given);
+            compared.map_err(fault)?;
             match rounds {
                 _ if rounds == most => {}
-                0 => coverage.add_first(&Met::of(&net)),
-                _ => later.extend(Met::of(&net).features),
+                0 => coverage.add_first(&Met::of(&given.net)),
+                _ => later.extend(Met::of(&given.net).features),
             }
+            before = Some(given.net);
             self.rounds.add(rounds);
         }
         coverage.add_later(&later);

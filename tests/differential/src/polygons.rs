@@ -5,15 +5,16 @@ use nets::build::to_u32;
 use nets::case::{Case, Expected};
 use nets::change::PLACINGS;
 use nets::damaged::{damaged_polygons, random_polygons};
+use nets::letters::any_letters;
 use nets::polygons::{PolygonShape, accepted_polygons, some_size};
 use nets::refused::{POLYGON_REASONS, refused_polygons};
 use nets::rng::Rng;
 use nets::shapes::union;
 use nets::solids;
-use nets::tally::{Figure, any_tally, with_figure};
+use nets::tally::any_tally;
 use reference::refusal::{Capacity, MAX_ROUNDS};
 
-use crate::draw::{fit_room, most_rounds, random, short};
+use crate::draw::{fit_room, most_rounds, random, short, with_all};
 use crate::lengths::{Table, other_lengths, polygon_brink, polygon_noise};
 
 /// One net as large as a call allows for so many nets with side counts.
@@ -85,6 +86,7 @@ impl PolygonKind {
             kinds.extend(PolygonShape::ALL.map(|shape| Accepted(shape, size)));
         }
         kinds.extend(Table::RESULTS.map(Short));
+        kinds.push(Short(Table::Letters));
         kinds.extend(POLYGON_REASONS.map(Refused));
         kinds.extend([1, 2, 2, 3, 4].map(BadSidesAnd));
         kinds.extend([RefusedTwice, Damaged, Random].repeat(6));
@@ -95,8 +97,8 @@ impl PolygonKind {
     pub fn draw(self, rng: &mut Rng) -> Case {
         let case = self.draw_net(rng);
         match self {
-            PolygonKind::Largest(_) => with_figure(case, Figure::ToLimit, rng),
-            _ => any_tally(case, rng),
+            PolygonKind::Largest(_) => with_all(case, rng),
+            _ => any_letters(any_tally(case, rng), rng),
         }
     }
 

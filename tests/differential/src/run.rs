@@ -16,6 +16,7 @@ use crate::moves::Moves;
 use crate::named::{NamedNets, crowd_call, named_call};
 use crate::options::What;
 use crate::polygons::PolygonKind;
+use crate::retrace::Retraced;
 use crate::seams::Seams;
 use crate::series::Series;
 
@@ -70,6 +71,7 @@ pub struct Run {
     polygon_seams: Seams,
     named: NamedNets,
     coverage: Coverage,
+    retraced: Retraced,
 }
 
 impl Run {
@@ -85,6 +87,7 @@ impl Run {
             polygon_seams: Seams::with_sides(),
             named: NamedNets::new(),
             coverage: Coverage::new(),
+            retraced: Retraced::new(),
         }
     }
 
@@ -99,7 +102,7 @@ impl Run {
         let counts = format!(
             "{}\nwith side counts: {}\n{}\nwith side counts: {}\n{}\n\
              {}\nwith side counts: {}\n{}\n\
-             {crowds} nets of many named ones agree\n{}\n\
+             {crowds} nets of many named ones agree\n{}\n{}\n\
              {stored} stored calls agree\n{huge} calls with lengths beyond 32 bits agree",
             self.calls,
             self.polygons,
@@ -110,6 +113,7 @@ impl Run {
             self.polygon_seams,
             self.named,
             self.coverage,
+            self.retraced,
         );
         if self.is_complete() {
             Ok(counts)
@@ -128,6 +132,7 @@ impl Run {
             && self.polygon_seams.is_complete()
             && self.named.is_complete()
             && self.coverage.is_complete()
+            && self.retraced.is_complete()
     }
 
     /// One comparison.
@@ -143,7 +148,10 @@ impl Run {
             What::Series => self.series.compare(rng),
             What::Pair => self.seams.compare_pair(rng),
             What::PolygonPair => self.polygon_seams.compare_pair(rng),
-            What::Named => self.named.compare(number, &mut self.coverage, rng),
+            What::Named => {
+                let (coverage, retraced) = (&mut self.coverage, &mut self.retraced);
+                self.named.compare(number, coverage, retraced, rng)
+            }
             What::Huge => huge::compare(number, rng),
         };
         let name = format!("{} {number} of seed {}", what.name(), self.seed);
@@ -176,7 +184,10 @@ impl Run {
             _ => {}
         }
         self.coverage.add(&known);
-        known.compare(rng).map(drop)
+        match known.compare(rng)? {
+            Some(refined) => self.retraced.compare(&known.case, &refined),
+            None => Ok(()),
+        }
     }
 }
 

@@ -3,6 +3,7 @@
 use std::fmt::{self, Display, Formatter};
 
 use nets::case::Drawn;
+use nets::letters::fit_letters;
 use nets::pairs::{SharedPair, shared_pair, shared_polygon_pair};
 use nets::rng::Rng;
 use nets::tally::accepted_tally;
@@ -142,11 +143,13 @@ impl Display for Seams {
 /// The net that the call through C gives.
 fn refined(net: &Drawn, rounds: u32, rng: &mut Rng) -> Result<Net, String> {
     let case = accepted_tally(net.accepted_case(rounds), rng);
+    let case = fit_letters(case, rng);
     let known = Known::new(case, rng)?;
     let answer = known
         .compare(rng)
         .map_err(|fault| format!("{fault}; {:?}", known.case))?;
-    answer.ok_or_else(|| "an accepted net is missing".to_owned())
+    let answer = answer.ok_or_else(|| "an accepted net is missing".to_owned())?;
+    Ok(answer.net)
 }
 
 /// Each reading of the refined net is the rounded curve of what it was at

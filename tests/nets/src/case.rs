@@ -44,8 +44,8 @@ pub struct Case {
 }
 
 impl Case {
-    /// A call without side counts, with a record from zero and tables just long
-    /// enough, or for one round if there are too many rounds.
+    /// A call without side counts and letters, with a record from zero and
+    /// tables just long enough, or for one round if there are too many rounds.
     pub fn new(net: &Net, rounds: u32, expected: Expected) -> Self {
         Self::of_tables(net, vec![], rounds, expected)
     }
@@ -99,6 +99,8 @@ impl Case {
             vertices: filled(self.capacity.vertices, coordinate, rng),
             faces: filled(self.capacity.faces, low_word, rng),
             marks: filled(self.capacity.marks, low_byte, rng),
+            with_letters: self.capacity.with_letters,
+            letters: filled(self.capacity.letters, low_byte, rng),
             workspace: filled(self.capacity.workspace, low_word, rng),
         }
     }
@@ -194,10 +196,11 @@ pub struct TextCase {
     pub expected: Expected,
 }
 
-/// The text form of a net.
-pub fn document(net: &Net, rounds: u32) -> Document {
+/// The text form of a net, which asks for letters half of the time.
+pub fn document(net: &Net, rounds: u32, rng: &mut Rng) -> Document {
     Document {
         rounds,
+        with_letters: rng.one_in(2),
         vertices: net.vertex_table(),
         faces: net.face_table(),
         marks: net.marks.clone(),

@@ -36,6 +36,18 @@ named_cases! {
         SurplusValue = "surplus-value",
         /// The names line lacks `corner`, the vertex lines have marks.
         MissingMarkName = "missing-mark-name",
+        /// `rules` for `rule` in the first line.
+        RulesForRule = "rules-for-rule",
+        /// Two blanks before `rule` in the first line.
+        BlanksBeforeRule = "blanks-before-rule",
+        /// `rule` alone in the first line.
+        RuleAlone = "rule-alone",
+        /// `rule` in the second line.
+        RuleBesideCounts = "rule-beside-counts",
+        /// A fourth number in the second line.
+        FourthCount = "fourth-count",
+        /// `x y z corner rule`, as in answers.
+        RuleBesideCorner = "rule-beside-corner",
         MissingLine = "missing-line",
         SurplusLine = "surplus-line",
         SurplusByte = "surplus-byte",
@@ -109,7 +121,8 @@ fn sound_text(rng: &mut Rng) -> Vec<u8> {
     loop {
         let net = accepted(rng.pick(&Shape::ALL), Size::Small, rng);
         if !net.faces.is_empty() {
-            return document(&net, to_u32(rng.below(3))).to_text().into_bytes();
+            let rounds = to_u32(rng.below(3));
+            return document(&net, rounds, rng).to_text().into_bytes();
         }
     }
 }
@@ -135,6 +148,12 @@ pub fn damage_text(text: &[u8], damage: Damage, rng: &mut Rng) -> TextCase {
             let surplus = rng.pick(&[b' ', b'0', b'\r', 0]);
             return refused_text([text, &[surplus]].concat(), lines.lines.len() + 1);
         }
+        Damage::RulesForRule
+        | Damage::BlanksBeforeRule
+        | Damage::RuleAlone
+        | Damage::RuleBesideCounts
+        | Damage::FourthCount
+        | Damage::RuleBesideCorner => damage_rule(&mut lines, damage),
         Damage::MissingLine
         | Damage::SurplusLine
         | Damage::MissingMarkName
@@ -193,6 +212,23 @@ fn damage_field(field: &str, damage: Damage) -> String {
         Damage::Beyond32Bits => "2147483648".to_owned(),
         _ => panic!("{damage:?} does not change a field"),
     }
+}
+
+/// Puts what is nearly the wish for letters into one of the first three lines
+/// and returns its index.
+fn damage_rule(lines: &mut Lines, damage: Damage) -> usize {
+    let counts = "vertices faces rounds";
+    let (line, new) = match damage {
+        Damage::RulesForRule => (0, format!("{counts} rules")),
+        Damage::BlanksBeforeRule => (0, format!("{counts}  rule")),
+        Damage::RuleAlone => (0, "rule".to_owned()),
+        Damage::RuleBesideCounts => (1, format!("{} rule", lines.lines[1])),
+        Damage::FourthCount => (1, format!("{} 1", lines.lines[1])),
+        Damage::RuleBesideCorner => (2, format!("{} rule", lines.lines[2])),
+        _ => panic!("{damage:?} has no wish for letters"),
+    };
+    lines.lines[line] = new;
+    line
 }
 
 /// Damages the row of lines and returns the index of the first bad one.
@@ -355,6 +391,7 @@ fn damage_lengths(case: &mut Case, rng: &mut Rng) {
         faces: near(case.capacity.faces, rng),
         marks: near(case.capacity.marks, rng),
         workspace: near(case.capacity.workspace, rng),
+        ..case.capacity
     };
 }
 

@@ -3,16 +3,18 @@
 //! The check of the definitions reads these lines. Tables are flat lists of
 //! numbers; a net is its vertex, face and mark table.
 
-use std::collections::BTreeSet;
+use std::collections::{BTreeMap, BTreeSet};
 use std::fmt::Display;
 use std::fs;
 
 use reference::call::{Outcome, Tables, start_net};
 use reference::curve::{Form, exact_curve, rounded_curve};
-use reference::net::{Net, PolygonNet};
+use reference::letter::{Letter, letter_table, refine_with_letters};
+use reference::net::{Net, PolygonNet, edge};
+use reference::point::ExactPoint;
 use reference::refusal::{Capacity, Refusal, check_call};
 use reference::seam::{Boundary, Reading, Way};
-use reference::step::{Directions, Rule, Step, refine_once, split, trace};
+use reference::step::{Directions, Rule, Step, Surface, refine_once, split, trace};
 use reference::topology::Topology;
 
 use crate::accepted::{Shape, Size, accepted};
@@ -22,6 +24,7 @@ use crate::change::{Placing, boundary_loops, mark, place, renumber};
 use crate::damaged::{damaged_polygons, damaged_tables, random_polygons, random_tables};
 use crate::features::{Feature, Met};
 use crate::kind::CallKind;
+use crate::letters::any_letters;
 use crate::moved::MovedPair;
 use crate::named::{Dressing, Family, NAMED, Named};
 use crate::polygons::{PolygonShape, accepted_polygons};
@@ -44,6 +47,8 @@ const MOST_CORNERS: usize = 200;
 const MOST_WORK: usize = 81;
 /// The same with side counts: a triangle and one round, or 12 corners.
 const MOST_POLYGON_WORK: usize = 193;
+/// Most letters of a call whose lent tables are told.
+const MOST_LETTERS: usize = 200;
 /// Corners of the nets with side counts that are preferred.
 const FEW_CORNERS: usize = 14;
 /// Most rounds for which the definitions can work out the number of faces.
@@ -70,8 +75,9 @@ pub fn lines(seed: u64, count: usize) -> Vec<String> {
     }
     for _ in 0..count / 4 {
         let damaged = served(|rng| damaged_tables(Size::Small, rng), rng);
+        let random = any_letters(random_tables(rng), rng);
         lines.push(call_line("damaged", &damaged, &[]));
-        lines.push(call_line("random", &random_tables(rng), &[]));
+        lines.push(call_line("random", &random, &[]));
         lines.push(call_line("limits", &near_limits(rng), &[]));
     }
     lines.extend(polygon_lines(count, rng));
@@ -99,8 +105,9 @@ fn polygon_lines(count: usize, rng: &mut Rng) -> Vec<String> {
     for _ in 0..count / 16 {
         let shape = rng.pick(&PolygonShape::ALL);
         let damaged = served(|rng| damaged_polygons(shape, Size::Small, rng), rng);
+        let random = any_letters(random_polygons(rng), rng);
         lines.push(call_line("polygons-damaged", &damaged, &[]));
-        lines.push(call_line("polygons-random", &random_polygons(rng), &[]));
+        lines.push(call_line("polygons-random", &random, &[]));
         lines.push(call_line("polygons-limits", &near_polygon_limits(rng), &[]));
     }
     lines.extend(stored_lines());
@@ -173,7 +180,7 @@ fn drawn_polygons(shape: PolygonShape, tries: usize, rng: &mut Rng) -> PolygonNe
 /// An accepted net with side counts: its split, and the net after one round.
 fn accepted_polygon_line(kind: &str, net: &PolygonNet, rng: &mut Rng) -> String {
     let case = Case::with_sides(net, to_u32(rng.below(2)), Expected::Accepted);
-    let case = any_tally(case, rng);
+    let case = any_letters(any_tally(case, rng), rng);
     let start = split(net);
     let refined = refine_once(&start).net;
     let sizes: BTreeSet<usize> = net.faces.iter().map(Vec::len).collect();
@@ -185,6 +192,7 @@ fn accepted_polygon_line(kind: &str, net: &PolygonNet, rng: &mut Rng) -> String 
         ("moved", moved_text(&case)),
         ("sides", numbers(&case.sides)),
         ("split", list([&start, &refined].map(net_text))),
+        ("letters", letters_text(&start, net.points.len(), 0..=1)),
         ("traits", list(traits.map(quoted))),
     ])
 }
@@ -220,7 +228,7 @@ fn near_polygon_limits(rng: &mut Rng) -> Case {
     if rng.one_in(3) {
         case.capacity.workspace -= 1;
     }
-    case
+    any_letters(case, rng)
 }
 
 /// Different accepted nets with their names: every ring and every fan, then
@@ -269,7 +277,7 @@ fn drawn(shape: Shape, tries: usize, rng: &mut Rng) -> Net {
 fn accepted_line(kind: &str, net: &Net, rng: &mut Rng) -> String {
     let rounds = if net.faces.len() <= TWO_ROUNDS { 2 } else { 1 };
     let case = Case::new(net, to_u32(rng.below(3)), Expected::Accepted);
-    let case = any_tally(case, rng);
+    let case = any_letters(any_tally(case, rng), rng);
     let steps = trace(net, rounds);
     let mut nets: Vec<&Net> = vec![net];
     nets.extend(steps.iter().map(|step| &step.net));
@@ -279,6 +287,8 @@ fn accepted_line(kind: &str, net: &Net, rng: &mut Rng) -> String {
         ("net", net_text(net)),
         ("moved", moved_text(&case)),
         ("steps", list(nets[1..].iter().map(|net| net_text(net)))),
+        ("letters", letters_text(net, net.points.len(), 0..=rounds)),
+        ("words", list(words(net).iter().map(word_text))),
         (
             "readings",
             list(readings(net).iter().map(|r| reading_text(&nets, *r))),
@@ -295,12 +305,12 @@ fn refused_line(reasons: &[u32], rng: &mut Rng) -> String {
     call_line(&kind, &case, reasons)
 }
 
-/// The first call with few enough rounds.
+/// The first call with few enough rounds, with any letter table.
 fn served(make: impl Fn(&mut Rng) -> Case, rng: &mut Rng) -> Case {
     loop {
         let case = make(rng);
         if case.rounds <= MOST_ROUNDS {
-            return case;
+            return any_letters(case, rng);
         }
     }
 }
@@ -321,7 +331,7 @@ fn near_limits(rng: &mut Rng) -> Case {
             *length = length.saturating_sub(1);
         }
     }
-    Case {
+    let case = Case {
         tally: 0,
         rounds,
         vertices: vec![0; 3 * vertices],
@@ -330,7 +340,8 @@ fn near_limits(rng: &mut Rng) -> Case {
         marks: vec![0; vertices],
         capacity: room,
         expected: Expected::Unknown,
-    }
+    };
+    any_letters(case, rng)
 }
 
 /// A call with its tables, or with their lengths alone if they are long.
@@ -409,6 +420,8 @@ fn call_text(case: &Case, with_net: bool) -> String {
             "room",
             numbers(&[room.vertices, room.faces, room.marks, room.workspace]),
         ),
+        ("asked", room.with_letters.to_string()),
+        ("letters", room.letters.to_string()),
         ("verdict", numbers(&verdict)),
     ];
     if with_net && is_whole(case) {
@@ -420,16 +433,16 @@ fn call_text(case: &Case, with_net: bool) -> String {
     } else {
         MOST_POLYGON_WORK
     };
-    if with_net && room.workspace <= most_work {
+    if with_net && room.workspace <= most_work && room.letters <= MOST_LETTERS {
         fields.extend(lent_fields(case));
     }
     object(&fields)
 }
 
-/// The lent tables and the record of new points before the call and after it,
-/// and what the call reports: the counts of vertices and faces of an accepted
-/// net, or number and place of the refusal.
-fn lent_fields(case: &Case) -> [(&'static str, String); 5] {
+/// The lent tables, with the letters by themselves, and the record of new points
+/// before the call and after it, and what the call reports: the counts of
+/// vertices and faces of an accepted net, or number and place of the refusal.
+fn lent_fields(case: &Case) -> [(&'static str, String); 7] {
     let before = case.tables(&mut Rng::new(0));
     let mut after = before.clone();
     let (outcome, tally) = case.outcome_in(&mut after);
@@ -440,6 +453,8 @@ fn lent_fields(case: &Case) -> [(&'static str, String); 5] {
     [
         ("lent", tables_text(&before)),
         ("left", tables_text(&after)),
+        ("lent_letters", numbers(&before.letters)),
+        ("left_letters", numbers(&after.letters)),
         ("tally", numbers(&[case.tally, tally])),
         ("counts", numbers(&counts)),
         ("refusal", numbers(&refusal)),
@@ -465,6 +480,56 @@ fn net_text(net: &Net) -> String {
         numbers(&net.face_table()),
         numbers(&net.marks),
     ])
+}
+
+/// The letters after each of these numbers of rounds, from a net with so many
+/// drawn vertices.
+fn letters_text(start: &Net, drawn: usize, rounds: impl Iterator<Item = u32>) -> String {
+    list(rounds.map(|k| {
+        let (_, letters) = refine_with_letters(start.clone(), drawn, k);
+        numbers(&letter_table(&letters))
+    }))
+}
+
+/// A new vertex of a round, a letter, and the point that the rule of this letter
+/// gives there.
+type Word = (usize, Letter, ExactPoint);
+
+/// For each new vertex of a round the points that other letters than its own
+/// name, and its own.
+fn words(net: &Net) -> Vec<Word> {
+    let surface = Surface::new(net);
+    let edges = Topology::edges_in_order(&net.faces);
+    let exact = |&(a, b): &(u32, u32)| (edge(a, b), surface.edge_point(a, b).exact);
+    let edge_points: BTreeMap<_, _> = edges.iter().map(exact).collect();
+    let old = net.points.len();
+    let mut words = Vec::new();
+    for (vertex, &(from, to)) in (old..).zip(&edges) {
+        let letters: &[Letter] = if surface.topology().is_inner(from, to) {
+            &[Letter::OneEdge, Letter::InnerEdge]
+        } else {
+            &[Letter::InsideSegment, Letter::EndEdge, Letter::OneEdge]
+        };
+        for &letter in letters {
+            let point = surface.edge_point_by(letter, from, to);
+            words.extend(point.map(|point| (vertex, letter, point)));
+        }
+    }
+    for (vertex, &face) in (old + edges.len()..).zip(&net.faces) {
+        for letter in [Letter::FaceFourInner, Letter::OtherFace] {
+            let point = surface.face_point_by(letter, face, &edge_points);
+            words.extend(point.map(|point| (vertex, letter, point)));
+        }
+    }
+    words
+}
+
+/// Vertex, byte and rounded coordinates.
+fn word_text((vertex, letter, point): &Word) -> String {
+    let [x, y, z] = point.round().map(i64::from);
+    let byte = i64::from(letter.byte());
+    let vertex = i64::try_from(*vertex).expect("a small net");
+    numbers(&[vertex, byte, x, y, z])
 }
 
 /// Every segment from each end and every unmarked loop from its lowest
@@ -544,11 +609,15 @@ fn rule_traits(rule: Rule) -> Vec<String> {
         Rule::EndEdge => vec!["end edge".to_owned()],
         Rule::OneEdge => vec!["segment of one edge".to_owned()],
         Rule::InnerEdge => vec!["inner edge".to_owned()],
-        Rule::Face { neighbours, used } => {
-            let used = match used {
+        Rule::Face {
+            neighbours,
+            four_inner,
+        } => {
+            let used = match four_inner {
                 Directions::First => "first direction alone",
                 Directions::Second => "second direction alone",
-                Directions::Both => "mean of both directions",
+                Directions::Both => "mean of two directions with four inner edges",
+                Directions::Neither => "mean of two directions without four inner edges",
             };
             let direction = |n: &u8| format!("direction with {n} neighbours");
             let mut traits: Vec<String> = neighbours.iter().map(direction).collect();

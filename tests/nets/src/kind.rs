@@ -12,6 +12,7 @@ use crate::damaged::{
     Damage, damage_text, damaged_polygons, damaged_tables, damaged_text, random_polygons,
     random_tables,
 };
+use crate::letters::any_letters;
 use crate::named::{NAMED, by_turns};
 use crate::polygons::{PolygonShape, accepted_polygons};
 use crate::refused::{
@@ -149,10 +150,10 @@ fn refused_name(reasons: &[u32]) -> String {
     format!("refused-{}", numbers.join("-"))
 }
 
-/// The text of an accepted net; the mark column may be missing if all marks
-/// are 0.
+/// The text of an accepted net, with or without letters; the mark column may be
+/// missing if all marks are 0.
 fn accepted_text(net: &Net, rounds: u32, rng: &mut Rng) -> TextCase {
-    let document = document(net, rounds);
+    let document = document(net, rounds, rng);
     let is_unmarked = net.marks.iter().all(|&mark| mark == 0);
     let text = if is_unmarked && rng.one_in(2) {
         document.to_unmarked_text()
@@ -209,8 +210,8 @@ pub fn small_nets(seed: u64, number: usize) -> Vec<(Net, u32)> {
 }
 
 /// A call of any kind: accepted nets of all sizes, one to three reasons for a
-/// refusal, damaged and random tables, with tables often longer than needed and
-/// with any figure in the record of new points.
+/// refusal, damaged and random tables, with tables often longer than needed, with
+/// any figure in the record of new points and any letter table.
 pub fn call(seed: u64) -> Case {
     let rng = &mut Rng::new(seed);
     let mut case = match seed % 8 {
@@ -225,7 +226,7 @@ pub fn call(seed: u64) -> Case {
         _ => random_tables(rng),
     };
     lengthen(&mut case, rng);
-    any_tally(case, rng)
+    any_letters(any_tally(case, rng), rng)
 }
 
 /// The same with side counts.
@@ -243,7 +244,7 @@ pub fn polygon_call(seed: u64) -> Case {
         _ => random_polygons(rng),
     };
     lengthen(&mut case, rng);
-    any_tally(case, rng)
+    any_letters(any_tally(case, rng), rng)
 }
 
 /// Makes some of the tables of an accepted call longer.
@@ -255,6 +256,7 @@ fn lengthen(case: &mut Case, rng: &mut Rng) {
             faces: case.capacity.faces + surplus(rng),
             marks: case.capacity.marks + surplus(rng),
             workspace: case.capacity.workspace + surplus(rng),
+            ..case.capacity
         };
     }
 }

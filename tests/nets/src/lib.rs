@@ -6,6 +6,7 @@
 //! - [`damaged`]: texts that lost their form, and damaged tables.
 //! - [`pairs`]: pairs of nets that share a boundary segment.
 //! - [`tally`]: what calls find in the record of new points.
+//! - [`letters`]: whether calls ask for letters, and the tables for them.
 //! - [`moved`]: calls and the same calls on the moved net.
 //! - [`named`]: small nets for the cases of the rules, one by one.
 //! - [`features`]: the cases of the rules that a net meets.
@@ -44,6 +45,7 @@ pub mod damaged;
 pub mod facts;
 pub mod features;
 pub mod kind;
+pub mod letters;
 pub mod moved;
 pub mod named;
 pub mod pairs;

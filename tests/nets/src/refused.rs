@@ -1,7 +1,7 @@
 //! Random calls and texts with one or more reasons for a refusal.
 
 use reference::net::{Net, PolygonNet};
-use reference::refusal::{Capacity, MAX_COORDINATE, Refusal};
+use reference::refusal::{MAX_COORDINATE, Refusal};
 use reference::text::PROGRAM_REFINED_FACES;
 use reference::topology::Topology;
 
@@ -335,7 +335,7 @@ pub fn refused_call(reasons: &[u32], rng: &mut Rng) -> Case {
         break_tables(&mut case, rng);
     }
     if has(4) {
-        shorten(&mut case.capacity, rng);
+        shorten(&mut case, rng);
     }
     case.expected = callers_refusal(reasons).unwrap_or(case.expected);
     with_tally(case, reasons, rng)
@@ -364,7 +364,7 @@ pub fn refused_polygons(reasons: &[u32], rng: &mut Rng) -> Case {
         case.marks.resize(other, 0);
     }
     if has(4) {
-        shorten(&mut case.capacity, rng);
+        shorten(&mut case, rng);
     }
     if has(14) {
         break_sides(&mut case, rng);
@@ -477,23 +477,22 @@ fn break_tables(case: &mut Case, rng: &mut Rng) {
     }
 }
 
-fn shorten(capacity: &mut Capacity, rng: &mut Rng) {
-    let least = [
-        capacity.vertices,
-        capacity.faces,
-        capacity.marks,
-        capacity.workspace,
-    ];
-    let mut lengths = least;
-    let chosen = rng.below(4);
-    let kept = rng.pick(&[0, least[chosen] / 2, least[chosen] - 1]);
-    lengths[chosen] = kept;
-    [
-        capacity.vertices,
-        capacity.faces,
-        capacity.marks,
-        capacity.workspace,
-    ] = lengths;
+/// Makes one of the tables for the results too short; the letter table, if it
+/// is chosen, is asked for. It is due as long as that of the marks.
+fn shorten(case: &mut Case, rng: &mut Rng) {
+    let asking = case.capacity.asking_for_letters(case.capacity.marks);
+    let room = &mut case.capacity;
+    let length = match rng.below(5) {
+        0 => &mut room.vertices,
+        1 => &mut room.faces,
+        2 => &mut room.marks,
+        3 => &mut room.workspace,
+        _ => {
+            *room = asking;
+            &mut room.letters
+        }
+    };
+    *length = rng.pick(&[0, *length / 2, *length - 1]);
 }
 
 /// Reasons that a well-formed text can have.
@@ -522,7 +521,7 @@ pub fn refused_text(reasons: &[u32], rng: &mut Rng) -> TextCase {
         served.min(2)
     };
     TextCase {
-        text: document(&net, rounds).to_text().into_bytes(),
+        text: document(&net, rounds, rng).to_text().into_bytes(),
         expected: callers_refusal(reasons).unwrap_or(expected),
     }
 }

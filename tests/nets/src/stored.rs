@@ -1,6 +1,8 @@
 //! The stored form of a call: its rounds, the tables of its net and the
 //! lengths of the tables for its results, a line each. Before them stands a
-//! line with what the record of new points holds, unless that is 0.
+//! line with what the record of new points holds, unless that is 0. After them
+//! stands a line with 1 if letters are asked for, or 0, and the length of their
+//! table, unless both are 0.
 
 use std::fmt::Display;
 use std::fs;
@@ -12,11 +14,16 @@ use reference::refusal::Capacity;
 use crate::case::{Case, Expected};
 
 const TALLY: &str = "tally";
+const LETTERS: &str = "letters";
 const NAMES: [&str; 6] = ["rounds", "vertices", "faces", "sides", "marks", "room"];
 
 /// The text of a call.
 pub fn to_text(case: &Case) -> String {
     let room = case.capacity;
+    let letters = match (room.with_letters, room.letters) {
+        (false, 0) => String::new(),
+        (asked, length) => line(LETTERS, &[usize::from(asked), length]),
+    };
     let room = [room.vertices, room.faces, room.marks, room.workspace];
     let tally = match case.tally {
         0 => String::new(),
@@ -30,6 +37,7 @@ pub fn to_text(case: &Case) -> String {
         line(NAMES[3], &case.sides),
         line(NAMES[4], &case.marks),
         line(NAMES[5], &room),
+        letters,
     ]
     .concat()
 }
@@ -46,6 +54,10 @@ pub fn from_text(text: &str) -> Option<Case> {
         _ => (vec![0], text),
     };
     let [tally] = tally.try_into().ok()?;
+    let letters = match text_of_net.lines().nth(NAMES.len()) {
+        Some(last) => numbers((last, LETTERS))?,
+        None => vec![0, 0],
+    };
     let mut lines = text_of_net.lines().zip(NAMES);
     let [rounds] = numbers(lines.next()?)?.try_into().ok()?;
     let case = Case {
@@ -55,7 +67,7 @@ pub fn from_text(text: &str) -> Option<Case> {
         faces: numbers(lines.next()?)?,
         sides: numbers(lines.next()?)?,
         marks: numbers(lines.next()?)?,
-        capacity: capacity(&numbers(lines.next()?)?)?,
+        capacity: capacity(&numbers(lines.next()?)?, &letters)?,
         expected: Expected::Unknown,
     };
     (to_text(&case) == text).then_some(case)
@@ -66,14 +78,16 @@ fn numbers<T: FromStr>((line, name): (&str, &str)) -> Option<Vec<T>> {
     values.map(|value| value.parse().ok()).collect()
 }
 
-fn capacity(room: &[usize]) -> Option<Capacity> {
-    let &[vertices, faces, marks, workspace] = room else {
+fn capacity(room: &[usize], letters: &[usize]) -> Option<Capacity> {
+    let (&[vertices, faces, marks, workspace], &[asked, letters]) = (room, letters) else {
         return None;
     };
     Some(Capacity {
         vertices,
         faces,
         marks,
+        with_letters: asked == 1,
+        letters,
         workspace,
     })
 }

@@ -27,8 +27,21 @@ fn every_ring_fan_loop_rule_and_refusal_is_met() {
         "inner edge",
         "first direction alone",
         "second direction alone",
-        "mean of both directions",
+        "mean of two directions with four inner edges",
+        "mean of two directions without four inner edges",
     ];
+    for letter in *b"VABMSCDE" {
+        let given = format!(",{letter},");
+        let has_it = |line: &&String| {
+            line.split("\"letters\":[[")
+                .nth(1)
+                .is_some_and(|l| l.contains(&given))
+        };
+        assert!(lines.iter().any(|line| has_it(&line)), "no {letter}");
+    }
+    for wish in ["\"asked\":true", "\"asked\":false"] {
+        assert!(lines.iter().filter(|line| line.contains(wish)).count() > 200);
+    }
     let features = Feature::ALL.map(Feature::name);
     let named = named.iter().chain(&features);
     let named = named.map(|name| format!("\"{name}\""));

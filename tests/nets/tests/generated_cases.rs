@@ -129,17 +129,23 @@ fn assert_frame(case: &Case, before: &Tables, after: &Tables, outcome: &Outcome)
             vertices,
             faces,
             marks,
+            letters,
         } => {
+            let named = letters.as_deref().unwrap_or_default();
+            assert_eq!(letters.is_some(), case.capacity.with_letters);
             assert_eq!(after.vertices[..vertices.len()], *vertices);
             assert_eq!(after.faces[..faces.len()], *faces);
             assert_eq!(after.marks[..marks.len()], *marks);
-            ([vertices.len(), faces.len(), marks.len()], true)
+            assert_eq!(after.letters[..named.len()], *named);
+            let lengths = [vertices.len(), faces.len(), marks.len(), named.len()];
+            (lengths, true)
         }
-        Outcome::Refused { reason, .. } => ([0; 3], matches!(reason, 5..=12 | 15)),
+        Outcome::Refused { reason, .. } => ([0; 4], matches!(reason, 5..=12 | 15)),
     };
     assert_eq!(after.vertices[filled[0]..], before.vertices[filled[0]..]);
     assert_eq!(after.faces[filled[1]..], before.faces[filled[1]..]);
     assert_eq!(after.marks[filled[2]..], before.marks[filled[2]..]);
+    assert_eq!(after.letters[filled[3]..], before.letters[filled[3]..]);
     let used = if cleared { 16 * case.served_faces() } else { 0 };
     assert!(after.workspace[..used].iter().all(|&word| word == 0));
     assert_eq!(after.workspace[used..], before.workspace[used..]);

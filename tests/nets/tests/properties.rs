@@ -215,7 +215,7 @@ fn every_rule_and_every_kind_of_direction_occurs() {
             match new.rule {
                 Rule::Face {
                     neighbours: counts,
-                    used: directions,
+                    four_inner: directions,
                 } => {
                     neighbours.insert(counts);
                     used.insert(directions);
@@ -235,7 +235,12 @@ fn every_rule_and_every_kind_of_direction_occurs() {
     assert_eq!(rules, BTreeSet::from(edge_rules));
     let all_counts = (0..3).flat_map(|first| (0..3).map(move |second| [first, second]));
     assert_eq!(neighbours, all_counts.collect());
-    let all_used = [Directions::First, Directions::Second, Directions::Both];
+    let all_used = [
+        Directions::First,
+        Directions::Second,
+        Directions::Both,
+        Directions::Neither,
+    ];
     assert_eq!(used, BTreeSet::from(all_used));
 }
 

@@ -15,7 +15,7 @@ use reference::text::print;
 #[test]
 fn stored_calls_get_their_stored_answers() {
     let calls = stored_calls();
-    assert!(calls.len() >= 150);
+    assert!(calls.len() >= 200);
     let mut reasons = BTreeSet::new();
     for path in calls {
         let text = fs::read_to_string(&path).expect("a stored call");
@@ -30,12 +30,12 @@ fn stored_calls_get_their_stored_answers() {
     assert_eq!(reasons, POLYGON_REASONS.into_iter().collect());
 }
 
-/// The stored calls with a name of this beginning, and their answers.
+/// The stored calls with a file name of this beginning, and their answers.
 fn beginning(name: &str) -> Vec<(Case, Outcome)> {
     let calls = stored_calls().into_iter();
     let named = calls.filter(|path| {
-        let stem = path.file_stem().expect("a name");
-        stem.to_string_lossy().starts_with(name)
+        let file = path.file_name().expect("a name");
+        file.to_string_lossy().starts_with(name)
     });
     let read = |path: PathBuf| {
         let text = fs::read_to_string(path).expect("a stored call");
@@ -68,6 +68,57 @@ fn stored_records_are_at_the_limit_and_beyond() {
     }
 }
 
+/// The letters of the stored call of this name.
+fn stored_letters(name: &str) -> String {
+    let calls = beginning(name).into_iter();
+    let letters = calls.map(|(_, outcome)| match outcome {
+        Outcome::Refined { letters, .. } => letters.expect("letters are asked for"),
+        Outcome::Refused { reason, .. } => panic!("{name}: refused, {reason}"),
+    });
+    let first = letters.into_iter().next().expect("a stored call");
+    String::from_utf8(first).expect("letters")
+}
+
+#[test]
+fn stored_letters_are_those_worked_out_by_hand() {
+    for (name, due) in [
+        ("letters-marked-square.", "VVVVMMMME"),
+        ("letters-unmarked-square.", "VVVVAAAAE"),
+        ("letters-three-marks-of-a-square.", "VVVVMMBBE"),
+        ("letters-square-count-4.", "VVVVSSSSS"),
+        ("letters-square-zero-rounds.", "VVVV"),
+        ("letters-cube.", "VVVVVVVVCCCCCCCCCCCCDDDDDD"),
+    ] {
+        assert_eq!(stored_letters(name), due, "{name}");
+    }
+    for (name, due) in [
+        ("letters-grid-3-3.", "EEEEEEEEE"),
+        ("letters-grid-5-3.", "EEDEEEEDEEEEDEE"),
+        ("letters-grid-5-5.", "EEDEEEEDEEDDDDDEEDEEEEDEE"),
+    ] {
+        assert!(stored_letters(name).ends_with(due), "{name}");
+    }
+    // Each side has two end edges in the second round and is split no further by a mark.
+    let thrice = stored_letters("letters-marked-square-three-rounds.");
+    let count = |letter| thrice.chars().filter(|&other| other == letter).count();
+    assert_eq!("MBA".chars().map(count).collect::<Vec<_>>(), [4, 16, 8]);
+}
+
+#[test]
+fn letters_are_asked_for_beside_every_refusal() {
+    let mut met = BTreeSet::new();
+    for (case, outcome) in beginning("letters-") {
+        let reason = match outcome {
+            Outcome::Refined { .. } => 0,
+            Outcome::Refused { reason, .. } => reason,
+        };
+        met.insert((case.capacity.with_letters, reason));
+    }
+    let asked = [0].into_iter().chain(POLYGON_REASONS);
+    let due: BTreeSet<_> = asked.map(|reason| (true, reason)).collect();
+    assert!(met.is_superset(&due) && met.contains(&(false, 0)));
+}
+
 #[test]
 fn every_kind_is_stored_and_calls_survive_printing() {
     let calls = stored_calls();
@@ -82,4 +133,16 @@ fn every_kind_is_stored_and_calls_survive_printing() {
     }
     assert!(from_text("").is_none());
     assert!(from_text("rounds 1\n").is_none());
+    let square = to_text(&beginning("letters-marked-square.")[0].0);
+    for (old, new) in [
+        ("letters 1 16\n", "letters 1\n"),
+        ("letters 1 16\n", "letters 2 16\n"),
+        ("letters 1 16\n", "letters 0 0\n"),
+        ("letters 1 16\n", "letters 1 16\nletters 1 16\n"),
+        ("letters 1 16\n", "letters 1 16"),
+        ("room", "rooms"),
+    ] {
+        assert!(square.contains(old));
+        assert!(from_text(&square.replacen(old, new, 1)).is_none(), "{new}");
+    }
 }

@@ -1,13 +1,15 @@
 //! The call that refines a net, with the tables it is given.
 
+use crate::letter::{Letter, letter_table, refine_with_letters};
 use crate::net::{Net, PolygonNet};
 use crate::refusal::{
     Capacity, Refusal, check_call, check_net, check_tally, quadrilaterals, refined_faces,
 };
 use crate::step::{refine_once, split};
 
-/// What a caller passes: the record of new points, the rounds, the net and the
-/// lengths of the tables for the results and as workspace.
+/// What a caller passes: the record of new points, the rounds, the net, the
+/// lengths of the tables for the results and as workspace, and whether letters
+/// are asked for.
 #[derive(Clone, Copy, Debug)]
 pub struct Call<'a> {
     /// What the record holds before the call.
@@ -28,6 +30,8 @@ pub enum Outcome {
         vertices: Vec<i32>,
         faces: Vec<u32>,
         marks: Vec<u8>,
+        /// One for each vertex, if they are asked for.
+        letters: Option<Vec<u8>>,
     },
     Refused {
         reason: u32,
@@ -50,6 +54,9 @@ pub struct Tables {
     pub vertices: Vec<i32>,
     pub faces: Vec<u32>,
     pub marks: Vec<u8>,
+    /// Whether letters are asked for. If not, their table is not looked at.
+    pub with_letters: bool,
+    pub letters: Vec<u8>,
     pub workspace: Vec<u32>,
 }
 
@@ -59,6 +66,8 @@ impl Tables {
             vertices: self.vertices.len(),
             faces: self.faces.len(),
             marks: self.marks.len(),
+            with_letters: self.with_letters,
+            letters: self.letters.len(),
             workspace: self.workspace.len(),
         }
     }
@@ -82,18 +91,24 @@ pub fn refine(call: &Call) -> Outcome {
 /// The result of a call that refusals 1 to 4 and 14 do not stop.
 fn refine_net(call: &Call) -> Outcome {
     match start_net(call.vertices, call.faces, call.sides, call.marks) {
-        Ok(net) => judge_tally(call, &refine_times(net, call.rounds)),
+        Ok(net) => {
+            let drawn = call.vertices.len() / 3;
+            let (refined, letters) = refine_with_letters(net, drawn, call.rounds);
+            judge_tally(call, &refined, &letters)
+        }
         Err(refusal) => refusal.into(),
     }
 }
 
-/// The result of a call that gives this net unless refusal 15 holds.
-fn judge_tally(call: &Call, refined: &Net) -> Outcome {
+/// The result of a call that gives this net with these letters unless refusal
+/// 15 holds.
+fn judge_tally(call: &Call, refined: &Net, letters: &[Letter]) -> Outcome {
     match check_tally(call.tally, new_points(call.vertices, &refined.marks)) {
         Ok(()) => Outcome::Refined {
             vertices: refined.vertex_table(),
             faces: refined.face_table(),
             marks: refined.marks.clone(),
+            letters: call.capacity.with_letters.then(|| letter_table(letters)),
         },
         Err(refusal) => refusal.into(),
     }
@@ -153,11 +168,15 @@ pub fn refine_into(
             vertices,
             faces,
             marks,
+            letters,
         } => {
             *tally += new_points(drawn_vertices, marks);
             tables.vertices[..vertices.len()].copy_from_slice(vertices);
             tables.faces[..faces.len()].copy_from_slice(faces);
             tables.marks[..marks.len()].copy_from_slice(marks);
+            if let Some(letters) = letters {
+                tables.letters[..letters.len()].copy_from_slice(letters);
+            }
         }
         Outcome::Refused {
             reason: 1..=4 | 14, ..

@@ -9,9 +9,11 @@
 pub mod call;
 pub mod curve;
 pub mod fraction;
+pub mod letter;
 pub mod net;
 pub mod point;
 pub mod refusal;
+pub mod retrace;
 pub mod rules;
 pub mod seam;
 pub mod step;

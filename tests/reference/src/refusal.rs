@@ -33,17 +33,33 @@ pub struct Capacity {
     pub vertices: usize,
     pub faces: usize,
     pub marks: usize,
+    /// Whether letters are asked for. If not, their table may have any length.
+    pub with_letters: bool,
+    pub letters: usize,
     pub workspace: usize,
 }
 
 impl Capacity {
-    /// The least lengths that serve this many refined faces.
+    /// The least lengths that serve this many refined faces, without letters.
     pub fn for_refined_faces(faces: usize) -> Self {
         Self {
             vertices: 12 * faces,
             faces: 4 * faces,
             marks: 4 * faces,
+            with_letters: false,
+            letters: 0,
             workspace: 16 * faces,
+        }
+    }
+
+    /// The same lengths with letters asked for, in a table of so many bytes.
+    /// "The lent letter table has 4G bytes; a shorter one counts among the
+    /// outputs of 4."
+    pub fn asking_for_letters(self, letters: usize) -> Self {
+        Self {
+            with_letters: true,
+            letters,
+            ..self
         }
     }
 
@@ -52,6 +68,7 @@ impl Capacity {
         at_least(self.vertices, 12)
             && at_least(self.faces, 4)
             && at_least(self.marks, 4)
+            && (!self.with_letters || at_least(self.letters, 4))
             && at_least(self.workspace, 16)
     }
 }

@@ -22,19 +22,20 @@ pub enum Rule {
     /// Face point; the directions start from sides 0 and 1.
     Face {
         neighbours: [u8; 2],
-        used: Directions,
+        four_inner: Directions,
     },
 }
 
-/// The directions whose results make a face point.
+/// The directions of a face that have four inner edges. One alone makes the
+/// face point; otherwise it is the mean of both.
 #[derive(Clone, Copy, Debug, PartialEq, Eq, Hash, PartialOrd, Ord)]
 pub enum Directions {
     /// Only the direction from side 0.
     First,
     /// Only the direction from side 1.
     Second,
-    /// The mean of both.
     Both,
+    Neither,
 }
 
 /// A new point before rounding.
@@ -150,9 +151,9 @@ pub fn trace(net: &Net, rounds: u32) -> Vec<Step> {
 
 /// A net with its adjacency, as the rules see it.
 pub struct Surface<'a> {
-    net: &'a Net,
-    topology: Topology,
-    boundary: BoundaryLoops,
+    pub(crate) net: &'a Net,
+    pub(crate) topology: Topology,
+    pub(crate) boundary: BoundaryLoops,
 }
 
 impl<'a> Surface<'a> {
@@ -290,14 +291,19 @@ impl<'a> Surface<'a> {
         edge_points: &BTreeMap<(u32, u32), ExactPoint>,
     ) -> NewPoint {
         let [first, second] = self.directions(face, edge_points);
-        let (used, exact) = match (first.four_inner, second.four_inner) {
+        let mean = midpoint(first.point, second.point);
+        let (four_inner, exact) = match (first.four_inner, second.four_inner) {
             (true, false) => (Directions::First, first.point),
             (false, true) => (Directions::Second, second.point),
-            _ => (Directions::Both, midpoint(first.point, second.point)),
+            (true, true) => (Directions::Both, mean),
+            (false, false) => (Directions::Neither, mean),
         };
         let neighbours = [first.neighbours, second.neighbours];
         NewPoint {
-            rule: Rule::Face { neighbours, used },
+            rule: Rule::Face {
+                neighbours,
+                four_inner,
+            },
             exact,
         }
     }
@@ -308,7 +314,7 @@ impl<'a> Surface<'a> {
             .expect("the faces at a vertex form a ring or a fan")
     }
 
-    fn exact(&self, vertex: u32) -> ExactPoint {
+    pub(crate) fn exact(&self, vertex: u32) -> ExactPoint {
         self.net.point(vertex).into()
     }
 

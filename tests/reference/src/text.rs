@@ -9,14 +9,19 @@ pub const PROGRAM_REFINED_FACES: usize = 256;
 pub const PROGRAM_VERTICES: usize = 1_024;
 
 const COUNT_NAMES: &str = "vertices faces rounds";
+/// The first line of a text that asks for letters.
+const RULE_NAMES: &str = "vertices faces rounds rule";
 const MARKED_NAMES: &str = "x y z corner";
+/// The third line of an answer with letters; no text has it.
+const LETTERED_NAMES: &str = "x y z corner rule";
 const UNMARKED_NAMES: &str = "x y z";
 const CORNER_NAMES: &str = "a b c d";
 
-/// A net and its rounds, as a text states them.
+/// A net and its rounds, as a text states them, and whether it asks for letters.
 #[derive(Clone, Debug, Default, PartialEq, Eq)]
 pub struct Document {
     pub rounds: u32,
+    pub with_letters: bool,
     pub vertices: Vec<i32>,
     pub faces: Vec<u32>,
     pub marks: Vec<u8>,
@@ -35,9 +40,14 @@ impl Document {
 
     fn text_with(&self, marks: Option<&[u8]>) -> String {
         let (vertices, faces) = (self.vertices.len() / 3, self.faces.len() / 4);
+        let names = if self.with_letters {
+            RULE_NAMES
+        } else {
+            COUNT_NAMES
+        };
         let counts = format!("{vertices} {faces} {}", self.rounds);
-        let lines = net_lines(&self.vertices, &self.faces, marks);
-        format!("{COUNT_NAMES}\n{counts}\n{lines}")
+        let lines = net_lines(&self.vertices, &self.faces, marks, None);
+        format!("{names}\n{counts}\n{lines}")
     }
 }
 
@@ -56,6 +66,12 @@ pub fn refine_document(document: &Document) -> Outcome {
     if let Err(refusal) = check_program(document) {
         return refusal.into();
     }
+    let room = Capacity::for_refined_faces(PROGRAM_REFINED_FACES);
+    let capacity = if document.with_letters {
+        room.asking_for_letters(4 * PROGRAM_REFINED_FACES)
+    } else {
+        room
+    };
     refine(&Call {
         tally: 0,
         rounds: document.rounds,
@@ -63,7 +79,7 @@ pub fn refine_document(document: &Document) -> Outcome {
         faces: &document.faces,
         sides: &[],
         marks: &document.marks,
-        capacity: Capacity::for_refined_faces(PROGRAM_REFINED_FACES),
+        capacity,
     })
 }
 
@@ -86,25 +102,36 @@ pub fn print(outcome: &Outcome) -> String {
             vertices,
             faces,
             marks,
+            letters,
         } => {
             let counts = format!("{} {}", vertices.len() / 3, faces.len() / 4);
-            let lines = net_lines(vertices, faces, Some(marks));
+            let lines = net_lines(vertices, faces, Some(marks), letters.as_deref());
             format!("vertices faces\n{counts}\n{lines}")
         }
         Outcome::Refused { reason, place } => format!("refusal place\n{reason} {place}\n"),
     }
 }
 
-fn net_lines(vertices: &[i32], faces: &[u32], marks: Option<&[u8]>) -> String {
-    let names = if marks.is_some() {
-        MARKED_NAMES
-    } else {
-        UNMARKED_NAMES
+/// The lines of the vertices and of the faces. Only answers have letters, and
+/// they always have marks.
+fn net_lines(
+    vertices: &[i32],
+    faces: &[u32],
+    marks: Option<&[u8]>,
+    letters: Option<&[u8]>,
+) -> String {
+    let names = match (marks, letters) {
+        (_, Some(_)) => LETTERED_NAMES,
+        (Some(_), None) => MARKED_NAMES,
+        (None, None) => UNMARKED_NAMES,
     };
     let mut text = format!("{names}\n");
     for (vertex, [x, y, z]) in vertices.as_chunks().0.iter().enumerate() {
         let mark = marks.map_or(String::new(), |marks| format!(" {}", marks[vertex]));
-        text += &format!("{x} {y} {z}{mark}\n");
+        let letter = letters.map_or(String::new(), |letters| {
+            format!(" {}", char::from(letters[vertex]))
+        });
+        text += &format!("{x} {y} {z}{mark}{letter}\n");
     }
     text += &format!("{CORNER_NAMES}\n");
     for [a, b, c, d] in faces.as_chunks().0 {
@@ -122,11 +149,12 @@ pub fn parse(text: &[u8]) -> Result<Document, Refusal> {
         rest: text,
         number: 0,
     };
-    lines.expect_names(&[COUNT_NAMES])?;
+    let with_letters = lines.expect_names(&[COUNT_NAMES, RULE_NAMES])? == RULE_NAMES;
     let [vertices, faces, rounds] = lines.expect_values(natural)?;
     let has_marks = lines.expect_names(&[MARKED_NAMES, UNMARKED_NAMES])? == MARKED_NAMES;
     let mut document = Document {
         rounds,
+        with_letters,
         ..Document::default()
     };
     for _ in 0..vertices {

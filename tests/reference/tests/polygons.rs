@@ -93,6 +93,7 @@ impl Drawn {
                 vertices,
                 faces,
                 marks,
+                ..
             } => Net::from_tables(&vertices, &faces, &marks),
             Outcome::Refused { reason, place } => panic!("refused: {reason} at {place}"),
         }
@@ -349,6 +350,8 @@ fn run(drawn: &Drawn) -> (Outcome, Tables, Tables) {
         vertices: vec![-77; drawn.capacity.vertices],
         faces: vec![77; drawn.capacity.faces],
         marks: vec![7; drawn.capacity.marks],
+        with_letters: false,
+        letters: vec![],
         workspace: vec![777; drawn.capacity.workspace],
     };
     let mut after = before.clone();

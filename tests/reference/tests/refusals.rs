@@ -40,6 +40,8 @@ const NOTHING: Capacity = Capacity {
     vertices: 0,
     faces: 0,
     marks: 0,
+    with_letters: false,
+    letters: 0,
     workspace: 0,
 };
 
@@ -59,6 +61,7 @@ fn an_empty_net_is_accepted_for_all_rounds() {
             vertices: vec![],
             faces: vec![],
             marks: vec![],
+            letters: None,
         };
         let expected = if rounds <= 6 { empty } else { refused(1, 0) };
         assert_eq!(outcome, expected);
@@ -227,6 +230,8 @@ fn filled_tables(refined_faces: usize, surplus: usize) -> Tables {
         vertices: vec![-77; least.vertices + surplus],
         faces: vec![77; least.faces + surplus],
         marks: vec![7; least.marks + surplus],
+        with_letters: false,
+        letters: vec![99; surplus],
         workspace: vec![777; least.workspace + surplus],
     }
 }
@@ -252,6 +257,7 @@ fn an_accepted_call_fills_from_the_front_and_clears_the_workspace() {
         vertices,
         faces,
         marks,
+        ..
     } = outcome
     else {
         panic!("accepted");
@@ -263,6 +269,7 @@ fn an_accepted_call_fills_from_the_front_and_clears_the_workspace() {
     assert!(tables.faces[16..].iter().all(|&c| c == 77));
     assert_eq!(tables.marks[..9], marks);
     assert!(tables.marks[9..].iter().all(|&c| c == 7));
+    assert_eq!(tables.letters, [99; 5]);
     assert!(tables.workspace[..64].iter().all(|&w| w == 0));
     assert!(tables.workspace[64..].iter().all(|&w| w == 777));
 }

@@ -20,6 +20,8 @@ fn tables(refined_faces: usize) -> Tables {
         vertices: vec![-77; least.vertices],
         faces: vec![77; least.faces],
         marks: vec![7; least.marks],
+        with_letters: true,
+        letters: vec![99; least.marks + 1],
         workspace: vec![777; least.workspace + 3],
     }
 }

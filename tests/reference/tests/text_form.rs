@@ -30,8 +30,18 @@ fn names_are_literal() {
         (1, "vertices  faces rounds\n"),
         (1, "Vertices faces rounds\n"),
         (1, "vertices faces rounds \n"),
+        (1, "vertices faces rounds rules\n"),
+        (1, "vertices faces rounds  rule\n"),
+        (1, "vertices faces rounds rule \n"),
+        (1, "vertices faces rounds Rule\n"),
+        (1, "vertices faces rounds rul\n"),
+        (1, "vertices faces rule\n"),
+        (1, "vertices faces rule rounds\n"),
+        (1, "rule\n"),
         (1, "\n"),
         (3, "x y z corners\n"),
+        (3, "x y z corner rule\n"),
+        (3, "x y z rule\n"),
         (3, "x y z \n"),
         (3, "x y z corner\r\n"),
         (8, "a b c\n"),
@@ -93,12 +103,43 @@ fn numbers_within_signed_32_bits_are_read() {
     assert_eq!(answer(rounds.as_bytes()), refusal(1, 0));
 }
 
+/// The sample text with a first line that asks for letters.
+fn sample_with_rule() -> String {
+    sample_with(1, "vertices faces rounds rule\n")
+}
+
 #[test]
 fn every_cut_of_a_text_is_bad_at_the_line_it_ends_in() {
-    for length in 0..SAMPLE_TEXT.len() {
-        let text = &SAMPLE_TEXT.as_bytes()[..length];
-        let finished = text.iter().filter(|&&byte| byte == b'\n').count();
-        assert_bad_line(text, finished as u32 + 1);
+    for sample in [SAMPLE_TEXT.to_owned(), sample_with_rule()] {
+        for length in 0..sample.len() {
+            let text = &sample.as_bytes()[..length];
+            let finished = text.iter().filter(|&&byte| byte == b'\n').count();
+            assert_bad_line(text, finished as u32 + 1);
+        }
+    }
+}
+
+/// "the second line keeps its three numbers", and no other line has the word.
+#[test]
+fn the_word_rule_stands_in_the_first_line_alone() {
+    let asked = sample_with_rule();
+    for (old, new, line) in [
+        ("4 1 1\n", "4 1 1 rule\n", 2),
+        ("4 1 1\n", "4 1 1 1\n", 2),
+        ("4 1 1\n", "4 1 1 0\n", 2),
+        ("4 1 1\n", "4 1 rule\n", 2),
+        ("4 1 1\n", "rule\n4 1 1\n", 2),
+        ("x y z corner\n", "x y z corner rule\n", 3),
+        ("x y z corner\n", "x y z rule\n", 3),
+        ("0 0 0 1\n", "0 0 0 1 V\n", 4),
+        ("0 0 0 1\n", "0 0 0 V\n", 4),
+        ("a b c d\n", "a b c d rule\n", 8),
+    ] {
+        let text = asked.replacen(old, new, 1);
+        assert_ne!(text, asked);
+        assert_bad_line(text.as_bytes(), line);
+        let plain = SAMPLE_TEXT.replacen(old, new, 1);
+        assert_bad_line(plain.as_bytes(), line);
     }
 }
 
@@ -167,6 +208,7 @@ fn text_of(columns: u32, rows: u32, rounds: u32) -> Document {
     let net = grid(columns, rows);
     Document {
         rounds,
+        with_letters: false,
         vertices: net.vertex_table(),
         faces: net.face_table(),
         marks: net.marks,
@@ -201,8 +243,13 @@ fn the_form_is_checked_before_the_limits() {
 
 #[test]
 fn documents_survive_printing_and_parsing() {
-    let document = text_of(3, 2, 1);
-    assert_eq!(parse(document.to_text().as_bytes()), Ok(document.clone()));
-    assert_eq!(parse(document.to_unmarked_text().as_bytes()), Ok(document));
+    for with_letters in [false, true] {
+        let document = Document {
+            with_letters,
+            ..text_of(3, 2, 1)
+        };
+        assert_eq!(parse(document.to_text().as_bytes()), Ok(document.clone()));
+        assert_eq!(parse(document.to_unmarked_text().as_bytes()), Ok(document));
+    }
     assert_eq!(parse(b""), Err(Refusal::new(13, 1)));
 }

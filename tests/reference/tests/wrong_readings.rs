@@ -6,7 +6,7 @@ mod common;
 use std::cmp::Ordering;
 use std::collections::BTreeMap;
 
-use common::{cube, fan, grid, square, unmarked, wheel, with_marks};
+use common::{bent_grid, cube, fan, grid, square, unmarked, wheel, with_marks};
 use reference::fraction::Fraction;
 use reference::net::{Net, edge};
 use reference::point::{ExactPoint, Point};
@@ -161,20 +161,6 @@ fn only_inner_points_in_the_extrapolation() {
     }
 }
 
-/// A 6 x 6 grid without its last 3 x 3 faces, in no special position. The
-/// inward corner has a fan of three.
-fn bent_grid() -> Net {
-    let outside = |vertex: &u32| vertex % 7 > 3 && vertex / 7 > 3;
-    let kept: Vec<u32> = (0..49).filter(|vertex| !outside(vertex)).collect();
-    let number = |vertex: u32| kept.partition_point(|&other| other < vertex) as u32;
-    let faces = grid(6, 6).faces.into_iter();
-    let faces: Vec<[u32; 4]> = faces
-        .filter(|face| !face.iter().any(outside))
-        .map(|face| face.map(number))
-        .collect();
-    unmarked(&common::scattered(kept.len() as u32), &faces)
-}
-
 #[test]
 fn always_the_mean_of_both_directions() {
     let net = bent_grid();
@@ -194,7 +180,7 @@ fn is_mean(rule: Rule) -> bool {
     matches!(
         rule,
         Rule::Face {
-            used: Directions::Both,
+            four_inner: Directions::Both | Directions::Neither,
             ..
         }
     )

@@ -85,6 +85,20 @@ pub fn fan(m: u32) -> Net {
     unmarked(&scattered(2 * m + 2), &faces)
 }
 
+/// A 6 x 6 grid without its last 3 x 3 faces, in no special position. The
+/// inward corner has a fan of three.
+pub fn bent_grid() -> Net {
+    let outside = |vertex: &u32| vertex % 7 > 3 && vertex / 7 > 3;
+    let kept: Vec<u32> = (0..49).filter(|vertex| !outside(vertex)).collect();
+    let number = |vertex: u32| kept.partition_point(|&other| other < vertex) as u32;
+    let faces = grid(6, 6).faces.into_iter();
+    let faces: Vec<[u32; 4]> = faces
+        .filter(|face| !face.iter().any(outside))
+        .map(|face| face.map(number))
+        .collect();
+    unmarked(&scattered(kept.len() as u32), &faces)
+}
+
 /// Points in no special position.
 pub fn scattered(count: u32) -> Vec<Point> {
     (0..i64::from(count))
@@ -116,6 +130,7 @@ pub fn refined(net: &Net, rounds: u32) -> Net {
             vertices,
             faces,
             marks,
+            ..
         } => Net::from_tables(&vertices, &faces, &marks),
         Outcome::Refused { reason, place } => panic!("refused: {reason} at {place}"),
     }
