@@ -77,7 +77,7 @@ fn four_inner(faces: &[u32], work: &[u32], h: usize) -> bool
     halfedges::mate_side(faces, work, halfedges::across_side(b)) < n
 }
 
-// The letter of face f: whether a direction has four inner edges.
+// The letter of face f, by whether a direction has four inner edges.
 fn face_letter(faces: &[u32], work: &[u32], f: usize) -> u8
     requires { ⌜ Connectivity (now faces) (now work) × (f < quads .faces (length (now faces))) ⌝ }
     ensures { λ r. ⌜ r ≡ faceLetter (now (faces .entry)) f ⌝ }
