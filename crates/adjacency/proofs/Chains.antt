@@ -140,6 +140,7 @@ chained-drop l w w′ h e c = chained-cong l w w′ h (λ i a b. same-rest (leng
 pub tables-kept : (s l w w′ : List ℕ) (m : ℕ) → m ≤ 4 * length l → length w′ ≡ length w → drop m w′ ≡ drop m w → Tables s l w → Tables s l w′
 tables-kept s l w w′ m h e d t = record {
   shaped = shaped-kept s (length l) w w′ e (drop-later m (4 * length l) w′ w h d) (t .shaped);
+  few = t .few;
   corners = t .corners;
   room = omega (arith, t .room);
 }

@@ -26,9 +26,11 @@ chainFrom l v i = firstFrom (leaves l v) (length l - i) i
 pub record CornersBelow (v : ℕ) (l : List ℕ) : Type 0 where
   pub below : (g : ℕ) → g < length l → getD l g 0 < v
 
--- corners l of faces with the side counts s, each below their number, and a table w with room for three numbers per half-edge, and with the shape
+-- corners l of faces with the side counts s, each below their number, and a table w with room for three numbers per half-edge, and with the shape; so few that the
+-- number of faces at a vertex has 16 bits
 pub record Tables (s l w : List ℕ) : Type 0 where
   pub shaped : Shaped s (length l) w
+  pub few : length l ≤ 16384
   pub corners : CornersBelow (length l) l
   pub room : 3 * length l ≤ length w
 

@@ -105,14 +105,14 @@ pub fn boundary_from(faces: &[u32], sides: &[u8], work: &[u32], p: usize) -> usi
 }
 
 // The number of faces at the vertex p.
-pub fn valence_at(faces: &[u32], sides: &[u8], work: &[u32], p: usize) -> usize
+pub fn valence_at(faces: &[u32], sides: &[u8], work: &[u32], p: usize) -> u16
     requires { ⌜ Adjacency (now sides) (now faces) (now work) ⌝ }
     requires { ⌜ p < length (now faces) ⌝ }
     ensures { λ r. ⌜ r ≡ valence (now (faces .entry)) p ⌝ }
 {
     let n = faces.len();
     let mut g = work[n + p] as usize;
-    let mut m = 0;
+    let mut m: u16 = 0;
     while g < n {
         g = work[2 * n + g] as usize;
         m += 1;
@@ -135,14 +135,14 @@ pub fn start_at(faces: &[u32], sides: &[u8], work: &[u32], p: usize) -> usize
 }
 
 // Whether turning from h meets d faces. It takes at most d turns.
-pub fn meets_all(faces: &[u32], sides: &[u8], work: &[u32], h: usize, d: usize) -> bool
+pub fn meets_all(faces: &[u32], sides: &[u8], work: &[u32], h: usize, d: u16) -> bool
     requires { ⌜ Adjacency (now sides) (now faces) (now work) ⌝ }
     requires { ⌜ (h < length (now faces)) × (d ≤ length (now faces)) ⌝ }
     ensures { λ r. ⌜ r ≡ eqb (facesMet (shapeOf (now (sides .entry))) (now (faces .entry)) h) d ⌝ }
 {
     let n = faces.len();
     let mut g = h;
-    let mut k = 0;
+    let mut k: u16 = 0;
     while k < d {
         g = sidetable::turn_in(faces, sides, work, g);
         k += 1;

@@ -43,7 +43,7 @@ joined l v e = record { few = go (decLt (length l) v); none = e }
 pub tables : (s l w w′ : List ℕ) (v : ℕ) → CheckTables s l w → Joined l v → CornersBelow v l → length w′ ≡ length w → drop (4 * length l) w′ ≡ drop (4 * length l) w → Tables s l w′
 tables s l w w′ v t j r e d =
     let b = t .room in
-    record { shaped = shaped-kept s (length l) w w′ e d (t .shaped); corners = corners-below-le v (length l) l (j .few) r; room = omega arith }
+    record { shaped = shaped-kept s (length l) w w′ e d (t .shaped); few = t .few; corners = corners-below-le v (length l) l (j .few) r; room = omega arith }
 
 -- a search that passes all found nothing
 pub all : (t : ℕ → Bool) (n i : ℕ) → i ≡ first t n → n ≤ i → first t n ≡ n
@@ -122,9 +122,10 @@ module _ (k : ℕ) (m : ControlNet) (room : Room) (w : List ℕ) where
       check-tables e =
           let r = within in
           let t = r .roomWork in
+          let f = r .faces in
           let g = once in
           let c = corners in
-          record { shaped = built .shaped; room = omega (arith, c .four) }
+          record { shaped = built .shaped; few = omega (arith, c .four); room = omega (arith, c .four) }
 
       module _ (g : ℕ) (f : FinalFaces k (quadrilaterals (m .sides) (length (m .faces))) g) (u : List ℕ) (r : drop (4 * length (m .faces)) u ≡ drop (4 * length (m .faces)) w₁) where
         final : g ≡ finalFaces call

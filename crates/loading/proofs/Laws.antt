@@ -39,6 +39,7 @@ use Rattle.loading.specs.Loading.{Loadable, SplitInto, Loaded}
 pub tables-kept : (s l w w′ : List ℕ) → length w′ ≡ length w → SameOutside (length l) (3 * length l) w w′ → Tables s l w → Tables s l w′
 tables-kept s l w w′ k x ok = record {
   shaped = shaped-kept s (length l) w w′ k (drop-later (3 * length l) (4 * length l) w′ w (omega arith) (x .rest)) (ok .shaped);
+  few = ok .few;
   corners = ok .corners;
   room = let r = ok .room in omega arith;
 }
@@ -232,12 +233,13 @@ module _ (m : ControlNet) (o : Buffers) (ok : Loadable m o) where
       tables-split =
           let c = split-corners m in
           let q = room in
-          let f = ok .few in
+          let f = ok .fewSplit b in
           let x = split-refinable m (ok .drawn) in
           let y = refinable-manifold (split m) x .oriented in
           let u = split-vertices-le m (ok .drawn) b in
           rw front-faces (record {
             shaped = shaped-quads (length (split m .faces)) (o₁ .work) (x .fours) (omega arith);
+            few = omega arith;
             corners = record { below = λ g i. let d = y .below g i in omega arith };
             room = omega arith;
           })
