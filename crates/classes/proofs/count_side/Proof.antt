@@ -38,8 +38,6 @@ add-work c =
     let e : x .start-of .result ≡ from (s .args .faces .now) (s .args .h) = x .start-of .ensures in
     let d = c .before .share .ensures in
     let few = counted-few (s .args .v) (s .args .at) (s .args .faces .now) (s .args .work .now) (s .args .h) (s .pre .1 .0) (s .pre .0) (s .pre .1 .1) in
-    let n = s .pre .0 .table .sides .few in
-    let b = s .pre .1 .0 in
     let r = share-le (s .args .faces .now) (s .args .h) in
     rw e (omega arith)
 
