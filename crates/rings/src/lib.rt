@@ -4,7 +4,7 @@ ghost use Prim.Native.Nat.{_≤_};
 ghost use Rattle.curve.specs.Weights.{kobbelt};
 ghost use Rattle.rings.specs.RingWeights.{row};
 
-// Numerators over 9n, a row for each valence n from 3 to 8: eight for the neighbours, from the edge on, then eight for the opposite corners. For n = 3 one corner
+// Numerators over 9n, a row for each size n of a ring, from 3 to 8: eight for the neighbours, from the edge on, then eight for the opposite corners. For n = 3 one corner
 // is k_(j-2) and k_(j+1) in one.
 const WEIGHTS: [[i64; 16]; 6] = [
     [9, 9, 9, 0, 0, 0, 0, 0, -1, 2, -1, 0, 0, 0, 0, 0],
@@ -32,7 +32,7 @@ const WEIGHTS: [[i64; 16]; 6] = [
     ],
 ];
 
-// The weights of valence n.
+// The weights of a ring of n.
 pub fn weights(n: usize) -> [i64; 16]
     requires { ⌜ (3 ≤ n) × (n ≤ 8) ⌝ }
     ensures { λ r. ⌜ r ≡ row kobbelt n ⌝ }

@@ -22,14 +22,14 @@ ghost use Rattle.virtualpoints.specs.Exact.{Extrapolated, extrapolatedOn
 const EXTRAPOLATED_SCALE: i64 = 60;
 
 // The same, where it is divided by the number of inner edges of a fan.
-const EXTRAPOLATED_SHARES: usize = 60;
+const EXTRAPOLATED_SHARES: u16 = 60;
 
-// What the valences of rings divide.
+// What the sizes of rings divide.
 const VALENCE_SCALE: usize = 840;
 
 // The faces met in turning from a half-edge: how many, the half-edge in the last, and the one after it, which is the first again or none.
 struct Met {
-    count: usize,
+    count: u16,
     last: usize,
     after: usize,
 }
@@ -50,14 +50,14 @@ fn gather(faces: &[u32], work: &[u32], h: usize, l: &mut [usize; 8], k: &mut [us
         let m = halfedges::turn_side(faces, work, g);
         if m == n {
             return Met {
-                count: i,
+                count: i as u16,
                 last: g,
                 after: m,
             };
         }
         if m == h {
             return Met {
-                count: i,
+                count: i as u16,
                 last: g,
                 after: m,
             };
@@ -106,7 +106,7 @@ fn weighted_sum(
     w: &[i64; 16],
     l: &[usize; 8],
     k: &[usize; 8],
-    m: usize,
+    m: u16,
     n: usize,
     e: usize,
 ) -> coordinates::Exact
@@ -118,7 +118,7 @@ fn weighted_sum(
     let mut y: i64 = 0;
     let mut z: i64 = 0;
     let mut i: usize = 0;
-    while i < m {
+    while i < m as usize {
         let d = place_on(n, e + i);
         let p = l[i];
         let q = k[i];
@@ -130,7 +130,7 @@ fn weighted_sum(
     coordinates::Exact { x: x, y: y, z: z }
 }
 
-// v, which is over 9n times the extrapolated scale, over one denominator for all valences n.
+// v, which is over 9n times the extrapolated scale, over one denominator for all sizes n of a ring.
 fn times_share(n: usize, v: i64) -> i64
     requires { ⌜ (3 ≤ n) × (n ≤ 8) × (natAbs v ≤ 2 ^ 50) ⌝ }
     ensures { λ r. ⌜ r ≡ pos (valenceScale / n) *ℤ v ⌝ }
@@ -147,14 +147,15 @@ fn scaled_share(n: usize, s: i64) -> i64
     times_share(n, EXTRAPOLATED_SCALE * s)
 }
 
-// The virtual point on the first edge of a full ring of n.
-fn ring_point(points: &[i32], l: &[usize; 8], k: &[usize; 8], n: usize) -> coordinates::Exact
-    requires { ⌜ Within coordinateRange (now points) × (3 ≤ n) × (n ≤ 8) ⌝ }
-    requires { ⌜ VerticesIn (now points) n (now l) × VerticesIn (now points) n (now k) ⌝ }
-    ensures { λ r. ⌜ OnAxes (λ (a : ℕ). ringSum n (weightedSum (row kobbelt n) n 0 n (axis (now (points .entry)) a) (now (l .entry)) (now (k .entry)))) (r .x) (r .y) (r .z) ⌝ }
+// The virtual point on the first edge of a full ring of m faces.
+fn ring_point(points: &[i32], l: &[usize; 8], k: &[usize; 8], m: u16) -> coordinates::Exact
+    requires { ⌜ Within coordinateRange (now points) × (3 ≤ m) × (m ≤ 8) ⌝ }
+    requires { ⌜ VerticesIn (now points) m (now l) × VerticesIn (now points) m (now k) ⌝ }
+    ensures { λ r. ⌜ OnAxes (λ (a : ℕ). ringSum m (weightedSum (row kobbelt m) m 0 m (axis (now (points .entry)) a) (now (l .entry)) (now (k .entry)))) (r .x) (r .y) (r .z) ⌝ }
 {
+    let n = m as usize;
     let w = rings::weights(n);
-    let s = weighted_sum(points, &w, l, k, n, n, 0);
+    let s = weighted_sum(points, &w, l, k, m, n, 0);
     coordinates::Exact {
         x: scaled_share(n, s.x),
         y: scaled_share(n, s.y),
@@ -163,7 +164,7 @@ fn ring_point(points: &[i32], l: &[usize; 8], k: &[usize; 8], n: usize) -> coord
 }
 
 // Twice p, over the scale, less c times q.
-fn reflected(p: i64, q: i64, c: usize) -> i64
+fn reflected(p: i64, q: i64, c: u16) -> i64
     requires { ⌜ (natAbs p ≤ coordinateRange) × (natAbs q ≤ 5 * coordinateRange) × (c ≤ extrapolatedScale) ⌝ }
     ensures { λ r. ⌜ r ≡ pos (2 * extrapolatedScale) *ℤ p -ℤ pos c *ℤ q ⌝ }
 {
@@ -171,13 +172,13 @@ fn reflected(p: i64, q: i64, c: usize) -> i64
 }
 
 // The sum over the vertices 1 to r of a list, on axis a.
-fn far_sum(points: &[i32], l: &[usize; 8], r: usize, a: usize) -> i64
+fn far_sum(points: &[i32], l: &[usize; 8], r: u16, a: usize) -> i64
     requires { ⌜ Within coordinateRange (now points) × (a < 3) × (r ≤ 5) × VerticesIn (now points) (r + 1) (now l) ⌝ }
     ensures { λ z. ⌜ z ≡ sum r (λ (i : ℕ). axis (now (points .entry)) a (getD (now (l .entry)) (i + 1) 0)) ⌝ }
 {
     let mut total: i64 = 0;
     let mut i: usize = 0;
-    while i < r {
+    while i < r as usize {
         i += 1;
         let v = l[i];
         total = total + coordinates::coordinate(points, v, a);
@@ -192,7 +193,7 @@ fn extrapolated_on(
     s: usize,
     l: &[usize; 8],
     k: &[usize; 8],
-    m: usize,
+    m: u16,
     a: usize,
 ) -> i64
     requires { ⌜ Points (now faces) (now points) × OpenFan (now faces) s m (now l) (now k) ⌝ }
@@ -219,7 +220,7 @@ fn extrapolated_from(
     s: usize,
     l: &[usize; 8],
     k: &[usize; 8],
-    m: usize,
+    m: u16,
 ) -> coordinates::Exact
     requires { ⌜ Points (now faces) (now points) × OpenFan (now faces) s m (now l) (now k) ⌝ }
     requires { ⌜ VerticesIn (now points) m (now l) × VerticesIn (now points) m (now k) ⌝ }
@@ -274,7 +275,7 @@ fn fan_sum(
     points: &[i32],
     l: &[usize; 8],
     k: &[usize; 8],
-    m: usize,
+    m: u16,
     j: usize,
     c: usize,
     p: coordinates::Exact,
@@ -288,8 +289,9 @@ fn fan_sum(
     ensures { λ e. ⌜ e .y ≡ fanOn (axis (now (points .entry)) 1) (now (l .entry)) (now (k .entry)) m j c (p .y) (q .y) (r .y) ⌝ }
     ensures { λ e. ⌜ e .z ≡ fanOn (axis (now (points .entry)) 2) (now (l .entry)) (now (k .entry)) m j c (p .z) (q .z) (r .z) ⌝ }
 {
-    let n = m + 2;
-    let t = m - j;
+    let e = m as usize;
+    let n = e + 2;
+    let t = e - j;
     let w = rings::weights(n);
     let s = weighted_sum(points, &w, l, k, m, n, n - j);
     coordinates::Exact {

@@ -60,12 +60,18 @@ filled c =
     filled-more (s .args .faces .now) (s .args .h) (q .loop .g) (q .loop .i) (q .loop .l) (q .loop .k) (c .before .end-of .result) (c .opposite-corner .result) (q .loop .inv .1) (few q) (q .loop .inv .0 .at) (c .before .end-of .ensures)
     (c .opposite-corner .ensures)
 
+cast-t17 : tie.Need-cast-t17 Inv-loop μ-loop
+cast-t17 c = let b = few (c .before .before .before .before) in omega arith
+
 returns : tie.Need-returns Inv-loop μ-loop
 returns c =
     let p = c .before in
     let q = p .before .before .before in
     let s = q .before .before .before in
     turning-end (s .args .faces .now) (s .args .h) (q .loop .g) (q .loop .i) (q .loop .inv .0) (p .turn-side .result) (p .turn-side .ensures) (inl (c .if1 .taken)) _ _ (filled (p .before))
+
+cast-t18 : tie.Need-cast-t18 Inv-loop μ-loop
+cast-t18 c = let b = few (c .before .before .before .before .before) in omega arith
 
 returns-2 : tie.Need-returns-2 Inv-loop μ-loop
 returns-2 c =
@@ -99,7 +105,9 @@ gather-spec =
     element-write-k
     add-i
     turn-side-requires
+    cast-t17
     returns
+    cast-t18
     returns-2
     loop-less
     loop-again)
