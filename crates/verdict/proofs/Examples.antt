@@ -85,6 +85,11 @@ fanAndTouching =
     0 ∷ 1 ∷ 2 ∷ 3 ∷ 0 ∷ 3 ∷ 4 ∷ 5 ∷ 0 ∷ 5 ∷ 6 ∷ 7 ∷ 0 ∷ 7 ∷ 8 ∷ 9 ∷ 0 ∷ 9 ∷ 10 ∷ 11 ∷ 0 ∷ 11 ∷ 12 ∷ 13 ∷ 0 ∷ 13 ∷ 14 ∷ 15
     ∷ 16 ∷ 17 ∷ 18 ∷ 19 ∷ 16 ∷ 20 ∷ 21 ∷ 22 ∷ []
 
+-- n + 1 faces at vertex 0 from vertex i on, with vertex 1 opposite in each; the last ends at vertex 2
+abbrev ringFrom : ℕ → ℕ → List ℕ
+ringFrom zero i = 0 ∷ i ∷ 1 ∷ 2 ∷ []
+ringFrom (suc n) i = 0 ∷ i ∷ 1 ∷ suc i ∷ ringFrom n (suc i)
+
 abbrev computed : List Verdict
 computed =
     -- "coordinate 1,048,576 passes; 1,048,577 gives 5"
@@ -104,6 +109,9 @@ computed =
     ∷ netVerdict (netOf (pos 0) 22 fanAndTouching)
     -- a ring of two is a ring, of too few faces
     ∷ netVerdict (netOf (pos 0) 4 (0 ∷ 1 ∷ 2 ∷ 3 ∷ 0 ∷ 3 ∷ 4 ∷ 1 ∷ []))
+    -- a ring of eight passes at vertex 0, and a ring of two gets 11 at vertex 2; a ring of nine gets it at vertex 0
+    ∷ netVerdict (netOf (pos 0) 9 (ringFrom 7 2))
+    ∷ netVerdict (netOf (pos 0) 10 (ringFrom 8 2))
     -- mark 1 on a vertex with a full ring: the centre of two by two squares
     ∷ netVerdict (controlNet (flat 9) (0 ∷ 1 ∷ 4 ∷ 3 ∷ 1 ∷ 2 ∷ 5 ∷ 4 ∷ 3 ∷ 4 ∷ 7 ∷ 6 ∷ 4 ∷ 5 ∷ 8 ∷ 7 ∷ []) [] (0 ∷ 0 ∷ 0 ∷ 0 ∷ 1 ∷ 0 ∷ 0 ∷ 0 ∷ 0 ∷ []))
     -- faces of other numbers of sides: a tetrahedron; equal corners three apart in an octagon; a side of the first triangle again in the second; a ring of two
@@ -114,7 +122,7 @@ computed =
     ∷ []
 
 abbrev stated : List Verdict
-stated = accepted ∷ accepted ∷ refused 5 0 ∷ refused 8 4 ∷ refused 8 4 ∷ refused 8 0 ∷ refused 9 1 ∷ refused 5 0 ∷ refused 10 2 ∷ refused 10 16 ∷ refused 11 0 ∷ refused 12 4 ∷ accepted ∷ refused 7 0 ∷ refused 9 1 ∷ refused 11 0 ∷ []
+stated = accepted ∷ accepted ∷ refused 5 0 ∷ refused 8 4 ∷ refused 8 4 ∷ refused 8 0 ∷ refused 9 1 ∷ refused 5 0 ∷ refused 10 2 ∷ refused 10 16 ∷ refused 11 0 ∷ refused 11 2 ∷ refused 11 0 ∷ refused 12 4 ∷ accepted ∷ refused 7 0 ∷ refused 9 1 ∷ refused 11 0 ∷ []
 
 nets : computed ≡ stated
 unfolding netVerdict coordinatesVerdict shapeVerdict facesVerdict adjacencyVerdict vertexVerdict badCoordinate badMark badCorner isolated repeatedSide nonManifold badValence markedRing sideAfter sideBefore faceThen noFace polygons shapeOf firstFrom first any count iterate quads from to opposed mate isBoundaryFrom boundaryFrom leaves valence turn start stops facesMet

@@ -1,3 +1,4 @@
 pub mod Examples
 pub mod Accepted
+pub mod LargeRing
 pub mod Coordinates

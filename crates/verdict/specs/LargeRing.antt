@@ -1,0 +1,25 @@
+-- Paper 02: "a net with a ring of 4,096 faces and no reason before 11 still gets 11", and so does a ring of any number above 8.
+use mathlib.Core.Path.{_≡_}
+use Prim.Native.Nat.{ℕ, _≤_, _<_}
+use lib.ListN.{length}
+use Rattle.search.specs.Search.{first}
+use Rattle.topology.specs.Vertex.{Ring}
+use Rattle.polygons.specs.Polygons.{shapeOf}
+use Rattle.refusals.specs.Refusals.{badMark, badCorner, isolated, repeatedSide, nonManifold}
+use Rattle.verdict.specs.Call.{Call}
+use Rattle.verdict.specs.Verdict.{accepted, refused, badCoordinate, callVerdict, verdict}
+
+-- "no reason before 11": neither 1 to 4 and 14 for the call, nor 5 to 10 anywhere in its net
+pub record NoneBefore11 (c : Call) : Type 0 where
+  pub call : callVerdict c ≡ accepted
+  pub no5 : first (badCoordinate (c .net .vertices)) (length (c .net .vertices)) ≡ length (c .net .vertices)
+  pub no6 : first (badMark (c .net .marks)) (length (c .net .marks)) ≡ length (c .net .marks)
+  pub no7 : first (badCorner (shapeOf (c .net .sides)) (length (c .net .marks)) (c .net .faces)) (length (c .net .faces)) ≡ length (c .net .faces)
+  pub no8 : first (isolated (c .net .faces)) (length (c .net .marks)) ≡ length (c .net .marks)
+  pub no9 : first (repeatedSide (shapeOf (c .net .sides)) (c .net .faces)) (length (c .net .faces)) ≡ length (c .net .faces)
+  pub no10 : first (nonManifold (shapeOf (c .net .sides)) (c .net .faces)) (length (c .net .marks)) ≡ length (c .net .marks)
+
+-- a full ring of m faces at p gets 11, at p or at a vertex before it
+pub record LargeRing : Type 0 where
+  pub refuses : (c : Call) → NoneBefore11 c → (p h m : ℕ) → p < length (c .net .marks) → Ring (shapeOf (c .net .sides)) (c .net .faces) p h m → 8 < m
+      → (q : ℕ) × (q ≤ p) × (verdict c ≡ refused 11 q)
