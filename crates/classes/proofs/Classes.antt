@@ -2,6 +2,7 @@
 use mathlib.Core.Path.{_≡_, refl, sym, ap, _∙_}
 use mathlib.Core.Bool.{Bool, true, false, cond}
 use mathlib.Core.List.{List}
+use mathlib.Core.Logic.{_⊎_, inl, inr}
 use Prim.Native.Nat.{ℕ, suc, _+_, _*_, _/_, _%_, _≤_, _<_}
 use native.Mathlib.Decide.{decLt, ℕ-discrete}
 use native.Mathlib.Numerals.{add-one}
@@ -9,9 +10,9 @@ use native.Mathlib.Omega.{arith}
 use lib.Dec.{ltb, eqb, lit≤}
 use lib.ListN.{length, getD, set}
 use lib.Seq.{getD-set-same, getD-set-other}
-use borrow.Author.Tests.{lt-ltb, le-ltb, eq-eqb, eqb-true, ne-eqb}
+use borrow.Author.Tests.{lt-ltb, le-ltb, eq-eqb, eqb-true}
 use Rattle.search.specs.Search.{count}
-use Rattle.search.proofs.Tests.{cond-elim, refuted}
+use Rattle.search.proofs.Tests.{cond-elim, refuted, or-cases}
 use Rattle.search.proofs.First.{first-before, first-holds}
 use Rattle.search.proofs.Count.{count-more, count-same, count-skip, count-none, count-mono}
 use Rattle.topology.specs.Shape.{quads}
@@ -44,11 +45,11 @@ data OrdinaryHalves (e : ℕ) : Type 0 where
   two : e % 65536 ≡ 2 → e / 65536 ≡ 1 → OrdinaryHalves e
 
 ordinary-halves : (e : ℕ) → ordinaryEntry e ≡ true → OrdinaryHalves e
-ordinary-halves e t = go (ℕ-discrete e 4)
+ordinary-halves e t = go (or-cases (eqb e 4) (eqb e 65538) t)
   where
-    go : Dec (e ≡ 4) → OrdinaryHalves e
-    go (yes a) = four (omega arith) (omega arith)
-    go (no a) = let b : eqb e 4 ≡ false = ne-eqb e 4 a in let c : e ≡ 65538 = eqb-true e 65538 (rw b at t) in two (omega arith) (omega arith)
+    go : (eqb e 4 ≡ true) ⊎ (eqb e 65538 ≡ true) → OrdinaryHalves e
+    go (inl a) = let b = eqb-true e 4 a in four (omega arith) (omega arith)
+    go (inr a) = let b = eqb-true e 65538 a in two (omega arith) (omega arith)
 
 module _ (v at : ℕ) (l w : List ℕ) (r : FaceCounts v at l w) (p : ℕ) (b : p < v) where
   on-boundary : getD w (at + p) 0 / 65536 ≡ 1 → boundaryFrom quads l p < length l
