@@ -1,9 +1,8 @@
--- The counted faces tell which vertices are ordinary, and rounds keep the classes.
+-- Ring sizes tell which vertices are ordinary, and rounds keep the classes.
 use mathlib.Core.Path.{_≡_, refl, sym, ap, _∙_}
 use mathlib.Core.Bool.{Bool, true, false, cond}
 use mathlib.Core.List.{List}
-use mathlib.Core.Logic.{_⊎_, inl, inr}
-use Prim.Native.Nat.{ℕ, suc, _+_, _*_, _/_, _%_, _≤_, _<_}
+use Prim.Native.Nat.{ℕ, suc, _+_, _*_, _%_, _≤_, _<_}
 use native.Mathlib.Decide.{decLt, ℕ-discrete}
 use native.Mathlib.Numerals.{add-one}
 use native.Mathlib.Omega.{arith}
@@ -12,7 +11,7 @@ use lib.ListN.{length, getD, set}
 use lib.Seq.{getD-set-same, getD-set-other}
 use borrow.Author.Tests.{lt-ltb, le-ltb, eq-eqb, eqb-true}
 use Rattle.search.specs.Search.{count}
-use Rattle.search.proofs.Tests.{cond-elim, refuted, or-cases}
+use Rattle.search.proofs.Tests.{cond-elim, refuted}
 use Rattle.search.proofs.First.{first-before, first-holds}
 use Rattle.search.proofs.Count.{count-more, count-same, count-skip, count-none, count-mono}
 use Rattle.topology.specs.Shape.{quads}
@@ -28,7 +27,7 @@ use Rattle.halfedges.proofs.Tables.{mates-cong}
 use Rattle.refinedfaces.specs.Refined.{refinedVertices, refined}
 use Rattle.schemelaws.specs.Ordinary.{Ordinary, ringOfFour, fanOfTwo}
 use Rattle.schemelaws.proofs.Made.{made-ordinary, old-ordinary}
-use Rattle.classes.specs.Classes.{FaceCounts, ordinaryEntry, ordinaryBy, Classes, Countable, ZerosFrom, shareOf, CountedBelow}
+use Rattle.classes.specs.Classes.{ringSize, sizeAt, RingSizes, ordinaryBy, Classes, Countable, ZerosFrom, shareOf, CountedBelow}
 
 leaves-on : (l : List ℕ) (p h : ℕ) → from l h ≡ p → leaves l p h ≡ true
 unfolding leaves
@@ -38,49 +37,36 @@ leaves-at : (l : List ℕ) (p h : ℕ) → leaves l p h ≡ true → from l h �
 unfolding leaves
 leaves-at l p h t = eqb-true (from l h) p t
 
--- ---- entries
--- an entry of an ordinary vertex, taken apart
-data OrdinaryHalves (e : ℕ) : Type 0 where
-  four : e % 65536 ≡ 4 → e / 65536 ≡ 0 → OrdinaryHalves e
-  two : e % 65536 ≡ 2 → e / 65536 ≡ 1 → OrdinaryHalves e
+-- ---- ring sizes
+module _ (l : List ℕ) (p : ℕ) where
+  ring-size-inner : boundaryFrom quads l p ≡ length l → ringSize l p ≡ valence l p
+  unfolding ringSize
+  ring-size-inner b = let a = le-ltb (boundaryFrom quads l p) (length l) (omega arith) in rw a (omega arith)
 
-ordinary-halves : (e : ℕ) → ordinaryEntry e ≡ true → OrdinaryHalves e
-ordinary-halves e t = go (or-cases (eqb e 4) (eqb e 65538) t)
-  where
-    go : (eqb e 4 ≡ true) ⊎ (eqb e 65538 ≡ true) → OrdinaryHalves e
-    go (inl a) = let b = eqb-true e 4 a in four (omega arith) (omega arith)
-    go (inr a) = let b = eqb-true e 65538 a in two (omega arith) (omega arith)
+  ring-size-boundary : boundaryFrom quads l p < length l → ringSize l p ≡ valence l p + 2
+  unfolding ringSize
+  ring-size-boundary b = let a = lt-ltb (boundaryFrom quads l p) (length l) b in rw a
 
-module _ (v at : ℕ) (l w : List ℕ) (r : FaceCounts v at l w) (p : ℕ) (b : p < v) where
-  on-boundary : getD w (at + p) 0 / 65536 ≡ 1 → boundaryFrom quads l p < length l
-  on-boundary e = go (decLt (boundaryFrom quads l p) (length l))
+  -- the ring of a vertex has four faces exactly where it is ordinary
+  pub four-ordinary : ringSize l p ≡ 4 → Ordinary l p
+  four-ordinary e = go (decLt (boundaryFrom quads l p) (length l))
     where
-      go : Dec (boundaryFrom quads l p < length l) → boundaryFrom quads l p < length l
-      go (yes c) = c
-      go (no c) = let d = le-ltb (boundaryFrom quads l p) (length l) (omega arith) in let f : getD w (at + p) 0 / 65536 ≡ 0 = rw d at (r .boundary p b) in let z : ⊥ = omega arith in absurd z
+      go : Dec (boundaryFrom quads l p < length l) → Ordinary l p
+      go (yes b) = let s = ring-size-boundary b in fanOfTwo b (omega arith)
+      go (no b) = let c : boundaryFrom quads l p ≡ length l = omega (arith, boundaryFrom-le quads l p) in let s = ring-size-inner c in ringOfFour c (omega arith)
 
-  inside : getD w (at + p) 0 / 65536 ≡ 0 → boundaryFrom quads l p ≡ length l
-  inside e = go (decLt (boundaryFrom quads l p) (length l))
-    where
-      go : Dec (boundaryFrom quads l p < length l) → boundaryFrom quads l p ≡ length l
-      go (yes c) = let d = lt-ltb (boundaryFrom quads l p) (length l) c in let f : getD w (at + p) 0 / 65536 ≡ 1 = rw d at (r .boundary p b) in let z : ⊥ = omega arith in absurd z
-      go (no c) = omega (arith, boundaryFrom-le quads l p)
-
-  pub entry-ordinary : ordinaryEntry (getD w (at + p) 0) ≡ true → Ordinary l p
-  entry-ordinary t = go (ordinary-halves (getD w (at + p) 0) t)
-    where
-      go : OrdinaryHalves (getD w (at + p) 0) → Ordinary l p
-      go (four a c) = ringOfFour (inside c) (sym (r .faces p b) ∙ a)
-      go (two a c) = fanOfTwo (on-boundary c) (sym (r .faces p b) ∙ a)
+  pub ordinary-four : Ordinary l p → ringSize l p ≡ 4
+  ordinary-four (ringOfFour b n) = ring-size-inner b ∙ n
+  ordinary-four (fanOfTwo b n) = let s = ring-size-boundary b in omega arith
 
 -- ---- classes: as counted, and after a round
--- where the table has the entry of each vertex
-pub classes-counted : (v at : ℕ) (l w : List ℕ) → at + v ≤ length w → FaceCounts v at l w → Classes v at v l w
+-- where the table has the ring size of each vertex
+pub classes-counted : (v at : ℕ) (l w : List ℕ) → at + v ≤ length w → RingSizes v at l w → Classes v at v l w
 unfolding ordinaryBy
 classes-counted v at l w b r = record {
   fewer = omega arith;
   room = b;
-  ordinary = λ p c e. let d = lt-ltb p v c in entry-ordinary v at l w r p c (rw d at e);
+  ordinary = λ p c e. let d = lt-ltb p v c in four-ordinary l p (sym (r .sizes p c) ∙ eqb-true (sizeAt w (at + p)) 4 (rw d at e));
 }
 
 -- the table is the same for the initial vertices
@@ -89,7 +75,7 @@ unfolding ordinaryBy
 classes-same v at initial l w w′ b f k = record { fewer = k .fewer; room = b; ordinary = λ p c e. k .ordinary p c (sym (same p (decLt p initial)) ∙ e) }
   where
     same : (p : ℕ) → Dec (p < initial) → ordinaryBy w′ at initial p ≡ ordinaryBy w at initial p
-    same p (yes c) = ap (λ (x : ℕ). cond (ltb p initial) (ordinaryEntry x) true) (f p c)
+    same p (yes c) = ap (λ (x : ℕ). cond (ltb p initial) (eqb (x % 65536) 4) true) (f p c)
     same p (no c) = let d = le-ltb p initial (omega arith) in rw d
 
 pub classes-refined : (v at initial : ℕ) (l w : List ℕ) → Manifold quads v l → Classes v at initial l w → Classes (refinedVertices quads v l) at initial (refined quads v l) w
@@ -126,30 +112,24 @@ module _ (v : ℕ) (l : List ℕ) (ok : Manifold quads v l) (p : ℕ) where
   unfolding boundaryFrom
   boundary-never b = count-none (isBoundaryFrom quads l p) (length l) (λ j c. first-before (isBoundaryFrom quads l p) (length l) j (omega arith))
 
-  -- at most eight faces, and one boundary half-edge
-  valence-few : p < v → valence l p ≤ 8
-  valence-few b = go (decLt (boundaryFrom quads l p) (length l))
+  counted-size : count (leaves l p) (length l) + 2 * count (isBoundaryFrom quads l p) (length l) ≡ ringSize l p
+  unfolding valence
+  counted-size = go (decLt (boundaryFrom quads l p) (length l))
     where
-      go : Dec (boundaryFrom quads l p < length l) → valence l p ≤ 8
-      go (yes c) = let x = fan-range quads v l ok p b c .1 in omega arith
-      go (no c) = ring-range quads v l ok p b (omega (arith, boundaryFrom-le quads l p)) .1
+      go : Dec (boundaryFrom quads l p < length l) → count (leaves l p) (length l) + 2 * count (isBoundaryFrom quads l p) (length l) ≡ ringSize l p
+      go (yes b) = let s = ring-size-boundary l p b in let c = boundary-once b in omega arith
+      go (no b) = let e : boundaryFrom quads l p ≡ length l = omega (arith, boundaryFrom-le quads l p) in let s = ring-size-inner l p e in let c = boundary-never e in omega arith
 
-  boundary-count : count (isBoundaryFrom quads l p) (length l) ≡ cond (ltb (boundaryFrom quads l p) (length l)) 1 0
-  boundary-count = go (decLt (boundaryFrom quads l p) (length l))
+  -- "n is 3 to 8" in a ring, and at most 6 + 2 with the points of a fan
+  ring-size-few : p < v → ringSize l p ≤ 8
+  ring-size-few b = go (decLt (boundaryFrom quads l p) (length l))
     where
-      go : Dec (boundaryFrom quads l p < length l) → count (isBoundaryFrom quads l p) (length l) ≡ cond (ltb (boundaryFrom quads l p) (length l)) 1 0
-      go (yes b) = let c = lt-ltb (boundaryFrom quads l p) (length l) b in rw c (boundary-once b)
-      go (no b) = let c = le-ltb (boundaryFrom quads l p) (length l) (omega arith) in rw c (boundary-never (omega (arith, boundaryFrom-le quads l p)))
+      go : Dec (boundaryFrom quads l p < length l) → ringSize l p ≤ 8
+      go (yes c) = let s = ring-size-boundary l p c in omega (arith, fan-range quads v l ok p b c .1)
+      go (no c) = let e : boundaryFrom quads l p ≡ length l = omega (arith, boundaryFrom-le quads l p) in let s = ring-size-inner l p e in omega (arith, ring-range quads v l ok p b e .1)
 
-  boundary-few : count (isBoundaryFrom quads l p) (length l) ≤ 1
-  boundary-few = rw boundary-count (cond-elim (λ r. r ≤ 1) (ltb (boundaryFrom quads l p) (length l)) 1 0 (λ e. lit≤ tt) (λ e. lit≤ tt))
-
-pub counted-all : (v at : ℕ) (l w : List ℕ) → Manifold quads v l → CountedBelow v at l w (length l) → FaceCounts v at l w
-unfolding valence
-counted-all v at l w ok c = record {
-  faces = λ p b. let e = c .entries p b in let f = valence-few v l ok p b in omega arith;
-  boundary = λ p b. let e = c .entries p b in let f = valence-few v l ok p b in let h : getD w (at + p) 0 / 65536 ≡ count (isBoundaryFrom quads l p) (length l) = omega arith in h ∙ boundary-count v l ok p;
-}
+pub counted-all : (v at : ℕ) (l w : List ℕ) → Manifold quads v l → CountedBelow v at l w (length l) → RingSizes v at l w
+counted-all v at l w ok c = record { sizes = λ p b. let e = c .sizes p b ∙ counted-size v l ok p in let f = ring-size-few v l ok p b in omega arith }
 
 pub zeros-none : (at : ℕ) (w : List ℕ) → ZerosFrom 0 at w
 zeros-none at w = record { zeros = λ p b. let z : ⊥ = omega arith in absurd z }
@@ -163,23 +143,23 @@ zeros-next v at w b c = record { zeros = λ p d. go p d (ℕ-discrete p v) }
 
 pub counted-none : (v at : ℕ) (l w : List ℕ) → ZerosFrom v at w → CountedBelow v at l w 0
 unfolding count
-counted-none v at l w z = record { entries = z .zeros }
+counted-none v at l w z = record { sizes = z .zeros }
 
-pub share-le : (l : List ℕ) (h : ℕ) → shareOf l h ≤ 65537
+pub share-le : (l : List ℕ) (h : ℕ) → shareOf l h ≤ 3
 unfolding shareOf
-share-le l h = cond-elim (λ r. r ≤ 65537) (ltb (mate quads l h) (length l)) 1 65537 (λ e. lit≤ tt) (λ e. lit≤ tt)
+share-le l h = cond-elim (λ r. r ≤ 3) (ltb (mate quads l h) (length l)) 1 3 (λ e. lit≤ tt) (λ e. lit≤ tt)
 
 module _ (v at : ℕ) (l w : List ℕ) (h : ℕ) (b : h < length l) where
   -- the vertex that h leaves is counted once more, the others are not
   share-here : (p : ℕ) → from l h ≡ p
-      → count (leaves l p) (h + 1) + 65536 * count (isBoundaryFrom quads l p) (h + 1) ≡ count (leaves l p) h + 65536 * count (isBoundaryFrom quads l p) h + shareOf l h
+      → count (leaves l p) (h + 1) + 2 * count (isBoundaryFrom quads l p) (h + 1) ≡ count (leaves l p) h + 2 * count (isBoundaryFrom quads l p) h + shareOf l h
   unfolding shareOf
   share-here p e = go (decLt (mate quads l h) (length l))
     where
       x : count (leaves l p) (h + 1) ≡ count (leaves l p) h + 1
       x = rw (add-one h) (count-more (leaves l p) h (leaves-on l p h e))
 
-      go : Dec (mate quads l h < length l) → count (leaves l p) (h + 1) + 65536 * count (isBoundaryFrom quads l p) (h + 1) ≡ count (leaves l p) h + 65536 * count (isBoundaryFrom quads l p) h + cond (ltb (mate quads l h) (length l)) 1 65537
+      go : Dec (mate quads l h < length l) → count (leaves l p) (h + 1) + 2 * count (isBoundaryFrom quads l p) (h + 1) ≡ count (leaves l p) h + 2 * count (isBoundaryFrom quads l p) h + cond (ltb (mate quads l h) (length l)) 1 3
       go (yes m) =
           let s = lt-ltb (mate quads l h) (length l) m in
           let y : count (isBoundaryFrom quads l p) (h + 1) ≡ count (isBoundaryFrom quads l p) h = rw (add-one h) (count-same (isBoundaryFrom quads l p) h (refuted _ (λ t. let z = from-none quads l p h t in omega arith))) in
@@ -191,7 +171,7 @@ module _ (v at : ℕ) (l w : List ℕ) (h : ℕ) (b : h < length l) where
           rw s (omega (arith, x))
 
   share-elsewhere : (p : ℕ) → (from l h ≡ p → ⊥)
-      → count (leaves l p) (h + 1) + 65536 * count (isBoundaryFrom quads l p) (h + 1) ≡ count (leaves l p) h + 65536 * count (isBoundaryFrom quads l p) h
+      → count (leaves l p) (h + 1) + 2 * count (isBoundaryFrom quads l p) (h + 1) ≡ count (leaves l p) h + 2 * count (isBoundaryFrom quads l p) h
   share-elsewhere p n =
       let x : count (leaves l p) (h + 1) ≡ count (leaves l p) h = rw (add-one h) (count-same (leaves l p) h (refuted _ (λ t. n (leaves-at l p h t)))) in
       let y : count (isBoundaryFrom quads l p) (h + 1) ≡ count (isBoundaryFrom quads l p) h = rw (add-one h) (count-same (isBoundaryFrom quads l p) h (refuted _ (λ t. n (from-at quads l p h t)))) in
@@ -202,35 +182,34 @@ module _ (v at : ℕ) (l w : List ℕ) (h : ℕ) (b : h < length l) where
     place-lt = let r = ok .room in let x = ok .net .oriented .below h b in omega arith
 
     -- a count of the half-edges below h is no larger than that of all
-    pub counted-few : getD w (at + from l h) 0 ≤ 65544
-    unfolding valence
+    pub counted-few : getD w (at + from l h) 0 ≤ 8
     counted-few =
         let p : ℕ = from l h in
-        let v = ok .net .oriented .below h b in
-        let x = c .entries p v in
+        let d = ok .net .oriented .below h b in
+        let x = c .sizes p d in
         let y = count-mono (leaves l p) h (length l) (omega arith) in
         let z = count-mono (isBoundaryFrom quads l p) h (length l) (omega arith) in
-        let f = valence-few _ l (ok .net) p v in
-        let g = boundary-few _ l (ok .net) p in
+        let e = counted-size v l (ok .net) p in
+        let f = ring-size-few v l (ok .net) p d in
         omega arith
 
     pub counted-next : CountedBelow v at l (set w (at + from l h) (getD w (at + from l h) 0 + shareOf l h)) (h + 1)
-    counted-next = record { entries = λ p d. go p d (ℕ-discrete (from l h) p) }
+    counted-next = record { sizes = λ p d. go p d (ℕ-discrete (from l h) p) }
       where
         x : ℕ
         x = getD w (at + from l h) 0 + shareOf l h
 
-        go : (p : ℕ) → p < v → Dec (from l h ≡ p) → getD (set w (at + from l h) x) (at + p) 0 ≡ count (leaves l p) (h + 1) + 65536 * count (isBoundaryFrom quads l p) (h + 1)
+        go : (p : ℕ) → p < v → Dec (from l h ≡ p) → getD (set w (at + from l h) x) (at + p) 0 ≡ count (leaves l p) (h + 1) + 2 * count (isBoundaryFrom quads l p) (h + 1)
         go p d (yes e) =
             let a : at + from l h ≡ at + p = omega arith in
             let f : getD (set w (at + from l h) x) (at + from l h) 0 ≡ x = getD-set-same w (at + from l h) x 0 place-lt in
             let g : getD w (at + from l h) 0 ≡ getD w (at + p) 0 = ap (λ (i : ℕ). getD w i 0) a in
-            let j = c .entries p d in
+            let j = c .sizes p d in
             let k = share-here p e in
             ap (λ (i : ℕ). getD (set w (at + from l h) x) i 0) (sym a) ∙ f ∙ omega arith
-        go p d (no e) = getD-set-other w (at + from l h) (at + p) x 0 (λ q. e (omega arith)) ∙ c .entries p d ∙ sym (share-elsewhere p e)
+        go p d (no e) = getD-set-other w (at + from l h) (at + p) x 0 (λ q. e (omega arith)) ∙ c .sizes p d ∙ sym (share-elsewhere p e)
 
--- the mates stay where nothing outside the entries changes
+-- the mates stay where nothing outside the ring sizes changes
 pub countable-next : (v at : ℕ) (l w : List ℕ) → Countable v at l w → (w′ : List ℕ) → length w′ ≡ length w → SameOutside at (at + v) w w′ → Countable v at l w′
 countable-next v at l w ok w′ k s =
     let d = ok .table .room in

@@ -1,9 +1,9 @@
--- Which vertices are ordinary, by the faces round them, counted in 16 bits: a table w has the entry of vertex p of the net where refining begins at the place at + p.
+-- Which vertices are ordinary, by the sizes of their rings: a table w has the ring size of vertex p of the net where refining begins, in 16 bits, at the place at + p.
 -- Vertices that rounds made are ordinary.
 use mathlib.Core.Path.{_≡_}
-use mathlib.Core.Bool.{Bool, true, cond, _||_}
+use mathlib.Core.Bool.{Bool, true, cond}
 use mathlib.Core.List.{List}
-use Prim.Native.Nat.{ℕ, _+_, _*_, _/_, _%_, _≤_, _<_}
+use Prim.Native.Nat.{ℕ, _+_, _*_, _%_, _≤_, _<_}
 use lib.Dec.{ltb, eqb}
 use lib.ListN.{length, getD}
 use Rattle.search.specs.Search.{count}
@@ -15,18 +15,20 @@ use Rattle.topology.specs.Manifold.{Manifold}
 use Rattle.halfedges.specs.Tables.{Connectivity}
 use Rattle.schemelaws.specs.Ordinary.{Ordinary}
 
--- the low 16 bits of the entry of p are the number of faces at p, the high 16 bits that of the boundary half-edges that leave p, 1 or 0
-pub record FaceCounts (v at : ℕ) (l w : List ℕ) : Type 0 where
-  pub faces : (p : ℕ) → p < v → getD w (at + p) 0 % 65536 ≡ valence l p
-  pub boundary : (p : ℕ) → p < v → getD w (at + p) 0 / 65536 ≡ cond (ltb (boundaryFrom quads l p) (length l)) 1 0
+-- how many faces the ring of p has. "For a boundary vertex P with end neighbours b and c, n = m + 2"
+unfoldable pub ringSize : List ℕ → ℕ → ℕ
+ringSize l p = valence l p + cond (ltb (boundaryFrom quads l p) (length l)) 2 0
 
--- four faces and no boundary, or two faces on the boundary
-abbrev pub ordinaryEntry : ℕ → Bool
-ordinaryEntry e = eqb e 4 || eqb e 65538
+-- the 16-bit number at a place of a table, the low bits of what stands there
+abbrev pub sizeAt : List ℕ → ℕ → ℕ
+sizeAt w i = getD w i 0 % 65536
+
+pub record RingSizes (v at : ℕ) (l w : List ℕ) : Type 0 where
+  pub sizes : (p : ℕ) → p < v → sizeAt w (at + p) ≡ ringSize l p
 
 -- whether the table says that p is ordinary, where refining begins with `initial` vertices
 unfoldable pub ordinaryBy : List ℕ → ℕ → ℕ → ℕ → Bool
-ordinaryBy w at initial p = cond (ltb p initial) (ordinaryEntry (getD w (at + p) 0)) true
+ordinaryBy w at initial p = cond (ltb p initial) (eqb (sizeAt w (at + p)) 4) true
 
 -- of the v vertices of the net with corners l, those that the table says to be ordinary are
 pub record Classes (v at initial : ℕ) (l w : List ℕ) : Type 0 where
@@ -45,10 +47,10 @@ pub record Countable (v at : ℕ) (l w : List ℕ) : Type 0 where
 pub record ZerosFrom (v at : ℕ) (w : List ℕ) : Type 0 where
   pub zeros : (p : ℕ) → p < v → getD w (at + p) 0 ≡ 0
 
--- what half-edge h adds to the entry of the vertex that it leaves: a face, and on the boundary a boundary half-edge
+-- what half-edge h counts for the vertex that it leaves: 1, and 2 more on the boundary
 unfoldable pub shareOf : List ℕ → ℕ → ℕ
-shareOf l h = cond (ltb (mate quads l h) (length l)) 1 65537
+shareOf l h = cond (ltb (mate quads l h) (length l)) 1 3
 
--- of the half-edges below h, how many leave each vertex, and how many of these on the boundary
+-- of the half-edges below h, how many leave each vertex, those on the boundary three times
 pub record CountedBelow (v at : ℕ) (l w : List ℕ) (h : ℕ) : Type 0 where
-  pub entries : (p : ℕ) → p < v → getD w (at + p) 0 ≡ count (leaves l p) h + 65536 * count (isBoundaryFrom quads l p) h
+  pub sizes : (p : ℕ) → p < v → getD w (at + p) 0 ≡ count (leaves l p) h + 2 * count (isBoundaryFrom quads l p) h

@@ -1,21 +1,13 @@
-// Which vertices are ordinary: the faces round the vertices where refining begins, counted once, in 16 bits, and read in every round.
+// Which vertices are ordinary: the ring sizes of the vertices where refining begins, counted once, in 16 bits, and read in every round.
 ghost use mathlib.Core.Path.{_≡_};
 ghost use Prim.Native.Nat.{_+_, _≤_, _<_};
 ghost use lib.ListN.{length};
 ghost use Rattle.tables.specs.Tables.{SameOutside};
 ghost use Rattle.halfedges.specs.Tables.{Connectivity};
-ghost use Rattle.classes.specs.Classes.{FaceCounts, ordinaryBy, Countable, ZerosFrom, shareOf, CountedBelow};
-
-// The entries of ordinary vertices: four faces, or two and a boundary half-edge. The low 16 bits are the number of faces.
-const RING_OF_FOUR: u32 = 4;
-const FAN_OF_TWO: u32 = 65538;
-
-// What a half-edge adds to an entry: a face, and on the boundary a boundary half-edge, in the high 16 bits.
-const INNER_SHARE: u32 = 1;
-const BOUNDARY_SHARE: u32 = 65537;
+ghost use Rattle.classes.specs.Classes.{RingSizes, sizeAt, ordinaryBy, Countable, ZerosFrom, shareOf, CountedBelow};
 
 // Sets the v numbers from `at` on to zero.
-fn clear_counts(work: &mut [u32], at: usize, v: usize)
+fn clear_sizes(work: &mut [u32], at: usize, v: usize)
     requires { ⌜ at + v ≤ length (now work) ⌝ }
     ensures { λ _. ⌜ ZerosFrom v at (now (work .exit)) ⌝ }
     ensures { λ _. ⌜ SameOutside at (at + v) (now (work .entry)) (now (work .exit)) ⌝ }
@@ -27,19 +19,27 @@ fn clear_counts(work: &mut [u32], at: usize, v: usize)
     }
 }
 
-// What half-edge h adds to the entry of the vertex that it leaves.
-fn share(faces: &[u32], work: &[u32], h: usize) -> u32
+// The ring size at a place of the table.
+fn size_at(work: &[u32], i: usize) -> u16
+    requires { ⌜ i < length (now work) ⌝ }
+    ensures { λ r. ⌜ r ≡ sizeAt (now (work .entry)) i ⌝ }
+{
+    (work[i] % 65536) as u16
+}
+
+// What half-edge h counts for the vertex that it leaves: 1, and 2 more on the boundary.
+fn share(faces: &[u32], work: &[u32], h: usize) -> u16
     requires { ⌜ Connectivity (now faces) (now work) ⌝ }
     requires { ⌜ h < length (now faces) ⌝ }
     ensures { λ r. ⌜ r ≡ shareOf (now (faces .entry)) h ⌝ }
 {
     if halfedges::mate_side(faces, work, h) < faces.len() {
-        return INNER_SHARE;
+        return 1;
     }
-    BOUNDARY_SHARE
+    3
 }
 
-// Counts half-edge h at the vertex that it leaves.
+// Counts half-edge h for the vertex that it leaves.
 fn count_side(faces: &[u32], work: &mut [u32], at: usize, v: usize, h: usize)
     requires { ⌜ Countable v at (now faces) (now work) ⌝ }
     requires { ⌜ (h < length (now faces)) × CountedBelow v at (now faces) (now work) h ⌝ }
@@ -48,17 +48,16 @@ fn count_side(faces: &[u32], work: &mut [u32], at: usize, v: usize, h: usize)
 {
     let place = at + halfedges::start_of(faces, h);
     let more = share(faces, &*work, h);
-    work[place] += more;
+    work[place] += more as u32;
 }
 
-// Writes the entries of the v vertices from the place `at` on: one pass over the half-edges. One half-edge of each face at a vertex leaves it, and each boundary
-// vertex starts one boundary half-edge.
-pub fn count_faces(faces: &[u32], work: &mut [u32], at: usize, v: usize)
+// Writes the ring sizes of the v vertices from the place `at` on: one pass over the half-edges. Each boundary vertex starts one boundary half-edge.
+pub fn count_ring_sizes(faces: &[u32], work: &mut [u32], at: usize, v: usize)
     requires { ⌜ Countable v at (now faces) (now work) ⌝ }
-    ensures { λ _. ⌜ FaceCounts v at (now (faces .entry)) (now (work .exit)) ⌝ }
+    ensures { λ _. ⌜ RingSizes v at (now (faces .entry)) (now (work .exit)) ⌝ }
     ensures { λ _. ⌜ SameOutside at (at + v) (now (work .entry)) (now (work .exit)) ⌝ }
 {
-    clear_counts(&mut *work, at, v);
+    clear_sizes(&mut *work, at, v);
     let mut h = 0;
     while h < faces.len() {
         count_side(faces, &mut *work, at, v, h);
@@ -72,8 +71,7 @@ pub fn is_ordinary(work: &[u32], at: usize, initial: usize, p: usize) -> bool
     ensures { λ r. ⌜ r ≡ ordinaryBy (now (work .entry)) at initial p ⌝ }
 {
     if p < initial {
-        let e = work[at + p];
-        return e == RING_OF_FOUR || e == FAN_OF_TWO;
+        return size_at(work, at + p) == 4;
     }
     true
 }

@@ -28,7 +28,7 @@ use Rattle.schemelaws.proofs.Steps.{step-faces, step-count, steps-count, refina
 use Rattle.schemelaws.proofs.Growth.{steps-input}
 use Rattle.halfedges.specs.Tables.{MateTable}
 use Rattle.halfedges.proofs.Tables.{mates-cong}
-use Rattle.classes.specs.Classes.{FaceCounts, Classes, Countable}
+use Rattle.classes.specs.Classes.{RingSizes, Classes, Countable}
 use Rattle.classes.proofs.Classes.{classes-counted, classes-same, classes-refined}
 use Rattle.refinedfaces.specs.Mates.{refinedMates}
 use Rattle.roundmates.specs.Mates.{MatesIn}
@@ -105,7 +105,7 @@ module _ (k v n last : ℕ) (t : Buffers) (ok : Prepared k v n last t) where
         rest = refl;
       }
 
-  pub classes-none : FaceCounts v (8 * last) (take n faces) w → Classes v (8 * last) v (steps kobbelt 0 m .faces) w
+  pub classes-none : RingSizes v (8 * last) (take n faces) w → Classes v (8 * last) v (steps kobbelt 0 m .faces) w
   unfolding steps
   classes-none r = classes-counted v (8 * last) (take n faces) w classes-room r
 

@@ -74,7 +74,7 @@ pub fn rounds(
         return v;
     }
     let at = 8 * last;
-    classes::count_faces(&faces[..n], &mut *work, at, v);
+    classes::count_ring_sizes(&faces[..n], &mut *work, at, v);
     let mut count = v;
     let mut corners = n;
     let mut i = 0;

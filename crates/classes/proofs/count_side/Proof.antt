@@ -25,6 +25,9 @@ add-place c = let x = c in let e = x .start-of .ensures in let a = inside (start
 share-requires : tie.Need-share-requires
 share-requires c κs = let s = c .before .before .before .before in (s .pre .0 .table, s .pre .1 .0)
 
+cast-work : tie.Need-cast-work
+cast-work c = let d = c .share .ensures in let s = start (c .before .before) in omega (arith, share-le (s .args .faces .now) (s .args .h))
+
 mul-work : tie.Need-mul-work
 mul-work c = let x = c .before .before in let e = x .start-of .ensures in let a = inside (start x) in omega arith
 
@@ -66,6 +69,7 @@ count-side-spec =
     start-of-requires
     add-place
     share-requires
+    cast-work
     mul-work
     slice-read-work
     add-work

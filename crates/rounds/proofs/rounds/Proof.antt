@@ -30,26 +30,26 @@ abbrev lent : tie.Start Inv-loop μ-loop → Buffers
 lent s = buffers (s .args .points .now) (s .args .faces .now) (s .args .marks .now) (s .args .work .now)
 
 -- after the classes are made
-abbrev begun : tie.After-count-faces Inv-loop μ-loop → tie.Start Inv-loop μ-loop
+abbrev begun : tie.After-count-ring-sizes Inv-loop μ-loop → tie.Start Inv-loop μ-loop
 begun x = x .before .before .before .before .before .before .before .before
 
-abbrev tables : tie.After-count-faces Inv-loop μ-loop → Buffers
-tables x = let s = begun x in buffers (s .args .points .now) (s .args .faces .now) (s .args .marks .now) (x .count-faces .last .1 .0)
+abbrev tables : tie.After-count-ring-sizes Inv-loop μ-loop → Buffers
+tables x = let s = begun x in buffers (s .args .points .now) (s .args .faces .now) (s .args .marks .now) (x .count-ring-sizes .last .1 .0)
 
-ready : (x : tie.After-count-faces Inv-loop μ-loop) → (let s = begun x in Prepared (s .args .k) (s .args .v) (s .args .n) (s .args .last) (tables x))
+ready : (x : tie.After-count-ring-sizes Inv-loop μ-loop) → (let s = begun x in Prepared (s .args .k) (s .args .v) (s .args .n) (s .args .last) (tables x))
 ready x =
     let s = begun x in
-    prepared-classes (s .args .k) (s .args .v) (s .args .n) (s .args .last) (lent s) (s .pre .0) _ (x .count-faces .kept .1 .0) (x .count-faces .ensures .1)
+    prepared-classes (s .args .k) (s .args .v) (s .args .n) (s .args .last) (lent s) (s .pre .0) _ (x .count-ring-sizes .kept .1 .0) (x .count-ring-sizes .ensures .1)
 
 -- all rounds made since then are all rounds
-since : (x : tie.After-count-faces Inv-loop μ-loop) (i r : ℕ) (t : Buffers) → i ≡ begun x .args .k
+since : (x : tie.After-count-ring-sizes Inv-loop μ-loop) (i r : ℕ) (t : Buffers) → i ≡ begun x .args .k
     → (let s = begun x in After i (s .args .v) (s .args .n) r (tables x) t → After (s .args .k) (s .args .v) (s .args .n) r (lent s) t)
 since x i r t e =
     let s = begun x in
-    after-classes (s .args .k) (s .args .v) (s .args .n) (s .args .last) (lent s) (s .pre .0) _ (x .count-faces .kept .1 .0) (x .count-faces .ensures .1) i r t e
+    after-classes (s .args .k) (s .args .v) (s .args .n) (s .args .last) (lent s) (s .pre .0) _ (x .count-ring-sizes .kept .1 .0) (x .count-ring-sizes .ensures .1) i r t e
 
 -- before a round
-abbrev counted : tie.At-loop Inv-loop μ-loop → tie.After-count-faces Inv-loop μ-loop
+abbrev counted : tie.At-loop Inv-loop μ-loop → tie.After-count-ring-sizes Inv-loop μ-loop
 counted x = x .before .before .before
 
 abbrev start : tie.At-loop Inv-loop μ-loop → tie.Start Inv-loop μ-loop
@@ -113,14 +113,14 @@ returns c =
 mul-at : tie.Need-mul-at Inv-loop μ-loop
 mul-at c = let s = c .before .before .before .before .before in let z = s .pre .0 .size in let e = s .pre .0 .final in omega arith
 
-slice-reshare-prefix-count-faces : tie.Need-slice-reshare-prefix-count-faces Inv-loop μ-loop
-slice-reshare-prefix-count-faces c = let s = c .before .before .before .before .before in corners-room (s .args .k) (s .args .v) (s .args .n) (s .args .last) (lent s) (s .pre .0)
+slice-reshare-prefix-count-ring-sizes : tie.Need-slice-reshare-prefix-count-ring-sizes Inv-loop μ-loop
+slice-reshare-prefix-count-ring-sizes c = let s = c .before .before .before .before .before in corners-room (s .args .k) (s .args .v) (s .args .n) (s .args .last) (lent s) (s .pre .0)
 
-slice-aggregate-count-faces : tie.Need-slice-aggregate-count-faces Inv-loop μ-loop
-slice-aggregate-count-faces c = let s = c .before .before .before .before .before .before in sym (corners-length (s .args .k) (s .args .v) (s .args .n) (s .args .last) (lent s) (s .pre .0))
+slice-aggregate-count-ring-sizes : tie.Need-slice-aggregate-count-ring-sizes Inv-loop μ-loop
+slice-aggregate-count-ring-sizes c = let s = c .before .before .before .before .before .before in sym (corners-length (s .args .k) (s .args .v) (s .args .n) (s .args .last) (lent s) (s .pre .0))
 
-count-faces-requires : tie.Need-count-faces-requires Inv-loop μ-loop
-count-faces-requires c κs =
+count-ring-sizes-requires : tie.Need-count-ring-sizes-requires Inv-loop μ-loop
+count-ring-sizes-requires c κs =
     let y = c .before .before in
     let s = y .before .before .before .before .before in
     let e = y .if1 .left in
@@ -134,7 +134,7 @@ loop-holds c =
       omega arith,
       after-none (s .args .k) (s .args .v) (s .args .n) (s .args .last) (tables x) (ready x),
       mated-none (s .args .k) (s .args .v) (s .args .n) (s .args .last) (tables x) (ready x),
-      classes-none (s .args .k) (s .args .v) (s .args .n) (s .args .last) (tables x) (ready x) (x .count-faces .ensures .0),
+      classes-none (s .args .k) (s .args .v) (s .args .n) (s .args .last) (tables x) (ready x) (x .count-ring-sizes .ensures .0),
       letters-none (s .args .k) (s .args .v) (s .args .n) (s .args .last) (tables x) (ready x) (s .args .with-letters) (s .args .letters .now),
       refl,
     )
@@ -181,7 +181,7 @@ same-length-4 : tie.Need-same-length-4 Inv-loop μ-loop
 same-length-4 c = let z = c .before .before .before .before .before .before .before .before .before .before in z .round .kept .1 .1 .1 .1 .0 ∙ top z .loop .inv .6
 
 same-length-5 : tie.Need-same-length-5 Inv-loop μ-loop
-same-length-5 c = let z = c .before .before .before .before .before .before .before .before .before .before in done z .kept ∙ counted (top z) .count-faces .kept .1 .0
+same-length-5 c = let z = c .before .before .before .before .before .before .before .before .before .before in done z .kept ∙ counted (top z) .count-ring-sizes .kept .1 .0
 
 returns-2 : tie.Need-returns-2 Inv-loop μ-loop
 returns-2 c =
@@ -262,7 +262,7 @@ same-length-9 : tie.Need-same-length-9 Inv-loop μ-loop
 same-length-9 c = c .before .loop .inv .6
 
 same-length-10 : tie.Need-same-length-10 Inv-loop μ-loop
-same-length-10 c = let x = c .before in x .loop .inv .2 .kept ∙ counted x .count-faces .kept .1 .0
+same-length-10 c = let x = c .before in x .loop .inv .2 .kept ∙ counted x .count-ring-sizes .kept .1 .0
 
 returns-3 : tie.Need-returns-3 Inv-loop μ-loop
 returns-3 c =
@@ -279,9 +279,9 @@ rounds-spec =
     μ-loop
     returns
     mul-at
-    slice-reshare-prefix-count-faces
-    slice-aggregate-count-faces
-    count-faces-requires
+    slice-reshare-prefix-count-ring-sizes
+    slice-aggregate-count-ring-sizes
+    count-ring-sizes-requires
     loop-holds
     round-requires
     add-i

@@ -1,4 +1,4 @@
--- `count_faces` meets its contract: the half-edges below h are counted. Assumes nothing.
+-- `count_ring_sizes` meets its contract: the half-edges below h are counted. Assumes nothing.
 use mathlib.Core.Path.{_≡_, refl, subst, _∙_}
 use Prim.Native.Nat.{ℕ, _+_, _-_, _≤_}
 use native.Mathlib.Omega.{arith}
@@ -7,8 +7,8 @@ use Rattle.tables.specs.Tables.{SameOutside}
 use Rattle.tables.proofs.Laws.{same-outside, outside-then}
 use Rattle.classes.specs.Classes.{CountedBelow}
 use Rattle.classes.proofs.Classes.{counted-none, countable-next, counted-all}
-use Rattle.classes.proofs.count_faces.Statement.{statement}
-use Rattle.classes.proofs.count_faces.Tie as tie
+use Rattle.classes.proofs.count_ring_sizes.Statement.{statement}
+use Rattle.classes.proofs.count_ring_sizes.Tie as tie
 
 abbrev Inv-loop : tie.InvT-loop
 Inv-loop faces work₀ at v h₀ work h = (h ≤ length faces) × (length work ≡ length work₀) × CountedBelow v at faces work h × SameOutside at (at + v) work₀ work
@@ -16,21 +16,21 @@ Inv-loop faces work₀ at v h₀ work h = (h ≤ length faces) × (length work �
 abbrev μ-loop : tie.MeasureT-loop
 μ-loop faces work₀ at v h₀ work h = length faces - h
 
-abbrev start : tie.After-clear-counts Inv-loop μ-loop → tie.Start Inv-loop μ-loop
+abbrev start : tie.After-clear-sizes Inv-loop μ-loop → tie.Start Inv-loop μ-loop
 start x = x .before .before .before .before
 
-kept : (x : tie.After-clear-counts Inv-loop μ-loop) → length (x .clear-counts .last .0) ≡ length (start x .args .work .now)
-kept x = x .clear-counts .kept .0
+kept : (x : tie.After-clear-sizes Inv-loop μ-loop) → length (x .clear-sizes .last .0) ≡ length (start x .args .work .now)
+kept x = x .clear-sizes .kept .0
 
--- the table outside the entries, since the start
+-- the table outside the ring sizes, since the start
 outside : (y : tie.At-loop Inv-loop μ-loop) → (let s = start (y .before .before .before) in SameOutside (s .args .at) (s .args .at + s .args .v) (s .args .work .now) (y .loop .work))
-outside y = outside-then _ _ _ _ _ _ _ (omega arith) (omega arith) (y .loop .inv .3) (y .before .before .before .clear-counts .ensures .1)
+outside y = outside-then _ _ _ _ _ _ _ (omega arith) (omega arith) (y .loop .inv .3) (y .before .before .before .clear-sizes .ensures .1)
 
-clear-counts-requires : tie.Need-clear-counts-requires Inv-loop μ-loop
-clear-counts-requires c κs = c .before .before .before .pre .room
+clear-sizes-requires : tie.Need-clear-sizes-requires Inv-loop μ-loop
+clear-sizes-requires c κs = c .before .before .before .pre .room
 
 loop-holds : tie.Need-loop-holds Inv-loop μ-loop
-loop-holds c = let x = c .before .before in (omega arith, refl, counted-none _ _ _ _ (x .clear-counts .ensures .0), same-outside _ _ _)
+loop-holds c = let x = c .before .before in (omega arith, refl, counted-none _ _ _ _ (x .clear-sizes .ensures .0), same-outside _ _ _)
 
 count-side-requires : tie.Need-count-side-requires Inv-loop μ-loop
 count-side-requires c κs =
@@ -66,13 +66,13 @@ returns c =
       outside y,
     )
 
-pub count-faces-spec : {M : Type 1} → statement M
-count-faces-spec =
+pub count-ring-sizes-spec : {M : Type 1} → statement M
+count-ring-sizes-spec =
     tie.close
     (tie.spec
     Inv-loop
     μ-loop
-    clear-counts-requires
+    clear-sizes-requires
     loop-holds
     count-side-requires
     add-h

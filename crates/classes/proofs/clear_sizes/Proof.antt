@@ -1,4 +1,4 @@
--- `clear_counts` meets its contract: the first p vertices have their zero. Assumes nothing.
+-- `clear_sizes` meets its contract: the first p vertices have their zero. Assumes nothing.
 use mathlib.Core.Path.{_≡_, refl, subst}
 use Prim.Native.Nat.{ℕ, _+_, _-_, _≤_}
 use native.Mathlib.Omega.{arith}
@@ -7,8 +7,8 @@ use Rattle.tables.specs.Tables.{SameOutside}
 use Rattle.tables.proofs.Laws.{same-outside, outside-set}
 use Rattle.classes.specs.Classes.{ZerosFrom}
 use Rattle.classes.proofs.Classes.{zeros-none, zeros-next}
-use Rattle.classes.proofs.clear_counts.Statement.{statement}
-use Rattle.classes.proofs.clear_counts.Tie as tie
+use Rattle.classes.proofs.clear_sizes.Statement.{statement}
+use Rattle.classes.proofs.clear_sizes.Tie as tie
 
 abbrev Inv-loop : tie.InvT-loop
 Inv-loop work₀ at v p₀ work p = (p ≤ v) × (length work ≡ length work₀) × ZerosFrom p at work × SameOutside at (at + v) work₀ work
@@ -49,8 +49,8 @@ returns c =
     let e : x .p ≡ s .args .v = omega arith in
     (subst (λ (p : ℕ). ZerosFrom p (s .args .at) (x .work)) e (x .inv .2), x .inv .3)
 
-pub clear-counts-spec : {M : Type 1} → statement M
-clear-counts-spec =
+pub clear-sizes-spec : {M : Type 1} → statement M
+clear-sizes-spec =
     tie.close
     (tie.spec
     Inv-loop
