@@ -168,7 +168,7 @@ pub const ROWS: [Row; 57] = {
         (WheelToOne, 256, First, ALL, [11, 0]),
         (WheelToOne, 256, Last, ALL, [11, 0]),
         (WheelToOne, 257, First, ALL, [11, 0]),
-        (WheelToOne, 4_096, First, ALL, [11, 0]),
+        (WheelToOne, 4_096, First, &[0, 3], [11, 0]),
         (WheelToOne, 4_096, First, &[4], [3, 0]),
         (WheelToOne, 4_097, First, &[0], [3, 0]),
         (WheelPinched, 8, First, ALL, [11, 15]),
