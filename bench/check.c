@@ -18,7 +18,16 @@ static void make_fan(void)
     net.vertex_count = 2 * (MOST_FACES - 1) + 2;
 }
 
-/* two vertices in all of 4,090 faces */
+/* two vertices in all of 4,096 faces, each in a full ring of them */
+static void make_rings(void)
+{
+    start_net(&net, "ring of 4,096 at two vertices");
+    for (uint32_t i = 0; i < MOST_FACES; i++)
+        add_face(&net, 0, 2 + i, 1, 2 + (i + 1) % MOST_FACES);
+    net.vertex_count = MOST_FACES + 2;
+}
+
+/* two vertices in all of 4,090 faces, which form no ring there */
 static void make_hubs(void)
 {
     start_net(&net, "two vertices in all faces");
@@ -61,6 +70,7 @@ int main(void)
     make_net(&net, GRID_64), measure(0), measure(3);
     make_net(&net, GRID_8), measure(6);
     make_fan(), measure(0);
+    make_rings(), measure(0);
     make_hubs(), measure(0);
     make_noise(), measure(0);
     return 0;

@@ -2,8 +2,8 @@
 # Makes dumped calls of the archive from C, with every table and the record of new points a heap block of its exact size. Built with the sanitizers for addresses and
 # undefined behaviour, which see the harness and what the archive hands to libc (the archive itself is not instrumented), and under
 # valgrind, which sees every access of the archive to the heap, and results that depend on what was in a table before.
-#   sanitize.sh [NETS]     so many nets of the series of tests/differential, a third as many with side counts and a tenth as many named
-#                          nets; those with long work tables are left out
+#   sanitize.sh [NETS]     so many nets of the series of tests/differential, a third as many with side counts, a tenth as many named
+#                          nets, and the calls with a vertex in many faces; those with long work tables are left out
 set -eu
 cd "$(dirname "$0")/.."
 archive=target/staticlib/libcapi.a

@@ -19,6 +19,7 @@ mod retrace;
 mod run;
 mod seams;
 mod series;
+mod valences;
 
 use std::path::Path;
 use std::process::ExitCode;
@@ -68,7 +69,7 @@ fn answer(options: &Options, arguments: &[String]) -> Result<String, String> {
 fn dump(options: &Options, path: &Path) -> Result<String, String> {
     let mut dump = Dump::new(path).map_err(|error| error.to_string())?;
     let mut dumped = 0;
-    for what in [What::Net, What::Polygons, What::Named] {
+    for what in [What::Net, What::Polygons, What::Named, What::Valence] {
         for number in 0..what.count(options.nets) {
             let rng = &mut rng(options.seed, number);
             let case = drawn(what, number, rng).1;

@@ -6,13 +6,14 @@ use nets::stored::stored_calls;
 
 use crate::huge;
 use crate::named::CROWD_COUNT;
+use crate::valences;
 
 pub const USAGE: &str = "usage: differential [--nets N] [--seed S] [--here] [MODE]
 
 Compares N seeded nets (20000), one with side counts for every 3 of them,
 moved nets, series of calls over one record, pairs with seams, named nets with
-every number of rounds, crowds of them, the stored calls, and calls with huge
-lengths. A second process does it, so
+every number of rounds, crowds of them, calls with a vertex in many faces, the
+stored calls, and calls with huge lengths. A second process does it, so
 that the call is known if that dies; with --here this one.
 MODE is one of
   --net I          compares only net I of the series
@@ -25,6 +26,7 @@ MODE is one of
   --polygon-pair I compares only pair I with side counts in one net or both
   --named I        compares only net I of the named ones
   --crowd I        compares only net I of those made of many named ones
+  --valence I      compares only call I with a vertex in many faces
   --stored I       compares only stored call I
   --huge I         compares only call I with a huge length
   --prove-guards   only shows that stray accesses are seen
@@ -58,12 +60,13 @@ pub enum What {
     PolygonPair,
     Named,
     Crowd,
+    Valence,
     Stored,
     Huge,
 }
 
 impl What {
-    pub const ALL: [Self; 11] = [
+    pub const ALL: [Self; 12] = [
         Self::Net,
         Self::Polygons,
         Self::Moved,
@@ -73,6 +76,7 @@ impl What {
         Self::PolygonPair,
         Self::Named,
         Self::Crowd,
+        Self::Valence,
         Self::Stored,
         Self::Huge,
     ];
@@ -88,6 +92,7 @@ impl What {
             What::PolygonPair => "polygon-pair",
             What::Named => "named",
             What::Crowd => "crowd",
+            What::Valence => "valence",
             What::Stored => "stored",
             What::Huge => "huge",
         }
@@ -109,6 +114,7 @@ impl What {
             What::Series => nets.div_ceil(40),
             What::PolygonPair => nets.div_ceil(60),
             What::Crowd => CROWD_COUNT,
+            What::Valence => valences::count(nets),
             What::Stored => stored_calls().len() as u64,
             What::Huge => huge::COUNT,
         }

@@ -19,6 +19,7 @@ use crate::polygons::PolygonKind;
 use crate::retrace::Retraced;
 use crate::seams::Seams;
 use crate::series::Series;
+use crate::valences::valence_call;
 
 /// Calls with at most so many vertex coordinates are printed whole.
 const PRINTED: usize = 120;
@@ -43,6 +44,7 @@ pub fn drawn(what: What, number: u64, rng: &mut Rng) -> (String, Case) {
         }
         What::Named => named_call(number, rng),
         What::Crowd => crowd_call(number, rng),
+        What::Valence => valence_call(number, rng),
         _ => {
             let kind = Kind::of(at);
             (format!("{kind:?}"), kind.draw(rng))
@@ -97,12 +99,13 @@ impl Run {
             let count = what.count(nets);
             (0..count).try_for_each(|number| self.one(what, number).map(drop))?;
         }
-        let [crowds, stored, huge] =
-            [What::Crowd, What::Stored, What::Huge].map(|what| what.count(nets));
+        let [crowds, valences, stored, huge] =
+            [What::Crowd, What::Valence, What::Stored, What::Huge].map(|what| what.count(nets));
         let counts = format!(
             "{}\nwith side counts: {}\n{}\nwith side counts: {}\n{}\n\
              {}\nwith side counts: {}\n{}\n\
              {crowds} nets of many named ones agree\n{}\n{}\n\
+             {valences} calls with a vertex in many faces agree\n\
              {stored} stored calls agree\n{huge} calls with lengths beyond 32 bits agree",
             self.calls,
             self.polygons,
@@ -140,7 +143,12 @@ impl Run {
         announce(self.seed, what, number);
         let rng = &mut rng(self.seed, number);
         let compared = match what {
-            What::Net | What::Polygons | What::Moved | What::MovedPolygons | What::Crowd => {
+            What::Net
+            | What::Polygons
+            | What::Moved
+            | What::MovedPolygons
+            | What::Crowd
+            | What::Valence => {
                 let drawn = drawn(what, number, rng);
                 self.net(what, drawn, rng)
             }

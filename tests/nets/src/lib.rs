@@ -3,6 +3,7 @@
 //! - [`accepted`]: nets that a call accepts, of every kind and size.
 //! - [`polygons`]: the same with side counts, so with faces of 3 to 8 sides.
 //! - [`refused`]: calls and texts with one or more reasons for a refusal.
+//! - [`valences`]: calls with a vertex in many faces.
 //! - [`damaged`]: texts that lost their form, and damaged tables.
 //! - [`pairs`]: pairs of nets that share a boundary segment.
 //! - [`tally`]: what calls find in the record of new points.
@@ -57,3 +58,4 @@ pub mod shapes;
 pub mod solids;
 pub mod stored;
 pub mod tally;
+pub mod valences;

@@ -286,13 +286,7 @@ fn polygon_base(rng: &mut Rng) -> PolygonNet {
 fn flawed(net: &Net, reasons: &[u32], rng: &mut Rng) -> (Net, Expected) {
     let draft = Draft::new(PolygonNet::from(net), true);
     let (net, expected) = with_flaws(draft, reasons, rng);
-    let four = |face: Vec<u32>| face.try_into().expect("four corners");
-    let net = Net {
-        points: net.points,
-        faces: net.faces.into_iter().map(four).collect(),
-        marks: net.marks,
-    };
-    (net, expected)
+    (solids::plain(net), expected)
 }
 
 fn with_flaws(mut draft: Draft, reasons: &[u32], rng: &mut Rng) -> (PolygonNet, Expected) {

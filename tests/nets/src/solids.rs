@@ -1,6 +1,6 @@
 //! Plain nets with faces of 3 to 8 sides, before any random change.
 
-use reference::net::PolygonNet;
+use reference::net::{Net, PolygonNet};
 use reference::point::Point;
 use reference::topology::Topology;
 
@@ -13,6 +13,16 @@ pub fn polygons(points: Vec<Point>, faces: Vec<Vec<u32>>) -> PolygonNet {
         marks: vec![0; points.len()],
         points,
         faces,
+    }
+}
+
+/// The same net without side counts; every face must have four sides.
+pub fn plain(net: PolygonNet) -> Net {
+    let four = |face: Vec<u32>| face.try_into().expect("four corners");
+    Net {
+        points: net.points,
+        faces: net.faces.into_iter().map(four).collect(),
+        marks: net.marks,
     }
 }
 
