@@ -16,7 +16,7 @@ PAGE = ROOT / "docs" / "GUARANTEES.md"
 CITED = """
 lists/Tabulate nets/Net nets/Buffers tables/Tables search/Search
 topology/Shape topology/HalfEdge topology/Boundary topology/Vertex topology/Quads topology/Manifold
-polygons/Polygons refusals/Refusals verdict/Call verdict/Verdict
+polygons/Polygons refusals/Refusals verdict/Call verdict/Verdict verdict/LargeRing
 rounding/Rounding curve/Weights curve/Curve curve/Near fractions/Fraction rings/Ring rules/Rules
 refinedfaces/Refined scheme/Rings scheme/Points scheme/Step splitting/Splitting origins/Origins origins/Named outcome/Tally outcome/Outcome outcome/Series outcome/AsBefore
 seam/Reading outcome/SharedSegment seam/Split outcome/SplitSegment integers/Within outcome/Coordinates nets/Moved outcome/Moved outcome/Traced schemelaws/Nets splitting/Drawn schemelaws/Agreement
