@@ -12,7 +12,7 @@ use Rattle.verdict.specs.Verdict.{Verdict, accepted}
 use Rattle.admission.specs.declared.Answer.{Answer}
 use Rattle.admission.specs.Answer.{verdictOf}
 
--- corners l of faces with the side counts s, as many as 3 lets pass, and a work table w with room for four numbers per half-edge, and with the shape
+-- corners l of faces with the side counts s, at most as many as those of 4,096 quadrilaterals, and a work table w with room for four numbers per half-edge, and with the shape
 pub record CheckTables (s l w : List ℕ) : Type 0 where
   pub shaped : Shaped s (length l) w
   pub few : length l ≤ 16384

@@ -1,12 +1,12 @@
 -- Ring sizes tell which vertices are ordinary, and rounds keep the classes.
-use mathlib.Core.Path.{_≡_, refl, sym, ap, _∙_}
+use mathlib.Core.Path.{_≡_, sym, ap, _∙_}
 use mathlib.Core.Bool.{Bool, true, false, cond}
 use mathlib.Core.List.{List}
-use Prim.Native.Nat.{ℕ, suc, _+_, _*_, _%_, _≤_, _<_}
+use Prim.Native.Nat.{ℕ, suc, _+_, _*_, _≤_, _<_}
 use native.Mathlib.Decide.{decLt, ℕ-discrete}
 use native.Mathlib.Numerals.{add-one}
 use native.Mathlib.Omega.{arith}
-use lib.Dec.{ltb, eqb, lit≤}
+use lib.Dec.{ltb, lit≤}
 use lib.ListN.{length, getD, set}
 use lib.Seq.{getD-set-same, getD-set-other}
 use borrow.Author.Tests.{lt-ltb, le-ltb, eq-eqb, eqb-true}
@@ -59,23 +59,14 @@ module _ (l : List ℕ) (p : ℕ) where
   ordinary-four (ringOfFour b n) = ring-size-inner b ∙ n
   ordinary-four (fanOfTwo b n) = let s = ring-size-boundary b in omega arith
 
--- ---- classes: as counted, and after a round
--- where the table has the ring size of each vertex
-pub classes-counted : (v at : ℕ) (l w : List ℕ) → at + v ≤ length w → RingSizes v at l w → Classes v at v l w
-unfolding ordinaryBy
-classes-counted v at l w b r = record {
-  fewer = omega arith;
-  room = b;
-  ordinary = λ p c e. let d = lt-ltb p v c in four-ordinary l p (sym (r .sizes p c) ∙ eqb-true (sizeAt w (at + p)) 4 (rw d at e));
-}
-
+-- ---- classes after a round
 -- the table is the same for the initial vertices
 pub classes-same : (v at initial : ℕ) (l w w′ : List ℕ) → at + initial ≤ length w′ → ((p : ℕ) → p < initial → getD w′ (at + p) 0 ≡ getD w (at + p) 0) → Classes v at initial l w → Classes v at initial l w′
 unfolding ordinaryBy
 classes-same v at initial l w w′ b f k = record { fewer = k .fewer; room = b; ordinary = λ p c e. k .ordinary p c (sym (same p (decLt p initial)) ∙ e) }
   where
     same : (p : ℕ) → Dec (p < initial) → ordinaryBy w′ at initial p ≡ ordinaryBy w at initial p
-    same p (yes c) = ap (λ (x : ℕ). cond (ltb p initial) (eqb (x % 65536) 4) true) (f p c)
+    same p (yes c) = let e = f p c in rw e
     same p (no c) = let d = le-ltb p initial (omega arith) in rw d
 
 pub classes-refined : (v at initial : ℕ) (l w : List ℕ) → Manifold quads v l → Classes v at initial l w → Classes (refinedVertices quads v l) at initial (refined quads v l) w
@@ -120,7 +111,7 @@ module _ (v : ℕ) (l : List ℕ) (ok : Manifold quads v l) (p : ℕ) where
       go (yes b) = let s = ring-size-boundary l p b in let c = boundary-once b in omega arith
       go (no b) = let e : boundaryFrom quads l p ≡ length l = omega (arith, boundaryFrom-le quads l p) in let s = ring-size-inner l p e in let c = boundary-never e in omega arith
 
-  -- "n is 3 to 8" in a ring, and at most 6 + 2 with the points of a fan
+  -- a ring has at most 8 faces, a fan at most 6
   ring-size-few : p < v → ringSize l p ≤ 8
   ring-size-few b = go (decLt (boundaryFrom quads l p) (length l))
     where
@@ -128,8 +119,17 @@ module _ (v : ℕ) (l : List ℕ) (ok : Manifold quads v l) (p : ℕ) where
       go (yes c) = let s = ring-size-boundary l p c in omega (arith, fan-range quads v l ok p b c .1)
       go (no c) = let e : boundaryFrom quads l p ≡ length l = omega (arith, boundaryFrom-le quads l p) in let s = ring-size-inner l p e in omega (arith, ring-range quads v l ok p b e .1)
 
+-- where the table has the ring size of each vertex
+pub classes-counted : (v at : ℕ) (l w : List ℕ) → Manifold quads v l → at + v ≤ length w → RingSizes v at l w → Classes v at v l w
+unfolding ordinaryBy
+classes-counted v at l w ok b r = record {
+  fewer = omega arith;
+  room = b;
+  ordinary = λ p c e. let d = lt-ltb p v c in let x = eqb-true (sizeAt w (at + p)) 4 (rw d at e) in let y = r .sizes p c in let z = ring-size-few v l ok p c in four-ordinary l p (omega arith);
+}
+
 pub counted-all : (v at : ℕ) (l w : List ℕ) → Manifold quads v l → CountedBelow v at l w (length l) → RingSizes v at l w
-counted-all v at l w ok c = record { sizes = λ p b. let e = c .sizes p b ∙ counted-size v l ok p in let f = ring-size-few v l ok p b in omega arith }
+counted-all v at l w ok c = record { sizes = λ p b. c .sizes p b ∙ counted-size v l ok p }
 
 pub zeros-none : (at : ℕ) (w : List ℕ) → ZerosFrom 0 at w
 zeros-none at w = record { zeros = λ p b. let z : ⊥ = omega arith in absurd z }
@@ -192,6 +192,9 @@ module _ (v at : ℕ) (l w : List ℕ) (h : ℕ) (b : h < length l) where
         let e = counted-size v l (ok .net) p in
         let f = ring-size-few v l (ok .net) p d in
         omega arith
+
+    pub size-here : sizeAt w (at + from l h) ≡ getD w (at + from l h) 0
+    size-here = let f = counted-few in omega arith
 
     pub counted-next : CountedBelow v at l (set w (at + from l h) (getD w (at + from l h) 0 + shareOf l h)) (h + 1)
     counted-next = record { sizes = λ p d. go p d (ℕ-discrete (from l h) p) }

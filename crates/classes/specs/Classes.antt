@@ -19,12 +19,12 @@ use Rattle.schemelaws.specs.Ordinary.{Ordinary}
 unfoldable pub ringSize : List ℕ → ℕ → ℕ
 ringSize l p = valence l p + cond (ltb (boundaryFrom quads l p) (length l)) 2 0
 
+pub record RingSizes (v at : ℕ) (l w : List ℕ) : Type 0 where
+  pub sizes : (p : ℕ) → p < v → getD w (at + p) 0 ≡ ringSize l p
+
 -- the 16-bit number at a place of a table, the low bits of what stands there
 abbrev pub sizeAt : List ℕ → ℕ → ℕ
 sizeAt w i = getD w i 0 % 65536
-
-pub record RingSizes (v at : ℕ) (l w : List ℕ) : Type 0 where
-  pub sizes : (p : ℕ) → p < v → sizeAt w (at + p) ≡ ringSize l p
 
 -- whether the table says that p is ordinary, where refining begins with `initial` vertices
 unfoldable pub ordinaryBy : List ℕ → ℕ → ℕ → ℕ → Bool

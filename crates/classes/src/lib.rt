@@ -47,8 +47,8 @@ fn count_side(faces: &[u32], work: &mut [u32], at: usize, v: usize, h: usize)
     ensures { λ _. ⌜ SameOutside at (at + v) (now (work .entry)) (now (work .exit)) ⌝ }
 {
     let place = at + halfedges::start_of(faces, h);
-    let more = share(faces, &*work, h);
-    work[place] += more as u32;
+    let size = size_at(&*work, place) + share(faces, &*work, h);
+    work[place] = size as u32;
 }
 
 // Writes the ring sizes of the v vertices from the place `at` on: one pass over the half-edges. Each boundary vertex starts one boundary half-edge.

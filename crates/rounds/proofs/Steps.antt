@@ -105,12 +105,15 @@ module _ (k v n last : ℕ) (t : Buffers) (ok : Prepared k v n last t) where
         rest = refl;
       }
 
-  pub classes-none : RingSizes v (8 * last) (take n faces) w → Classes v (8 * last) v (steps kobbelt 0 m .faces) w
-  unfolding steps
-  classes-none r = classes-counted v (8 * last) (take n faces) w classes-room r
-
   vertices-here : length (m .marks) ≡ v
   vertices-here = let o = once in let q = ok .vertices in let r = ok .roomMarks in length-take-le v marks (omega arith)
+
+  pub manifold-here : Manifold quads v (take n faces)
+  manifold-here = subst (λ (j : ℕ). Manifold quads j (take n faces)) vertices-here (refinable-manifold m (ok .refinable))
+
+  pub classes-none : RingSizes v (8 * last) (take n faces) w → Classes v (8 * last) v (steps kobbelt 0 m .faces) w
+  unfolding steps
+  classes-none r = classes-counted v (8 * last) (take n faces) w manifold-here classes-room r
 
   pub letters-none : (asked : Bool) (s : List ℕ) → LettersAfter asked 0 v v m s s
   letters-none asked s o = record { all = λ _. written-none v (λ (i : ℕ). letterOf (originFrom kobbelt o m 0 i)) s; none = λ _. refl }
@@ -292,7 +295,6 @@ module _ (k v n last : ℕ) (t : Buffers) (ok : Prepared k v n last t) where
   pub countable : 0 < k → Countable v (8 * last) (take n (t .faces)) (t .work)
   unfolding steps
   countable h =
-      let m : Net = front v n t in
       let o = once k v n last t ok in
       let s = sized k v n last t ok 0 h in
       let g = ok .roomMarks in
@@ -302,7 +304,7 @@ module _ (k v n last : ℕ) (t : Buffers) (ok : Prepared k v n last t) where
       let q = ok .vertices in
       let l = corners-length in
       record {
-        net = subst (λ (j : ℕ). Manifold quads j (take n (t .faces))) (length-take-le v (t .marks) (omega arith)) (refinable-manifold m (ok .refinable));
+        net = manifold-here k v n last t ok;
         table = record { sides = record { fours = ok .refinable .fours; few = omega arith }; room = omega arith; mated = ok .mated };
         behind = omega arith;
         room = classes-room k v n last t ok;

@@ -2,7 +2,7 @@
 use mathlib.Core.Path.{_≡_, refl, sym, _∙_}
 use mathlib.Core.Bool.{true}
 use mathlib.Core.List.{List}
-use Prim.Native.Nat.{ℕ, _/_, _≤_, _<_}
+use Prim.Native.Nat.{ℕ, _/_, _<_}
 use native.Mathlib.Omega.{arith}
 use lib.Dec.{ltb}
 use lib.ListN.{length}
@@ -21,7 +21,7 @@ use Rattle.refusals.specs.Refusals.{badMark, badCorner, isolated, repeatedSide,
 use Rattle.refusals.proofs.Oriented.{oriented-if}
 use Rattle.refusals.proofs.Manifold.{badValence-ring}
 use Rattle.verdict.specs.Call.{Call, lengthsOf}
-use Rattle.verdict.specs.Verdict.{Verdict, refused, badCoordinate, coordinatesVerdict, vertexVerdict, adjacencyVerdict, facesVerdict, shapeVerdict, netVerdict, verdict}
+use Rattle.verdict.specs.Verdict.{refused, badCoordinate, coordinatesVerdict, vertexVerdict, adjacencyVerdict, facesVerdict, shapeVerdict, netVerdict, verdict}
 use Rattle.verdict.specs.LargeRing.{NoneBefore11, LargeRing}
 use Rattle.verdict.proofs.Accepted.{within-if, at-hit, at-pass}
 
@@ -61,6 +61,6 @@ module _ (c : Call) (n : NoneBefore11 c) where
 pub large-ring : LargeRing
 large-ring = record {
   refuses = λ c n p h m b r k.
-      let f = first-reach (badValence (S c n) (l c n)) (v c n) p b (ring-bad (S c n) (v c n) (l c n) (oriented c n) p h m r k) in
+      let f = first-reach (badValence (S c n) (l c n)) (v c n) p b (ring-bad (S c n) (v c n) (l c n) (oriented c n) p h m r (omega arith)) in
       (first (badValence (S c n) (l c n)) (v c n), f, sym (gets-11 c n (omega arith)));
 }

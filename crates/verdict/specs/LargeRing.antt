@@ -1,4 +1,4 @@
--- Paper 02: "a net with a ring of 4,096 faces and no reason before 11 still gets 11", and so does a ring of any number above 8.
+-- A full ring of more than eight faces gets 11, whatever their number. Paper 02: "a net with a ring of 4,096 faces and no reason before 11 still gets 11."
 use mathlib.Core.Path.{_≡_}
 use Prim.Native.Nat.{ℕ, _≤_, _<_}
 use lib.ListN.{length}

@@ -289,9 +289,8 @@ fn fan_sum(
     ensures { λ e. ⌜ e .y ≡ fanOn (axis (now (points .entry)) 1) (now (l .entry)) (now (k .entry)) m j c (p .y) (q .y) (r .y) ⌝ }
     ensures { λ e. ⌜ e .z ≡ fanOn (axis (now (points .entry)) 2) (now (l .entry)) (now (k .entry)) m j c (p .z) (q .z) (r .z) ⌝ }
 {
-    let e = m as usize;
-    let n = e + 2;
-    let t = e - j;
+    let n = m as usize + 2;
+    let t = m as usize - j;
     let w = rings::weights(n);
     let s = weighted_sum(points, &w, l, k, m, n, n - j);
     coordinates::Exact {

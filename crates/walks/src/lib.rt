@@ -50,7 +50,7 @@ pub fn back_side(faces: &[u32], work: &[u32], h: usize) -> usize
 {
     let n = faces.len();
     let mut g = h;
-    let mut i: usize = 0;
+    let mut i: u16 = 0;
     while i < 6 {
         let m = halfedges::turn_side(faces, work, g);
         if m == n {

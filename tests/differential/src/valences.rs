@@ -11,7 +11,7 @@ use nets::valences::{ROWS, Row, any_call, row_call};
 use crate::draw::fit_room;
 
 /// One drawn call for so many nets.
-const NETS_PER_DRAWN: u64 = 2_000;
+const NETS_PER_DRAWN: u64 = 500;
 
 /// The rows, each with its rounds.
 static CALLS: LazyLock<Vec<(Row, u32)>> = LazyLock::new(|| {

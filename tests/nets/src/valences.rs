@@ -69,8 +69,8 @@ fn fan(faces: u32, opposites: u32) -> Piece {
 }
 
 impl Hub {
-    /// Those refused for the hub alone, with the reason and the most faces that
-    /// a call allows.
+    /// Those whose first reason is the hub, with that reason and the most faces
+    /// that a call allows.
     const ALONE: [(Self, u32, i32); 6] = [
         (Self::Wheel, 11, 4_095),
         (Self::Fan, 11, 4_095),
@@ -152,8 +152,8 @@ pub enum Numbered {
 pub type Row = (Hub, u32, Numbered, &'static [u32], [u32; 2]);
 
 /// The first counts that are refused, the largest that a call allows and the
-/// next; and counts that leave 0, or what is allowed, by a power of two.
-pub const ROWS: [Row; 57] = {
+/// next; and counts whose remainder by a power of two is 0, or is allowed.
+pub const ROWS: [Row; 58] = {
     use Hub::{
         Fan, FanPinched, FanToOne, FourAndRing, RingAndFour, TriangleFan, TriangleWheel,
         TwoAndRing, TwoFans, TwoRings, Wheel, WheelPinched, WheelToOne,
@@ -188,6 +188,7 @@ pub const ROWS: [Row; 57] = {
         (Wheel, 1_028, First, &[0, 1], [11, 0]),
         (Wheel, 2_052, First, &[0, 1], [11, 0]),
         (Wheel, 4_095, First, &[0], [11, 0]),
+        (Wheel, 4_095, Last, &[1], [11, 8_190]),
         (Wheel, 4_096, First, &[0], [3, 0]),
         (FanToOne, 6, First, ALL, [11, 3]),
         (FanToOne, 7, First, ALL, [11, 0]),
