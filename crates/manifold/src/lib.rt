@@ -55,10 +55,12 @@ fn bad_valence(faces: &[u32], sides: &[u8], work: &[u32], p: usize) -> bool
     requires { ⌜ p < length (now faces) ⌝ }
     ensures { λ r. ⌜ r ≡ badValence (shapeOf (now (sides .entry))) (now (faces .entry)) p ⌝ }
 {
-    if adjacency::boundary_from(faces, sides, work, p) < faces.len() {
-        return 6 < adjacency::valence_at(faces, sides, work, p);
-    }
+    let n = faces.len();
     let m = adjacency::valence_at(faces, sides, work, p);
+    let g = adjacency::boundary_from(faces, sides, work, p);
+    if g < n {
+        return 6 < m;
+    }
     if m < 3 {
         return true;
     }
