@@ -47,17 +47,13 @@ module _ (l : List ℕ) (p : ℕ) where
   unfolding ringSize
   ring-size-boundary b = let a = lt-ltb (boundaryFrom quads l p) (length l) b in rw a
 
-  -- the ring of a vertex has four faces exactly where it is ordinary
+  -- a vertex whose ring size is four is ordinary
   pub four-ordinary : ringSize l p ≡ 4 → Ordinary l p
   four-ordinary e = go (decLt (boundaryFrom quads l p) (length l))
     where
       go : Dec (boundaryFrom quads l p < length l) → Ordinary l p
       go (yes b) = let s = ring-size-boundary b in fanOfTwo b (omega arith)
       go (no b) = let c : boundaryFrom quads l p ≡ length l = omega (arith, boundaryFrom-le quads l p) in let s = ring-size-inner c in ringOfFour c (omega arith)
-
-  pub ordinary-four : Ordinary l p → ringSize l p ≡ 4
-  ordinary-four (ringOfFour b n) = ring-size-inner b ∙ n
-  ordinary-four (fanOfTwo b n) = let s = ring-size-boundary b in omega arith
 
 -- ---- classes after a round
 -- the table is the same for the initial vertices

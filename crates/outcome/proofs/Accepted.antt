@@ -57,8 +57,8 @@ accepted-drawn c e =
     record {
       threes = omega arith;
       sided = w .sided;
-      no6 = n .no6;
-      no7to11 = record { no7 = n .no7; no8 = n .no8; no9 = n .no9; no10 = n .no10; no11 = n .no11 };
+      no6 = n .before .no6;
+      no7to11 = record { no7 = n .before .no7; no8 = n .before .no8; no9 = n .before .no9; no10 = n .before .no10; no11 = n .no11 };
       no12 = n .no12;
     }
 

@@ -16,10 +16,11 @@ use Rattle.topology.specs.Manifold.{Manifold}
 use Rattle.polygons.specs.Polygons.{shapeOf, badSides, Sided}
 use Rattle.polygons.proofs.Counts.{shape-lawful}
 use Rattle.refusals.proofs.Manifold.{manifold-if}
-use Rattle.refusals.specs.Refusals.{badMark, badCorner, isolated, repeatedSide, nonManifold, badValence, markedRing}
+use Rattle.refusals.specs.Refusals.{badValence, markedRing}
 use Rattle.nets.specs.Net.{ControlNet}
 use Rattle.verdict.specs.Call.{Lengths, lengthsOf, Call, quadrilaterals}
 use Rattle.verdict.specs.Verdict.{Verdict, accepted, refused, orElse, refusedIf, refusedAt, cornersVerdict, tablesVerdict, sizeVerdict, roomVerdict, limitsVerdict, callVerdict, badCoordinate, coordinatesVerdict, vertexVerdict, adjacencyVerdict, facesVerdict, shapeVerdict, netVerdict, verdict}
+use Rattle.verdict.specs.LargeRing.{NoneOf5To10}
 use Rattle.verdict.proofs.Examples
 
 -- ---- the chain
@@ -177,12 +178,7 @@ module _ (k : ℕ) (s : List ℕ) (n : Lengths) where
 
 -- ---- 5 to 12 do not hold
 pub record NoRefusal (m : ControlNet) : Type 0 where
-  pub no5 : first (badCoordinate (m .vertices)) (length (m .vertices)) ≡ length (m .vertices)
-  pub no6 : first (badMark (m .marks)) (length (m .marks)) ≡ length (m .marks)
-  pub no7 : first (badCorner (shapeOf (m .sides)) (length (m .marks)) (m .faces)) (length (m .faces)) ≡ length (m .faces)
-  pub no8 : first (isolated (m .faces)) (length (m .marks)) ≡ length (m .marks)
-  pub no9 : first (repeatedSide (shapeOf (m .sides)) (m .faces)) (length (m .faces)) ≡ length (m .faces)
-  pub no10 : first (nonManifold (shapeOf (m .sides)) (m .faces)) (length (m .marks)) ≡ length (m .marks)
+  pub before : NoneOf5To10 m
   pub no11 : first (badValence (shapeOf (m .sides)) (m .faces)) (length (m .marks)) ≡ length (m .marks)
   pub no12 : first (markedRing (shapeOf (m .sides)) (m .faces) (m .marks)) (length (m .marks)) ≡ length (m .marks)
 
@@ -197,12 +193,14 @@ none-if m e₀ =
     let b₀ = or-both _ _ (a₉ .1) in
     let b₁ = or-both _ _ (b₀ .1) in
     record {
-      no5 = at-none 5 _ _ (λ i. i / 3) (a₅ .0);
-      no6 = at-none 6 _ _ (λ p. p) (a₆ .0);
-      no7 = at-none 7 _ _ (shapeOf (m .sides) .face) (a₇ .0);
-      no8 = at-none 8 _ _ (λ p. p) (a₈ .0);
-      no9 = at-none 9 _ _ (shapeOf (m .sides) .face) (a₉ .0);
-      no10 = at-none 10 _ _ (λ p. p) (b₀ .0);
+      before = record {
+        no5 = at-none 5 _ _ (λ i. i / 3) (a₅ .0);
+        no6 = at-none 6 _ _ (λ p. p) (a₆ .0);
+        no7 = at-none 7 _ _ (shapeOf (m .sides) .face) (a₇ .0);
+        no8 = at-none 8 _ _ (λ p. p) (a₈ .0);
+        no9 = at-none 9 _ _ (shapeOf (m .sides) .face) (a₉ .0);
+        no10 = at-none 10 _ _ (λ p. p) (b₀ .0);
+      };
       no11 = at-none 11 _ _ (λ p. p) (b₁ .0);
       no12 = at-none 12 _ _ (λ p. p) (b₁ .1);
     }
@@ -223,7 +221,7 @@ pub accepted-manifold : (c : Call) → verdict c ≡ accepted → Manifold (shap
 accepted-manifold c e =
     let n = accepted-net c e in
     manifold-if (shapeOf (c .net .sides)) (length (c .net .marks)) (c .net .faces) (accepted-lawful c e)
-    (record { no7 = n .no7; no8 = n .no8; no9 = n .no9; no10 = n .no10; no11 = n .no11 })
+    (record { no7 = n .before .no7; no8 = n .before .no8; no9 = n .before .no9; no10 = n .before .no10; no11 = n .no11 })
 
 -- "Checked are adjacency and limits": a call for fewer rounds with the same tables is accepted too
 pub accepted-fewer : (c : Call) (j : ℕ) → j ≤ c .rounds → verdict c ≡ accepted → verdict (record { rounds = j; net = c .net; room = c .room }) ≡ accepted
@@ -237,7 +235,7 @@ pub accepted-coordinate : (c : Call) → verdict c ≡ accepted → (i : ℕ) �
 unfolding badCoordinate
 accepted-coordinate c e i h =
     let n = accepted-net c e in
-    let k = n .no5 in
+    let k = n .before .no5 in
     ltb-false 1048576 _ (first-before (badCoordinate (c .net .vertices)) (length (c .net .vertices)) i (omega arith))
 
 -- ---- how a check answers: the first test that hits, or the rest of the chain

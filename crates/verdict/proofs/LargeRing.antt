@@ -42,7 +42,7 @@ module _ (c : Call) (n : NoneBefore11 c) where
   l = c .net .faces
 
   oriented : Oriented S v l
-  oriented = oriented-if S v l (shape-lawful (c .net .sides) (length l) (within-if (c .rounds) (c .net .sides) (lengthsOf (c .net) (c .room)) (n .call) .sided)) (n .no7) (n .no9)
+  oriented = oriented-if S v l (shape-lawful (c .net .sides) (length l) (within-if (c .rounds) (c .net .sides) (lengthsOf (c .net) (c .room)) (n .call) .sided)) (n .net .no7) (n .net .no9)
 
   -- the first vertex where 11 holds is the place
   gets-11 : first (badValence S l) v < v → refused 11 (first (badValence S l) v) ≡ verdict c
@@ -50,12 +50,12 @@ module _ (c : Call) (n : NoneBefore11 c) where
   gets-11 b =
       let none = n .call in
       rw none
-      (at-pass 5 (badCoordinate (c .net .vertices)) (length (c .net .vertices)) (λ i. i / 3) _ _ _ refl (omega (arith, n .no5))
-      (at-pass 6 (badMark (c .net .marks)) v (λ p. p) _ _ _ refl (omega (arith, n .no6))
-      (at-pass 7 (badCorner S v l) (length l) (S .face) _ _ _ refl (omega (arith, n .no7))
-      (at-pass 8 (isolated l) v (λ p. p) _ _ _ refl (omega (arith, n .no8))
-      (at-pass 9 (repeatedSide S l) (length l) (S .face) _ _ _ refl (omega (arith, n .no9))
-      (at-pass 10 (nonManifold S l) v (λ p. p) _ _ _ refl (omega (arith, n .no10))
+      (at-pass 5 (badCoordinate (c .net .vertices)) (length (c .net .vertices)) (λ i. i / 3) _ _ _ refl (omega (arith, n .net .no5))
+      (at-pass 6 (badMark (c .net .marks)) v (λ p. p) _ _ _ refl (omega (arith, n .net .no6))
+      (at-pass 7 (badCorner S v l) (length l) (S .face) _ _ _ refl (omega (arith, n .net .no7))
+      (at-pass 8 (isolated l) v (λ p. p) _ _ _ refl (omega (arith, n .net .no8))
+      (at-pass 9 (repeatedSide S l) (length l) (S .face) _ _ _ refl (omega (arith, n .net .no9))
+      (at-pass 10 (nonManifold S l) v (λ p. p) _ _ _ refl (omega (arith, n .net .no10))
       (at-hit 11 (badValence S l) v (λ p. p) _ _ refl b)))))))
 
 pub large-ring : LargeRing

@@ -6,18 +6,23 @@ use Rattle.search.specs.Search.{first}
 use Rattle.topology.specs.Vertex.{Ring}
 use Rattle.polygons.specs.Polygons.{shapeOf}
 use Rattle.refusals.specs.Refusals.{badMark, badCorner, isolated, repeatedSide, nonManifold}
+use Rattle.nets.specs.Net.{ControlNet}
 use Rattle.verdict.specs.Call.{Call}
 use Rattle.verdict.specs.Verdict.{accepted, refused, badCoordinate, callVerdict, verdict}
 
--- "no reason before 11": neither 1 to 4 and 14 for the call, nor 5 to 10 anywhere in its net
+-- 5 to 10 hold nowhere in the net m
+pub record NoneOf5To10 (m : ControlNet) : Type 0 where
+  pub no5 : first (badCoordinate (m .vertices)) (length (m .vertices)) ≡ length (m .vertices)
+  pub no6 : first (badMark (m .marks)) (length (m .marks)) ≡ length (m .marks)
+  pub no7 : first (badCorner (shapeOf (m .sides)) (length (m .marks)) (m .faces)) (length (m .faces)) ≡ length (m .faces)
+  pub no8 : first (isolated (m .faces)) (length (m .marks)) ≡ length (m .marks)
+  pub no9 : first (repeatedSide (shapeOf (m .sides)) (m .faces)) (length (m .faces)) ≡ length (m .faces)
+  pub no10 : first (nonManifold (shapeOf (m .sides)) (m .faces)) (length (m .marks)) ≡ length (m .marks)
+
+-- "no reason before 11": neither 1 to 4 and 14 for the call, nor 5 to 10 in its net
 pub record NoneBefore11 (c : Call) : Type 0 where
   pub call : callVerdict c ≡ accepted
-  pub no5 : first (badCoordinate (c .net .vertices)) (length (c .net .vertices)) ≡ length (c .net .vertices)
-  pub no6 : first (badMark (c .net .marks)) (length (c .net .marks)) ≡ length (c .net .marks)
-  pub no7 : first (badCorner (shapeOf (c .net .sides)) (length (c .net .marks)) (c .net .faces)) (length (c .net .faces)) ≡ length (c .net .faces)
-  pub no8 : first (isolated (c .net .faces)) (length (c .net .marks)) ≡ length (c .net .marks)
-  pub no9 : first (repeatedSide (shapeOf (c .net .sides)) (c .net .faces)) (length (c .net .faces)) ≡ length (c .net .faces)
-  pub no10 : first (nonManifold (shapeOf (c .net .sides)) (c .net .faces)) (length (c .net .marks)) ≡ length (c .net .marks)
+  pub net : NoneOf5To10 (c .net)
 
 -- a full ring of m faces at p gets 11, at p or at a vertex before it
 pub record LargeRing : Type 0 where
