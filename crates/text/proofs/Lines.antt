@@ -43,19 +43,30 @@ starts-short (c ∷ s) (b ∷ l) h = go (eqb b c) (starts-short s l (omega arith
     go true e = e
     go false e = refl
 
--- ---- the byte after a number
+-- ---- the byte after a number that ends at s
+module _ {A : Type 0} (l : List ℕ) (s e : ℕ) (v : A) where
+  pub ends-short : length l ≤ s → endedBy e (found v (drop s l)) ≡ bad
+  ends-short h = rw (drop-of-length-le l {i = s} h)
+
+  pub ends-other : s < length l → (getD l s 0 ≡ e → ⊥) → endedBy e (found v (drop s l)) ≡ bad
+  ends-other h d = rw (drop-cons l s 0 h, ne-eqb (getD l s 0) e d)
+
+  pub ends-there : s < length l → getD l s 0 ≡ e → endedBy e (found v (drop s l)) ≡ found v (drop (s + 1) l)
+  ends-there h d = rw (drop-cons l s 0 h, eq-eqb (getD l s 0) e d, add-one s)
+
+-- the number starts at `at` and has n bytes
 module _ {A : Type 0} (l : List ℕ) (at n e : ℕ) (v : A) where
-  rest : drop n (drop at l) ≡ drop (at + n) l
-  rest = drop-drop n at l
+  moved : endedBy e (found v (drop n (drop at l))) ≡ endedBy e (found v (drop (at + n) l))
+  moved = ap (λ (m : List ℕ). endedBy e (found v m)) (drop-drop n at l)
 
   pub field-short : length l ≤ at + n → endedBy e (found v (drop n (drop at l))) ≡ bad
-  field-short h = ap (λ (m : List ℕ). endedBy e (found v m)) (rest ∙ drop-of-length-le l {i = at + n} h)
+  field-short h = moved ∙ ends-short l (at + n) e v h
 
   pub field-other : at + n < length l → (getD l (at + n) 0 ≡ e → ⊥) → endedBy e (found v (drop n (drop at l))) ≡ bad
-  field-other h d = ap (λ (m : List ℕ). endedBy e (found v m)) (rest ∙ drop-cons l (at + n) 0 h) ∙ rw (ne-eqb (getD l (at + n) 0) e d)
+  field-other h d = moved ∙ ends-other l (at + n) e v h d
 
   pub field-ends : at + n < length l → getD l (at + n) 0 ≡ e → endedBy e (found v (drop n (drop at l))) ≡ found v (drop (at + n + 1) l)
-  field-ends h d = ap (λ (m : List ℕ). endedBy e (found v m)) (rest ∙ drop-cons l (at + n) 0 h) ∙ rw (eq-eqb (getD l (at + n) 0) e d, add-one (at + n))
+  field-ends h d = moved ∙ ends-there l (at + n) e v h d
 
 -- what is read at a place and ends with the byte e, by the answer for the rest of the line
 pub ended-at : {R A : Type 0} {of : R → List ℕ → Read A} {used : R → ℕ} {r q : R} (read : List ℕ → Read A) (l : List ℕ) (at e : ℕ)
@@ -80,7 +91,7 @@ natural-limit limit e l v m p = go (readNatural limit l) refl p
     go (found x k) q s = ended-limit limit l e x v k m q s
 
 -- ---- the lines of names
-starts-length : (s l : List ℕ) → startsWith s l ≡ true → length s ≤ length l
+pub starts-length : (s l : List ℕ) → startsWith s l ≡ true → length s ≤ length l
 starts-length s l e = go (decLt (length l) (length s))
   where
     go : Dec (length l < length s) → length s ≤ length l

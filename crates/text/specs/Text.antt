@@ -5,7 +5,7 @@ use Prim.Native.Nat.{ℕ}
 use lib.ListN.{length}
 use Rattle.decimal.specs.Decimal.{naturalText, integerText}
 use Rattle.text.specs.Bytes.{bytes}
-use Rattle.text.specs.Form.{Counts, Vertex, Face, Net, namesText, input, marked, corners}
+use Rattle.text.specs.Form.{Counts, Vertex, Face, Net, namesText, input, marked, unmarked, corners}
 
 -- a number and the byte after it. Paper 01: "with one blank between and a newline after each line"
 abbrev pub field : List ℕ → ℕ → List ℕ
@@ -25,6 +25,10 @@ numbersText v = field (integerText (v .x)) 32 ++ field (integerText (v .y)) 32 +
 unfoldable pub vertexText : Vertex → List ℕ
 vertexText v = numbersText v ++ (10 ∷ [])
 
+-- a vertex without its mark
+unfoldable pub pointText : Vertex → List ℕ
+pointText v = field (integerText (v .x)) 32 ++ field (integerText (v .y)) 32 ++ field (integerText (v .z)) 10
+
 unfoldable pub faceText : Face → List ℕ
 faceText f = field (naturalText (f .a)) 32 ++ field (naturalText (f .b)) 32 ++ field (naturalText (f .c)) 32 ++ field (naturalText (f .d)) 10
 
@@ -40,6 +44,10 @@ withBody head columns lines fs = head ++ columns ++ lines ++ namesText corners +
 -- the text that writes a net for the program
 unfoldable pub netText : Net → List ℕ
 netText n = withBody (namesText (input (n .rule)) ++ countsText (n .counts)) (namesText marked) (texts vertexText (n .vertices)) (n .faces)
+
+-- the same without marks. Paper 01: "`x y z` without `corner`"
+unfoldable pub unmarkedText : Net → List ℕ
+unmarkedText n = withBody (namesText (input (n .rule)) ++ countsText (n .counts)) (namesText unmarked) (texts pointText (n .vertices)) (n .faces)
 
 -- ---- the answer, with letters if they are asked for
 

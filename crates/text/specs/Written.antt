@@ -19,6 +19,11 @@ pub record VertexFits (v : Vertex) : Type 0 where
   pub z : mag (v .z) ≤ 2147483647
   pub mark : v .mark ≤ 255
 
+-- a vertex that needs no mark
+pub record PointFits (v : Vertex) : Type 0 where
+  pub fits : VertexFits v
+  pub unmarked : v .mark ≡ 0
+
 pub record FaceFits (f : Face) : Type 0 where
   pub a : f .a ≤ 2147483647
   pub b : f .b ≤ 2147483647

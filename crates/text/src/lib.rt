@@ -49,7 +49,7 @@ pub enum FaceLine {
     Bad,
 }
 
-fn starts_with(text: &[u8], s: &[u8]) -> bool
+pub fn starts_with(text: &[u8], s: &[u8]) -> bool
     ensures { λ r. ⌜ r ≡ startsWith (now (s .entry)) (now (text .entry)) ⌝ }
 {
     if text.len() < s.len() {
@@ -94,7 +94,7 @@ pub fn read_names(text: &[u8]) -> NamesLine
 }
 
 // The number at `at` and the byte `end` after it; the answer's length counts from the start of the line.
-fn natural_field(line: &[u8], at: usize, limit: u32, end: u8) -> Number
+pub fn natural_field(line: &[u8], at: usize, limit: u32, end: u8) -> Number
     requires { ⌜ at ≤ length (now line) ⌝ }
     ensures { λ r. ⌜ GivesNumber r (now (line .entry)) (natural limit end (drop at (now (line .entry)))) ⌝ }
 {
