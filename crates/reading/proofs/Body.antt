@@ -33,10 +33,10 @@ lines-all n count w e = rw (eq-eqb (length (w .values)) count e)
 lines-some : {A : Type 0} (n count : ℕ) (w : Rows A) → (length (w .values) ≡ count → ⊥) → lines n count w ≡ badLine (n + length (w .values))
 lines-some n count w e = rw (ne-eqb (length (w .values)) count e)
 
-ended-none : {A : Type 0} (n : ℕ) (v : A) (l : List ℕ) → l ≡ [] → ended n v l ≡ parsed v []
+pub ended-none : {A : Type 0} (n : ℕ) (v : A) (l : List ℕ) → l ≡ [] → ended n v l ≡ parsed v []
 ended-none n v l e = ap (ended n v) e
 
-ended-some : {A : Type 0} (n : ℕ) (v : A) (l : List ℕ) → 0 < length l → ended n v l ≡ badLine n
+pub ended-some : {A : Type 0} (n : ℕ) (v : A) (l : List ℕ) → 0 < length l → ended n v l ≡ badLine n
 ended-some n v [] h = absurd (omega arith)
 ended-some n v (b ∷ l) h = refl
 

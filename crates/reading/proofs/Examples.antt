@@ -8,7 +8,7 @@ use Rattle.verdict.specs.Verdict.{Verdict, accepted, refused, limitsVerdict, ta
 use Rattle.decimal.specs.Decimal.{readDigits, readNatural}
 use Rattle.text.specs.Bytes.{bytes}
 use Rattle.text.specs.Form.{readNames, natural, readCounts, rows, parseHead, parseBody, parse}
-use Rattle.reading.specs.Loaded.{Answer, netRead, refusedWith, countsVerdict, readNet}
+use Rattle.reading.specs.Loaded.{Answer, netRead, refusedWith, countsVerdict, readBy}
 
 -- V, F, rounds, and their order
 abbrev counted : ℕ → ℕ → ℕ → Verdict
@@ -21,7 +21,7 @@ refusals = refl
 
 -- a first line without `rule`, with it, and with another word; a refusal that letters do not change
 abbrev answer : String → Answer
-answer s = readNet (bytes s) [] [] [] .answer
+answer s = readBy parse (bytes s) [] [] [] .answer
 
 wishes : answer "vertices faces rounds\n0 0 2\nx y z\na b c d\n"
     ∷ answer "vertices faces rounds rule\n0 0 2\nx y z\na b c d\n"
@@ -29,5 +29,5 @@ wishes : answer "vertices faces rounds\n0 0 2\nx y z\na b c d\n"
     ∷ answer "vertices faces rounds rule\n0 0 7\nx y z\na b c d\n"
     ∷ []
     ≡ netRead 2 false 0 0 ∷ netRead 2 true 0 0 ∷ refusedWith 13 1 ∷ refusedWith 1 0 ∷ []
-unfolding readNet parse parseHead parseBody readNames readCounts natural rows readNatural readDigits bytes countsVerdict limitsVerdict tablesVerdict sizeVerdict roomVerdict
+unfolding readBy parse parseHead parseBody readNames readCounts natural rows readNatural readDigits bytes countsVerdict limitsVerdict tablesVerdict sizeVerdict roomVerdict
 wishes = refl

@@ -31,9 +31,6 @@ passed-served n e =
     let g : 4 * f / 4 * 1 ≤ 4 * f / 4 * 4 ^ n .rounds = mul-le-mul-left (4 * f / 4) p in
     record { vertices = ltb-false 1024 v (if-false 4 _ (a .1)); faces = omega arith }
 
-pub served : (v f k r : ℕ) → countsVerdict (countsAre v f k) ≡ limitsOf r → r ≡ 0 → Served v f
-served v f k r e z = passed-served (countsAre v f k) (e ∙ rw (eq-eqb r 0 z))
-
 -- ---- letters have room where marks have it, so it makes no difference whether they are asked for
 twice : (b : Bool) (v : Verdict) → orElse (refusedIf 4 b) v ≡ orElse (refusedIf 4 b) (orElse (refusedIf 4 b) v)
 twice true v = refl

@@ -92,7 +92,7 @@ unfolding cornersOf
 length-corners [] = refl
 length-corners (f ∷ fs) = let e = length-corners fs in omega arith
 
-front : {A : Type 0} (new old : List A) → length new ≤ length old → sets old 0 new ≡ filled new old
+pub front : {A : Type 0} (new old : List A) → length new ≤ length old → sets old 0 new ≡ filled new old
 unfolding filled
 front new old h = let e : 0 + length new ≡ length new = omega arith in sets-eq new old 0 (omega arith) ∙ ap (λ (k : ℕ). new ++ drop k old) e
 

@@ -9,7 +9,7 @@ use Rattle.nets.specs.Net as nets
 use Rattle.tables.specs.Tables.{filled}
 use Rattle.verdict.specs.Call.{Room, needed, lengths}
 use Rattle.verdict.specs.Verdict.{Verdict, accepted, refused, orElse, refusedIf, limitsVerdict}
-use Rattle.text.specs.Form.{Counts, Vertex, Face, Net, Parsed, parsed, badLine, parse}
+use Rattle.text.specs.Form.{Counts, Vertex, Face, Net, Parsed, parsed, badLine}
 
 -- the net was read, with its rounds, whether letters are asked for, and its numbers of vertices and faces; or the number of the refusal, and its place
 pub data Answer : Type 0 where
@@ -75,5 +75,5 @@ module _ (vs : List ℤ) (fs ms : List ℕ) where
   ofParsed (badLine n) = untouched (refusedWith 13 n)
 
 -- Paper 01: "or more than 32,768 bytes; the place is .. 0 for length, which goes first. It is tested before 1"
-unfoldable pub readNet : List ℕ → List ℤ → List ℕ → List ℕ → Loaded
-readNet text vs fs ms = cond (ltb 32768 (length text)) (untouched vs fs ms (refusedWith 13 0)) (ofParsed vs fs ms (parse text))
+unfoldable pub readBy : (parser : List ℕ → Parsed Net) → List ℕ → List ℤ → List ℕ → List ℕ → Loaded
+readBy parser text vs fs ms = cond (ltb 32768 (length text)) (untouched vs fs ms (refusedWith 13 0)) (ofParsed vs fs ms (parser text))

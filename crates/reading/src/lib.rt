@@ -9,9 +9,9 @@ ghost use Prim.Native.Nat.{_*_, _≤_, _<_};
 ghost use lib.ListN.{length};
 ghost use lib.Seq.{sets};
 ghost use Rattle.decimal.specs.Answers.{Gives};
-ghost use Rattle.text.specs.Form.{readVertex, readFace, rows, parseHead};
+ghost use Rattle.text.specs.Form.{readVertex, readFace, rows, parseHead, parse};
 ghost use Rattle.limits.specs.Answer.{limitsOf};
-ghost use Rattle.reading.specs.Loaded.{cornersOf, countsVerdict, loaded, readNet};
+ghost use Rattle.reading.specs.Loaded.{cornersOf, countsVerdict, loaded, readBy};
 ghost use Rattle.reading.specs.Answers.{Counted, countsAre, headIs, headOf, headUsed, GivesBody, Checks, VerticesStored, answerOf, Tables};
 
 // Lines that have the form, and their bytes.
@@ -209,7 +209,7 @@ fn check(text: &[u8]) -> Checked
 }
 
 // Refusals 1, 3 and 4 from the counts alone, or 0.
-fn refusal(vertices: u32, faces: u32, rounds: u32) -> u32
+pub fn refusal(vertices: u32, faces: u32, rounds: u32) -> u32
     ensures { λ r. ⌜ countsVerdict (countsAre vertices faces rounds) ≡ limitsOf r ⌝ }
 {
     let v = vertices as usize;
@@ -289,7 +289,7 @@ fn store_faces(text: &[u8], count: usize, faces: &mut [u32])
 // Reads the net that `text` writes into the front of the tables, or refuses and leaves them as they are.
 pub fn read_net(text: &[u8], vertices: &mut [i32], faces: &mut [u32], marks: &mut [u8]) -> Input
     requires { ⌜ Tables (length (now vertices)) (length (now faces)) (length (now marks)) ⌝ }
-    ensures { λ r. ⌜ loaded (answerOf r) (now (vertices .exit)) (now (faces .exit)) (now (marks .exit)) ≡ readNet (now (text .entry)) (now (vertices .entry)) (now (faces .entry)) (now (marks .entry)) ⌝ }
+    ensures { λ r. ⌜ loaded (answerOf r) (now (vertices .exit)) (now (faces .exit)) (now (marks .exit)) ≡ readBy parse (now (text .entry)) (now (vertices .entry)) (now (faces .entry)) (now (marks .entry)) ⌝ }
 {
     if 32768 < text.len() {
         return Input::Refused(13, 0);

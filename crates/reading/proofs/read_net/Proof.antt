@@ -4,8 +4,9 @@ use Prim.Native.Nat.{_≤_}
 use native.Mathlib.Omega.{arith}
 use lib.ListN.{length}
 use Rattle.reading.specs.declared.Checked.{Checked}
+use Rattle.text.specs.Form.{parse}
 use Rattle.reading.specs.Answers.{checkedOf, verticesAt, facesAt}
-use Rattle.reading.proofs.Cases.{FormRead, tables-serve, too-long, not-the-form, counts-refused, net-read}
+use Rattle.reading.proofs.Cases.{LinesRead, tables-serve, too-long, not-the-form, counts-refused, net-read}
 use borrow.Author.Needs.{needs}
 use Rattle.reading.proofs.read_net.Statement.{statement}
 use Rattle.reading.proofs.read_net.Tie as tie
@@ -22,11 +23,11 @@ pass p = form p .before .before
 
 read : (p : tie.After-refusal)
     → (let g = form p .v .given .0 in
-    FormRead (begin (pass p) .args .text .now) (g .0) (g .1 .0) (g .1 .1 .0) (g .1 .1 .1 .0) (g .1 .1 .1 .1 .0) (g .1 .1 .1 .1 .1 .0) (g .1 .1 .1 .1 .1 .1 .0) (p .refusal .result))
+    LinesRead (begin (pass p) .args .text .now) (g .0) (g .1 .0) (g .1 .1 .0) (g .1 .1 .1 .0) (g .1 .1 .1 .1 .0) (g .1 .1 .1 .1 .1 .0) (g .1 .1 .1 .1 .1 .1 .0) (p .refusal .result))
 read p =
     let l = begin (pass p) .args .text .now in
     let e = ap (λ (o : Checked). checkedOf o l) (form p .v .given .1) in
-    record { short = pass p .before .if1 .left; form = sym e ∙ pass p .check .ensures .reads; verdict = p .refusal .ensures }
+    record { read = record { short = pass p .before .if1 .left; form = sym e ∙ pass p .check .ensures .reads; verdict = p .refusal .ensures } }
 
 vertices-start : (p : tie.After-refusal) → form p .v .given .0 .1 .1 .1 .1 .1 .0 ≤ length (begin (pass p) .args .text .now)
 vertices-start p = subst (λ (o : Checked). verticesAt o ≤ length (begin (pass p) .args .text .now)) (form p .v .given .1) (pass p .check .ensures .vertices)
@@ -35,7 +36,7 @@ faces-start : (p : tie.After-refusal) → form p .v .given .0 .1 .1 .1 .1 .1 .1 
 faces-start p = subst (λ (o : Checked). facesAt o ≤ length (begin (pass p) .args .text .now)) (form p .v .given .1) (pass p .check .ensures .faces)
 
 returns : tie.Need-returns
-returns c = too-long _ _ _ _ (c .if1 .taken)
+returns c = too-long parse _ _ _ _ (c .if1 .taken)
 
 check-requires : tie.Need-check-requires
 check-requires c κs = search needs
@@ -50,7 +51,7 @@ refusal-requires : tie.Need-refusal-requires
 refusal-requires c κs = search needs
 
 returns-2 : tie.Need-returns-2
-returns-2 c = counts-refused (read (c .before)) _ _ _ (c .if2 .taken)
+returns-2 c = counts-refused (read (c .before) .read) _ _ _ (c .if2 .taken)
 
 sub-store-vertices : tie.Need-sub-store-vertices
 sub-store-vertices c = vertices-start (c .before)
@@ -67,7 +68,7 @@ cast-store-vertices c = search needs
 store-vertices-requires : tie.Need-store-vertices-requires
 store-vertices-requires c κs =
     let p = c .before .before .before .before in
-    let t = tables-serve (read p) (c .before .before .before .if2 .left) in
+    let t = tables-serve (read p .read) (c .before .before .before .if2 .left) in
     let r = begin (pass p) .pre in
     (omega arith, omega arith)
 
@@ -86,7 +87,7 @@ cast-store-faces c = search needs
 store-faces-requires : tie.Need-store-faces-requires
 store-faces-requires c κs =
     let p = c .before .before .before .before .before .before .before .before .before .before in
-    let t = tables-serve (read p) (c .before .before .before .before .before .before .before .before .before .if2 .left) in
+    let t = tables-serve (read p .read) (c .before .before .before .before .before .before .before .before .before .if2 .left) in
     let r = begin (pass p) .pre in
     omega arith
 
@@ -100,7 +101,7 @@ returns-3 : tie.Need-returns-3
 returns-3 c =
     let p = c .before .before .before in
     let l = begin p .args .text .now in
-    not-the-form l _ _ _ _ (p .before .if1 .left) (sym (ap (λ (o : Checked). checkedOf o l) (c .before .line .given .1)) ∙ p .check .ensures .reads)
+    not-the-form parse l _ _ _ _ (p .before .if1 .left) (sym (ap (λ (o : Checked). checkedOf o l) (c .before .line .given .1)) ∙ p .check .ensures .reads)
 
 same-length : tie.Need-same-length
 same-length c = search needs
