@@ -21,7 +21,8 @@ use Rattle.text.specs.Form.{readNames, coordinate, natural, readCounts, readVer
 use Rattle.text.specs.Text.{pairText, texts, numbersText, letteredText, faceText, answerText, refusalText}
 use Rattle.reading.specs.Loaded.{coordinates, marksOf, cornersOf, countsVerdict}
 use Rattle.printing.specs.Tables.{letteredOf, facesOf}
-use Rattle.program.specs.Answer.{programText}
+use Rattle.obj.specs.Form.{skipTo, corner, readCorners, readComment, readItem, readRounds, verticesIn, facesIn, netOf, parseItems, parseObj}
+use Rattle.program.specs.Answer.{parseAny, programText}
 
 pub record Example : Type 0 where
   pub text : String
@@ -30,7 +31,7 @@ pub record Example : Type 0 where
 abbrev example : String → String → Example
 example t a = record { text = t; answer = a }
 
--- no text; a form that ends too early; 13 before 1; 1 before 4; the empty net; the same with letters, and their refusals
+-- no text; a form that ends too early; 13 before 1; 1 before 4; the empty net; the same with letters, and their refusals; OBJ: an unfinished line, 13 before 1, 1, the empty net, and no OBJ
 abbrev examples : List Example
 examples =
     example "" "refusal place\n13 1\n"
@@ -41,6 +42,11 @@ examples =
     ∷ example "vertices faces rounds rule\n0 0 0\nx y z\na b c d\n" "vertices faces\n0 0\nx y z corner rule\na b c d\n"
     ∷ example "vertices faces rounds rule\n0 0 7\nx y z\na b c d\n" "refusal place\n1 0\n"
     ∷ example "vertices faces rounds rules\n0 0 0\nx y z\na b c d\n" "refusal place\n13 1\n"
+    ∷ example "#" "refusal place\n13 1\n"
+    ∷ example "# rounds 7\nv 0 0 0\nvn 0 0 1\n" "refusal place\n13 3\n"
+    ∷ example "# rounds 7\n" "refusal place\n1 0\n"
+    ∷ example "# rounds 0\n# rounds 7\n" "vertices faces\n0 0\nx y z corner\na b c d\n"
+    ∷ example " # rounds 0\n" "refusal place\n13 1\n"
     ∷ []
 
 answersOf : List Example → List (List ℕ)
@@ -52,10 +58,10 @@ programOf [] = []
 programOf (e ∷ es) = programText (bytes (e .text)) ∷ programOf es
 
 all-examples : programOf examples ≡ answersOf examples
-unfolding programOf answersOf programText bytes parse parseHead parseBody readNames readCounts readVertex readFace coordinate natural rows readInteger readNatural readDigits naturalText pairText refusalText answerText texts countsVerdict limitsVerdict tablesVerdict sizeVerdict roomVerdict netVerdict coordinatesVerdict shapeVerdict facesVerdict adjacencyVerdict vertexVerdict shapeOf first firstFrom steps coordinates marksOf cornersOf letteredOf facesOf tabulate
+unfolding programOf answersOf programText parseAny parseObj parseItems readRounds readItem readCorners readComment corner skipTo verticesIn facesIn netOf bytes parse parseHead parseBody readNames readCounts readVertex readFace coordinate natural rows readInteger readNatural readDigits naturalText pairText refusalText answerText texts countsVerdict limitsVerdict tablesVerdict sizeVerdict roomVerdict netVerdict coordinatesVerdict shapeVerdict facesVerdict adjacencyVerdict vertexVerdict shapeOf first firstFrom steps coordinates marksOf cornersOf letteredOf facesOf tabulate
 all-examples = refl
 
 lettered-square : programText (bytes "vertices faces rounds rule\n4 1 0\nx y z corner\n0 0 0 1\n16 0 0 1\n16 16 0 1\n0 16 0 1\na b c d\n0 1 2 3\n")
     ≡ bytes "vertices faces\n4 1\nx y z corner rule\n0 0 0 1 V\n16 0 0 1 V\n16 16 0 1 V\n0 16 0 1 V\na b c d\n0 1 2 3\n"
-unfolding programText bytes parse parseHead parseBody readNames readCounts readVertex readFace coordinate natural rows readInteger readNatural readDigits naturalText integerText pairText numbersText letteredText faceText refusalText answerText texts countsVerdict limitsVerdict tablesVerdict sizeVerdict roomVerdict badCoordinate netVerdict coordinatesVerdict shapeVerdict facesVerdict adjacencyVerdict vertexVerdict badMark badCorner isolated repeatedSide nonManifold badValence markedRing shapeOf first firstFrom any count iterate quads from to opposed mate isBoundaryFrom boundaryFrom leaves valence turn start stops facesMet startNet startOrigin originFrom originAfter letters steps coordinates marksOf cornersOf letteredOf facesOf tabulate
+unfolding programText parseAny bytes parse parseHead parseBody readNames readCounts readVertex readFace coordinate natural rows readInteger readNatural readDigits naturalText integerText pairText numbersText letteredText faceText refusalText answerText texts countsVerdict limitsVerdict tablesVerdict sizeVerdict roomVerdict badCoordinate netVerdict coordinatesVerdict shapeVerdict facesVerdict adjacencyVerdict vertexVerdict badMark badCorner isolated repeatedSide nonManifold badValence markedRing shapeOf first firstFrom any count iterate quads from to opposed mate isBoundaryFrom boundaryFrom leaves valence turn start stops facesMet startNet startOrigin originFrom originAfter letters steps coordinates marksOf cornersOf letteredOf facesOf tabulate
 lettered-square = refl

@@ -1,4 +1,5 @@
 pub mod Examples
+pub mod Parsing
 pub mod Refined
 pub mod Loaded
 pub mod RoundTrip

@@ -16,13 +16,14 @@ use Rattle.verdict.specs.Verdict.{Verdict, accepted, refused, orElse, limitsVer
 use Rattle.verdict.proofs.Accepted.{or-both}
 use Rattle.scheme.specs.Step.{steps}
 use Rattle.origins.specs.Origins.{letters}
-use Rattle.text.specs.Form.{Net, Parsed, parsed, badLine, parse}
+use Rattle.text.specs.Form.{Net, Parsed, parsed, badLine}
 use Rattle.text.specs.Text.{refusalText}
-use Rattle.text.proofs.Counts.{Stated, text-stated}
-use Rattle.reading.specs.Loaded.{Answer, netRead, refusedWith, Loaded, loaded, coordinates, cornersOf, marksOf, tablesOf, programRoom, countsVerdict, untouched, stored, judged, ofParsed, readNet}
+use Rattle.text.proofs.Counts.{Stated}
+use Rattle.reading.specs.Loaded.{Answer, netRead, refusedWith, Loaded, loaded, coordinates, cornersOf, marksOf, tablesOf, programRoom, countsVerdict, untouched, stored, judged, ofParsed, readBy}
 use Rattle.reading.proofs.Storing.{length-coordinates, length-marks, length-corners}
 use Rattle.reading.proofs.Limits.{Served, passed-served}
-use Rattle.program.specs.Answer.{answerBy, refinedText, answerTo, programText}
+use Rattle.program.specs.Answer.{answerBy, refinedText, answerTo, parseAny, programText}
+use Rattle.program.proofs.Parsing.{any-stated}
 
 -- tables with a net of k rounds at their front, whose counts pass and whose answer, with letters or not, is `answer`
 pub record Handed (k : ℕ) (rule : Bool) (v f : ℕ) (vs : List ℤ) (fs ms : List ℕ) (answer : List ℕ) : Type 0 where
@@ -86,14 +87,14 @@ module _ (zv : List ℤ) (zf zm : List ℕ) where
         rw (j .0) (of-net n s (j .0) (j .1))
     of-parsed (badLine n) s e = let a : netRead k rule v f ≡ refusedWith 13 n = ap (λ (x : Loaded). x .answer) e in let z : _≡_ {A = ℕ} 0 1 = cc in absurd (omega arith)
 
-    pub net-handed : (text : List ℕ) → loaded (netRead k rule v f) vs fs ms ≡ readNet text zv zf zm → Handed k rule v f vs fs ms (programText text)
-    unfolding readNet programText
+    pub net-handed : (text : List ℕ) → loaded (netRead k rule v f) vs fs ms ≡ readBy parseAny text zv zf zm → Handed k rule v f vs fs ms (programText text)
+    unfolding readBy programText
     net-handed text e = go (ltb 32768 (length text)) e
       where
-        go : (b : Bool) → loaded (netRead k rule v f) vs fs ms ≡ cond b (untouched zv zf zm (refusedWith 13 0)) (ofParsed zv zf zm (parse text))
-            → Handed k rule v f vs fs ms (cond b (refusalText 13 0) (answerTo (parse text)))
+        go : (b : Bool) → loaded (netRead k rule v f) vs fs ms ≡ cond b (untouched zv zf zm (refusedWith 13 0)) (ofParsed zv zf zm (parseAny text))
+            → Handed k rule v f vs fs ms (cond b (refusalText 13 0) (answerTo (parseAny text)))
         go true e = let a : netRead k rule v f ≡ refusedWith 13 0 = ap (λ (x : Loaded). x .answer) e in let z : _≡_ {A = ℕ} 0 1 = cc in absurd (omega arith)
-        go false e = of-parsed (parse text) (text-stated text) e
+        go false e = of-parsed (parseAny text) (any-stated text) e
 
   -- ---- a refusal
   module _ (r p : ℕ) (vs : List ℤ) (fs ms : List ℕ) where
@@ -108,11 +109,11 @@ module _ (zv : List ℤ) (zf zm : List ℕ) where
     of-lines (parsed n l) e = of-counts (countsVerdict (n .counts)) n e
     of-lines (badLine n) e = same-text 13 n e
 
-    pub refusal-handed : (text : List ℕ) → loaded (refusedWith r p) vs fs ms ≡ readNet text zv zf zm → refusalText r p ≡ programText text
-    unfolding readNet programText
+    pub refusal-handed : (text : List ℕ) → loaded (refusedWith r p) vs fs ms ≡ readBy parseAny text zv zf zm → refusalText r p ≡ programText text
+    unfolding readBy programText
     refusal-handed text e = go (ltb 32768 (length text)) e
       where
-        go : (b : Bool) → loaded (refusedWith r p) vs fs ms ≡ cond b (untouched zv zf zm (refusedWith 13 0)) (ofParsed zv zf zm (parse text))
-            → refusalText r p ≡ cond b (refusalText 13 0) (answerTo (parse text))
+        go : (b : Bool) → loaded (refusedWith r p) vs fs ms ≡ cond b (untouched zv zf zm (refusedWith 13 0)) (ofParsed zv zf zm (parseAny text))
+            → refusalText r p ≡ cond b (refusalText 13 0) (answerTo (parseAny text))
         go true e = same-text 13 0 e
-        go false e = of-lines (parse text) e
+        go false e = of-lines (parseAny text) e

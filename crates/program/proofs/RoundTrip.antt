@@ -1,7 +1,7 @@
 -- Reading what is written for a net gives that net back. Assumes nothing.
 use mathlib.Core.Path.{_≡_, refl, ap, _∙_}
 use mathlib.Core.Bool.{Bool}
-use mathlib.Core.List.{List, [], _∷_}
+use mathlib.Core.List.{List, [], _∷_, append-assoc}
 use Prim.Native.Nat.{ℕ, zero, suc, _+_, _*_, _/_, _^_, _≤_, _<_}
 use native.Mathlib.Omega.{arith}
 use native.Mathlib.Nat.{mul-le-mul-left, pow-le-pow-right}
@@ -31,13 +31,16 @@ use Rattle.splitting.proofs.Growth.{start-within}
 use Rattle.splitting.proofs.Room.{refinable-vertices-le}
 use Rattle.outcome.proofs.Accepted.{accepted-drawn, accepted-refinable}
 use Rattle.outcome.proofs.Counts.{corners-grown, start-corners}
-use Rattle.text.specs.Form.{Vertex, Face, Net}
+use Rattle.text.specs.Form.{Vertex, Face, Net, parsed}
 use Rattle.text.specs.Written.{VertexFits, FaceFits, Each, NetFits}
+use Rattle.text.specs.Text.{netText}
 use Rattle.text.proofs.Back.{net-back}
 use Rattle.reading.specs.Loaded.{netRead, loaded, coordinates, marksOf, cornersOf, tablesOf}
 use Rattle.reading.proofs.Back.{read-back}
 use Rattle.printing.specs.Tables.{vertexAt, faceAt, verticesOf, facesOf}
+use Rattle.program.specs.Answer.{parseAny}
 use Rattle.program.specs.RoundTrip.{linesOf, ReadsBack, RoundTrip}
+use Rattle.program.proofs.Parsing.{parse-text, names-other}
 
 -- one element, by two forms of its index
 same-at : {A : Type 0} (l : List A) (d : A) (a b : ℕ) → a ≡ b → getD l a d ≡ getD l b d
@@ -134,12 +137,16 @@ module _ (k : ℕ) (few : k ≤ 2147483647) (rule : Bool) (m : nets.Net) (ok : R
       let c = marks-tabulate (length (m .marks)) (vertexAt (m .vertices) (m .marks)) ∙ tabulate-getD (m .marks) 0 in
       λ i. record { vertices = a i; faces = b i; marks = c i }
 
+  form-back : parseAny (netText (linesOf k rule m)) ≡ parsed (linesOf k rule m) []
+  unfolding netText
+  form-back = parse-text (netText (linesOf k rule m)) (simp append-assoc (names-other rule _)) ∙ net-back (linesOf k rule m) net-fits
+
   pub reads-back : ReadsBack k rule m
   reads-back = record {
-    form = net-back (linesOf k rule m) net-fits;
+    form = form-back;
     tables = tables-back;
     read = λ vs fs ms short passes.
-        read-back (linesOf k rule m) vs fs ms net-fits short passes
+        read-back parseAny (netText (linesOf k rule m)) (linesOf k rule m) vs fs ms form-back short passes
         ∙ ap (λ (n : nets.Net). loaded (netRead k rule (vertexCount m) (faceCount m)) (filled (n .vertices) vs) (filled (n .faces) fs) (filled (n .marks) ms)) tables-back;
   }
 

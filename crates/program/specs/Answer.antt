@@ -10,9 +10,11 @@ use Rattle.verdict.specs.Call.{vertexCount, faceCount}
 use Rattle.verdict.specs.Verdict.{Verdict, accepted, refused, orElse, netVerdict}
 use Rattle.scheme.specs.Step.{steps}
 use Rattle.origins.specs.Origins.{letters}
-use Rattle.text.specs.Form.{Net, Parsed, parsed, badLine, parse}
+use Rattle.text.specs.Bytes.{bytes}
+use Rattle.text.specs.Form.{Net, startsWith, Parsed, parsed, badLine, parse}
 use Rattle.text.specs.Text.{refusalText}
 use Rattle.reading.specs.Loaded.{tablesOf, countsVerdict}
+use Rattle.obj.specs.Form.{parseObj}
 use Rattle.printing.specs.Tables.{tablesText}
 
 -- the refined net m, with its letters s if `rule` is asked for; or the refusal's number and place
@@ -31,6 +33,10 @@ answerTo (parsed n l) =
     (letters kobbelt (nets.plain (tablesOf n)) (n .counts .rounds))
 answerTo (badLine n) = refusalText 13 n
 
+-- Paper 02: "The program takes a text whose first byte is `#` as OBJ"
+unfoldable pub parseAny : List ℕ → Parsed Net
+parseAny text = cond (startsWith (bytes "#") text) (parseObj text) (parse text)
+
 -- Paper 01: "more than 32,768 bytes; the place is .. 0 for length, which goes first"
 unfoldable pub programText : List ℕ → List ℕ
-programText text = cond (ltb 32768 (length text)) (refusalText 13 0) (answerTo (parse text))
+programText text = cond (ltb 32768 (length text)) (refusalText 13 0) (answerTo (parseAny text))

@@ -8,9 +8,10 @@ ghost use lib.ListN.{length};
 ghost use Rattle.nets.specs.Net.{net, plain};
 ghost use Rattle.verdict.specs.Call.{lengthsOf};
 ghost use Rattle.verdict.specs.Verdict.{accepted, limitsVerdict};
-ghost use Rattle.reading.specs.Loaded.{programRoom};
+ghost use Rattle.reading.specs.Loaded.{programRoom, loaded, readBy};
+ghost use Rattle.reading.specs.Answers.{answerOf, Tables};
 ghost use Rattle.printing.specs.Lines.{Written};
-ghost use Rattle.program.specs.Answer.{refinedText, programText};
+ghost use Rattle.program.specs.Answer.{refinedText, parseAny, programText};
 
 // The answer to a net whose counts pass, with letters if `rule` is asked for.
 fn refine_net(
@@ -60,6 +61,17 @@ fn refine_net(
     }
 }
 
+// Reads the net that `text` writes, as OBJ if its first byte is `#`, into the front of the tables, or refuses and leaves them as they are.
+fn read_any(text: &[u8], vertices: &mut [i32], faces: &mut [u32], marks: &mut [u8]) -> Input
+    requires { ⌜ Tables (length (now vertices)) (length (now faces)) (length (now marks)) ⌝ }
+    ensures { λ r. ⌜ loaded (answerOf r) (now (vertices .exit)) (now (faces .exit)) (now (marks .exit)) ≡ readBy parseAny (now (text .entry)) (now (vertices .entry)) (now (faces .entry)) (now (marks .entry)) ⌝ }
+{
+    if text::starts_with(text, b"#") {
+        return obj::read_net(text, vertices, faces, marks);
+    }
+    reading::read_net(text, vertices, faces, marks)
+}
+
 // Writes the answer to `text` into `out`, and gives its length.
 pub fn answer(text: &[u8], out: &mut [u8]) -> usize
     requires { ⌜ 54355 ≤ length (now out) ⌝ }
@@ -68,7 +80,7 @@ pub fn answer(text: &[u8], out: &mut [u8]) -> usize
     let mut vertices = [0i32; 3072];
     let mut faces = [0u32; 1024];
     let mut marks = [0u8; 1024];
-    match reading::read_net(text, &mut vertices, &mut faces, &mut marks) {
+    match read_any(text, &mut vertices, &mut faces, &mut marks) {
         Input::Net {
             rounds,
             rule,

@@ -1,0 +1,114 @@
+-- The form, computed: nets, and damaged texts. Assumes nothing.
+use mathlib.Core.Path.{_≡_, refl}
+use mathlib.Core.Bool.{Bool, true, false, _&&_}
+use mathlib.Core.List.{List, [], _∷_}
+use Prim.Native.Nat.{ℕ}
+use Prim.Native.String.{String}
+use lib.Dec.{T, eqb}
+use lib.IntN.{ℤ, pos, negsuc}
+use Rattle.decimal.specs.Decimal.{readDigits, readNatural, readInteger, naturalText, integerText}
+use Rattle.text.specs.Bytes.{bytes}
+use Rattle.text.specs.Form.{Vertex, Face, Net, Parsed, parsed, badLine, coordinate, natural, readVertex, rows}
+use Rattle.text.specs.Text.{pointText, texts}
+use Rattle.obj.specs.Form.{skipTo, corner, readCorners, readComment, readItem, readRounds, verticesIn, facesIn, netOf, parseItems, parseObj}
+use Rattle.obj.specs.Text.{Corner, Line, vertexLine, faceLine, commentLine, none, slash, cornerText, lineText, objText}
+
+abbrev at : ℤ → ℤ → ℤ → Vertex
+at x y z = record { x = x; y = y; z = z; mark = 0 }
+
+-- paper 01's square without marks
+abbrev square : ℕ → Net
+square k =
+    record {
+      rule = false;
+      counts = record { vertices = 4; faces = 1; rounds = k };
+      vertices = at (pos 0) (pos 0) (pos 0) ∷ at (pos 16) (pos 0) (pos 0) ∷ at (pos 16) (pos 16) (pos 0) ∷ at (pos 0) (negsuc 15) (pos 0) ∷ [];
+      faces = record { a = 0; b = 1; c = 2; d = 3 } ∷ [];
+    }
+
+-- as it is; with comments, slashes, `v` and `f` in another order, and a later line of rounds
+abbrev squares : List String
+squares =
+    "# rounds 3\nv 0 0 0\nv 16 0 0\nv 16 16 0\nv 0 -16 0\nf 1 2 3 4\n"
+    ∷ "# rounds 3\n# rounds 1\nv 0 0 0\nf 1/ 2/7 3//7 4/7/7\nv 16 0 0\n#\nv 16 16 0\nv 0 -16 0\n##\r\t\n"
+    ∷ "# rounds 3\nf 1/é/\t/\r 2/f 3/- 4/.\nv 0 0 0\nv 16 0 0\nv 16 16 0\nv 0 -16 0\n# rounds 2 \n"
+    ∷ []
+
+readAll : List String → List (Parsed Net)
+readAll [] = []
+readAll (s ∷ ss) = parseObj (bytes s) ∷ readAll ss
+
+squares-read : readAll squares ≡ parsed (square 3) [] ∷ parsed (square 3) [] ∷ parsed (square 3) [] ∷ []
+unfolding readAll parseObj parseItems readRounds readItem readCorners readComment corner skipTo verticesIn facesIn netOf readVertex coordinate natural rows readInteger readNatural readDigits bytes
+squares-read = refl
+
+-- the same text written by its lines
+abbrev plain : ℕ → Corner
+plain v = record { vertex = v; part = none }
+
+abbrev lines : List Line
+lines =
+    commentLine (bytes " rounds 1")
+    ∷ vertexLine (at (pos 0) (pos 0) (pos 0))
+    ∷ faceLine (record { vertex = 0; part = slash [] }) (record { vertex = 1; part = slash (bytes "7") }) (record { vertex = 2; part = slash (bytes "/7") }) (plain 3)
+    ∷ vertexLine (at (negsuc 15) (pos 0) (pos 0))
+    ∷ []
+
+lines-written : objText 3 lines ≡ bytes "# rounds 3\n# rounds 1\nv 0 0 0\nf 1/ 2/7 3//7 4\nv -16 0 0\n"
+unfolding objText lineText cornerText pointText texts naturalText integerText bytes
+lines-written = refl
+
+-- ---- the first bad line of damaged texts, 0 for a text that has the form
+abbrev damage : Parsed Net → ℕ
+damage (parsed n l) = 0
+damage (badLine n) = n
+
+record Damaged : Type 0 where
+  name : String
+  text : String
+  place : ℕ
+
+abbrev damaged : List Damaged
+damaged =
+    record { name = "the first line alone"; text = "# rounds 0\n"; place = 0 }
+    ∷ record { name = "a corner that is no vertex, and corners twice"; text = "# rounds 2147483647\nf 2147483647 1 1 1\n"; place = 0 }
+    ∷ record { name = "a comment with any bytes"; text = "# rounds 7\n#\r\t v f ÿ\n"; place = 0 }
+    ∷ record { name = "one byte"; text = "#"; place = 1 }
+    ∷ record { name = "no number"; text = "# rounds\n"; place = 1 }
+    ∷ record { name = "two blanks"; text = "# rounds  1\n"; place = 1 }
+    ∷ record { name = "more after the number"; text = "# rounds 1 \n"; place = 1 }
+    ∷ record { name = "rounds with a leading zero"; text = "# rounds 01\n"; place = 1 }
+    ∷ record { name = "rounds beyond signed 32 bits"; text = "# rounds 2147483648\n"; place = 1 }
+    ∷ record { name = "another comment first"; text = "# a net\n# rounds 1\n"; place = 1 }
+    ∷ record { name = "carriage return"; text = "# rounds 1\r\nv 0 0 0\r\n"; place = 1 }
+    ∷ record { name = "an empty line"; text = "# rounds 1\n\n"; place = 2 }
+    ∷ record { name = "a blank before"; text = "# rounds 1\n v 0 0 0\n"; place = 2 }
+    ∷ record { name = "a blank after"; text = "# rounds 1\nv 0 0 0 \n"; place = 2 }
+    ∷ record { name = "two coordinates"; text = "# rounds 1\nv 0 0\n"; place = 2 }
+    ∷ record { name = "four coordinates"; text = "# rounds 1\nv 0 0 0 1\n"; place = 2 }
+    ∷ record { name = "a decimal"; text = "# rounds 1\nv 0 0.5 0\n"; place = 2 }
+    ∷ record { name = "minus zero"; text = "# rounds 1\nv 0 -0 0\n"; place = 2 }
+    ∷ record { name = "a slash in a vertex"; text = "# rounds 1\nv 0 0/1 0\n"; place = 2 }
+    ∷ record { name = "a corner 0"; text = "# rounds 1\n#\nf 1 2 0 3\n"; place = 3 }
+    ∷ record { name = "a corner 0 with a slash"; text = "# rounds 1\nf 1 2 0/1 3\n"; place = 2 }
+    ∷ record { name = "a slash alone"; text = "# rounds 1\nf 1 2 /1 3\n"; place = 2 }
+    ∷ record { name = "a relative number"; text = "# rounds 1\nf 1 2 -1 3\n"; place = 2 }
+    ∷ record { name = "a corner beyond signed 32 bits"; text = "# rounds 1\nf 1 2 2147483648 3\n"; place = 2 }
+    ∷ record { name = "three corners"; text = "# rounds 1\nf 1 2 3\n"; place = 2 }
+    ∷ record { name = "five corners"; text = "# rounds 1\nf 1 2 3 4 5\n"; place = 2 }
+    ∷ record { name = "a carriage return in a corner"; text = "# rounds 1\nf 1 2 3 4\r\n"; place = 2 }
+    ∷ record { name = "a carriage return behind a slash"; text = "# rounds 1\nf 1 2 3 4/\r\n"; place = 0 }
+    ∷ record { name = "a part without end"; text = "# rounds 1\nf 1 2 3 4/4"; place = 2 }
+    ∷ record { name = "a normal"; text = "# rounds 1\nv 0 0 0\nvn 0 0 1\n"; place = 3 }
+    ∷ record { name = "an object"; text = "# rounds 1\no net\n"; place = 2 }
+    ∷ record { name = "an unfinished comment"; text = "# rounds 1\nv 0 0 0\n# rounds 2"; place = 3 }
+    ∷ record { name = "an unfinished vertex"; text = "# rounds 1\nv 0 0 0"; place = 2 }
+    ∷ []
+
+same : List Damaged → Bool
+same [] = true
+same (d ∷ ds) = eqb (damage (parseObj (bytes (d .text)))) (d .place) && same ds
+
+all-damaged : same damaged ≡ true
+unfolding same parseObj parseItems readRounds readItem readCorners readComment corner skipTo verticesIn facesIn netOf readVertex coordinate natural rows readInteger readNatural readDigits bytes
+all-damaged = refl

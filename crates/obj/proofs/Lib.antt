@@ -1,0 +1,6 @@
+pub mod Examples
+pub mod Fields
+pub mod Items
+pub mod Passing
+pub mod Cases
+pub mod Counts

@@ -1,0 +1,86 @@
+-- The texts of the form, and the nets that they write.
+use mathlib.Core.Path.{_≡_}
+use mathlib.Core.Bool.{false, _||_}
+use mathlib.Core.List.{List, [], _∷_, _++_}
+use Prim.Native.Nat.{ℕ, suc, _≤_}
+use lib.Dec.{eqb}
+use lib.ListN.{length}
+use Rattle.decimal.specs.Decimal.{naturalText}
+use Rattle.text.specs.Bytes.{bytes}
+use Rattle.text.specs.Form.{Vertex, Face, Net, parsed}
+use Rattle.text.specs.Text.{field, pointText, texts}
+use Rattle.text.specs.Written.{Each, PointFits, NetFits}
+use Rattle.obj.specs.Form.{Item, vertex, face, comment, verticesIn, facesIn, parseObj}
+
+-- a number of an `f` line, with what stands behind it: nothing, or a slash and the bytes s
+pub data Part : Type 0 where
+  none : Part
+  slash : (s : List ℕ) → Part
+
+pub record Corner : Type 0 where
+  pub vertex : ℕ
+  pub part : Part
+
+-- a line after the first
+pub data Line : Type 0 where
+  vertexLine : Vertex → Line
+  faceLine : (a b c d : Corner) → Line
+  commentLine : (s : List ℕ) → Line
+
+abbrev pub partText : Part → List ℕ
+partText none = []
+partText (slash s) = 47 ∷ s
+
+unfoldable pub cornerText : Corner → ℕ → List ℕ
+cornerText c e = field (naturalText (suc (c .vertex)) ++ partText (c .part)) e
+
+unfoldable pub lineText : Line → List ℕ
+lineText (vertexLine v) = bytes "v " ++ pointText v
+lineText (faceLine a b c d) = bytes "f " ++ cornerText a 32 ++ cornerText b 32 ++ cornerText c 32 ++ cornerText d 10
+lineText (commentLine s) = field (bytes "#" ++ s) 10
+
+unfoldable pub objText : (rounds : ℕ) → List Line → List ℕ
+objText k ls = bytes "# rounds " ++ field (naturalText k) 10 ++ texts lineText ls
+
+-- ---- lines that the form has
+
+-- neither the byte e nor a newline is in s
+abbrev pub Without : ℕ → List ℕ → Type 0
+Without e s = Each (λ (b : ℕ). (eqb b e || eqb b 10) ≡ false) s
+
+abbrev pub PartFits : Part → Type 0
+PartFits none = Unit {0}
+PartFits (slash s) = Without 32 s
+
+pub record CornerFits (c : Corner) : Type 0 where
+  pub number : suc (c .vertex) ≤ 2147483647
+  pub part : PartFits (c .part)
+
+abbrev pub LineFits : Line → Type 0
+LineFits (vertexLine v) = PointFits v
+LineFits (faceLine a b c d) = CornerFits a × CornerFits b × CornerFits c × CornerFits d
+LineFits (commentLine s) = Without 10 s
+
+-- ---- what they write
+abbrev pub itemOf : Line → Item
+itemOf (vertexLine v) = vertex v
+itemOf (faceLine a b c d) = face (record { a = a .vertex; b = b .vertex; c = c .vertex; d = d .vertex })
+itemOf (commentLine s) = comment
+
+unfoldable pub itemsOf : List Line → List Item
+itemsOf [] = []
+itemsOf (l ∷ ls) = itemOf l ∷ itemsOf ls
+
+-- the lines write the net n, in any order of `v`, `f` and `#`
+pub record Writes (ls : List Line) (n : Net) : Type 0 where
+  pub fit : Each LineFits ls
+  pub vertices : verticesIn (itemsOf ls) ≡ n .vertices
+  pub faces : facesIn (itemsOf ls) ≡ n .faces
+  pub vertexCount : length (n .vertices) ≡ n .counts .vertices
+  pub faceCount : length (n .faces) ≡ n .counts .faces
+  pub rounds : n .counts .rounds ≤ 2147483647
+  pub rule : n .rule ≡ false
+
+-- Paper 02: "the net read is the one written"
+pub record ReadsBack : Type 0 where
+  pub back : (n : Net) (ls : List Line) → Writes ls n → parseObj (objText (n .counts .rounds) ls) ≡ parsed n []
