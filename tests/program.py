@@ -3,9 +3,9 @@
 
 usage: program.py [--count N] [--seed S]
 
-The stored texts of tests/nets/cases, N seeded ones (2,000) and those of the named nets, about half of which ask for letters, go through ./refine's
-program and through the reference; then come inputs that no file can give: in small pieces, without end, unreadable. The exit status is 1 if an answer
-differs, or if some letter of a text occurs in no answer.
+The stored texts of tests/nets/cases, N seeded ones (3,000) and those of the named nets go through ./refine's program and through the reference; of the
+seeded ones a third are OBJ texts, and about half of the others ask for letters. Then come inputs that no file can give: in small pieces, without end,
+unreadable. The exit status is 1 if an answer differs, or if some letter of a text occurs in no answer.
 """
 import argparse
 import os
@@ -21,8 +21,8 @@ CASES = ROOT / 'tests/nets/cases'
 CARGO = ['cargo', 'run', '--release', '--offline', '--quiet', '--manifest-path', str(ROOT / 'tests/Cargo.toml'), '-p']
 SAMPLE = (CASES / 'paper-sample.txt').read_bytes()
 ANSWER = (CASES / 'paper-sample.out').read_bytes()
-# the same with letters
-LETTERED = [(CASES / f'rule-sample.{part}').read_bytes() for part in ('txt', 'out')]
+# the same with letters, and without marks as OBJ text
+LETTERED, OBJ = ([(CASES / f'{name}.{part}').read_bytes() for part in ('txt', 'out')] for name in ('rule-sample', 'obj-square'))
 # all but S, which needs side counts
 LETTERS = set('VABMCDE')
 LIMIT = 32768
@@ -52,9 +52,14 @@ def letters(folder):
     return len(with_letters), {line[-1] for lines in with_letters for line in lines[3:lines.index('a b c d')]}
 
 
+def obj_texts(folder):
+    """How many texts of a folder are read as OBJ."""
+    return sum(path.read_bytes().startswith(b'#') for path in folder.glob('*.txt'))
+
+
 def in_pieces():
-    """A text that arrives in pieces of a few bytes, with letters and without."""
-    return all(pieces(text) == due for text, due in ((SAMPLE, ANSWER), LETTERED))
+    """A text that arrives in pieces of a few bytes, with letters, without, and as OBJ."""
+    return all(pieces(text) == due for text, due in ((SAMPLE, ANSWER), LETTERED, OBJ))
 
 
 def pieces(text):
@@ -75,8 +80,9 @@ def endless():
 
 def long_texts():
     """The longest text is read to its last line; one byte more is too long, whatever it says."""
-    padded = [text + b'0' * (LIMIT - len(text)) for text in (SAMPLE, LETTERED[0])]
-    return all(answer(text) == b'refusal place\n13 10\n' and answer(text + b'\n') == b'refusal place\n13 0\n' for text in padded)
+    padded = [(text + b'0' * (LIMIT - len(text)), b'refusal place\n13 10\n') for text in (SAMPLE, LETTERED[0])]
+    padded.append((OBJ[0].ljust(LIMIT - 1, b'#') + b'\n', OBJ[1]))
+    return all(answer(text) == due and answer(text + b'\n') == b'refusal place\n13 0\n' for text, due in padded)
 
 
 def unreadable():
@@ -104,15 +110,16 @@ def command():
 
 def main():
     options = argparse.ArgumentParser()
-    options.add_argument('--count', type=int, default=2000)
+    options.add_argument('--count', type=int, default=3000)
     options.add_argument('--seed', type=int, default=1)
     options = options.parse_args()
     failures = [f'stored text {name}' for name in different(CASES)]
-    seed, made, lettered = str(options.seed), [], [letters(CASES)]
+    seed, made, lettered, obj = str(options.seed), [], [letters(CASES)], [obj_texts(CASES)]
     for texts in (['batch', '--seed', seed, '--count', str(options.count)], ['named', '--seed', seed]):
         with tempfile.TemporaryDirectory() as name:
             made.append(answered(pathlib.Path(name), *texts))
             lettered.append(letters(pathlib.Path(name)))
+            obj.append(obj_texts(pathlib.Path(name)))
             failures += [f'nets {" ".join(texts)}, text {name}' for name in different(pathlib.Path(name))]
     failures += [f'letters in answers: {"".join(sorted(met))}' for _, met in lettered if met != LETTERS]
     checks = [in_pieces, endless, long_texts, unreadable, unwritable, command]
@@ -121,7 +128,7 @@ def main():
         print(f'program: NOT as it must be: {failure}')
     stored = len(list(CASES.glob('*.txt')))
     counts = ' and '.join(str(count) for count, _ in lettered)
-    print(f'program: {stored} stored and {made[0]} seeded texts, {made[1]} of named nets, {counts} answers with letters, '
+    print(f'program: {stored} stored and {made[0]} seeded texts, {obj[0]} and {obj[1]} of them OBJ, {made[1]} of named nets, {counts} answers with letters, '
           f'{len(checks)} ways of input and output: {len(failures)} failures')
     return 1 if failures else 0
 

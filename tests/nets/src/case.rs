@@ -5,8 +5,9 @@ use reference::net::{Mesh, Net, PolygonNet};
 use reference::point::Point;
 use reference::refusal::{Capacity, MAX_ROUNDS, Refusal, quadrilaterals};
 use reference::step::split;
-use reference::text::Document;
+use reference::text::{Document, PROGRAM_REFINED_FACES};
 
+use crate::build::to_u32;
 use crate::rng::Rng;
 
 /// What the maker of a case knows of its answer.
@@ -205,4 +206,19 @@ pub fn document(net: &Net, rounds: u32, rng: &mut Rng) -> Document {
         faces: net.face_table(),
         marks: net.marks.clone(),
     }
+}
+
+/// The most rounds, up to 6, after which so many quadrilaterals have become at
+/// most `faces`.
+pub fn most_rounds(quadrilaterals: usize, faces: usize) -> u32 {
+    (0..=6)
+        .rev()
+        .find(|&rounds| quadrilaterals << (2 * rounds) <= faces)
+        .unwrap_or(0)
+}
+
+/// Some rounds, up to 4, that the program serves for so many faces.
+pub fn served_rounds(faces: usize, rng: &mut Rng) -> u32 {
+    let most = most_rounds(faces, PROGRAM_REFINED_FACES).min(4);
+    to_u32(rng.below(most as usize + 1))
 }

@@ -8,7 +8,7 @@ use crate::accepted::{Shape, Size, accepted};
 use crate::build::to_u32;
 use crate::case::{Case, Expected, TextCase, document};
 use crate::polygons::{PolygonShape, accepted_polygons, some_sizes};
-use crate::refused::break_sides;
+use crate::refused::{base, break_sides};
 use crate::rng::Rng;
 
 named_cases! {
@@ -106,25 +106,27 @@ impl Lines {
             }
         }
     }
+}
 
-    /// Replaces a random field of a line by what `change` makes of it.
-    fn change_field(&mut self, line: usize, change: impl Fn(&str) -> String, rng: &mut Rng) {
-        let mut fields: Vec<String> = self.lines[line].split(' ').map(str::to_owned).collect();
-        let field = rng.below(fields.len());
-        fields[field] = change(&fields[field]);
-        self.lines[line] = fields.join(" ");
-    }
+/// A line with one of its fields, from number `first` on, replaced by what
+/// `change` makes of it.
+pub(crate) fn change_field(
+    line: &str,
+    first: usize,
+    change: impl Fn(&str) -> String,
+    rng: &mut Rng,
+) -> String {
+    let mut fields: Vec<String> = line.split(' ').map(str::to_owned).collect();
+    let field = first + rng.below(fields.len() - first);
+    fields[field] = change(&fields[field]);
+    fields.join(" ")
 }
 
 /// A sound text with at least one face, which the form of texts allows.
 fn sound_text(rng: &mut Rng) -> Vec<u8> {
-    loop {
-        let net = accepted(rng.pick(&Shape::ALL), Size::Small, rng);
-        if !net.faces.is_empty() {
-            let rounds = to_u32(rng.below(3));
-            return document(&net, rounds, rng).to_text().into_bytes();
-        }
-    }
+    let net = base(rng);
+    let rounds = to_u32(rng.below(3));
+    document(&net, rounds, rng).to_text().into_bytes()
 }
 
 /// A text damaged in this way, from a sound one.
@@ -136,17 +138,15 @@ pub fn damaged_text(damage: Damage, rng: &mut Rng) -> TextCase {
 /// Damages a text that has its form.
 pub fn damage_text(text: &[u8], damage: Damage, rng: &mut Rng) -> TextCase {
     let mut lines = Lines::new(text);
-    let bad_line = match damage {
+    let line = match damage {
         Damage::RandomBytes => return random_bytes(text, rng),
         Damage::Cut => return cut(text, rng),
         Damage::TooLong => return too_long(text),
-        Damage::Empty => return refused_text(Vec::new(), 1),
-        Damage::NoLastNewline => {
-            return refused_text(text[..text.len() - 1].to_vec(), lines.lines.len());
-        }
+        Damage::Empty => return bad_line(Vec::new(), 1),
+        Damage::NoLastNewline => return no_last_newline(text),
         Damage::SurplusByte => {
             let surplus = rng.pick(&[b' ', b'0', b'\r', 0]);
-            return refused_text([text, &[surplus]].concat(), lines.lines.len() + 1);
+            return bad_line([text, &[surplus]].concat(), lines.lines.len() + 1);
         }
         Damage::RulesForRule
         | Damage::BlanksBeforeRule
@@ -162,7 +162,7 @@ pub fn damage_text(text: &[u8], damage: Damage, rng: &mut Rng) -> TextCase {
         | Damage::HugeFaceCount => damage_structure(&mut lines, damage, rng),
         _ => damage_line(&mut lines, damage, rng),
     };
-    refused_text(lines.text(), bad_line + 1)
+    bad_line(lines.text(), line + 1)
 }
 
 /// Damages one line and returns its index.
@@ -178,7 +178,15 @@ fn damage_line(lines: &mut Lines, damage: Damage, rng: &mut Rng) -> usize {
         _ => lines.values(rng),
     };
     let old = &lines.lines[line];
-    let whole_line = match damage {
+    let new = damage_whole_line(old, damage)
+        .unwrap_or_else(|| change_field(old, 0, |field| damage_field(field, damage), rng));
+    lines.lines[line] = new;
+    line
+}
+
+/// The line without regard to its fields, if this damage is such a one.
+pub(crate) fn damage_whole_line(old: &str, damage: Damage) -> Option<String> {
+    match damage {
         Damage::WrongName => Some(old.replace(' ', " q")),
         Damage::CapitalName => Some(old.to_uppercase()),
         Damage::DoubleBlank => Some(old.replacen(' ', "  ", 1)),
@@ -191,15 +199,10 @@ fn damage_line(lines: &mut Lines, damage: Damage, rng: &mut Rng) -> usize {
         Damage::SurplusValue => Some(format!("{old} 0")),
         Damage::Mark256 => old.rsplit_once(' ').map(|(rest, _)| format!("{rest} 256")),
         _ => None,
-    };
-    match whole_line {
-        Some(new) => lines.lines[line] = new,
-        None => lines.change_field(line, |field| damage_field(field, damage), rng),
     }
-    line
 }
 
-fn damage_field(field: &str, damage: Damage) -> String {
+pub(crate) fn damage_field(field: &str, damage: Damage) -> String {
     let digits = field.trim_start_matches('-');
     match damage {
         Damage::PlusSign => format!("+{digits}"),
@@ -264,26 +267,35 @@ fn damage_structure(lines: &mut Lines, damage: Damage, rng: &mut Rng) -> usize {
     }
 }
 
-fn refused_text(text: Vec<u8>, line: usize) -> TextCase {
+/// A text that is bad at this line, counted from 1.
+pub(crate) fn bad_line(text: Vec<u8>, line: usize) -> TextCase {
     TextCase {
         text,
         expected: Expected::Refused(Refusal::new(13, to_u32(line))),
     }
 }
 
-fn too_long(text: &[u8]) -> TextCase {
+pub(crate) fn too_long(text: &[u8]) -> TextCase {
     let mut text = text.to_vec();
     text.resize(MAX_BYTES + 1, b'\n');
-    refused_text(text, 0)
+    bad_line(text, 0)
 }
 
-fn cut(text: &[u8], rng: &mut Rng) -> TextCase {
-    let kept = &text[..rng.below(text.len())];
-    let finished = kept.iter().filter(|&&byte| byte == b'\n').count();
-    refused_text(kept.to_vec(), finished + 1)
+pub(crate) fn no_last_newline(text: &[u8]) -> TextCase {
+    bad_at_end(&text[..text.len() - 1])
 }
 
-fn random_bytes(text: &[u8], rng: &mut Rng) -> TextCase {
+pub(crate) fn cut(text: &[u8], rng: &mut Rng) -> TextCase {
+    bad_at_end(&text[..rng.below(text.len())])
+}
+
+/// A text that is bad at the line it ends in.
+fn bad_at_end(text: &[u8]) -> TextCase {
+    let finished = text.iter().filter(|&&byte| byte == b'\n').count();
+    bad_line(text.to_vec(), finished + 1)
+}
+
+pub(crate) fn random_bytes(text: &[u8], rng: &mut Rng) -> TextCase {
     let mut text = text.to_vec();
     for _ in 0..rng.between(1, 3) {
         let at = rng.below(text.len());

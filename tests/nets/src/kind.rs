@@ -7,13 +7,14 @@ use reference::text::PROGRAM_REFINED_FACES;
 
 use crate::accepted::{Shape, Size, accepted};
 use crate::build::to_u32;
-use crate::case::{Case, Drawn, Expected, TextCase, document};
+use crate::case::{Case, Drawn, Expected, TextCase, document, most_rounds, served_rounds};
 use crate::damaged::{
     Damage, damage_text, damaged_polygons, damaged_tables, damaged_text, random_polygons,
     random_tables,
 };
 use crate::letters::any_letters;
 use crate::named::{NAMED, by_turns};
+use crate::obj::ObjKind;
 use crate::polygons::{PolygonShape, accepted_polygons};
 use crate::refused::{
     PLAIN_REASONS, POLYGON_REASONS, TEXT_REASONS, refused_call, refused_polygons, refused_text,
@@ -34,6 +35,8 @@ pub enum Kind {
     Damaged(Damage),
     /// Damaged, with another reason for a refusal.
     DamagedAnd(u32),
+    /// An OBJ text.
+    Obj(ObjKind),
 }
 
 impl Kind {
@@ -48,6 +51,7 @@ impl Kind {
         }
         kinds.extend(Damage::ALL.map(Kind::Damaged));
         kinds.extend(TEXT_REASONS.map(Kind::DamagedAnd));
+        kinds.extend(ObjKind::all().into_iter().map(Kind::Obj));
         kinds
     }
 
@@ -62,6 +66,7 @@ impl Kind {
             Kind::Refused(reasons) => refused_name(reasons),
             Kind::Damaged(damage) => format!("damaged-{}", damage.name()),
             Kind::DamagedAnd(reason) => format!("damaged-and-{reason:02}"),
+            Kind::Obj(kind) => format!("obj-{}", kind.name()),
         }
     }
 
@@ -70,8 +75,7 @@ impl Kind {
         match self {
             Kind::Accepted(shape) => {
                 let net = accepted(*shape, Size::Medium, rng);
-                let most = most_rounds(net.faces.len(), PROGRAM_REFINED_FACES).min(4);
-                let rounds = to_u32(rng.below(most as usize + 1));
+                let rounds = served_rounds(net.faces.len(), rng);
                 accepted_text(&net, rounds, rng)
             }
             Kind::Small(shape) => {
@@ -86,6 +90,7 @@ impl Kind {
                 let damage = rng.pick(&[Damage::NoLastNewline, Damage::Tab, Damage::MissingLine]);
                 damage_text(&sound, damage, rng)
             }
+            Kind::Obj(kind) => kind.make(rng),
         }
     }
 }
@@ -180,15 +185,6 @@ pub fn named_texts(seed: u64) -> Vec<(String, TextCase)> {
         }
     }
     texts
-}
-
-/// The most rounds, up to 6, after which so many quadrilaterals have become at
-/// most `faces`.
-fn most_rounds(quadrilaterals: usize, faces: usize) -> u32 {
-    (0..=6)
-        .rev()
-        .find(|&rounds| quadrilaterals << (2 * rounds) <= faces)
-        .unwrap_or(0)
 }
 
 /// `number` different accepted nets of at most 12 faces and 40 vertices, of

@@ -5,6 +5,7 @@
 //! - [`refused`]: calls and texts with one or more reasons for a refusal.
 //! - [`valences`]: calls with a vertex in many faces.
 //! - [`damaged`]: texts that lost their form, and damaged tables.
+//! - [`obj`]: OBJ texts, accepted, refused and damaged.
 //! - [`pairs`]: pairs of nets that share a boundary segment.
 //! - [`tally`]: what calls find in the record of new points.
 //! - [`letters`]: whether calls ask for letters, and the tables for them.
@@ -49,6 +50,7 @@ pub mod kind;
 pub mod letters;
 pub mod moved;
 pub mod named;
+pub mod obj;
 pub mod pairs;
 pub mod polygons;
 pub mod refused;

@@ -2,12 +2,12 @@
 
 use reference::net::{Net, PolygonNet};
 use reference::refusal::{MAX_COORDINATE, Refusal};
-use reference::text::PROGRAM_REFINED_FACES;
+use reference::text::{Document, PROGRAM_REFINED_FACES};
 use reference::topology::Topology;
 
 use crate::accepted::{Shape, Size, accepted};
 use crate::build::to_u32;
-use crate::case::{Case, Expected, TextCase, document};
+use crate::case::{Case, Expected, TextCase, document, most_rounds};
 use crate::change::{Numbering, renumber};
 use crate::polygons::{PolygonShape, accepted_polygons, some_size, some_sizes};
 use crate::rng::Rng;
@@ -267,7 +267,7 @@ impl Draft {
 }
 
 /// A small sound net with at least one face.
-fn base(rng: &mut Rng) -> Net {
+pub(crate) fn base(rng: &mut Rng) -> Net {
     loop {
         let net = accepted(rng.pick(&Shape::ALL), Size::Small, rng);
         if !net.faces.is_empty() {
@@ -494,6 +494,15 @@ pub const TEXT_REASONS: [u32; 11] = [1, 3, 4, 5, 6, 7, 8, 9, 10, 11, 12];
 
 /// A well-formed text with these of [`TEXT_REASONS`] against it.
 pub fn refused_text(reasons: &[u32], rng: &mut Rng) -> TextCase {
+    let (document, expected) = refused_document(reasons, rng);
+    TextCase {
+        text: document.to_text().into_bytes(),
+        expected,
+    }
+}
+
+/// The document of such a text, and what is expected of it.
+pub fn refused_document(reasons: &[u32], rng: &mut Rng) -> (Document, Expected) {
     let has = |reason| reasons.contains(&reason);
     let start = if has(3) {
         shapes::grid(13, rng.between(5, 6))
@@ -501,10 +510,7 @@ pub fn refused_text(reasons: &[u32], rng: &mut Rng) -> TextCase {
         base(rng)
     };
     let (net, expected) = flawed(&start, reasons, rng);
-    let largest = (0..=6)
-        .rev()
-        .find(|&rounds| net.faces.len() << (2 * rounds) <= PROGRAM_REFINED_FACES);
-    let served = largest.unwrap_or(0);
+    let served = most_rounds(net.faces.len(), PROGRAM_REFINED_FACES);
     let rounds = if has(1) {
         rng.pick(&[7, 8, 1000, i32::MAX as u32])
     } else if has(3) {
@@ -514,8 +520,6 @@ pub fn refused_text(reasons: &[u32], rng: &mut Rng) -> TextCase {
     } else {
         served.min(2)
     };
-    TextCase {
-        text: document(&net, rounds, rng).to_text().into_bytes(),
-        expected: callers_refusal(reasons).unwrap_or(expected),
-    }
+    let expected = callers_refusal(reasons).unwrap_or(expected);
+    (document(&net, rounds, rng), expected)
 }

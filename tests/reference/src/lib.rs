@@ -11,6 +11,7 @@ pub mod curve;
 pub mod fraction;
 pub mod letter;
 pub mod net;
+pub mod obj;
 pub mod point;
 pub mod refusal;
 pub mod retrace;

@@ -1,6 +1,8 @@
-//! The text form of nets and answers. It has no side counts.
+//! The text form of nets and answers, which has no side counts. Nets may also
+//! come as OBJ texts.
 
 use crate::call::{Call, Outcome, refine};
+use crate::obj;
 use crate::refusal::{Capacity, Refusal, check_limits, check_rounds, refined_faces};
 
 pub const MAX_BYTES: usize = 32_768;
@@ -140,11 +142,20 @@ fn net_lines(
     text
 }
 
-/// The document in a text, or refusal 13 with its first bad line.
+/// The document in a text of either form, or refusal 13 with its first bad
+/// line; the length goes first.
 pub fn parse(text: &[u8]) -> Result<Document, Refusal> {
     if text.len() > MAX_BYTES {
-        return Err(Refusal::new(13, 0));
+        Err(Refusal::new(13, 0))
+    } else if obj::is_obj(text) {
+        obj::parse(text)
+    } else {
+        parse_named(text)
     }
+}
+
+/// The document in a text with lines of names.
+fn parse_named(text: &[u8]) -> Result<Document, Refusal> {
     let mut lines = Lines {
         rest: text,
         number: 0,
@@ -218,7 +229,10 @@ impl<'a> Lines<'a> {
 }
 
 /// Exactly `N` values with one blank between.
-fn values<T, const N: usize>(line: &[u8], value: impl Fn(&[u8]) -> Option<T>) -> Option<[T; N]> {
+pub(crate) fn values<T, const N: usize>(
+    line: &[u8],
+    value: impl Fn(&[u8]) -> Option<T>,
+) -> Option<[T; N]> {
     let fields: Option<Vec<T>> = line.split(|&byte| byte == b' ').map(value).collect();
     fields?.try_into().ok()
 }
@@ -232,13 +246,13 @@ fn marked_point(line: &[u8]) -> Option<([i32; 3], u8)> {
 }
 
 /// A decimal from 0 within signed 32 bits, without sign or leading zero.
-fn natural(field: &[u8]) -> Option<u32> {
+pub(crate) fn natural(field: &[u8]) -> Option<u32> {
     let value = i32::try_from(magnitude(field)?).ok()?;
     u32::try_from(value).ok()
 }
 
 /// A decimal within signed 32 bits; a minus only before a number that is not 0.
-fn coordinate(field: &[u8]) -> Option<i32> {
+pub(crate) fn coordinate(field: &[u8]) -> Option<i32> {
     let value = match field.strip_prefix(b"-") {
         Some(digits) => -magnitude(digits).filter(|&value| value != 0)?,
         None => magnitude(field)?,

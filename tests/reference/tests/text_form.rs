@@ -2,25 +2,12 @@
 
 mod common;
 
-use common::{SAMPLE_TEXT, grid};
+use common::{SAMPLE_TEXT, assert_bad_line, document, grid, refusal, with_line};
 use reference::refusal::Refusal;
 use reference::text::{Document, MAX_BYTES, answer, parse};
 
-fn refusal(reason: u32, place: u32) -> String {
-    format!("refusal place\n{reason} {place}\n")
-}
-
-/// The sample text with its line `number` replaced; without a line break if
-/// the replacement has none.
 fn sample_with(number: usize, replacement: &str) -> String {
-    let mut lines = SAMPLE_TEXT.split_inclusive('\n').collect::<Vec<_>>();
-    lines[number - 1] = replacement;
-    lines.concat()
-}
-
-#[track_caller]
-fn assert_bad_line(text: &[u8], line: u32) {
-    assert_eq!(answer(text), refusal(13, line));
+    with_line(SAMPLE_TEXT, number, replacement)
 }
 
 #[test]
@@ -205,14 +192,7 @@ fn an_empty_net_has_a_text() {
 }
 
 fn text_of(columns: u32, rows: u32, rounds: u32) -> Document {
-    let net = grid(columns, rows);
-    Document {
-        rounds,
-        with_letters: false,
-        vertices: net.vertex_table(),
-        faces: net.face_table(),
-        marks: net.marks,
-    }
+    document(&grid(columns, rows), rounds)
 }
 
 #[test]

@@ -6,6 +6,7 @@ use reference::call::{Call, Outcome, refine};
 use reference::net::Net;
 use reference::point::Point;
 use reference::refusal::{Capacity, Refusal, check_net};
+use reference::text::{Document, answer};
 
 pub const SAMPLE_TEXT: &str = "vertices faces rounds\n4 1 1\nx y z corner\n0 0 0 1\n\
     16 0 0 1\n16 16 0 1\n0 16 0 1\na b c d\n0 1 2 3\n";
@@ -140,4 +141,33 @@ pub fn verdict(net: &Net) -> Option<(u32, u32)> {
     check_net(net)
         .err()
         .map(|Refusal { reason, place }| (reason, place))
+}
+
+/// The document of a net, which asks for no letters.
+pub fn document(net: &Net, rounds: u32) -> Document {
+    Document {
+        rounds,
+        with_letters: false,
+        vertices: net.vertex_table(),
+        faces: net.face_table(),
+        marks: net.marks.clone(),
+    }
+}
+
+/// A text with its line `number` replaced; without a line break if the
+/// replacement has none.
+pub fn with_line(text: &str, number: usize, replacement: &str) -> String {
+    let mut lines = text.split_inclusive('\n').collect::<Vec<_>>();
+    lines[number - 1] = replacement;
+    lines.concat()
+}
+
+/// The answer to a text that is refused so.
+pub fn refusal(reason: u32, place: u32) -> String {
+    format!("refusal place\n{reason} {place}\n")
+}
+
+#[track_caller]
+pub fn assert_bad_line(text: &[u8], line: u32) {
+    assert_eq!(answer(text), refusal(13, line));
 }
