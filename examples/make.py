@@ -1,5 +1,5 @@
 #!/usr/bin/env python3
-"""Makes the example nets beside this file, or compares them with --check. Lengths here are millimetres; one count is 0.01 mm."""
+"""Makes the example nets NAME.txt beside this file, or compares them with --check. Lengths here are millimetres; one count is 0.01 mm."""
 import argparse
 import itertools
 import math

@@ -53,6 +53,50 @@ a b c d
 2 3 7 6
 3 0 4 7
 """
+# The net of examples/unmarked.txt in millimetres, in the manner of Blender.
+HATCH = """# Blender v2.79 (sub 0) OBJ File: 'hatch.blend'
+# www.blender.org
+mtllib hatch.mtl
+o Hatch_Grid.001
+v 0.000000 0.000000 -0.000000
+v 450.000000 0.000000 0.000000
+v 900.000000 0.000000 0.000000
+v 0.000000 300.000000 0.000000
+v 450.000000 300.000000 80.000000
+v 900.000000 300.000000 0.000000
+v 0.000000 600.000000 0.000000
+v 450.000000 600.000000 0.000000
+v 900.000000 600.000000 0.000000
+vt 0.000000 0.000000
+vt 1.000000 0.000000
+vt 1.000000 1.000000
+vt 0.000000 1.000000
+vn -0.0879 -0.1318 0.9874
+vn 0.0879 -0.1318 0.9874
+vn -0.0879 0.1318 0.9874
+vn 0.0879 0.1318 0.9874
+usemtl None
+s off
+f 1/1/1 2/2/1 5/3/1 4/4/1
+f 2/1/2 3/2/2 6/3/2 5/4/2
+f 4/1/3 5/2/3 8/3/3 7/4/3
+f 5/1/4 6/2/4 9/3/4 8/4/4
+"""
+HATCH_NET = """# rounds 3
+v 0 0 0
+v 45000 0 0
+v 90000 0 0
+v 0 30000 0
+v 45000 30000 8000
+v 90000 30000 0
+v 0 60000 0
+v 45000 60000 0
+v 90000 60000 0
+f 1 2 5 4
+f 2 3 6 5
+f 4 5 8 7
+f 5 6 9 8
+"""
 # Two squares that do not share their points yet, one point in no face.
 APART = """v 0 0 0
 v 1 0 0
@@ -97,17 +141,23 @@ def square(*x):
 
 
 def both_ways():
-    """Every third accepted stored net with vertices and marks: text, OBJ, text."""
+    """Every third accepted stored net with vertices and a column of marks: text, OBJ, text, and by the OBJ form if it can say the net."""
     names = [path for path in sorted(CASES.glob("*.txt")) if path.with_suffix(".out").read_text(encoding="ascii").startswith("vertices")]
-    texts = [text for text in (path.read_text(encoding="ascii") for path in names) if "corner" in text and not text.splitlines()[1].startswith("0")][::3]
+    texts = [text for text in (path.read_text(encoding="latin-1") for path in names) if re.match(r".*\n[1-9].*\nx y z corner\n", text)][::3]
     asking = [text for text in texts if text.startswith("vertices faces rounds rule\n")]
-    if len(texts) < 15 or not asking or len(asking) == len(texts):
-        faults.append(f"only {len(texts)} stored nets, {len(asking)} with letters")
+    plain = 0
     for text in texts:
         rounds, wish = text.splitlines()[1].split()[2], ["--letters"] * (text in asking)
         net = convert("obj", "--scale", "32", text=text).stdout.decode()
         gives("text to OBJ and back", text, "text", "--scale=32", "--rounds", rounds, *wish, text=net)
         gives("a text stays", text, "text", text=text)
+        if wish or "\np " in net:
+            fails("the OBJ form has none, write text instead", "net", text=text)
+        else:
+            gives("text to the OBJ form and back", text, "text", text=convert("net", text=text).stdout)
+            plain += 1
+    if len(texts) < 15 or not asking or len(asking) == len(texts) or plain < 5:
+        faults.append(f"only {len(texts)} stored nets, {len(asking)} with letters, {plain} in the OBJ form")
     answer = (CASES / "paper-sample.out").read_text(encoding="ascii")
     again = answer.replace("faces\n9 4\n", "faces rounds\n9 4 3\n")
     gives("an answer to refine again", again, "text", "--rounds=3", text=answer)
@@ -122,15 +172,16 @@ def both_ways():
 def cures(folder):
     form = (ROOT / "README.md").read_text(encoding="utf-8")
     command = re.search(r"^    (sed -i .*) net\.txt$", form, re.M)[1]
-    bare = SAMPLE.replace("\n", "\r\n")
-    for text in bare, MARK + SAMPLE, MARK + bare:
-        if refine(text.encode()) != b"refusal place\n13 1\n":
-            faults.append(f"not refused at line 1: {text[:30]!r}")
-        gives("a cured text", SAMPLE, "text", text=text)
-        (folder / "net.txt").write_bytes(text.encode())
-        subprocess.run(["bash", "-c", f"{command} net.txt"], cwd=folder, check=True)
-        if (folder / "net.txt").read_bytes() != SAMPLE.encode():
-            faults.append(f"{command} does not cure {text[:30]!r}")
+    for kind, sample in ("text", SAMPLE), ("net", HATCH_NET):
+        bare = sample.replace("\n", "\r\n")
+        for text in bare, MARK + sample, MARK + bare:
+            if refine(text.encode()) != b"refusal place\n13 1\n":
+                faults.append(f"not refused at line 1: {text[:30]!r}")
+            gives("a cured text", sample, kind, text=text)
+            (folder / "net.txt").write_bytes(text.encode())
+            subprocess.run(["bash", "-c", f"{command} net.txt"], cwd=folder, check=True)
+            if (folder / "net.txt").read_bytes() != sample.encode():
+                faults.append(f"{command} does not cure {text[:30]!r}")
     gives("blanks, signs and zeros", SAMPLE, "text", text=SAMPLE.replace(" ", "  ").replace("\n", " \n").replace("16", "+016").rstrip())
     gives("old line ends", SAMPLE, "text", text=SAMPLE.replace("\n", "\r"))
     gives("OBJ with both", CUBE_TEXT, "text", "--scale=100", text=MARK + CUBE.replace("\n", "\r\n"))
@@ -161,6 +212,32 @@ def nets():
         faults.append(f"the cube from OBJ to OBJ: {refined[:40]}")
 
 
+def obj_form():
+    """The OBJ form that ./refine reads: what is written, both ways with its rounds, and its answer."""
+    gives("another program's file", HATCH_NET, "net", "--scale=100", "--rounds=3", text=HATCH)
+    text = convert("text", "--scale=100", "--rounds=3", text=HATCH).stdout.decode()
+    gives("the OBJ form to text", text, "text", text=HATCH_NET)
+    gives("text to the OBJ form", HATCH_NET, "net", text=text)
+    answers = {refine(net) for net in (HATCH_NET.encode(), text.encode(), (ROOT / "examples/unmarked.txt").read_bytes())}
+    if len(answers) != 1 or not answers.pop().startswith(b"vertices faces\n"):
+        faults.append("the OBJ form and the text of a net get different answers")
+    gives("welded", "# rounds 1\nv 0 0 0\nv 100 0 0\nv 100 100 0\nv 0 100 0\nv 200 0 0\nv 200 100 0\nf 1 2 3 4\nf 2 5 6 3\n", "net", "--scale=100", "--rounds=1", "--weld", "--drop", text=APART)
+    net = square(0, 1, 2, 3)
+    for first, rounds in {"# rounds 5": 5, "#  rounds +05 ": 5, "# rounds 7": 7, "# rounds 5 times": 2, "# rounds": 2, "#rounds 5": 2, "# rounds 5.0": 2, "#\n# rounds 5": 2}.items():
+        gives(f"first line {first!r}", f"# rounds {rounds}\n{net}", "net", text=f"{first}\n{net}")
+    gives("other rounds", f"# rounds 0\n{net}", "net", "--rounds=0", text=f"# rounds 5\n{net}")
+    empty = "vertices faces rounds\n0 0 3\nx y z corner\na b c d\n"
+    gives("the empty net in the OBJ form", "# rounds 3\n", "net", text=empty)
+    gives("the empty net from the OBJ form", empty, "text", text="# rounds 3\n")
+    answer = (CASES / "paper-square-unmarked.out").read_text(encoding="ascii")
+    gives("an answer by the OBJ form", convert("text", "--rounds=3", text=answer).stdout.decode(), "text", text=convert("net", "--rounds=3", text=answer).stdout)
+    fails("line 4: a vertex with a corner mark", "net", text=SAMPLE)
+    fails("line 2: a vertex with a corner mark", "net", text=f"{net}p 2\n")
+    fails("line 1: letters are asked for", "net", text=(CASES / "rule-grid-3-3.txt").read_text(encoding="ascii"))
+    for option in "--letters", "--corners":
+        fails("are for text", "net", option, text=net, status=2)
+
+
 def refusals():
     for corners, count in ("1 2 3", 3), ("1 2 3 4 1", 5), ("1 2", 2):
         fails(f"line 5: a face of {count} corners", "text", text=square(0, 1, 2, 3).replace("1 2 3 4", corners))
@@ -186,17 +263,18 @@ def refusals():
     fails("line 4: X is no letter", "obj", text=lettered.replace("0 0 0 1 V", "0 0 0 1 X"))
     fails("line 4: a vertex has 5 words", "obj", text=lettered.replace("0 0 0 1 V", "0 0 0 1"))
     fails("line 4: a mark is 0 or 1", "obj", text=lettered.replace("0 0 0 1 V", "0 0 0 2 V"))
-    fails("only that is written as OBJ", "obj", text=CUBE)
+    for text in CUBE, HATCH_NET:
+        fails("only that is written as OBJ", "obj", text=text)
     fails("No such file", "text", "nowhere", text="")
     fails("Is a directory", "text", "/", text="")
-    for words in ("ply",), ("text", "--scale=0"), ("text", "--scale=x"), ("text", "--rounds=7"), ("obj", "--weld"), ("obj", "--letters"), (), ("text", "a", "b"):
+    for words in ("ply",), ("text", "--scale=0"), ("text", "--scale=x"), ("text", "--rounds=7"), ("obj", "--weld"), ("obj", "--letters"), ("obj", "--rounds=1"), (), ("text", "a", "b"):
         fails("usage", *words, text=SAMPLE, status=2)
 
 
 def main():
     with tempfile.TemporaryDirectory() as name:
         cures(pathlib.Path(name))
-    for part in both_ways, scales, nets, refusals:
+    for part in both_ways, scales, nets, obj_form, refusals:
         part()
     print(*faults, sep="\n", end="\n" if faults else "")
     sys.exit(1 if faults else 0)

@@ -138,7 +138,7 @@ cmake_finds() {
         && cmake -S "$scratch/find" -B "$scratch/find/build" -DCMAKE_PREFIX_PATH="$prefix" "${@:2}"
 }
 
-# of version 0.5.0, say
+# of version 0.5.1, say
 cmake_versions() {
     local major minor patch
     IFS=. read -r major minor patch <<<"$version"

@@ -36,8 +36,8 @@ def refined(text):
     return answer.stdout
 
 
-def example(name):
-    return (ROOT / "examples" / f"{name}.txt").read_text(encoding="ascii")
+def example(name, ending="txt"):
+    return (ROOT / "examples" / f"{name}.{ending}").read_text(encoding="ascii")
 
 
 def parse(text):
@@ -72,6 +72,8 @@ def extraordinary(net):
 def example_faults():
     if run(sys.executable, "examples/make.py", "--check").returncode:
         yield "examples/make.py makes other nets"
+    if refined(example("unmarked", "obj")) != refined(example("unmarked")):
+        yield "unmarked.obj and unmarked.txt get different answers"
     for name, marks in MARKS.items():
         for net in parse(example(name)), parse(refined(example(name))):
             if sum(net.marks) != marks:

@@ -94,7 +94,7 @@ def uses(folder):
     check('--version', run(REFINE, '--version'), 0, f'gedrovit {version}\n'.encode())
     told = run(REFINE, '--help')
     check('--help', told, 0, told.stdout)
-    if not all(word in told.stdout for word in (b'usage: refine [FILE]', b'Exit status', b'refusal', b'--version', b'vertices faces rounds rule')):
+    if not all(word in told.stdout for word in (b'usage: refine [FILE]', b'Exit status', b'refusal', b'--version', b'vertices faces rounds rule', b'# rounds N')):
         faults.append(f'--help says {told.stdout}')
     for words in ('-x',), ('--halp',), ('a', 'b'), ('--help', 'a'), ('--', 'a', 'b'):
         check(f'wrong use {words}', run(REFINE, *words), 2, err='refine --help')
@@ -180,7 +180,7 @@ def tools(folder):
 
 
 def documents():
-    """The text form that the README shows is the program's; files that it names are there, and links in the documents lead somewhere."""
+    """The texts and answers that the README shows are the program's; files that it names are there, and links in the documents lead somewhere."""
     readme = (ROOT / 'README.md').read_text(encoding='utf-8')
     for name in re.findall(r'\b(?:bench|crates|docs|examples|package|tests|tools)/[\w./-]*\w', readme):
         if not (ROOT / name).exists():
@@ -189,8 +189,9 @@ def documents():
     if shown[:2] != [TEXT, ANSWER]:
         faults.append('README.md shows another text than tests/nets/cases/paper-sample')
     lettered = [NET.with_name(f'rule-sample.{part}').read_bytes() for part in ('txt', 'out')]
-    if len(shown) != 4 or not all(whole.startswith(part) for whole, part in zip(lettered, shown[2:])):
+    if not all(whole.startswith(part) for whole, part in zip(lettered, shown[2:])):
         faults.append('README.md shows another text than tests/nets/cases/rule-sample')
+    check('the OBJ text of README.md', run(REFINE, input=b''.join(shown[4:5])), 0, b''.join(shown[5:]))
     for path in ROOT / 'README.md', *sorted(ROOT.glob('docs/*.md')):
         for link in re.findall(r'\]\(([^)#]+)', path.read_text(encoding='utf-8')):
             if '://' not in link and not (path.parent / link).exists():

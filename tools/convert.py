@@ -1,13 +1,16 @@
 #!/usr/bin/env python3
-"""Converts nets between OBJ files and the text that ./refine reads and prints; the result goes to standard output.
+"""Converts nets between OBJ files and what ./refine reads and prints; the result goes to standard output.
 
-    convert.py text [--scale S] [--rounds K] [--letters] [--weld] [--drop] [--corners] [FILE]    writes the text that ./refine reads
-    convert.py obj [--scale S] [FILE]                                                            writes an OBJ file
+    convert.py text [--scale S] [--rounds K] [--letters] [--weld] [--drop] [--corners] [FILE]    writes the text form that ./refine reads
+    convert.py net [--scale S] [--rounds K] [--weld] [--drop] [FILE]                             writes the OBJ form that ./refine reads
+    convert.py obj [--scale S] [FILE]                                                            writes an OBJ file for other programs
 
-FILE is of either kind, and standard input is read without FILE or with -. Line ends of any system, a byte order mark, surplus blanks, plus signs
-and leading zeros are cured. In an OBJ file the points of `p` lines are the corner marks. S is the number of counts in a unit of the file:
-coordinates times S are worked out exactly and rounded once to whole counts, halves upward; an OBJ file gets counts divided by S, exactly.
-With --letters the text asks ./refine for a letter beside each vertex, and a text that asks already still does; letters in an answer are left out.
+FILE is an OBJ file of any program, a net in either form or an answer of ./refine; obj takes no OBJ file. Standard input is read without FILE or
+with -. Line ends of any system, a byte order mark, surplus blanks, plus signs and leading zeros are cured. In an OBJ file the points of `p` lines
+are the corner marks, and a first line `# rounds N` states the rounds. S is the number of counts in a unit of the file: coordinates times S are
+worked out exactly and rounded once to whole counts, halves upward; an OBJ file for other programs gets counts divided by S, exactly. With --letters
+the text asks ./refine for a letter beside each vertex, and a text that asks already still does; letters in an answer are left out. The OBJ form
+has neither marks nor letters: a net with marks, or a text that asks for letters, is not written as net.
 """
 import argparse
 import os
@@ -107,7 +110,8 @@ def obj_number(word, line, count):
 
 
 def read_obj(lines):
-    net = Net()
+    stated = re.fullmatch(f"# rounds ({WHOLE.pattern})", " ".join(sum(lines[:1], [])))
+    net = Net(int(stated[1]) if stated else None)
     for line, words in enumerate(joined(lines), 1):
         kind, rest = (words[0], words[1:]) if words and not words[0].startswith("#") else ("#", [])
         if kind == "v":
@@ -121,7 +125,7 @@ def read_obj(lines):
             net.marked.update(obj_number(word, line, len(net.points)) for word in rest)
         elif kind not in IGNORED and kind != "#":
             raise Fault(line, f"'{kind}' is no word of an OBJ file of points and faces")
-    if not net.points:
+    if not net.points and not stated:
         raise Fault(1, "neither an OBJ file with vertices nor the text of a net")
     return net
 
@@ -230,6 +234,15 @@ def write_obj(net, scale):
         yield " ".join(["f", *(str(v + 1) for v in corners)])
 
 
+def write_net(net, rounds):
+    if net.letters:
+        raise Fault(1, "letters are asked for; the OBJ form has none, write text instead")
+    if net.marked:
+        raise Fault(net.points[min(net.marked)][1], "a vertex with a corner mark; the OBJ form has none, write text instead")
+    yield f"# rounds {rounds}"
+    yield from write_obj(net, Fraction(1))
+
+
 def converted(data, given):
     net, is_text = read(data)
     if given.form == "obj":
@@ -240,8 +253,8 @@ def converted(data, given):
     for step, wanted in ((weld, given.weld), (drop, given.drop), (mark_corners, given.corners)):
         if wanted:
             step(net)
-    rounds = given.rounds if given.rounds is not None else net.rounds
-    return write_text(net, 2 if rounds is None else rounds, net.letters or given.letters)
+    rounds = next(number for number in (given.rounds, net.rounds, 2) if number is not None)
+    return write_net(net, rounds) if given.form == "net" else write_text(net, rounds, net.letters or given.letters)
 
 
 def scale_of(word):
@@ -258,17 +271,19 @@ def rounds_of(word):
 
 def arguments():
     options = argparse.ArgumentParser(description=__doc__, formatter_class=argparse.RawDescriptionHelpFormatter)
-    options.add_argument("form", choices=["text", "obj"], help="what to write")
+    options.add_argument("form", choices=["text", "net", "obj"], help="what to write")
     options.add_argument("file", nargs="?", default="-", metavar="FILE")
     options.add_argument("--scale", type=scale_of, default=Fraction(1), metavar="S", help="counts in a unit (1)")
-    options.add_argument("--rounds", type=rounds_of, metavar="K", help="rounds to ask for (those of the text; otherwise 2)")
+    options.add_argument("--rounds", type=rounds_of, metavar="K", help="rounds to ask for (those of the file; otherwise 2)")
     options.add_argument("--letters", action="store_true", help="ask for a letter beside each refined vertex")
     options.add_argument("--weld", action="store_true", help="vertices with equal counts become one")
     options.add_argument("--drop", action="store_true", help="vertices in no face go")
     options.add_argument("--corners", action="store_true", help="mark each vertex that is in one face only")
     given = options.parse_intermixed_args()
-    if given.form == "obj" and (given.letters or given.weld or given.drop or given.corners or given.rounds is not None):
-        options.error("--rounds, --letters, --weld, --drop and --corners are for text")
+    if given.form != "text" and (given.letters or given.corners):
+        options.error("--letters and --corners are for text; net has neither letters nor marks")
+    if given.form == "obj" and (given.weld or given.drop or given.rounds is not None):
+        options.error("--rounds, --weld and --drop are for text and net")
     return given
 
 

@@ -204,10 +204,10 @@
 #include <stdint.h>
 
 /* The version of this header. */
-#define GEDROVIT_VERSION "0.5.0"
+#define GEDROVIT_VERSION "0.5.1"
 #define GEDROVIT_VERSION_MAJOR 0
 #define GEDROVIT_VERSION_MINOR 5
-#define GEDROVIT_VERSION_PATCH 0
+#define GEDROVIT_VERSION_PATCH 1
 
 /* The same as a number, to be compared with gedrovit_version(), and at the end of a name. */
 #define GEDROVIT_VERSION_NUMBER \

@@ -8,8 +8,8 @@ abbrev pub minor : ℕ
 minor = 5
 
 abbrev pub patch : ℕ
-patch = 0
+patch = 1
 
--- as one number: 0.5.0 is 5000
+-- as one number: 0.5.1 is 5001
 abbrev pub version : ℕ
 version = 1000000 * major + 1000 * minor + patch

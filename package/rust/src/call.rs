@@ -1,11 +1,11 @@
 //! The functions of the archive over slices.
 
 use crate::foreign::{
-    gedrovit_check, gedrovit_refine, gedrovit_sizes_for, gedrovit_version, gedrovit_version_0_5_0,
+    gedrovit_check, gedrovit_refine, gedrovit_sizes_for, gedrovit_version, gedrovit_version_0_5_1,
 };
 use crate::{NetView, Refusal, Tables, Tally};
 
-/// The version of the archive: 0.5.0 is 5000.
+/// The version of the archive: 0.5.1 is 5001.
 #[must_use]
 pub fn version() -> u32 {
     // SAFETY: the function takes nothing.
@@ -16,7 +16,7 @@ pub fn version() -> u32 {
 /// another version does not link.
 fn same_version() {
     // SAFETY: the function takes nothing.
-    unsafe { gedrovit_version_0_5_0() };
+    unsafe { gedrovit_version_0_5_1() };
 }
 
 /// How many vertices and faces a refined net has.
