@@ -11,7 +11,7 @@ use Rattle.text.specs.Bytes.{bytes}
 use Rattle.text.specs.Form.{Vertex, Face, Net, Parsed, parsed, badLine, coordinate, natural, readVertex, rows}
 use Rattle.text.specs.Text.{pointText, texts}
 use Rattle.obj.specs.Form.{skipTo, corner, readCorners, readComment, readItem, readRounds, verticesIn, facesIn, netOf, parseItems, parseObj}
-use Rattle.obj.specs.Text.{Corner, Line, vertexLine, faceLine, commentLine, none, slash, cornerText, lineText, objText}
+use Rattle.obj.specs.Text.{Line, vertexLine, faceLine, commentLine, slash, cornerText, lineText, objText, plain}
 
 abbrev at : ℤ → ℤ → ℤ → Vertex
 at x y z = record { x = x; y = y; z = z; mark = 0 }
@@ -42,10 +42,7 @@ squares-read : readAll squares ≡ parsed (square 3) [] ∷ parsed (square 3) []
 unfolding readAll parseObj parseItems readRounds readItem readCorners readComment corner skipTo verticesIn facesIn netOf readVertex coordinate natural rows readInteger readNatural readDigits bytes
 squares-read = refl
 
--- the same text written by its lines
-abbrev plain : ℕ → Corner
-plain v = record { vertex = v; part = none }
-
+-- a text written by its lines
 abbrev lines : List Line
 lines =
     commentLine (bytes " rounds 1")

@@ -4,3 +4,4 @@ pub mod Items
 pub mod Passing
 pub mod Cases
 pub mod Counts
+pub mod Back

@@ -103,7 +103,7 @@ module _ {i : declared.Item} (v f : ℕ) where
   stored-comment e t c m = record { meets = meets-comment e; stored = rw e (record { vertices = refl; faces = refl; marks = refl }) }
 
 -- ---- turns
-item-none : readItem [] ≡ bad
+pub item-none : readItem [] ≡ bad
 unfolding readItem bytes
 item-none = refl
 

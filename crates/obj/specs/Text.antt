@@ -71,7 +71,7 @@ unfoldable pub itemsOf : List Line → List Item
 itemsOf [] = []
 itemsOf (l ∷ ls) = itemOf l ∷ itemsOf ls
 
--- the lines write the net n, in any order of `v`, `f` and `#`
+-- the lines write the net n, with `v`, `f` and `#` in any order
 pub record Writes (ls : List Line) (n : Net) : Type 0 where
   pub fit : Each LineFits ls
   pub vertices : verticesIn (itemsOf ls) ≡ n .vertices
@@ -81,6 +81,34 @@ pub record Writes (ls : List Line) (n : Net) : Type 0 where
   pub rounds : n .counts .rounds ≤ 2147483647
   pub rule : n .rule ≡ false
 
+-- the lines of a net without comments and slashes
+abbrev pub plain : ℕ → Corner
+plain v = record { vertex = v; part = none }
+
+unfoldable pub plainFaces : List Face → List Line
+plainFaces [] = []
+plainFaces (f ∷ fs) = faceLine (plain (f .a)) (plain (f .b)) (plain (f .c)) (plain (f .d)) ∷ plainFaces fs
+
+unfoldable pub plainLines : List Vertex → List Face → List Line
+plainLines [] fs = plainFaces fs
+plainLines (v ∷ vs) fs = vertexLine v ∷ plainLines vs fs
+
+pub record CornersFit (f : Face) : Type 0 where
+  pub a : f .a ≤ 2147483646
+  pub b : f .b ≤ 2147483646
+  pub c : f .c ≤ 2147483646
+  pub d : f .d ≤ 2147483646
+
+-- a net that the form can write
+pub record ObjFits (n : Net) : Type 0 where
+  pub fits : NetFits n
+  pub vertices : Each PointFits (n .vertices)
+  pub faces : Each CornersFit (n .faces)
+  pub rule : n .rule ≡ false
+
 -- Paper 02: "the net read is the one written"
 pub record ReadsBack : Type 0 where
+  -- however its lines are ordered, and with comments among them
   pub back : (n : Net) (ls : List Line) → Writes ls n → parseObj (objText (n .counts .rounds) ls) ≡ parsed n []
+  -- every such net has lines
+  pub lines : (n : Net) → ObjFits n → Writes (plainLines (n .vertices) (n .faces)) n

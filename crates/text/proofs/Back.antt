@@ -15,11 +15,11 @@ use Rattle.text.specs.Text.{countsText, numbersText, vertexText, pointTe
 use Rattle.text.specs.Written.{CountsFit, VertexFits, PointFits, FaceFits, Each, NetFits}
 
 -- ---- a number and the byte after it
-ends : {A : Type 0} (e : ℕ) (v : A) (rest : List ℕ) → endedBy e (found v (e ∷ rest)) ≡ found v rest
+pub ends : {A : Type 0} (e : ℕ) (v : A) (rest : List ℕ) → endedBy e (found v (e ∷ rest)) ≡ found v rest
 ends e v rest = rw (eq-eqb e e refl)
 
 module _ (e : ℕ) (d : isDigit e ≡ false) where
-  natural-field : (limit n : ℕ) (rest : List ℕ) → n ≤ limit → natural limit e (naturalText n ++ (e ∷ rest)) ≡ found n rest
+  pub natural-field : (limit n : ℕ) (rest : List ℕ) → n ≤ limit → natural limit e (naturalText n ++ (e ∷ rest)) ≡ found n rest
   unfolding natural
   natural-field limit n rest h = ap (endedBy e) (natural-back limit n (e ∷ rest) h (record { none = d })) ∙ ends e n rest
 

@@ -1,0 +1,40 @@
+-- Both forms of a text that writes a net get one answer. Assumes nothing.
+use mathlib.Core.Path.{_≡_, refl, sym, _∙_}
+use mathlib.Core.Bool.{true}
+use mathlib.Core.List.{List, [], append-assoc}
+use Prim.Native.Nat.{ℕ, _≤_}
+use lib.ListN.{length}
+use borrow.Author.Tests.{le-ltb}
+use Rattle.text.specs.Bytes.{bytes}
+use Rattle.text.specs.Form.{Net, startsWith, parsed}
+use Rattle.text.specs.Text.{unmarkedText}
+use Rattle.text.proofs.Back.{unmarked-back}
+use Rattle.obj.specs.Text.{Line, objText, Writes, ObjFits}
+use Rattle.obj.proofs.Back.{obj-back}
+use Rattle.program.specs.Answer.{answerTo, parseAny, programText}
+use Rattle.program.specs.Forms.{FormsAgree}
+use Rattle.program.proofs.Parsing.{parse-obj, parse-text, names-other}
+
+-- the answer to a text that writes n
+answered : (n : Net) (text : List ℕ) → length text ≤ 32768 → parseAny text ≡ parsed n [] → programText text ≡ answerTo (parsed n [])
+unfolding programText
+answered n text short e = rw (le-ltb 32768 (length text) short, e)
+
+obj-first : (k : ℕ) (ls : List Line) → startsWith (bytes "#") (objText k ls) ≡ true
+unfolding objText bytes
+obj-first k ls = refl
+
+module _ (n : Net) (h : ObjFits n) where
+  text-form : parseAny (unmarkedText n) ≡ parsed n []
+  unfolding unmarkedText
+  text-form = parse-text (unmarkedText n) (simp append-assoc (names-other (n .rule) _)) ∙ unmarked-back n (h .fits) (h .vertices)
+
+  module _ (ls : List Line) (w : Writes ls n) where
+    abbrev obj : List ℕ
+    obj = objText (n .counts .rounds) ls
+
+    agree : length (unmarkedText n) ≤ 32768 → length obj ≤ 32768 → programText obj ≡ programText (unmarkedText n)
+    agree a b = answered n obj b (parse-obj obj (obj-first (n .counts .rounds) ls) ∙ obj-back .back n ls w) ∙ sym (answered n (unmarkedText n) a text-form)
+
+pub forms-agree : FormsAgree
+forms-agree = record { agree = λ n h ls w a b. agree n h ls w a b }
