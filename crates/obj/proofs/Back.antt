@@ -1,21 +1,21 @@
 -- Reading the text that a net is written as gives the net back. Assumes nothing.
 use mathlib.Core.Path.{_≡_, refl, sym, ap, _∙_}
-use mathlib.Core.Bool.{Bool, true, false, cond, _||_}
+use mathlib.Core.Bool.{true, false, _||_}
 use mathlib.Core.List.{List, [], _∷_, _++_, append-assoc}
 use Prim.Native.Nat.{ℕ, zero, suc, _+_, _≤_}
 use native.Mathlib.Omega.{arith}
 use lib.Dec.{eqb}
 use lib.ListN.{length, length-append}
-use Rattle.decimal.specs.Decimal.{Read, found, bad, isDigit, naturalText, readNatural}
+use Rattle.decimal.specs.Decimal.{Read, found, isDigit}
 use Rattle.decimal.proofs.Back.{NoDigit, natural-back}
 use Rattle.text.specs.Bytes.{bytes}
 use Rattle.text.specs.Form.{Vertex, Face, Net, endedBy, Rows, rows, parsed, next, line, ended}
-use Rattle.text.specs.Text.{pointText, texts}
-use Rattle.text.specs.Written.{Each, PointFits, NetFits}
+use Rattle.text.specs.Text.{texts}
+use Rattle.text.specs.Written.{Each, PointFits}
 use Rattle.text.proofs.Back.{ends, natural-field, point-back}
 use Rattle.reading.proofs.Lines.{rows-bad}
-use Rattle.obj.specs.Form.{Item, vertex, face, comment, mapped, skipTo, skipPart, named, corner, readCorners, readComment, readItem, readRounds, verticesIn, facesIn, netOf, items, parseItems, parseObj}
-use Rattle.obj.specs.Text.{Part, none, slash, Corner, Line, vertexLine, faceLine, commentLine, partText, cornerText, lineText, objText, Without, PartFits, CornerFits, LineFits, itemOf, itemsOf, Writes, plain, plainFaces, plainLines, CornersFit, ObjFits, ReadsBack}
+use Rattle.obj.specs.Form.{Item, vertex, face, comment, mapped, skipTo, skipPart, named, corner, readCorners, readComment, readItem, readRounds, verticesIn, facesIn, netOf, parseItems, parseObj}
+use Rattle.obj.specs.Text.{Part, none, slash, Corner, Line, vertexLine, faceLine, commentLine, partText, cornerText, lineText, roundsText, objText, Without, PartFits, CornerFits, LineFits, itemOf, itemsOf, Writes, plain, plainFaces, plainLines, CornersFit, ObjFits, ReadsBack}
 use Rattle.obj.proofs.Passing.{item-none}
 
 -- ---- bytes that are skipped
@@ -55,7 +55,7 @@ corners-back a b c d rest ha hb hc hd =
     )
 
 -- ---- lines
-line-back : (l : Line) → LineFits l → (rest : List ℕ) → readItem (lineText l ++ rest) ≡ found (itemOf l) rest
+pub line-back : (l : Line) → LineFits l → (rest : List ℕ) → readItem (lineText l ++ rest) ≡ found (itemOf l) rest
 unfolding readItem readComment lineText bytes
 line-back (vertexLine v) h rest = ap (mapped vertex) (point-back v h rest)
 line-back (faceLine a b c d) h rest = simp append-assoc (ap (mapped face) (corners-back a b c d rest (h .0) (h .1) (h .2) (h .3)))
@@ -63,7 +63,7 @@ line-back (commentLine s) h rest =
     ap (λ (l : List ℕ). endedBy 10 (found comment l)) (ap (skipTo 10) (append-assoc s (10 ∷ []) rest) ∙ skip-back 10 10 refl s rest h) ∙ ends 10 comment rest
 
 -- every line has a byte
-line-some : (l : Line) → 1 ≤ length (lineText l)
+pub line-some : (l : Line) → 1 ≤ length (lineText l)
 unfolding lineText bytes
 line-some (vertexLine v) = omega arith
 line-some (faceLine a b c d) = omega arith
@@ -81,19 +81,15 @@ rows-all (l ∷ ls) zero h w = absurd (omega arith)
 rows-all (l ∷ ls) (suc n) h w = rw (line-back l (w .0) (texts lineText ls), rows-all ls n (omega arith) (w .1))
 
 -- ---- the whole text
-rounds-back : (k : ℕ) (rest : List ℕ) → k ≤ 2147483647 → readRounds (bytes "# rounds " ++ (naturalText k ++ (10 ∷ rest))) ≡ found k rest
-unfolding readRounds bytes
-rounds-back k rest h = natural-field 10 refl 2147483647 k rest h
-
-text-is : (k : ℕ) (ls : List Line) → objText k ls ≡ bytes "# rounds " ++ (naturalText k ++ (10 ∷ texts lineText ls))
-unfolding objText
-text-is k ls = simp append-assoc
+pub rounds-back : (k : ℕ) (rest : List ℕ) → k ≤ 2147483647 → readRounds (roundsText k ++ rest) ≡ found k rest
+unfolding readRounds roundsText bytes
+rounds-back k rest h = simp append-assoc (natural-field 10 refl 2147483647 k rest h)
 
 pub lines-back : (k : ℕ) (ls : List Line) → k ≤ 2147483647 → Each LineFits ls → parseObj (objText k ls) ≡ parsed (netOf k (itemsOf ls)) []
-unfolding parseObj parseItems
+unfolding parseObj parseItems objText
 lines-back k ls h w =
     let r = rows-all ls (length (texts lineText ls)) (lines-few ls) w in
-    ap (λ (w : Read ℕ). next (line 1 w) parseItems) (ap readRounds (text-is k ls) ∙ rounds-back k (texts lineText ls) h)
+    ap (λ (w : Read ℕ). next (line 1 w) parseItems) (rounds-back k (texts lineText ls) h)
     ∙ ap (λ (w : Rows Item). ended (2 + length (w .values)) (netOf k (w .values)) (w .rest)) r
 
 net-is : (n : Net) (is : List Item) → verticesIn is ≡ n .vertices → facesIn is ≡ n .faces → length (n .vertices) ≡ n .counts .vertices → length (n .faces) ≡ n .counts .faces → n .rule ≡ false

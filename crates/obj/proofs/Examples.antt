@@ -4,14 +4,14 @@ use mathlib.Core.Bool.{Bool, true, false, _&&_}
 use mathlib.Core.List.{List, [], _∷_}
 use Prim.Native.Nat.{ℕ}
 use Prim.Native.String.{String}
-use lib.Dec.{T, eqb}
+use lib.Dec.{eqb}
 use lib.IntN.{ℤ, pos, negsuc}
 use Rattle.decimal.specs.Decimal.{readDigits, readNatural, readInteger, naturalText, integerText}
 use Rattle.text.specs.Bytes.{bytes}
-use Rattle.text.specs.Form.{Vertex, Face, Net, Parsed, parsed, badLine, coordinate, natural, readVertex, rows}
+use Rattle.text.specs.Form.{Vertex, Net, Parsed, parsed, badLine, coordinate, natural, readVertex, rows}
 use Rattle.text.specs.Text.{pointText, texts}
 use Rattle.obj.specs.Form.{skipTo, corner, readCorners, readComment, readItem, readRounds, verticesIn, facesIn, netOf, parseItems, parseObj}
-use Rattle.obj.specs.Text.{Line, vertexLine, faceLine, commentLine, slash, cornerText, lineText, objText, plain}
+use Rattle.obj.specs.Text.{Line, vertexLine, faceLine, commentLine, slash, cornerText, lineText, roundsText, objText, plain}
 
 abbrev at : ℤ → ℤ → ℤ → Vertex
 at x y z = record { x = x; y = y; z = z; mark = 0 }
@@ -52,7 +52,7 @@ lines =
     ∷ []
 
 lines-written : objText 3 lines ≡ bytes "# rounds 3\n# rounds 1\nv 0 0 0\nf 1/ 2/7 3//7 4\nv -16 0 0\n"
-unfolding objText lineText cornerText pointText texts naturalText integerText bytes
+unfolding objText roundsText lineText cornerText pointText texts naturalText integerText bytes
 lines-written = refl
 
 -- ---- the first bad line of damaged texts, 0 for a text that has the form

@@ -10,7 +10,6 @@ use lib.Dec.{eqb}
 use lib.IntN.{ℤ}
 use lib.ListN.{length, getD, take, drop, drop-of-length-le}
 use lib.Seq.{drop-cons, drop-drop}
-use borrow.Author.Tests.{eq-eqb, eqb-true}
 use Rattle.decimal.specs.Decimal.{Read, found, bad}
 use Rattle.decimal.specs.Answers.{Gives}
 use Rattle.decimal.proofs.Reading.{says-at, took-at}
@@ -22,11 +21,10 @@ use Rattle.text.specs.declared.VertexLine.the-variants as vertexLine
 use Rattle.text.specs.declared.FaceLine.{FaceLine}
 use Rattle.text.specs.declared.FaceLine.the-variants as faceLine
 use Rattle.text.proofs.Lines.{starts-length}
-use Rattle.obj.specs.Form.{Item, vertex, face, comment, mapped, skipTo, readCorners, readComment, readItem}
+use Rattle.obj.specs.Form.{vertex, face, comment, mapped, skipTo, readCorners, readComment, readItem}
 use Rattle.obj.specs.declared.Item.the-variants as item
 use Rattle.obj.specs.declared.Line.the-variants as line
 use Rattle.obj.specs.Answers.{StartsAt, itemIs, GivesLine}
-use Rattle.obj.proofs.Fields as fields
 
 -- ---- a vertex without a mark has the mark 0
 abbrev Unmarked : Read Vertex → Type 0

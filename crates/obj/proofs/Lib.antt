@@ -5,3 +5,4 @@ pub mod Passing
 pub mod Cases
 pub mod Counts
 pub mod Back
+pub mod Found

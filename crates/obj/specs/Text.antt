@@ -2,12 +2,12 @@
 use mathlib.Core.Path.{_≡_}
 use mathlib.Core.Bool.{false, _||_}
 use mathlib.Core.List.{List, [], _∷_, _++_}
-use Prim.Native.Nat.{ℕ, suc, _≤_}
+use Prim.Native.Nat.{ℕ, suc, _+_, _≤_, _<_}
 use lib.Dec.{eqb}
 use lib.ListN.{length}
 use Rattle.decimal.specs.Decimal.{naturalText}
 use Rattle.text.specs.Bytes.{bytes}
-use Rattle.text.specs.Form.{Vertex, Face, Net, parsed}
+use Rattle.text.specs.Form.{Vertex, Face, Net, parsed, badLine}
 use Rattle.text.specs.Text.{field, pointText, texts}
 use Rattle.text.specs.Written.{Each, PointFits, NetFits}
 use Rattle.obj.specs.Form.{Item, vertex, face, comment, verticesIn, facesIn, parseObj}
@@ -39,8 +39,12 @@ lineText (vertexLine v) = bytes "v " ++ pointText v
 lineText (faceLine a b c d) = bytes "f " ++ cornerText a 32 ++ cornerText b 32 ++ cornerText c 32 ++ cornerText d 10
 lineText (commentLine s) = field (bytes "#" ++ s) 10
 
+-- the first line
+unfoldable pub roundsText : ℕ → List ℕ
+roundsText k = bytes "# rounds " ++ field (naturalText k) 10
+
 unfoldable pub objText : (rounds : ℕ) → List Line → List ℕ
-objText k ls = bytes "# rounds " ++ field (naturalText k) 10 ++ texts lineText ls
+objText k ls = roundsText k ++ texts lineText ls
 
 -- ---- lines that the form has
 
@@ -112,3 +116,28 @@ pub record ReadsBack : Type 0 where
   pub back : (n : Net) (ls : List Line) → Writes ls n → parseObj (objText (n .counts .rounds) ls) ≡ parsed n []
   -- every such net has lines
   pub lines : (n : Net) → ObjFits n → Writes (plainLines (n .vertices) (n .faces)) n
+
+-- ---- what is accepted
+
+-- l is the text of lines that write n
+pub record WrittenBy (l : List ℕ) (n : Net) : Type 0 where
+  pub lines : List Line
+  pub writes : Writes lines n
+  pub text : l ≡ objText (n .counts .rounds) lines
+
+-- l does not start with a first line, or with a later one
+abbrev pub NoRounds : List ℕ → Type 0
+NoRounds l = (k : ℕ) (rest : List ℕ) → k ≤ 2147483647 → l ≡ roundsText k ++ rest → ⊥
+
+abbrev pub NoLine : List ℕ → Type 0
+NoLine l = (x : Line) (rest : List ℕ) → LineFits x → l ≡ lineText x ++ rest → ⊥
+
+-- line p of l is the first bad one: those before it have the form, and something that does not is left
+pub data FirstBad (l : List ℕ) : ℕ → Type 0 where
+  firstLine : NoRounds l → FirstBad l 1
+  laterLine : (k : ℕ) (ls : List Line) (rest : List ℕ) → k ≤ 2147483647 → Each LineFits ls → l ≡ objText k ls ++ rest → 0 < length rest → NoLine rest → FirstBad l (2 + length ls)
+
+-- Paper 02: "A text is accepted if it has this form and otherwise gets 13 at its first bad line"
+pub record Recognizes : Type 0 where
+  pub accepted : (l : List ℕ) (n : Net) (m : List ℕ) → parseObj l ≡ parsed n m → WrittenBy l n
+  pub refused : (l : List ℕ) (p : ℕ) → parseObj l ≡ badLine p → FirstBad l p

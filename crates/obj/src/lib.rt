@@ -4,14 +4,13 @@ use reading::Input;
 use text::FaceLine;
 use text::VertexLine;
 ghost use mathlib.Core.Path.{_≡_};
-ghost use mathlib.Core.List.{[], _∷_};
 ghost use Prim.Native.Nat.{_+_, _≤_, _<_};
 ghost use lib.ListN.{length, drop};
 ghost use Rattle.decimal.specs.Answers.{Gives, GivesNumber};
 ghost use Rattle.text.specs.Answers.{faceOf, faceUsed};
 ghost use Rattle.reading.specs.Loaded.{loaded, readBy};
 ghost use Rattle.reading.specs.Answers.{answerOf, Tables};
-ghost use Rattle.obj.specs.Form.{skipTo, skipPart, corner, readCorners, readRounds, verticesIn, facesIn, parseObj};
+ghost use Rattle.obj.specs.Form.{skipTo, skipPart, corner, readCorners, readRounds, parseObj};
 ghost use Rattle.obj.specs.Answers.{StartsAt, itemIs, GivesLine, MeetsItem, verticesOf, facesOf, Counts, Stored, Room, RoomFor, ItemStored};
 
 // What a line after the first says.

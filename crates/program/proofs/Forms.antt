@@ -9,7 +9,7 @@ use Rattle.text.specs.Bytes.{bytes}
 use Rattle.text.specs.Form.{Net, startsWith, parsed}
 use Rattle.text.specs.Text.{unmarkedText}
 use Rattle.text.proofs.Back.{unmarked-back}
-use Rattle.obj.specs.Text.{Line, objText, Writes, ObjFits}
+use Rattle.obj.specs.Text.{Line, roundsText, objText, Writes, ObjFits}
 use Rattle.obj.proofs.Back.{obj-back}
 use Rattle.program.specs.Answer.{answerTo, parseAny, programText}
 use Rattle.program.specs.Forms.{FormsAgree}
@@ -21,7 +21,7 @@ unfolding programText
 answered n text short e = rw (le-ltb 32768 (length text) short, e)
 
 obj-first : (k : ℕ) (ls : List Line) → startsWith (bytes "#") (objText k ls) ≡ true
-unfolding objText bytes
+unfolding objText roundsText bytes
 obj-first k ls = refl
 
 module _ (n : Net) (h : ObjFits n) where

@@ -4,7 +4,7 @@ use mathlib.Core.Bool.{Bool, true, false, cond}
 use mathlib.Core.List.{List, _++_}
 use Prim.Native.Nat.{ℕ}
 use Rattle.text.specs.Bytes.{bytes}
-use Rattle.text.specs.Form.{Names, input, startsWith, namesText, parse}
+use Rattle.text.specs.Form.{input, startsWith, namesText, parse}
 use Rattle.text.proofs.Counts.{Stated, text-stated}
 use Rattle.obj.specs.Form.{parseObj}
 use Rattle.obj.proofs.Counts.{obj-stated}

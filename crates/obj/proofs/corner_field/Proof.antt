@@ -8,8 +8,6 @@ use Rattle.obj.proofs.Fields.{corner-bad, corner-zero, corner-short, co
 use borrow.Author.Needs.{needs}
 use Rattle.obj.proofs.corner_field.Statement.{statement}
 use Rattle.obj.proofs.corner_field.Tie as tie
-use Rattle.decimal.proofs.read_natural.Reads as read-natural-reads
-use Rattle.obj.proofs.field_end.Reads as field-end-reads
 
 -- the number ends inside the line
 number-within : (p : tie.After-n) → (let a = p .before .before .before .before .before .args in a .at + p .n .given .0 .1 .0 ≤ length (a .line .now))

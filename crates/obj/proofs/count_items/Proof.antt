@@ -11,8 +11,6 @@ use Rattle.obj.specs.Answers.{lineOf, lineUsed, Takes}
 use Rattle.obj.proofs.Passing.{vertices-few, faces-few, item-end, met-bad, met-all, Counting, counting-none, counting-more}
 use Rattle.obj.proofs.count_items.Statement.{statement}
 use Rattle.obj.proofs.count_items.Tie as tie
-use Rattle.obj.proofs.count_item.Reads as count-item-reads
-use Rattle.obj.proofs.read_line.Reads as read-line-reads
 
 abbrev Inv-loop : tie.InvT-loop
 Inv-loop text met₀ at₀ line₀ met at line = Counting text (met .vertices) (met .faces) line at

@@ -5,7 +5,6 @@ use Rattle.obj.proofs.Fields.{part-end, part-none, part-slash}
 use borrow.Author.Needs.{needs}
 use Rattle.obj.proofs.field_end.Statement.{statement}
 use Rattle.obj.proofs.field_end.Tie as tie
-use Rattle.obj.proofs.skip_to.Reads as skip-to-reads
 
 returns : tie.Need-returns
 returns c = record { rest = sym (part-end _ _ (c .if1 .taken)); from = omega arith; within = omega arith }

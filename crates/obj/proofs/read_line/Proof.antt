@@ -12,10 +12,6 @@ use Rattle.obj.proofs.Items.{vertex-within, vertex-bad, vertex-used, ve
 use borrow.Author.Needs.{needs}
 use Rattle.obj.proofs.read_line.Statement.{statement}
 use Rattle.obj.proofs.read_line.Tie as tie
-use Rattle.obj.proofs.read_corners.Reads as read-corners-reads
-use Rattle.obj.proofs.skip_to.Reads as skip-to-reads
-use Rattle.text.proofs.read_vertex.Reads as read-vertex-reads
-use Rattle.text.proofs.starts_with.Reads as starts-with-reads
 
 -- the first bytes
 is-vertex : (p : tie.Then1) → startsWith (bytes "v ") (p .before .before .before .before .args .text .now) ≡ true

@@ -1,7 +1,6 @@
 -- `obj::read_net` meets its contract. Assumes nothing.
 use mathlib.Core.Path.{_≡_}
 use Prim.Native.Nat.{_≤_, _<_}
-use native.Mathlib.Omega.{arith}
 use lib.ListN.{length, drop}
 use Rattle.decimal.specs.Decimal.{found}
 use Rattle.decimal.proofs.Reading.{says, took}
@@ -13,10 +12,6 @@ use Rattle.obj.proofs.Cases.{first-bad, other-bad, counts-here, good-fi
 use borrow.Author.Needs.{needs}
 use Rattle.obj.proofs.read_net.Statement.{statement}
 use Rattle.obj.proofs.read_net.Tie as tie
-use Rattle.obj.proofs.count_items.Reads as count-items-reads
-use Rattle.obj.proofs.read_rounds.Reads as read-rounds-reads
-use Rattle.obj.proofs.store_items.Reads as store-items-reads
-use Rattle.reading.proofs.refusal.Reads as refusal-reads
 
 -- the first line, and the items behind it
 abbrev begin : tie.After-count-items → tie.Start

@@ -6,8 +6,6 @@ use Rattle.obj.proofs.Fields.{rounds-none, rounds-within, rounds-there}
 use borrow.Author.Needs.{needs}
 use Rattle.obj.proofs.read_rounds.Statement.{statement}
 use Rattle.obj.proofs.read_rounds.Tie as tie
-use Rattle.text.proofs.natural_field.Reads as natural-field-reads
-use Rattle.text.proofs.starts_with.Reads as starts-with-reads
 
 slice-aggregate-starts-with : tie.Need-slice-aggregate-starts-with
 slice-aggregate-starts-with c = search needs

@@ -11,8 +11,6 @@ use Rattle.obj.specs.Answers.{lineOf, lineUsed, Takes}
 use Rattle.obj.proofs.Passing.{item-end, room-next, Storing, storing-none, storing-more, storing-ends, room-kept}
 use Rattle.obj.proofs.store_items.Statement.{statement}
 use Rattle.obj.proofs.store_items.Tie as tie
-use Rattle.obj.proofs.read_line.Reads as read-line-reads
-use Rattle.obj.proofs.store_item.Reads as store-item-reads
 
 abbrev Inv-loop : tie.InvT-loop
 Inv-loop text vertices₀ faces₀ marks₀ met₀ at₀ vertices faces marks met at = Storing text vertices₀ vertices faces₀ faces marks₀ marks (met .vertices) (met .faces) at

@@ -9,9 +9,6 @@ use Rattle.program.proofs.Parsing.{parse-obj, parse-text}
 use borrow.Author.Needs.{needs}
 use Rattle.program.proofs.read_any.Statement.{statement}
 use Rattle.program.proofs.read_any.Tie as tie
-use Rattle.obj.proofs.read_net.Reads as read-net-reads
-use Rattle.reading.proofs.read_net.Reads as read-net-reads′
-use Rattle.text.proofs.starts_with.Reads as starts-with-reads
 
 slice-aggregate-starts-with : tie.Need-slice-aggregate-starts-with
 slice-aggregate-starts-with c = search needs
