@@ -1,12 +1,13 @@
 -- Reading items one after another: what is left to read after each turn, and what was met. Assumes nothing.
-use mathlib.Core.Path.{_≡_, refl, sym, ap, _∙_}
+use mathlib.Core.Path.{_≡_, refl, sym, ap, _∙_, subst}
 use mathlib.Core.List.{List, [], _∷_, _++_}
 use Prim.Native.Nat.{ℕ, _+_, _*_, _-_, _≤_, _<_}
 use native.Mathlib.Omega.{arith}
 use lib.IntN.{ℤ}
-use lib.ListN.{length, set, drop, length-append, length-drop, drop-of-length-le}
+use lib.ListN.{length, set, take, drop, length-append, length-drop, drop-of-length-le}
 use lib.Seq.{sets, length-sets}
 use Rattle.decimal.specs.Decimal.{found, bad}
+use Rattle.decimal.proofs.Reading.{says-at, took-at}
 use Rattle.decimal.proofs.Writing.{sets-after}
 use Rattle.text.specs.Bytes.{bytes}
 use Rattle.text.specs.Form.{Vertex, Face, Rows, rows, oneMore}
@@ -14,9 +15,10 @@ use Rattle.reading.specs.Loaded.{coordinates, marksOf, cornersOf}
 use Rattle.reading.proofs.Lines.{rows-length, rows-bad, rows-next, Passed, passed-none, passed-bad, passed-more}
 use Rattle.reading.proofs.Storing.{three-stores, four-stores, Filling, filling-none, filling-more, filling-bad, length-coordinates, length-marks, length-corners}
 use Rattle.obj.specs.Form.{Item, vertex, face, comment, readItem, verticesIn, facesIn, items}
+use Rattle.obj.specs.declared.Line.{Line}
 use Rattle.obj.specs.declared.Item as declared
 use Rattle.obj.specs.declared.Item.the-variants as item
-use Rattle.obj.specs.Answers.{itemIs, verticesOf, facesOf, MeetsItem, AllGood, BadAt, Stored, Room, RoomFor, ItemStored}
+use Rattle.obj.specs.Answers.{itemIs, lineOf, lineUsed, Takes, GivesLine, verticesOf, facesOf, MeetsItem, AllGood, BadAt, Stored, Room, RoomFor, ItemStored}
 
 -- ---- one item before others
 vertices-one : (i : Item) (is : List Item) → verticesIn (i ∷ is) ≡ verticesIn (i ∷ []) ++ verticesIn is
@@ -109,6 +111,15 @@ item-none = refl
 
 pub item-end : (l : List ℕ) (at : ℕ) → length l ≤ at → readItem (drop at l) ≡ bad
 item-end l at h = ap readItem (drop-of-length-le l {i = at} h) ∙ item-none
+
+-- the line of l from `at` on, where its reader's answer is q
+pub record ItemAt (l : List ℕ) (at : ℕ) (q : Line) : Type 0 where
+  pub reads : readItem (drop at l) ≡ lineOf q (drop at l)
+  pub within : at + lineUsed q ≤ length l
+  pub takes : Takes q
+
+pub item-at : {r q : Line} (l : List ℕ) (at : ℕ) → GivesLine r (take (length l - at) (drop at l)) → r ≡ q → at ≤ length l → ItemAt l at q
+item-at l at g e h = record { reads = says-at readItem l at (g .gives) e; within = took-at readItem l at (g .gives) e h; takes = subst Takes e (g .takes) }
 
 abbrev left : List ℕ → ℕ → ℕ → Rows Item
 left l lines at = rows readItem (length l - lines) (drop at l)

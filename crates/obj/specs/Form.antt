@@ -6,7 +6,7 @@ use lib.Dec.{eqb}
 use lib.ListN.{length, drop}
 use Rattle.decimal.specs.Decimal.{Read, found, bad, readNatural}
 use Rattle.text.specs.Bytes.{bytes}
-use Rattle.text.specs.Form.{Vertex, Face, Net, startsWith, endedBy, andThen, index, readVertex, Rows, rows, Parsed, next, line, ended}
+use Rattle.text.specs.Form.{Vertex, Face, Net, startsWith, endedBy, index, readVertex, faceBy, Rows, rows, Parsed, next, line, ended}
 
 -- Paper 02: "Accept `v` with three whole counts, `f` with four numbers from 1, and lines beginning `#`"
 pub data Item : Type 0 where
@@ -44,9 +44,7 @@ unfoldable pub corner : ℕ → List ℕ → Read ℕ
 corner e l = endedBy e (named (readNatural 2147483647 l))
 
 unfoldable pub readCorners : List ℕ → Read Face
-readCorners l =
-    andThen (corner 32 l) (λ a l. andThen (corner 32 l) (λ b l. andThen (corner 32 l) (λ c l. andThen (corner 10 l) (λ d l.
-    found (record { a = a; b = b; c = c; d = d }) l))))
+readCorners l = faceBy corner l
 
 -- any bytes but a newline, and a newline
 unfoldable pub readComment : List ℕ → Read Item

@@ -3,3 +3,4 @@ pub mod Lines
 pub mod Back
 pub mod Counts
 pub mod Found
+pub mod Faces

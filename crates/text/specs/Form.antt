@@ -131,10 +131,14 @@ readVertex m l =
     (andThen (coordinate 32 l) (λ z l. andThen (natural 255 10 l) (λ k l. found (record { x = x; y = y; z = z; mark = k }) l)))
     (andThen (coordinate 10 l) (λ z l. found (record { x = x; y = y; z = z; mark = 0 }) l))))
 
-unfoldable pub readFace : List ℕ → Read Face
-readFace l =
-    andThen (index 32 l) (λ a l. andThen (index 32 l) (λ b l. andThen (index 32 l) (λ c l. andThen (index 10 l) (λ d l.
+-- four corners, each read by `corner`, which is told the byte after it
+abbrev pub faceBy : (corner : ℕ → List ℕ → Read ℕ) → List ℕ → Read Face
+faceBy corner l =
+    andThen (corner 32 l) (λ a l. andThen (corner 32 l) (λ b l. andThen (corner 32 l) (λ c l. andThen (corner 10 l) (λ d l.
     found (record { a = a; b = b; c = c; d = d }) l))))
+
+unfoldable pub readFace : List ℕ → Read Face
+readFace l = faceBy index l
 
 -- ---- lines after each other
 

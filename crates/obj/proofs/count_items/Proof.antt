@@ -1,14 +1,11 @@
 -- `obj::count_items` meets its contract. Assumes nothing.
-use mathlib.Core.Path.{_≡_, subst}
+use mathlib.Core.Path.{_≡_}
 use Prim.Native.Nat.{_-_}
 use native.Mathlib.Omega.{arith}
 use borrow.Author.Needs.{needs}
 use lib.ListN.{length}
-use Rattle.reading.proofs.Lines.{LineAt, line-at}
-use Rattle.obj.specs.Form.{readItem}
 use Rattle.obj.specs.declared.Line.{Line}
-use Rattle.obj.specs.Answers.{lineOf, lineUsed, Takes}
-use Rattle.obj.proofs.Passing.{vertices-few, faces-few, item-end, met-bad, met-all, Counting, counting-none, counting-more}
+use Rattle.obj.proofs.Passing.{ItemAt, item-at, vertices-few, faces-few, item-end, met-bad, met-all, Counting, counting-none, counting-more}
 use Rattle.obj.proofs.count_items.Statement.{statement}
 use Rattle.obj.proofs.count_items.Tie as tie
 
@@ -22,11 +19,8 @@ abbrev μ-loop : tie.MeasureT-loop
 abbrev turn : tie.After-read-line Inv-loop μ-loop → tie.At-loop Inv-loop μ-loop
 turn p = p .before .before .before
 
-line : (p : tie.After-read-line Inv-loop μ-loop) {q : Line} → p .read-line .result ≡ q → LineAt lineOf lineUsed readItem (turn p .before .before .args .text .now) (turn p .loop .at) q
-line p e = line-at _ _ _ (p .read-line .ensures .gives) e (turn p .loop .inv .met .passed .within)
-
-takes : (p : tie.After-read-line Inv-loop μ-loop) {q : Line} → p .read-line .result ≡ q → Takes q
-takes p e = subst Takes e (p .read-line .ensures .takes)
+line : (p : tie.After-read-line Inv-loop μ-loop) {q : Line} → p .read-line .result ≡ q → ItemAt (turn p .before .before .args .text .now) (turn p .loop .at) q
+line p e = item-at _ _ (p .read-line .ensures) e (turn p .loop .inv .met .passed .within)
 
 loop-holds : tie.Need-loop-holds Inv-loop μ-loop
 loop-holds c = counting-none _
@@ -82,14 +76,14 @@ loop-less : tie.Need-loop-less Inv-loop μ-loop
 loop-less c =
     let r = c .before .before .before .before in
     let s = line r (c .before .before .item .given .1) .within in
-    let t = takes r (c .before .before .item .given .1) in
+    let t = line r (c .before .before .item .given .1) .takes in
     omega arith
 
 loop-again : tie.Need-loop-again Inv-loop μ-loop
 loop-again c =
     let r = c .before .before .before .before in
     let e = line r (c .before .before .item .given .1) in
-    counting-more (r .before .before .before .loop .inv) _ _ (e .reads) (takes r (c .before .before .item .given .1)) (e .within) (c .count-item .ensures)
+    counting-more (r .before .before .before .loop .inv) _ _ (e .reads) (e .takes) (e .within) (c .count-item .ensures)
 
 returns-2 : tie.Need-returns-2 Inv-loop μ-loop
 returns-2 c = let l = c .before in met-all (l .loop .inv .met) (item-end _ _ (c .loop-test .left)) (c .loop-test .left)

@@ -1,14 +1,11 @@
 -- `obj::store_items` meets its contract. Assumes nothing.
-use mathlib.Core.Path.{_≡_, subst}
+use mathlib.Core.Path.{_≡_}
 use Prim.Native.Nat.{_-_}
 use native.Mathlib.Omega.{arith}
 use borrow.Author.Needs.{needs}
 use lib.ListN.{length}
-use Rattle.reading.proofs.Lines.{LineAt, line-at}
-use Rattle.obj.specs.Form.{readItem}
 use Rattle.obj.specs.declared.Line.{Line}
-use Rattle.obj.specs.Answers.{lineOf, lineUsed, Takes}
-use Rattle.obj.proofs.Passing.{item-end, room-next, Storing, storing-none, storing-more, storing-ends, room-kept}
+use Rattle.obj.proofs.Passing.{ItemAt, item-at, item-end, room-next, Storing, storing-none, storing-more, storing-ends, room-kept}
 use Rattle.obj.proofs.store_items.Statement.{statement}
 use Rattle.obj.proofs.store_items.Tie as tie
 
@@ -22,11 +19,8 @@ abbrev μ-loop : tie.MeasureT-loop
 abbrev turn : tie.After-read-line Inv-loop μ-loop → tie.At-loop Inv-loop μ-loop
 turn p = p .before .before .before
 
-line : (p : tie.After-read-line Inv-loop μ-loop) {q : Line} → p .read-line .result ≡ q → LineAt lineOf lineUsed readItem (turn p .before .before .before .before .args .text .now) (turn p .loop .at) q
-line p e = line-at _ _ _ (p .read-line .ensures .gives) e (turn p .loop .inv .met .passed .within)
-
-takes : (p : tie.After-read-line Inv-loop μ-loop) {q : Line} → p .read-line .result ≡ q → Takes q
-takes p e = subst Takes e (p .read-line .ensures .takes)
+line : (p : tie.After-read-line Inv-loop μ-loop) {q : Line} → p .read-line .result ≡ q → ItemAt (turn p .before .before .before .before .args .text .now) (turn p .loop .at) q
+line p e = item-at _ _ (p .read-line .ensures) e (turn p .loop .inv .met .passed .within)
 
 abbrev item-of : tie.After-slice-known4 Inv-loop μ-loop → tie.After-item Inv-loop μ-loop
 item-of c = c .before .before .before .before .before .before .before .before .before .before
@@ -70,7 +64,7 @@ store-item-requires c κs =
     let r = g .before .before in
     let e = line r (g .item .given .1) in
     let s = turn r .loop .inv in
-    room-next (s .met) _ _ (e .reads) (takes r (g .item .given .1)) (e .within) (room-kept s (turn r .before .before .before .before .pre))
+    room-next (s .met) _ _ (e .reads) (e .takes) (e .within) (room-kept s (turn r .before .before .before .before .pre))
 
 add-at : tie.Need-add-at Inv-loop μ-loop
 add-at c = let g = item-of c in omega (arith, line (g .before .before) (g .item .given .1) .within)
@@ -79,7 +73,7 @@ loop-less : tie.Need-loop-less Inv-loop μ-loop
 loop-less c =
     let g = item-of c in
     let s = line (g .before .before) (g .item .given .1) .within in
-    let t = takes (g .before .before) (g .item .given .1) in
+    let t = line (g .before .before) (g .item .given .1) .takes in
     omega arith
 
 loop-again : tie.Need-loop-again Inv-loop μ-loop
@@ -87,7 +81,7 @@ loop-again c =
     let g = item-of c in
     let r = g .before .before in
     let e = line r (g .item .given .1) in
-    storing-more (turn r .loop .inv) _ _ (e .reads) (takes r (g .item .given .1)) (e .within) (c .before .before .before .before .before .store-item .ensures)
+    storing-more (turn r .loop .inv) _ _ (e .reads) (e .takes) (e .within) (c .before .before .before .before .before .store-item .ensures)
 
 same-length-4 : tie.Need-same-length-4 Inv-loop μ-loop
 same-length-4 c = search needs

@@ -1,8 +1,7 @@
 -- `text::read_face` meets its contract. Assumes nothing.
-use mathlib.Core.Path.{refl}
-use native.Mathlib.Omega.{arith}
-use Rattle.text.specs.Form.{readFace}
+use Rattle.text.specs.Form.{index, readFace}
 use Rattle.decimal.proofs.Reading.{says, took}
+use Rattle.text.proofs.Faces.{no-corner, one-corner, two-corners, three-corners, four-corners}
 use borrow.Author.Needs.{needs}
 use Rattle.text.proofs.read_face.Statement.{statement}
 use Rattle.text.proofs.read_face.Tie as tie
@@ -18,7 +17,7 @@ enum-told c = search needs
 
 returns : tie.Need-returns
 unfolding readFace
-returns c = record { reads = rw (says (c .before .before .natural-field .ensures) (c .enum-told .given .1)) refl; within = omega arith }
+returns c = no-corner index (c .before .before .before .before .args .line .now) (says (c .before .before .natural-field .ensures) (c .enum-told .given .1))
 
 natural-field-requires-2 : tie.Need-natural-field-requires-2
 natural-field-requires-2 c κs = took (c .before .before .before .natural-field .ensures) (c .before .a .given .1)
@@ -33,13 +32,7 @@ returns-2 : tie.Need-returns-2
 unfolding readFace
 returns-2 c =
     let a = c .before .before .before .before in
-    record {
-      reads = rw (
-        says (a .before .before .natural-field .ensures) (a .a .given .1),
-        says (c .before .before .natural-field2 .ensures) (c .enum-told2 .given .1),
-      ) refl;
-      within = omega arith;
-    }
+    one-corner index (a .before .before .before .before .args .line .now) (a .a .given .0 .1 .0) (says (a .before .before .natural-field .ensures) (a .a .given .1)) (says (c .before .before .natural-field2 .ensures) (c .enum-told2 .given .1))
 
 natural-field-requires-3 : tie.Need-natural-field-requires-3
 natural-field-requires-3 c κs = took (c .before .before .before .natural-field2 .ensures) (c .before .b .given .1)
@@ -55,14 +48,7 @@ unfolding readFace
 returns-3 c =
     let b = c .before .before .before .before in
     let a = b .before .before .before .before in
-    record {
-      reads = rw (
-        says (a .before .before .natural-field .ensures) (a .a .given .1),
-        says (b .before .before .natural-field2 .ensures) (b .b .given .1),
-        says (c .before .before .natural-field3 .ensures) (c .enum-told3 .given .1),
-      ) refl;
-      within = omega arith;
-    }
+    two-corners index (a .before .before .before .before .args .line .now) (a .a .given .0 .1 .0) (says (a .before .before .natural-field .ensures) (a .a .given .1)) (b .b .given .0 .1 .0) (says (b .before .before .natural-field2 .ensures) (b .b .given .1)) (says (c .before .before .natural-field3 .ensures) (c .enum-told3 .given .1))
 
 natural-field-requires-4 : tie.Need-natural-field-requires-4
 natural-field-requires-4 c κs = took (c .before .before .before .natural-field3 .ensures) (c .before .c .given .1)
@@ -79,15 +65,7 @@ returns-4 c =
     let k = c .before .before .before .before in
     let b = k .before .before .before .before in
     let a = b .before .before .before .before in
-    record {
-      reads = rw (
-        says (a .before .before .natural-field .ensures) (a .a .given .1),
-        says (b .before .before .natural-field2 .ensures) (b .b .given .1),
-        says (k .before .before .natural-field3 .ensures) (k .c .given .1),
-        says (c .before .before .natural-field4 .ensures) (c .enum-told4 .given .1),
-      ) refl;
-      within = omega arith;
-    }
+    three-corners index (a .before .before .before .before .args .line .now) (a .a .given .0 .1 .0) (says (a .before .before .natural-field .ensures) (a .a .given .1)) (b .b .given .0 .1 .0) (says (b .before .before .natural-field2 .ensures) (b .b .given .1)) (k .c .given .0 .1 .0) (says (k .before .before .natural-field3 .ensures) (k .c .given .1)) (says (c .before .before .natural-field4 .ensures) (c .enum-told4 .given .1))
 
 returns-5 : tie.Need-returns-5
 unfolding readFace
@@ -96,15 +74,7 @@ returns-5 c =
     let k = d .before .before .before .before in
     let b = k .before .before .before .before in
     let a = b .before .before .before .before in
-    record {
-      reads = rw (
-        says (a .before .before .natural-field .ensures) (a .a .given .1),
-        says (b .before .before .natural-field2 .ensures) (b .b .given .1),
-        says (k .before .before .natural-field3 .ensures) (k .c .given .1),
-        says (d .before .before .natural-field4 .ensures) (d .d .given .1),
-      ) refl;
-      within = took (d .before .before .natural-field4 .ensures) (d .d .given .1);
-    }
+    four-corners index (a .before .before .before .before .args .line .now) (a .a .given .0 .1 .0) (says (a .before .before .natural-field .ensures) (a .a .given .1)) (b .b .given .0 .1 .0) (says (b .before .before .natural-field2 .ensures) (b .b .given .1)) (k .c .given .0 .1 .0) (says (k .before .before .natural-field3 .ensures) (k .c .given .1)) (says (d .before .before .natural-field4 .ensures) (d .d .given .1)) (took (d .before .before .natural-field4 .ensures) (d .d .given .1))
 
 pub read-face-spec : {M : Type 1} → statement M
 read-face-spec =
