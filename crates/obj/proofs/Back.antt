@@ -15,7 +15,7 @@ use Rattle.text.specs.Written.{Each, PointFits}
 use Rattle.text.proofs.Back.{ends, natural-field, point-back}
 use Rattle.reading.proofs.Lines.{rows-bad}
 use Rattle.obj.specs.Form.{Item, vertex, face, comment, mapped, skipTo, skipPart, named, corner, readCorners, readComment, readItem, readRounds, verticesIn, facesIn, netOf, parseItems, parseObj}
-use Rattle.obj.specs.Text.{Part, none, slash, Corner, Line, vertexLine, faceLine, commentLine, partText, cornerText, lineText, roundsText, objText, Without, PartFits, CornerFits, LineFits, itemOf, itemsOf, Writes, plain, plainFaces, plainLines, CornersFit, ObjFits, ReadsBack}
+use Rattle.obj.specs.Text.{Part, none, slash, Corner, TextLine, vertexLine, faceLine, commentLine, partText, cornerText, lineText, roundsText, objText, Without, PartFits, CornerFits, LineFits, itemOf, itemsOf, Writes, plain, plainFaces, plainLines, CornersFit, ObjFits, ObjBack}
 use Rattle.obj.proofs.Passing.{item-none}
 
 -- ---- bytes that are skipped
@@ -55,7 +55,7 @@ corners-back a b c d rest ha hb hc hd =
     )
 
 -- ---- lines
-pub line-back : (l : Line) → LineFits l → (rest : List ℕ) → readItem (lineText l ++ rest) ≡ found (itemOf l) rest
+pub line-back : (l : TextLine) → LineFits l → (rest : List ℕ) → readItem (lineText l ++ rest) ≡ found (itemOf l) rest
 unfolding readItem readComment lineText bytes
 line-back (vertexLine v) h rest = ap (mapped vertex) (point-back v h rest)
 line-back (faceLine a b c d) h rest = simp append-assoc (ap (mapped face) (corners-back a b c d rest (h .0) (h .1) (h .2) (h .3)))
@@ -63,18 +63,23 @@ line-back (commentLine s) h rest =
     ap (λ (l : List ℕ). endedBy 10 (found comment l)) (ap (skipTo 10) (append-assoc s (10 ∷ []) rest) ∙ skip-back 10 10 refl s rest h) ∙ ends 10 comment rest
 
 -- every line has a byte
-pub line-some : (l : Line) → 1 ≤ length (lineText l)
+pub line-some : (l : TextLine) → 1 ≤ length (lineText l)
 unfolding lineText bytes
 line-some (vertexLine v) = omega arith
 line-some (faceLine a b c d) = omega arith
 line-some (commentLine s) = omega arith
 
-lines-few : (ls : List Line) → length ls ≤ length (texts lineText ls)
+pub lines-few : (ls : List TextLine) → length ls ≤ length (texts lineText ls)
 unfolding texts
 lines-few [] = omega arith
 lines-few (l ∷ ls) = let a = line-some l in let b = lines-few ls in omega (arith, length-append (lineText l) (texts lineText ls))
 
-rows-all : (ls : List Line) (n : ℕ) → length ls ≤ n → Each LineFits ls → rows readItem n (texts lineText ls) ≡ record { values = itemsOf ls; rest = [] }
+pub length-items : (ls : List TextLine) → length (itemsOf ls) ≡ length ls
+unfolding itemsOf
+length-items [] = refl
+length-items (x ∷ ls) = ap suc (length-items ls)
+
+rows-all : (ls : List TextLine) (n : ℕ) → length ls ≤ n → Each LineFits ls → rows readItem n (texts lineText ls) ≡ record { values = itemsOf ls; rest = [] }
 unfolding rows texts Each itemsOf
 rows-all [] n h w = rows-bad readItem n [] item-none
 rows-all (l ∷ ls) zero h w = absurd (omega arith)
@@ -85,7 +90,7 @@ pub rounds-back : (k : ℕ) (rest : List ℕ) → k ≤ 2147483647 → readRound
 unfolding readRounds roundsText bytes
 rounds-back k rest h = simp append-assoc (natural-field 10 refl 2147483647 k rest h)
 
-pub lines-back : (k : ℕ) (ls : List Line) → k ≤ 2147483647 → Each LineFits ls → parseObj (objText k ls) ≡ parsed (netOf k (itemsOf ls)) []
+pub lines-back : (k : ℕ) (ls : List TextLine) → k ≤ 2147483647 → Each LineFits ls → parseObj (objText k ls) ≡ parsed (netOf k (itemsOf ls)) []
 unfolding parseObj parseItems objText
 lines-back k ls h w =
     let r = rows-all ls (length (texts lineText ls)) (lines-few ls) w in
@@ -100,7 +105,7 @@ net-is n is v f p q r =
     let b : length (facesIn is) ≡ n .counts .faces = ap length f ∙ q in
     λ i. record { rule = sym r i; counts = record { vertices = a i; faces = b i; rounds = n .counts .rounds }; vertices = v i; faces = f i }
 
-net-back : (n : Net) (ls : List Line) → Writes ls n → parseObj (objText (n .counts .rounds) ls) ≡ parsed n []
+net-back : (n : Net) (ls : List TextLine) → Writes ls n → parseObj (objText (n .counts .rounds) ls) ≡ parsed n []
 net-back n ls w =
     lines-back (n .counts .rounds) ls (w .rounds) (w .fit)
     ∙ ap (λ (m : Net). parsed m []) (net-is n (itemsOf ls) (w .vertices) (w .faces) (w .vertexCount) (w .faceCount) (w .rule))
@@ -157,5 +162,5 @@ plain-writes n h = record {
   rule = h .rule;
 }
 
-pub obj-back : ReadsBack
+pub obj-back : ObjBack
 obj-back = record { back = net-back; lines = plain-writes }

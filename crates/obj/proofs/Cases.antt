@@ -19,7 +19,7 @@ use Rattle.reading.proofs.Cases.{FormRead, tables-serve, net-there}
 use Rattle.obj.proofs.Passing.{vertices-few, faces-few}
 use Rattle.obj.specs.Form.{readRounds, items, netOf, parseItems, parseObj}
 use Rattle.obj.specs.declared.Counted.{Counted}
-use Rattle.obj.specs.Answers.{verticesOf, facesOf, AllGood, BadAt, Counts, Stored, Room}
+use Rattle.obj.specs.Answers.{itemVertices, itemFaces, AllGood, BadAt, CountsItems, ItemsStored, ItemsRoom}
 
 -- ---- the first line
 module _ (l : List ℕ) where
@@ -46,8 +46,8 @@ module _ (l : List ℕ) (at : ℕ) where
   abbrev part : List ℕ
   part = take (length l - at) (drop at l)
 
-  pub counts-here : {r q : Counted} → Counts r part → r ≡ q → Counts q (drop at l)
-  counts-here {r} h e = subst (λ (o : Counted). Counts o (drop at l)) e (subst (λ (p : List ℕ). Counts r p) (part-rest l at) h)
+  pub counts-here : {r q : Counted} → CountsItems r part → r ≡ q → CountsItems q (drop at l)
+  counts-here {r} h e = subst (λ (o : Counted). CountsItems o (drop at l)) e (subst (λ (p : List ℕ). CountsItems r p) (part-rest l at) h)
 
   -- v and f are no more than the bytes of l
   pub good-fits : {v f : ℕ} → length l ≤ 32768 → AllGood (drop at l) v f → (v < 4294967296) × (f < 4294967296)
@@ -81,25 +81,25 @@ module _ {l : List ℕ} {k at v f r : ℕ} (c : ItemsRead l k at v f r) where
     serves = let s = tables-serve form-read z in let a = c .good .vertices in let b = c .good .faces in record { vertices = omega arith; faces = omega arith }
 
     module _ (vs : List ℤ) (fs ms : List ℕ) (room : Tables (length vs) (length fs) (length ms)) where
-      here-room : Room (length (verticesOf (drop at l))) (length (facesOf (drop at l))) (length vs) (length fs) (length ms)
+      here-room : ItemsRoom (length (itemVertices (drop at l))) (length (itemFaces (drop at l))) (length vs) (length fs) (length ms)
       here-room =
           let s = serves in
           let a = c .good .vertices in
           let b = c .good .faces in
           record { vertices = omega arith; faces = omega arith; marks = omega arith }
 
-      pub items-room : Room (length (verticesOf (part l at))) (length (facesOf (part l at))) (length vs) (length fs) (length ms)
+      pub items-room : ItemsRoom (length (itemVertices (part l at))) (length (itemFaces (part l at))) (length vs) (length fs) (length ms)
       items-room = rw (part-rest l at) here-room
 
-      pub items-read : {u : List ℤ} {g o : List ℕ} → Stored (verticesOf (part l at)) (facesOf (part l at)) 0 0 vs u fs g ms o → loaded (netRead k false v f) u g o ≡ readBy parseObj l vs fs ms
+      pub items-read : {u : List ℤ} {g o : List ℕ} → ItemsStored (itemVertices (part l at)) (itemFaces (part l at)) 0 0 vs u fs g ms o → loaded (netRead k false v f) u g o ≡ readBy parseObj l vs fs ms
       unfolding netOf
       items-read {u} {g} {o} w =
-          let h : Stored (verticesOf (drop at l)) (facesOf (drop at l)) 0 0 vs u fs g ms o = subst (λ (p : List ℕ). Stored (verticesOf p) (facesOf p) 0 0 vs u fs g ms o) (part-rest l at) w in
+          let h : ItemsStored (itemVertices (drop at l)) (itemFaces (drop at l)) 0 0 vs u fs g ms o = subst (λ (p : List ℕ). ItemsStored (itemVertices p) (itemFaces p) 0 0 vs u fs g ms o) (part-rest l at) w in
           let q = here-room in
-          let lv = length-coordinates (verticesOf (drop at l)) in
-          let lm = length-marks (verticesOf (drop at l)) in
-          let lf = length-corners (facesOf (drop at l)) in
-          let eu = h .vertices ∙ front (coordinates (verticesOf (drop at l))) vs (omega arith) in
-          let eg = h .faces ∙ front (cornersOf (facesOf (drop at l))) fs (omega arith) in
-          let eo = h .marks ∙ front (marksOf (verticesOf (drop at l))) ms (omega arith) in
+          let lv = length-coordinates (itemVertices (drop at l)) in
+          let lm = length-marks (itemVertices (drop at l)) in
+          let lf = length-corners (itemFaces (drop at l)) in
+          let eu = h .vertices ∙ front (coordinates (itemVertices (drop at l))) vs (omega arith) in
+          let eg = h .faces ∙ front (cornersOf (itemFaces (drop at l))) fs (omega arith) in
+          let eo = h .marks ∙ front (marksOf (itemVertices (drop at l))) ms (omega arith) in
           rw (eu, eg, eo, ← c .good .vertices, ← c .good .faces) (net-there form-read vs fs ms z)

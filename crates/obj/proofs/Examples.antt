@@ -3,15 +3,17 @@ use mathlib.Core.Path.{_≡_, refl}
 use mathlib.Core.Bool.{Bool, true, false, _&&_}
 use mathlib.Core.List.{List, [], _∷_}
 use Prim.Native.Nat.{ℕ}
+use native.Mathlib.Omega.{arith}
 use Prim.Native.String.{String}
 use lib.Dec.{eqb}
 use lib.IntN.{ℤ, pos, negsuc}
 use Rattle.decimal.specs.Decimal.{readDigits, readNatural, readInteger, naturalText, integerText}
 use Rattle.text.specs.Bytes.{bytes}
 use Rattle.text.specs.Form.{Vertex, Net, Parsed, parsed, badLine, coordinate, natural, readVertex, rows}
-use Rattle.text.specs.Text.{pointText, texts}
+use Rattle.text.specs.Text.{countsText, pointText, faceText, texts, unmarkedText}
+use Rattle.text.specs.Written.{Each}
 use Rattle.obj.specs.Form.{skipTo, corner, readCorners, readComment, readItem, readRounds, verticesIn, facesIn, netOf, parseItems, parseObj}
-use Rattle.obj.specs.Text.{Line, vertexLine, faceLine, commentLine, slash, cornerText, lineText, roundsText, objText, plain}
+use Rattle.obj.specs.Text.{TextLine, vertexLine, faceLine, commentLine, slash, cornerText, lineText, roundsText, objText, plain, plainFaces, plainLines, ObjFits}
 
 abbrev at : ℤ → ℤ → ℤ → Vertex
 at x y z = record { x = x; y = y; z = z; mark = 0 }
@@ -43,7 +45,7 @@ unfolding readAll parseObj parseItems readRounds readItem readCorners readCommen
 squares-read = refl
 
 -- a text written by its lines
-abbrev lines : List Line
+abbrev lines : List TextLine
 lines =
     commentLine (bytes " rounds 1")
     ∷ vertexLine (at (pos 0) (pos 0) (pos 0))
@@ -54,6 +56,40 @@ lines =
 lines-written : objText 3 lines ≡ bytes "# rounds 3\n# rounds 1\nv 0 0 0\nf 1/ 2/7 3//7 4\nv -16 0 0\n"
 unfolding objText roundsText lineText cornerText pointText texts naturalText integerText bytes
 lines-written = refl
+
+-- the square's own lines, and its text of the other form
+square-written : objText 3 (plainLines (square 3 .vertices) (square 3 .faces)) ≡ bytes "# rounds 3\nv 0 0 0\nv 16 0 0\nv 16 16 0\nv 0 -16 0\nf 1 2 3 4\n"
+unfolding objText roundsText lineText cornerText plainLines plainFaces pointText texts naturalText integerText bytes
+square-written = refl
+
+square-unmarked : unmarkedText (square 3) ≡ bytes "vertices faces rounds\n4 1 3\nx y z\n0 0 0\n16 0 0\n16 16 0\n0 -16 0\na b c d\n0 1 2 3\n"
+unfolding unmarkedText countsText pointText faceText texts naturalText integerText bytes
+square-unmarked = refl
+
+-- the largest numbers fit
+abbrev largest : Net
+largest =
+    record {
+      rule = false;
+      counts = record { vertices = 1; faces = 1; rounds = 2147483647 };
+      vertices = at (negsuc 2147483647) (pos 2147483647) (pos 0) ∷ [];
+      faces = record { a = 2147483646; b = 2147483646; c = 2147483646; d = 2147483646 } ∷ [];
+    }
+
+largest-fits : ObjFits largest
+unfolding Each
+largest-fits = record {
+  fits = record {
+    counts = record { vertices = omega arith; faces = omega arith; rounds = omega arith };
+    vertexCount = refl;
+    faceCount = refl;
+    vertices = (record { x = omega arith; y = omega arith; z = omega arith; mark = omega arith }, tt);
+    faces = (record { a = omega arith; b = omega arith; c = omega arith; d = omega arith }, tt);
+  };
+  vertices = (record { fits = record { x = omega arith; y = omega arith; z = omega arith; mark = omega arith }; unmarked = refl }, tt);
+  faces = (record { a = omega arith; b = omega arith; c = omega arith; d = omega arith }, tt);
+  rule = refl;
+}
 
 -- ---- the first bad line of damaged texts, 0 for a text that has the form
 abbrev damage : Parsed Net → ℕ
@@ -100,6 +136,23 @@ damaged =
     ∷ record { name = "an object"; text = "# rounds 1\no net\n"; place = 2 }
     ∷ record { name = "an unfinished comment"; text = "# rounds 1\nv 0 0 0\n# rounds 2"; place = 3 }
     ∷ record { name = "an unfinished vertex"; text = "# rounds 1\nv 0 0 0"; place = 2 }
+    ∷ record { name = "an unfinished first line"; text = "# rounds 1"; place = 1 }
+    ∷ record { name = "no blank before rounds"; text = "#rounds 1\n"; place = 1 }
+    ∷ record { name = "texture coordinates"; text = "# rounds 1\nvt 0 0\n"; place = 2 }
+    ∷ record { name = "two blanks in a vertex"; text = "# rounds 1\nv  0 0 0\n"; place = 2 }
+    ∷ record { name = "a tab in a vertex"; text = "# rounds 1\nv\t0 0 0\n"; place = 2 }
+    ∷ record { name = "a carriage return in a vertex"; text = "# rounds 1\nv 0 0 0\r\n"; place = 2 }
+    ∷ record { name = "a coordinate beyond signed 32 bits"; text = "# rounds 1\nv 0 0 2147483648\n"; place = 2 }
+    ∷ record { name = "the largest coordinates"; text = "# rounds 1\nv 0 -2147483648 2147483647\n"; place = 0 }
+    ∷ record { name = "a corner with a leading zero"; text = "# rounds 1\nf 1 02 3 4\n"; place = 2 }
+    ∷ record { name = "two blanks in a face"; text = "# rounds 1\nf 1  2 3 4\n"; place = 2 }
+    ∷ record { name = "a tab behind a number"; text = "# rounds 1\nf 1\t 2 3 4\n"; place = 2 }
+    ∷ record { name = "a backslash behind a number"; text = "# rounds 1\nf 1\\1 2 3 4\n"; place = 2 }
+    ∷ record { name = "a blank after a face"; text = "# rounds 1\nf 1 2 3 4 \n"; place = 2 }
+    ∷ record { name = "a blank after a skipped part"; text = "# rounds 1\nf 1 2 3 4/4 \n"; place = 2 }
+    ∷ record { name = "a newline that ends a skipped part too early"; text = "# rounds 1\nf 1 2 3/\n4\n"; place = 2 }
+    ∷ record { name = "groups and materials"; text = "# rounds 1\n#\ng net\nusemtl red\n"; place = 3 }
+    ∷ record { name = "two bad lines"; text = "# rounds 1\n#\no\n\n"; place = 3 }
     ∷ []
 
 same : List Damaged → Bool

@@ -17,9 +17,9 @@ use Rattle.text.specs.Written.{Each}
 use Rattle.text.proofs.Lines.{natural-limit}
 use Rattle.text.proofs.Found.{starts-found, ended-found, then-found, field-found, point-found}
 use Rattle.obj.specs.Form.{Item, vertex, face, comment, mapped, skipTo, skipPart, named, corner, readCorners, readComment, readItem, readRounds, verticesIn, facesIn, netOf, items, parseItems, parseObj}
-use Rattle.obj.specs.Text.{Part, none, slash, Corner, Line, vertexLine, faceLine, commentLine, partText, cornerText, lineText, roundsText, objText, Without, PartFits, CornerFits, LineFits, itemOf, itemsOf, WrittenBy, NoRounds, NoLine, FirstBad, firstLine, laterLine, Recognizes}
+use Rattle.obj.specs.Text.{Part, none, slash, Corner, TextLine, vertexLine, faceLine, commentLine, partText, cornerText, lineText, roundsText, objText, Without, PartFits, CornerFits, LineFits, itemOf, itemsOf, WrittenBy, NoRounds, NoLine, FirstBad, firstLine, laterLine, Recognizes}
 use Rattle.obj.proofs.Passing.{item-none}
-use Rattle.obj.proofs.Back.{rounds-back, line-back, line-some}
+use Rattle.obj.proofs.Back.{rounds-back, line-back, line-some, length-items}
 
 -- ---- bytes that were skipped
 record Skipped (stop e : ℕ) (l m : List ℕ) : Type 0 where
@@ -83,7 +83,7 @@ corner-found e l c m p =
 
 -- ---- a line
 record LineFound (l : List ℕ) (i : Item) (m : List ℕ) : Type 0 where
-  line : Line
+  line : TextLine
   fits : LineFits line
   is : itemOf line ≡ i
   text : l ≡ lineText line ++ m
@@ -171,7 +171,7 @@ line-found l i m p = vertexFirst (startsWith (bytes "v ") l) refl p
 
 -- ---- lines after each other
 record RowsFound (l : List ℕ) (w : Rows Item) : Type 0 where
-  lines : List Line
+  lines : List TextLine
   fit : Each LineFits lines
   is : itemsOf lines ≡ w .values
   text : l ≡ texts lineText lines ++ w .rest
@@ -243,11 +243,6 @@ rounds-found l k m p = go (startsWith (bytes "# rounds ") l) refl p
           text = simp append-assoc (starts-found (bytes "# rounds ") l d ∙ ap (λ (s : List ℕ). bytes "# rounds " ++ s) (field-found 2147483647 10 r k m q));
         }
     go false d q = let z : _≡_ {A = ℕ} 0 1 = cc in absurd (omega arith)
-
-length-items : (ls : List Line) → length (itemsOf ls) ≡ length ls
-unfolding itemsOf
-length-items [] = refl
-length-items (x ∷ ls) = ap suc (length-items ls)
 
 module _ (l : List ℕ) (k : ℕ) (r : List ℕ) (e : readRounds l ≡ found k r) where
   abbrev h : RoundsFound l k r

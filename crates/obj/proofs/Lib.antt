@@ -6,3 +6,4 @@ pub mod Cases
 pub mod Counts
 pub mod Back
 pub mod Found
+pub mod Written

@@ -18,7 +18,7 @@ use Rattle.obj.specs.Form.{Item, vertex, face, comment, readItem, vertic
 use Rattle.obj.specs.declared.Line.{Line}
 use Rattle.obj.specs.declared.Item as declared
 use Rattle.obj.specs.declared.Item.the-variants as item
-use Rattle.obj.specs.Answers.{itemIs, lineOf, lineUsed, Takes, GivesLine, verticesOf, facesOf, MeetsItem, AllGood, BadAt, Stored, Room, RoomFor, ItemStored}
+use Rattle.obj.specs.Answers.{itemIs, lineOf, lineUsed, Takes, GivesLine, itemVertices, itemFaces, MeetsItem, AllGood, BadAt, ItemsStored, ItemsRoom, RoomFor, ItemStored}
 
 -- ---- one item before others
 vertices-one : (i : Item) (is : List Item) → verticesIn (i ∷ is) ≡ verticesIn (i ∷ []) ++ verticesIn is
@@ -40,14 +40,14 @@ module _ (i : Item) (is : List Item) where
   faces-length : length (facesIn (i ∷ is)) ≡ length (facesIn (i ∷ [])) + length (facesIn is)
   faces-length = ap length (faces-one i is) ∙ length-append (facesIn (i ∷ [])) (facesIn is)
 
-vertices-most : (is : List Item) → length (verticesIn is) ≤ length is
+pub vertices-most : (is : List Item) → length (verticesIn is) ≤ length is
 unfolding verticesIn
 vertices-most [] = omega arith
 vertices-most (vertex v ∷ is) = let h = vertices-most is in omega arith
 vertices-most (face f ∷ is) = let h = vertices-most is in omega arith
 vertices-most (comment ∷ is) = let h = vertices-most is in omega arith
 
-faces-most : (is : List Item) → length (facesIn is) ≤ length is
+pub faces-most : (is : List Item) → length (facesIn is) ≤ length is
 unfolding facesIn
 faces-most [] = omega arith
 faces-most (vertex v ∷ is) = let h = faces-most is in omega arith
@@ -55,10 +55,10 @@ faces-most (face f ∷ is) = let h = faces-most is in omega arith
 faces-most (comment ∷ is) = let h = faces-most is in omega arith
 
 -- there are no more vertices and faces than bytes
-pub vertices-few : (l : List ℕ) → length (verticesOf l) ≤ length l
+pub vertices-few : (l : List ℕ) → length (itemVertices l) ≤ length l
 vertices-few l = let a = vertices-most (items l .values) in let b = rows-length readItem (length l) l in omega arith
 
-pub faces-few : (l : List ℕ) → length (facesOf l) ≤ length l
+pub faces-few : (l : List ℕ) → length (itemFaces l) ≤ length l
 faces-few l = let a = faces-most (items l .values) in let b = rows-length readItem (length l) l in omega arith
 
 -- ---- what one item adds
@@ -128,8 +128,8 @@ left l lines at = rows readItem (length l - lines) (drop at l)
 pub record ItemsMet (l : List ℕ) (v f lines at : ℕ) : Type 0 where
   pub passed : Passed readItem (length l) l lines at
   pub few : lines ≤ at
-  pub vertices : length (verticesOf l) ≡ v + length (verticesIn (left l lines at .values))
-  pub faces : length (facesOf l) ≡ f + length (facesIn (left l lines at .values))
+  pub vertices : length (itemVertices l) ≡ v + length (verticesIn (left l lines at .values))
+  pub faces : length (itemFaces l) ≡ f + length (facesIn (left l lines at .values))
 
 pub met-none : (l : List ℕ) → ItemsMet l 0 0 0 0
 met-none l =
@@ -162,7 +162,7 @@ module _ {l : List ℕ} {v f lines at : ℕ} (p : ItemsMet l v f lines at) where
         let k = p .few in
         record { passed = passed-more (p .passed) i n before e h; few = omega arith; vertices = omega arith; faces = omega arith }
 
-    pub room-next : {a b c : ℕ} → Room (length (verticesOf l)) (length (facesOf l)) a b c → RoomFor i v f a b c
+    pub room-next : {a b c : ℕ} → ItemsRoom (length (itemVertices l)) (length (itemFaces l)) a b c → RoomFor i v f a b c
     room-next r =
         let s = p .vertices in
         let t = p .faces in
@@ -282,10 +282,10 @@ module _ {l : List ℕ} {t₀ t : List ℤ} {f₀ f m₀ m : List ℕ} {v g at :
           marks = filling-more (s .marks) i n o w b e (next-stored flatMarks i (marks-split i) m o v w (q .stored .marks) (omega arith)) (ap length (q .stored .marks) ∙ length-sets m v (flatMarks (i ∷ [])));
         }
 
-  pub storing-ends : readItem (drop at l) ≡ bad → Stored (verticesOf l) (facesOf l) 0 0 t₀ t f₀ f m₀ m
+  pub storing-ends : readItem (drop at l) ≡ bad → ItemsStored (itemVertices l) (itemFaces l) 0 0 t₀ t f₀ f m₀ m
   unfolding verticesIn facesIn coordinates cornersOf marksOf
   storing-ends e = record { vertices = filling-bad (s .vertices) (λ t j. refl) e; faces = filling-bad (s .faces) (λ t j. refl) e; marks = filling-bad (s .marks) (λ t j. refl) e }
 
   -- the tables keep their lengths
-  pub room-kept : {a b : ℕ} → Room a b (length t₀) (length f₀) (length m₀) → Room a b (length t) (length f) (length m)
+  pub room-kept : {a b : ℕ} → ItemsRoom a b (length t₀) (length f₀) (length m₀) → ItemsRoom a b (length t) (length f) (length m)
   room-kept r = let a = s .vertices .kept in let b = s .faces .kept in let c = s .marks .kept in rw (a, b, c) r

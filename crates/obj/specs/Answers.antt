@@ -50,11 +50,11 @@ pub record GivesLine (r : Line) (l : List ℕ) : Type 0 where
 -- ---- all lines of a text that starts with line 2
 
 -- the vertices and the faces of its good lines
-abbrev pub verticesOf : List ℕ → List Vertex
-verticesOf l = verticesIn (items l .values)
+abbrev pub itemVertices : List ℕ → List Vertex
+itemVertices l = verticesIn (items l .values)
 
-abbrev pub facesOf : List ℕ → List Face
-facesOf l = facesIn (items l .values)
+abbrev pub itemFaces : List ℕ → List Face
+itemFaces l = facesIn (items l .values)
 
 -- one item more was met
 pub record MeetsItem (i : form.Item) (v f w g : ℕ) : Type 0 where
@@ -63,8 +63,8 @@ pub record MeetsItem (i : form.Item) (v f w g : ℕ) : Type 0 where
 
 -- all lines are good, with v vertices and f faces
 pub record AllGood (l : List ℕ) (v f : ℕ) : Type 0 where
-  pub vertices : length (verticesOf l) ≡ v
-  pub faces : length (facesOf l) ≡ f
+  pub vertices : length (itemVertices l) ≡ v
+  pub faces : length (itemFaces l) ≡ f
   pub rest : items l .rest ≡ []
 
 -- line n is the first bad one
@@ -72,26 +72,26 @@ pub record BadAt (l : List ℕ) (n : ℕ) : Type 0 where
   pub line : n ≡ 2 + length (items l .values)
   pub some : 0 < length (items l .rest)
 
-abbrev pub Counts : Counted → List ℕ → Type 0
-Counts (counted.All v f) l = AllGood l v f
-Counts (counted.Bad n) l = BadAt l n
+abbrev pub CountsItems : Counted → List ℕ → Type 0
+CountsItems (counted.All v f) l = AllGood l v f
+CountsItems (counted.Bad n) l = BadAt l n
 
--- ---- tables t, f, m that come to u, g, o
-pub record Stored (vs : List Vertex) (fs : List Face) (v w : ℕ) (t u : List ℤ) (f g m o : List ℕ) : Type 0 where
+-- ---- tables t, c, m that come to u, d, o: vs and fs stand there behind v vertices and f faces
+pub record ItemsStored (vs : List Vertex) (fs : List Face) (v f : ℕ) (t u : List ℤ) (c d m o : List ℕ) : Type 0 where
   pub vertices : u ≡ sets t (3 * v) (coordinates vs)
-  pub faces : g ≡ sets f (4 * w) (cornersOf fs)
+  pub faces : d ≡ sets c (4 * f) (cornersOf fs)
   pub marks : o ≡ sets m v (marksOf vs)
 
 -- room for these numbers of vertices and faces
-pub record Room (v f : ℕ) (vertexTable faceTable markTable : ℕ) : Type 0 where
+pub record ItemsRoom (v f : ℕ) (vertexTable faceTable markTable : ℕ) : Type 0 where
   pub vertices : 3 * v ≤ vertexTable
   pub faces : 4 * f ≤ faceTable
   pub marks : v ≤ markTable
 
 -- the same of one item more
 abbrev pub RoomFor : form.Item → (v f vertexTable faceTable markTable : ℕ) → Type 0
-RoomFor i v f = Room (v + length (verticesIn (i ∷ []))) (f + length (facesIn (i ∷ [])))
+RoomFor i v f = ItemsRoom (v + length (verticesIn (i ∷ []))) (f + length (facesIn (i ∷ [])))
 
 pub record ItemStored (i : form.Item) (v f w g : ℕ) (t u : List ℤ) (c d m o : List ℕ) : Type 0 where
   pub meets : MeetsItem i v f w g
-  pub stored : Stored (verticesIn (i ∷ [])) (facesIn (i ∷ [])) v f t u c d m o
+  pub stored : ItemsStored (verticesIn (i ∷ [])) (facesIn (i ∷ [])) v f t u c d m o

@@ -23,7 +23,7 @@ module _ {A : Type 0} where
   mapped f (found v l) = found (f v) l
   mapped f bad = bad
 
--- the rest from the first newline, or the first byte e, on
+-- the rest from the first newline, or the first byte e, on; nothing if there is neither
 unfoldable pub skipTo : ℕ → List ℕ → List ℕ
 skipTo e [] = []
 skipTo e (b ∷ l) = cond (eqb b e || eqb b 10) (b ∷ l) (skipTo e l)
@@ -33,13 +33,13 @@ abbrev pub skipPart : List ℕ → List ℕ
 skipPart [] = []
 skipPart (b ∷ l) = cond (eqb b 47) (skipTo 32 l) (b ∷ l)
 
--- a number from 1 names the vertex one below it
+-- a number from 1 names the vertex one below it, and what a slash begins behind it is skipped
 abbrev pub named : Read ℕ → Read ℕ
 named (found zero l) = bad
 named (found (suc c) l) = found c (skipPart l)
 named bad = bad
 
--- a field of an `f` line, and the byte e after it
+-- a field of an `f` line, and the byte e after it. Paper 02: "Blanks, newlines, numbers .. are as in 01"
 unfoldable pub corner : ℕ → List ℕ → Read ℕ
 corner e l = endedBy e (named (readNatural 2147483647 l))
 
@@ -91,5 +91,6 @@ items l = rows readItem (length l) l
 unfoldable pub parseItems : ℕ → List ℕ → Parsed Net
 parseItems k l = ended (2 + length (items l .values)) (netOf k (items l .values)) (items l .rest)
 
+-- Paper 02: "Each line is read from the remainder that the line before left. A text is accepted if it has this form and otherwise gets 13 at its first bad line"
 unfoldable pub parseObj : List ℕ → Parsed Net
 parseObj l = next (line 1 (readRounds l)) parseItems

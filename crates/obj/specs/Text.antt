@@ -12,20 +12,21 @@ use Rattle.text.specs.Text.{field, pointText, texts}
 use Rattle.text.specs.Written.{Each, PointFits, NetFits}
 use Rattle.obj.specs.Form.{Item, vertex, face, comment, verticesIn, facesIn, parseObj}
 
--- a number of an `f` line, with what stands behind it: nothing, or a slash and the bytes s
+-- what stands behind a number of an `f` line: nothing, or a slash and the bytes s
 pub data Part : Type 0 where
   none : Part
   slash : (s : List ℕ) → Part
 
+-- a field of an `f` line. Its vertex counts from 0, the text from 1
 pub record Corner : Type 0 where
   pub vertex : ℕ
   pub part : Part
 
--- a line after the first
-pub data Line : Type 0 where
-  vertexLine : Vertex → Line
-  faceLine : (a b c d : Corner) → Line
-  commentLine : (s : List ℕ) → Line
+-- a line after the first. Paper 02: "`v` with three whole counts, `f` with four numbers from 1, and lines beginning `#`"
+pub data TextLine : Type 0 where
+  vertexLine : Vertex → TextLine
+  faceLine : (a b c d : Corner) → TextLine
+  commentLine : (s : List ℕ) → TextLine
 
 abbrev pub partText : Part → List ℕ
 partText none = []
@@ -34,16 +35,16 @@ partText (slash s) = 47 ∷ s
 unfoldable pub cornerText : Corner → ℕ → List ℕ
 cornerText c e = field (naturalText (suc (c .vertex)) ++ partText (c .part)) e
 
-unfoldable pub lineText : Line → List ℕ
+unfoldable pub lineText : TextLine → List ℕ
 lineText (vertexLine v) = bytes "v " ++ pointText v
 lineText (faceLine a b c d) = bytes "f " ++ cornerText a 32 ++ cornerText b 32 ++ cornerText c 32 ++ cornerText d 10
 lineText (commentLine s) = field (bytes "#" ++ s) 10
 
--- the first line
+-- Paper 02: "The first line must be `# rounds` and a number"
 unfoldable pub roundsText : ℕ → List ℕ
 roundsText k = bytes "# rounds " ++ field (naturalText k) 10
 
-unfoldable pub objText : (rounds : ℕ) → List Line → List ℕ
+unfoldable pub objText : (rounds : ℕ) → List TextLine → List ℕ
 objText k ls = roundsText k ++ texts lineText ls
 
 -- ---- lines that the form has
@@ -60,23 +61,23 @@ pub record CornerFits (c : Corner) : Type 0 where
   pub number : suc (c .vertex) ≤ 2147483647
   pub part : PartFits (c .part)
 
-abbrev pub LineFits : Line → Type 0
+abbrev pub LineFits : TextLine → Type 0
 LineFits (vertexLine v) = PointFits v
 LineFits (faceLine a b c d) = CornerFits a × CornerFits b × CornerFits c × CornerFits d
 LineFits (commentLine s) = Without 10 s
 
 -- ---- what they write
-abbrev pub itemOf : Line → Item
+abbrev pub itemOf : TextLine → Item
 itemOf (vertexLine v) = vertex v
 itemOf (faceLine a b c d) = face (record { a = a .vertex; b = b .vertex; c = c .vertex; d = d .vertex })
 itemOf (commentLine s) = comment
 
-unfoldable pub itemsOf : List Line → List Item
+unfoldable pub itemsOf : List TextLine → List Item
 itemsOf [] = []
 itemsOf (l ∷ ls) = itemOf l ∷ itemsOf ls
 
 -- the lines write the net n, with `v`, `f` and `#` in any order
-pub record Writes (ls : List Line) (n : Net) : Type 0 where
+pub record Writes (ls : List TextLine) (n : Net) : Type 0 where
   pub fit : Each LineFits ls
   pub vertices : verticesIn (itemsOf ls) ≡ n .vertices
   pub faces : facesIn (itemsOf ls) ≡ n .faces
@@ -89,11 +90,11 @@ pub record Writes (ls : List Line) (n : Net) : Type 0 where
 abbrev pub plain : ℕ → Corner
 plain v = record { vertex = v; part = none }
 
-unfoldable pub plainFaces : List Face → List Line
+unfoldable pub plainFaces : List Face → List TextLine
 plainFaces [] = []
 plainFaces (f ∷ fs) = faceLine (plain (f .a)) (plain (f .b)) (plain (f .c)) (plain (f .d)) ∷ plainFaces fs
 
-unfoldable pub plainLines : List Vertex → List Face → List Line
+unfoldable pub plainLines : List Vertex → List Face → List TextLine
 plainLines [] fs = plainFaces fs
 plainLines (v ∷ vs) fs = vertexLine v ∷ plainLines vs fs
 
@@ -111,9 +112,9 @@ pub record ObjFits (n : Net) : Type 0 where
   pub rule : n .rule ≡ false
 
 -- Paper 02: "the net read is the one written"
-pub record ReadsBack : Type 0 where
+pub record ObjBack : Type 0 where
   -- however its lines are ordered, and with comments among them
-  pub back : (n : Net) (ls : List Line) → Writes ls n → parseObj (objText (n .counts .rounds) ls) ≡ parsed n []
+  pub back : (n : Net) (ls : List TextLine) → Writes ls n → parseObj (objText (n .counts .rounds) ls) ≡ parsed n []
   -- every such net has lines
   pub lines : (n : Net) → ObjFits n → Writes (plainLines (n .vertices) (n .faces)) n
 
@@ -121,7 +122,7 @@ pub record ReadsBack : Type 0 where
 
 -- l is the text of lines that write n
 pub record WrittenBy (l : List ℕ) (n : Net) : Type 0 where
-  pub lines : List Line
+  pub lines : List TextLine
   pub writes : Writes lines n
   pub text : l ≡ objText (n .counts .rounds) lines
 
@@ -130,12 +131,12 @@ abbrev pub NoRounds : List ℕ → Type 0
 NoRounds l = (k : ℕ) (rest : List ℕ) → k ≤ 2147483647 → l ≡ roundsText k ++ rest → ⊥
 
 abbrev pub NoLine : List ℕ → Type 0
-NoLine l = (x : Line) (rest : List ℕ) → LineFits x → l ≡ lineText x ++ rest → ⊥
+NoLine l = (x : TextLine) (rest : List ℕ) → LineFits x → l ≡ lineText x ++ rest → ⊥
 
 -- line p of l is the first bad one: those before it have the form, and something that does not is left
 pub data FirstBad (l : List ℕ) : ℕ → Type 0 where
   firstLine : NoRounds l → FirstBad l 1
-  laterLine : (k : ℕ) (ls : List Line) (rest : List ℕ) → k ≤ 2147483647 → Each LineFits ls → l ≡ objText k ls ++ rest → 0 < length rest → NoLine rest → FirstBad l (2 + length ls)
+  laterLine : (k : ℕ) (ls : List TextLine) (rest : List ℕ) → k ≤ 2147483647 → Each LineFits ls → l ≡ objText k ls ++ rest → 0 < length rest → NoLine rest → FirstBad l (2 + length ls)
 
 -- Paper 02: "A text is accepted if it has this form and otherwise gets 13 at its first bad line"
 pub record Recognizes : Type 0 where

@@ -11,17 +11,17 @@ ghost use Rattle.text.specs.Answers.{faceOf, faceUsed};
 ghost use Rattle.reading.specs.Loaded.{loaded, readBy};
 ghost use Rattle.reading.specs.Answers.{answerOf, Tables};
 ghost use Rattle.obj.specs.Form.{skipTo, skipPart, corner, readCorners, readRounds, parseObj};
-ghost use Rattle.obj.specs.Answers.{StartsAt, itemIs, GivesLine, MeetsItem, verticesOf, facesOf, Counts, Stored, Room, RoomFor, ItemStored};
+ghost use Rattle.obj.specs.Answers.{StartsAt, itemIs, GivesLine, MeetsItem, itemVertices, itemFaces, CountsItems, ItemsStored, ItemsRoom, RoomFor, ItemStored};
 
 // What a line after the first says.
-pub enum Item {
+enum Item {
     Vertex { x: i32, y: i32, z: i32 },
     Face { a: u32, b: u32, c: u32, d: u32 },
     Comment,
 }
 
 // An item and how many bytes its line took.
-pub enum Line {
+enum Line {
     Good(Item, usize),
     Bad,
 }
@@ -118,7 +118,7 @@ fn read_corners(line: &[u8]) -> FaceLine
 }
 
 // A line after the first, from the front of the text.
-pub fn read_line(text: &[u8]) -> Line
+fn read_line(text: &[u8]) -> Line
     ensures { λ r. ⌜ GivesLine r (now (text .entry)) ⌝ }
 {
     if text::starts_with(text, b"v ") {
@@ -151,7 +151,7 @@ pub fn read_line(text: &[u8]) -> Line
 }
 
 // The first line.
-pub fn read_rounds(text: &[u8]) -> Number
+fn read_rounds(text: &[u8]) -> Number
     ensures { λ r. ⌜ GivesNumber r (now (text .entry)) (readRounds (now (text .entry))) ⌝ }
 {
     if !text::starts_with(text, b"# rounds ") {
@@ -185,7 +185,7 @@ fn count_item(met: Met, item: Item) -> Met
 // The first pass, over a text that starts with line 2.
 fn count_items(text: &[u8]) -> Counted
     requires { ⌜ length (now text) ≤ 32768 ⌝ }
-    ensures { λ r. ⌜ Counts r (now (text .entry)) ⌝ }
+    ensures { λ r. ⌜ CountsItems r (now (text .entry)) ⌝ }
 {
     let mut met = Met {
         vertices: 0,
@@ -244,8 +244,8 @@ fn store_item(
 
 // The second pass, over a text that starts with line 2.
 fn store_items(text: &[u8], vertices: &mut [i32], faces: &mut [u32], marks: &mut [u8])
-    requires { ⌜ Room (length (verticesOf (now text))) (length (facesOf (now text))) (length (now vertices)) (length (now faces)) (length (now marks)) ⌝ }
-    ensures { λ _. ⌜ Stored (verticesOf (now (text .entry))) (facesOf (now (text .entry))) 0 0 (now (vertices .entry)) (now (vertices .exit)) (now (faces .entry)) (now (faces .exit)) (now (marks .entry)) (now (marks .exit)) ⌝ }
+    requires { ⌜ ItemsRoom (length (itemVertices (now text))) (length (itemFaces (now text))) (length (now vertices)) (length (now faces)) (length (now marks)) ⌝ }
+    ensures { λ _. ⌜ ItemsStored (itemVertices (now (text .entry))) (itemFaces (now (text .entry))) 0 0 (now (vertices .entry)) (now (vertices .exit)) (now (faces .entry)) (now (faces .exit)) (now (marks .entry)) (now (marks .exit)) ⌝ }
 {
     let mut met = Met {
         vertices: 0,

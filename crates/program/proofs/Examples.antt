@@ -31,7 +31,7 @@ pub record Example : Type 0 where
 abbrev example : String → String → Example
 example t a = record { text = t; answer = a }
 
--- no text; a form that ends too early; 13 before 1; 1 before 4; the empty net; the same with letters, and their refusals; OBJ: an unfinished line, 13 before 1, 1, the empty net, and no OBJ
+-- no text; a form that ends too early; 13 before 1; 1 before 4; the empty net; the same with letters, and their refusals; OBJ: an unfinished line, 13 before 1, 1, the empty net
 abbrev examples : List Example
 examples =
     example "" "refusal place\n13 1\n"
@@ -46,7 +46,6 @@ examples =
     ∷ example "# rounds 7\nv 0 0 0\nvn 0 0 1\n" "refusal place\n13 3\n"
     ∷ example "# rounds 7\n" "refusal place\n1 0\n"
     ∷ example "# rounds 0\n# rounds 7\n" "vertices faces\n0 0\nx y z corner\na b c d\n"
-    ∷ example " # rounds 0\n" "refusal place\n13 1\n"
     ∷ []
 
 answersOf : List Example → List (List ℕ)
@@ -65,3 +64,12 @@ lettered-square : programText (bytes "vertices faces rounds rule\n4 1 0\nx y z c
     ≡ bytes "vertices faces\n4 1\nx y z corner rule\n0 0 0 1 V\n16 0 0 1 V\n16 16 0 1 V\n0 16 0 1 V\na b c d\n0 1 2 3\n"
 unfolding programText parseAny bytes parse parseHead parseBody readNames readCounts readVertex readFace coordinate natural rows readInteger readNatural readDigits naturalText integerText pairText numbersText letteredText faceText refusalText answerText texts countsVerdict limitsVerdict tablesVerdict sizeVerdict roomVerdict badCoordinate netVerdict coordinatesVerdict shapeVerdict facesVerdict adjacencyVerdict vertexVerdict badMark badCorner isolated repeatedSide nonManifold badValence markedRing shapeOf first firstFrom any count iterate quads from to opposed mate isBoundaryFrom boundaryFrom leaves valence turn start stops facesMet startNet startOrigin originFrom originAfter letters steps coordinates marksOf cornersOf letteredOf facesOf tabulate
 lettered-square = refl
+
+-- an OBJ text with a slash and a comment; a corner that is no vertex, with its face
+obj-square : programText (bytes "# rounds 0\nf 1/1 2 3 4\nv 0 0 0\nv 16 0 0\n#\nv 16 16 0\nv 0 -16 0\n") ≡ bytes "vertices faces\n4 1\nx y z corner\n0 0 0 0\n16 0 0 0\n16 16 0 0\n0 -16 0 0\na b c d\n0 1 2 3\n"
+unfolding programText parseAny bytes parse parseHead parseBody readNames readCounts readVertex readFace coordinate natural rows readInteger readNatural readDigits naturalText integerText pairText numbersText letteredText faceText refusalText answerText texts countsVerdict limitsVerdict tablesVerdict sizeVerdict roomVerdict badCoordinate netVerdict coordinatesVerdict shapeVerdict facesVerdict adjacencyVerdict vertexVerdict badMark badCorner isolated repeatedSide nonManifold badValence markedRing shapeOf first firstFrom any count iterate quads from to opposed mate isBoundaryFrom boundaryFrom leaves valence turn start stops facesMet startNet startOrigin originFrom originAfter letters steps coordinates marksOf cornersOf letteredOf facesOf tabulate parseObj parseItems readRounds readItem readCorners readComment corner skipTo verticesIn facesIn netOf
+obj-square = refl
+
+obj-refused : programText (bytes "# rounds 0\nv 0 0 0\nv 16 0 0\nv 16 16 0\nv 0 -16 0\nf 1 2 3 4\nf 1 2 3 5\n") ≡ bytes "refusal place\n7 1\n"
+unfolding programText parseAny bytes parse parseHead parseBody readNames readCounts readVertex readFace coordinate natural rows readInteger readNatural readDigits naturalText integerText pairText numbersText letteredText faceText refusalText answerText texts countsVerdict limitsVerdict tablesVerdict sizeVerdict roomVerdict badCoordinate netVerdict coordinatesVerdict shapeVerdict facesVerdict adjacencyVerdict vertexVerdict badMark badCorner isolated repeatedSide nonManifold badValence markedRing shapeOf first firstFrom any count iterate quads from to opposed mate isBoundaryFrom boundaryFrom leaves valence turn start stops facesMet startNet startOrigin originFrom originAfter letters steps coordinates marksOf cornersOf letteredOf facesOf tabulate parseObj parseItems readRounds readItem readCorners readComment corner skipTo verticesIn facesIn netOf
+obj-refused = refl

@@ -3,14 +3,16 @@ use mathlib.Core.Path.{_≡_, refl, sym, _∙_}
 use mathlib.Core.Bool.{true}
 use mathlib.Core.List.{List, [], append-assoc}
 use Prim.Native.Nat.{ℕ, _≤_}
+use native.Mathlib.Omega.{arith}
 use lib.ListN.{length}
 use borrow.Author.Tests.{le-ltb}
 use Rattle.text.specs.Bytes.{bytes}
 use Rattle.text.specs.Form.{Net, startsWith, parsed}
 use Rattle.text.specs.Text.{unmarkedText}
 use Rattle.text.proofs.Back.{unmarked-back}
-use Rattle.obj.specs.Text.{Line, roundsText, objText, Writes, ObjFits}
+use Rattle.obj.specs.Text.{TextLine, roundsText, objText, Writes}
 use Rattle.obj.proofs.Back.{obj-back}
+use Rattle.obj.proofs.Written.{written-points, written-fits}
 use Rattle.program.specs.Answer.{answerTo, parseAny, programText}
 use Rattle.program.specs.Forms.{FormsAgree}
 use Rattle.program.proofs.Parsing.{parse-obj, parse-text, names-other}
@@ -20,21 +22,20 @@ answered : (n : Net) (text : List ℕ) → length text ≤ 32768 → parseAny te
 unfolding programText
 answered n text short e = rw (le-ltb 32768 (length text) short, e)
 
-obj-first : (k : ℕ) (ls : List Line) → startsWith (bytes "#") (objText k ls) ≡ true
+obj-first : (k : ℕ) (ls : List TextLine) → startsWith (bytes "#") (objText k ls) ≡ true
 unfolding objText roundsText bytes
 obj-first k ls = refl
 
-module _ (n : Net) (h : ObjFits n) where
-  text-form : parseAny (unmarkedText n) ≡ parsed n []
+module _ (n : Net) (ls : List TextLine) (w : Writes ls n) where
+  abbrev obj : List ℕ
+  obj = objText (n .counts .rounds) ls
+
+  text-form : length obj ≤ 32768 → parseAny (unmarkedText n) ≡ parsed n []
   unfolding unmarkedText
-  text-form = parse-text (unmarkedText n) (simp append-assoc (names-other (n .rule) _)) ∙ unmarked-back n (h .fits) (h .vertices)
+  text-form short = parse-text (unmarkedText n) (simp append-assoc (names-other (n .rule) _)) ∙ unmarked-back n (written-fits n ls w (omega arith)) (written-points n ls w)
 
-  module _ (ls : List Line) (w : Writes ls n) where
-    abbrev obj : List ℕ
-    obj = objText (n .counts .rounds) ls
-
-    agree : length (unmarkedText n) ≤ 32768 → length obj ≤ 32768 → programText obj ≡ programText (unmarkedText n)
-    agree a b = answered n obj b (parse-obj obj (obj-first (n .counts .rounds) ls) ∙ obj-back .back n ls w) ∙ sym (answered n (unmarkedText n) a text-form)
+  agree : length obj ≤ 32768 → length (unmarkedText n) ≤ 32768 → programText obj ≡ programText (unmarkedText n)
+  agree a b = answered n obj a (parse-obj obj (obj-first (n .counts .rounds) ls) ∙ obj-back .back n ls w) ∙ sym (answered n (unmarkedText n) b (text-form a))
 
 pub forms-agree : FormsAgree
-forms-agree = record { agree = λ n h ls w a b. agree n h ls w a b }
+forms-agree = record { agree = agree }

@@ -1,4 +1,4 @@
--- The bytes of an ASCII text.
+-- The bytes of a text: the codes of its characters.
 use mathlib.Core.List as list
 use mathlib.Core.List.{List}
 use Prim.Native.Nat.{ℕ}

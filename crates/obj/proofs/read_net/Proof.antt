@@ -7,7 +7,7 @@ use Rattle.decimal.proofs.Reading.{says, took}
 use Rattle.reading.proofs.Cases.{too-long, not-the-form, counts-refused}
 use Rattle.obj.specs.Form.{readRounds, parseObj}
 use Rattle.obj.specs.declared.Counted.{Counted}
-use Rattle.obj.specs.Answers.{Counts}
+use Rattle.obj.specs.Answers.{CountsItems}
 use Rattle.obj.proofs.Cases.{first-bad, other-bad, counts-here, good-fits, ItemsRead, form-read, items-room, items-read}
 use borrow.Author.Needs.{needs}
 use Rattle.obj.proofs.read_net.Statement.{statement}
@@ -29,7 +29,7 @@ short p = text-of p .before .before .before .before .if1 .left
 first : (p : tie.After-count-items) → (let g = text-of p .before .rounds .given .0 in readRounds (begin p .args .text .now) ≡ found (g .0) (drop (g .1 .0) (begin p .args .text .now)))
 first p = says (text-of p .before .before .before .read-rounds .ensures) (text-of p .before .rounds .given .1)
 
-counted : (p : tie.After-count-items) {q : Counted} → p .count-items .result ≡ q → Counts q (drop (text-of p .before .rounds .given .0 .1 .0) (begin p .args .text .now))
+counted : (p : tie.After-count-items) {q : Counted} → p .count-items .result ≡ q → CountsItems q (drop (text-of p .before .rounds .given .0 .1 .0) (begin p .args .text .now))
 counted p e = counts-here (begin p .args .text .now) _ (p .count-items .ensures) e
 
 fits : (p : tie.After-known-told3) → (let v = p .before .v .given .0 in (v .0 < 4294967296) × (v .1 .0 < 4294967296))
