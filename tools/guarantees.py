@@ -21,7 +21,7 @@ rounding/Rounding curve/Weights curve/Curve curve/Near fractions/Fraction rings/
 refinedfaces/Refined scheme/Rings scheme/Points scheme/Step splitting/Splitting origins/Origins origins/Named outcome/Tally outcome/Outcome outcome/Series outcome/AsBefore
 seam/Reading outcome/SharedSegment seam/Split outcome/SplitSegment integers/Within outcome/Coordinates nets/Moved outcome/Moved outcome/Traced schemelaws/Nets splitting/Drawn schemelaws/Agreement
 admission/Answer admission/Admission refine/Answer capi/Export capi/Version cases/Cases
-decimal/Decimal text/Bytes text/Form text/Text text/Written obj/Form obj/Text reading/Loaded printing/Tables printing/Lines
+decimal/Decimal text/Bytes text/Form text/Text text/Written objform/Form objform/Text reading/Loaded printing/Tables printing/Lines
 program/Answer program/RoundTrip program/Forms
 """.split()
 

@@ -17,7 +17,7 @@ use Rattle.reading.proofs.Limits.{Served}
 use Rattle.reading.proofs.Storing.{front, length-coordinates, length-marks, length-corners}
 use Rattle.reading.proofs.Cases.{FormRead, tables-serve, net-there}
 use Rattle.obj.proofs.Passing.{vertices-few, faces-few}
-use Rattle.obj.specs.Form.{readRounds, items, netOf, parseItems, parseObj}
+use Rattle.objform.specs.Form.{readRounds, items, netOf, parseItems, parseObj}
 use Rattle.obj.specs.declared.Counted.{Counted}
 use Rattle.obj.specs.Answers.{itemVertices, itemFaces, AllGood, BadAt, CountsItems, ItemsStored, ItemsRoom}
 

@@ -17,9 +17,8 @@ use Rattle.decimal.proofs.Reading.{says-at}
 use Rattle.text.specs.Bytes.{bytes}
 use Rattle.text.specs.Form.{startsWith, endedBy, natural}
 use Rattle.text.proofs.Lines.{ends-short, ends-other, ends-there, starts-length}
-use Rattle.obj.specs.Form.{skipTo, skipPart, named, corner, readRounds}
+use Rattle.objform.specs.Form.{skipTo, skipPart, named, corner, readRounds}
 use Rattle.obj.specs.Answers.{StartsAt}
-use Rattle.obj.proofs.Examples as examples
 
 -- ---- skipping, one byte a turn
 or-true : (b : Bool) → (b || true) ≡ true

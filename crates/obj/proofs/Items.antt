@@ -21,7 +21,7 @@ use Rattle.text.specs.declared.VertexLine.the-variants as vertexLine
 use Rattle.text.specs.declared.FaceLine.{FaceLine}
 use Rattle.text.specs.declared.FaceLine.the-variants as faceLine
 use Rattle.text.proofs.Lines.{starts-length}
-use Rattle.obj.specs.Form.{vertex, face, comment, mapped, skipTo, readCorners, readComment, readItem}
+use Rattle.objform.specs.Form.{vertex, face, comment, mapped, skipTo, readCorners, readComment, readItem}
 use Rattle.obj.specs.declared.Item.the-variants as item
 use Rattle.obj.specs.declared.Line.the-variants as line
 use Rattle.obj.specs.Answers.{StartsAt, itemIs, GivesLine}

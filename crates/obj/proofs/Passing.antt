@@ -4,7 +4,7 @@ use mathlib.Core.List.{List, [], _∷_, _++_}
 use Prim.Native.Nat.{ℕ, _+_, _*_, _-_, _≤_, _<_}
 use native.Mathlib.Omega.{arith}
 use lib.IntN.{ℤ}
-use lib.ListN.{length, set, take, drop, length-append, length-drop, drop-of-length-le}
+use lib.ListN.{length, set, take, drop, length-drop, drop-of-length-le}
 use lib.Seq.{sets, length-sets}
 use Rattle.decimal.specs.Decimal.{found, bad}
 use Rattle.decimal.proofs.Reading.{says-at, took-at}
@@ -14,45 +14,12 @@ use Rattle.text.specs.Form.{Vertex, Face, Rows, rows, oneMore}
 use Rattle.reading.specs.Loaded.{coordinates, marksOf, cornersOf}
 use Rattle.reading.proofs.Lines.{rows-length, rows-bad, rows-next, Passed, passed-none, passed-bad, passed-more}
 use Rattle.reading.proofs.Storing.{three-stores, four-stores, Filling, filling-none, filling-more, filling-bad, length-coordinates, length-marks, length-corners}
-use Rattle.obj.specs.Form.{Item, vertex, face, comment, readItem, verticesIn, facesIn, items}
+use Rattle.objform.proofs.Net.{item-none, vertices-one, faces-one, vertices-length, faces-length, vertices-most, faces-most}
+use Rattle.objform.specs.Form.{Item, readItem, verticesIn, facesIn, items}
 use Rattle.obj.specs.declared.Line.{Line}
 use Rattle.obj.specs.declared.Item as declared
 use Rattle.obj.specs.declared.Item.the-variants as item
 use Rattle.obj.specs.Answers.{itemIs, lineOf, lineUsed, Takes, GivesLine, itemVertices, itemFaces, MeetsItem, AllGood, BadAt, ItemsStored, ItemsRoom, RoomFor, ItemStored}
-
--- ---- one item before others
-vertices-one : (i : Item) (is : List Item) → verticesIn (i ∷ is) ≡ verticesIn (i ∷ []) ++ verticesIn is
-unfolding verticesIn
-vertices-one (vertex v) is = refl
-vertices-one (face f) is = refl
-vertices-one comment is = refl
-
-faces-one : (i : Item) (is : List Item) → facesIn (i ∷ is) ≡ facesIn (i ∷ []) ++ facesIn is
-unfolding facesIn
-faces-one (vertex v) is = refl
-faces-one (face f) is = refl
-faces-one comment is = refl
-
-module _ (i : Item) (is : List Item) where
-  vertices-length : length (verticesIn (i ∷ is)) ≡ length (verticesIn (i ∷ [])) + length (verticesIn is)
-  vertices-length = ap length (vertices-one i is) ∙ length-append (verticesIn (i ∷ [])) (verticesIn is)
-
-  faces-length : length (facesIn (i ∷ is)) ≡ length (facesIn (i ∷ [])) + length (facesIn is)
-  faces-length = ap length (faces-one i is) ∙ length-append (facesIn (i ∷ [])) (facesIn is)
-
-pub vertices-most : (is : List Item) → length (verticesIn is) ≤ length is
-unfolding verticesIn
-vertices-most [] = omega arith
-vertices-most (vertex v ∷ is) = let h = vertices-most is in omega arith
-vertices-most (face f ∷ is) = let h = vertices-most is in omega arith
-vertices-most (comment ∷ is) = let h = vertices-most is in omega arith
-
-pub faces-most : (is : List Item) → length (facesIn is) ≤ length is
-unfolding facesIn
-faces-most [] = omega arith
-faces-most (vertex v ∷ is) = let h = faces-most is in omega arith
-faces-most (face f ∷ is) = let h = faces-most is in omega arith
-faces-most (comment ∷ is) = let h = faces-most is in omega arith
 
 -- there are no more vertices and faces than bytes
 pub vertices-few : (l : List ℕ) → length (itemVertices l) ≤ length l
@@ -105,10 +72,6 @@ module _ {i : declared.Item} (v f : ℕ) where
   stored-comment e t c m = record { meets = meets-comment e; stored = rw e (record { vertices = refl; faces = refl; marks = refl }) }
 
 -- ---- turns
-pub item-none : readItem [] ≡ bad
-unfolding readItem bytes
-item-none = refl
-
 pub item-end : (l : List ℕ) (at : ℕ) → length l ≤ at → readItem (drop at l) ≡ bad
 item-end l at h = ap readItem (drop-of-length-le l {i = at} h) ∙ item-none
 

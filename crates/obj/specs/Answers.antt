@@ -15,8 +15,8 @@ use Rattle.obj.specs.declared.Line.{Line}
 use Rattle.obj.specs.declared.Line.the-variants as line
 use Rattle.obj.specs.declared.Counted.{Counted}
 use Rattle.obj.specs.declared.Counted.the-variants as counted
-use Rattle.obj.specs.Form as form
-use Rattle.obj.specs.Form.{readItem, verticesIn, facesIn, items}
+use Rattle.objform.specs.Form as form
+use Rattle.objform.specs.Form.{readItem, verticesIn, facesIn, items}
 
 -- r is where `part` starts in l, at `at` or later
 pub record StartsAt (part l : List ℕ) (at r : ℕ) : Type 0 where

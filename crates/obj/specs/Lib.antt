@@ -1,3 +1,1 @@
-pub mod Form
-pub mod Text
 pub mod Answers

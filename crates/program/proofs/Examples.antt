@@ -21,7 +21,7 @@ use Rattle.text.specs.Form.{readNames, coordinate, natural, readCounts, readVer
 use Rattle.text.specs.Text.{pairText, texts, numbersText, letteredText, faceText, answerText, refusalText}
 use Rattle.reading.specs.Loaded.{coordinates, marksOf, cornersOf, countsVerdict}
 use Rattle.printing.specs.Tables.{letteredOf, facesOf}
-use Rattle.obj.specs.Form.{skipTo, corner, readCorners, readComment, readItem, readRounds, verticesIn, facesIn, netOf, parseItems, parseObj}
+use Rattle.objform.specs.Form.{skipTo, corner, readCorners, readComment, readItem, readRounds, verticesIn, facesIn, netOf, parseItems, parseObj}
 use Rattle.program.specs.Answer.{parseAny, programText}
 
 pub record Example : Type 0 where

@@ -10,9 +10,9 @@ use Rattle.text.specs.Bytes.{bytes}
 use Rattle.text.specs.Form.{Net, startsWith, parsed}
 use Rattle.text.specs.Text.{unmarkedText}
 use Rattle.text.proofs.Back.{unmarked-back}
-use Rattle.obj.specs.Text.{TextLine, roundsText, objText, Writes}
-use Rattle.obj.proofs.Back.{obj-back}
-use Rattle.obj.proofs.Written.{written-points, written-fits}
+use Rattle.objform.specs.Text.{TextLine, roundsText, objText, Writes}
+use Rattle.objform.proofs.Back.{obj-back}
+use Rattle.objform.proofs.Written.{written-points, written-fits}
 use Rattle.program.specs.Answer.{answerTo, parseAny, programText}
 use Rattle.program.specs.Forms.{FormsAgree}
 use Rattle.program.proofs.Parsing.{parse-obj, parse-text, names-other}

@@ -6,8 +6,8 @@ use Prim.Native.Nat.{ℕ}
 use Rattle.text.specs.Bytes.{bytes}
 use Rattle.text.specs.Form.{input, startsWith, namesText, parse}
 use Rattle.text.proofs.Counts.{Stated, text-stated}
-use Rattle.obj.specs.Form.{parseObj}
-use Rattle.obj.proofs.Counts.{obj-stated}
+use Rattle.objform.specs.Form.{parseObj}
+use Rattle.objform.proofs.Counts.{obj-stated}
 use Rattle.program.specs.Answer.{parseAny}
 
 pub any-stated : (l : List ℕ) → Stated (parseAny l)

@@ -14,7 +14,7 @@ use Rattle.text.specs.Bytes.{bytes}
 use Rattle.text.specs.Form.{Net, startsWith, Parsed, parsed, badLine, parse}
 use Rattle.text.specs.Text.{refusalText}
 use Rattle.reading.specs.Loaded.{tablesOf, countsVerdict}
-use Rattle.obj.specs.Form.{parseObj}
+use Rattle.objform.specs.Form.{parseObj}
 use Rattle.printing.specs.Tables.{tablesText}
 
 -- the refined net m, with its letters s if `rule` is asked for; or the refusal's number and place

@@ -5,7 +5,7 @@ use Prim.Native.Nat.{_≤_}
 use lib.ListN.{length}
 use Rattle.text.specs.Form.{Net}
 use Rattle.text.specs.Text.{unmarkedText}
-use Rattle.obj.specs.Text.{TextLine, objText, Writes}
+use Rattle.objform.specs.Text.{TextLine, objText, Writes}
 use Rattle.program.specs.Answer.{programText}
 
 -- an OBJ text of the net n, and paper 01's text of it under `x y z`

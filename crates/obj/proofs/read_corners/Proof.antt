@@ -1,5 +1,5 @@
 -- `obj::read_corners` meets its contract. Assumes nothing.
-use Rattle.obj.specs.Form.{corner, readCorners}
+use Rattle.objform.specs.Form.{corner, readCorners}
 use Rattle.decimal.proofs.Reading.{says, took}
 use Rattle.text.proofs.Faces.{no-corner, one-corner, two-corners, three-corners, four-corners}
 use borrow.Author.Needs.{needs}

@@ -5,7 +5,7 @@ use lib.ListN.{length, drop}
 use Rattle.decimal.specs.Decimal.{found}
 use Rattle.decimal.proofs.Reading.{says, took}
 use Rattle.reading.proofs.Cases.{too-long, not-the-form, counts-refused}
-use Rattle.obj.specs.Form.{readRounds, parseObj}
+use Rattle.objform.specs.Form.{readRounds, parseObj}
 use Rattle.obj.specs.declared.Counted.{Counted}
 use Rattle.obj.specs.Answers.{CountsItems}
 use Rattle.obj.proofs.Cases.{first-bad, other-bad, counts-here, good-fits, ItemsRead, form-read, items-room, items-read}

@@ -4,7 +4,7 @@ use Prim.Native.Nat.{_-_, _≤_}
 use native.Mathlib.Omega.{arith}
 use borrow.Author.Needs.{needs}
 use lib.ListN.{length, drop}
-use Rattle.obj.specs.Form.{skipTo}
+use Rattle.objform.specs.Form.{skipTo}
 use Rattle.obj.proofs.Fields.{skip-on, skip-stop, skip-newline, skip-end}
 use Rattle.obj.proofs.skip_to.Statement.{statement}
 use Rattle.obj.proofs.skip_to.Tie as tie

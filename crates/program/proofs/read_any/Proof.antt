@@ -3,7 +3,7 @@ use mathlib.Core.Path.{sym, _∙_}
 use Rattle.text.specs.Bytes.{bytes}
 use Rattle.text.specs.Form.{parse}
 use Rattle.reading.proofs.Cases.{read-same}
-use Rattle.obj.specs.Form.{parseObj}
+use Rattle.objform.specs.Form.{parseObj}
 use Rattle.program.specs.Answer.{parseAny}
 use Rattle.program.proofs.Parsing.{parse-obj, parse-text}
 use borrow.Author.Needs.{needs}

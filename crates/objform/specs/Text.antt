@@ -10,7 +10,7 @@ use Rattle.text.specs.Bytes.{bytes}
 use Rattle.text.specs.Form.{Vertex, Face, Net, parsed, badLine}
 use Rattle.text.specs.Text.{field, pointText, texts}
 use Rattle.text.specs.Written.{Each, PointFits, NetFits}
-use Rattle.obj.specs.Form.{Item, vertex, face, comment, verticesIn, facesIn, parseObj}
+use Rattle.objform.specs.Form.{Item, vertex, face, comment, verticesIn, facesIn, parseObj}
 
 -- what stands behind a number of an `f` line: nothing, or a slash and the bytes s
 pub data Part : Type 0 where

@@ -16,10 +16,10 @@ use Rattle.text.specs.Text.{texts}
 use Rattle.text.specs.Written.{Each}
 use Rattle.text.proofs.Lines.{natural-limit}
 use Rattle.text.proofs.Found.{starts-found, ended-found, then-found, field-found, point-found}
-use Rattle.obj.specs.Form.{Item, vertex, face, comment, mapped, skipTo, skipPart, named, corner, readCorners, readComment, readItem, readRounds, verticesIn, facesIn, netOf, items, parseItems, parseObj}
-use Rattle.obj.specs.Text.{Part, none, slash, Corner, TextLine, vertexLine, faceLine, commentLine, partText, cornerText, lineText, roundsText, objText, Without, PartFits, CornerFits, LineFits, itemOf, itemsOf, WrittenBy, NoRounds, NoLine, FirstBad, firstLine, laterLine, Recognizes}
-use Rattle.obj.proofs.Passing.{item-none}
-use Rattle.obj.proofs.Back.{rounds-back, line-back, line-some, length-items}
+use Rattle.objform.specs.Form.{Item, vertex, face, comment, mapped, skipTo, skipPart, named, corner, readCorners, readComment, readItem, readRounds, verticesIn, facesIn, netOf, items, parseItems, parseObj}
+use Rattle.objform.specs.Text.{Part, none, slash, Corner, TextLine, vertexLine, faceLine, commentLine, partText, cornerText, lineText, roundsText, objText, Without, PartFits, CornerFits, LineFits, itemOf, itemsOf, WrittenBy, NoRounds, NoLine, FirstBad, firstLine, laterLine, Recognizes}
+use Rattle.objform.proofs.Net.{item-none}
+use Rattle.objform.proofs.Back.{rounds-back, line-back, line-some, length-items}
 
 -- ---- bytes that were skipped
 record Skipped (stop e : ℕ) (l m : List ℕ) : Type 0 where

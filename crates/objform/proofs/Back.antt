@@ -13,10 +13,10 @@ use Rattle.text.specs.Form.{Vertex, Face, Net, endedBy, Rows, rows, parsed, nex
 use Rattle.text.specs.Text.{texts}
 use Rattle.text.specs.Written.{Each, PointFits}
 use Rattle.text.proofs.Back.{ends, natural-field, point-back}
-use Rattle.reading.proofs.Lines.{rows-bad}
-use Rattle.obj.specs.Form.{Item, vertex, face, comment, mapped, skipTo, skipPart, named, corner, readCorners, readComment, readItem, readRounds, verticesIn, facesIn, netOf, parseItems, parseObj}
-use Rattle.obj.specs.Text.{Part, none, slash, Corner, TextLine, vertexLine, faceLine, commentLine, partText, cornerText, lineText, roundsText, objText, Without, PartFits, CornerFits, LineFits, itemOf, itemsOf, Writes, plain, plainFaces, plainLines, CornersFit, ObjFits, ObjBack}
-use Rattle.obj.proofs.Passing.{item-none}
+use Rattle.objform.specs.Form.{Item, vertex, face, comment, mapped, skipTo, skipPart, named, corner, readCorners, readComment, readItem, readRounds, verticesIn, facesIn, netOf, parseItems, parseObj}
+use Rattle.objform.specs.Text.{Part, none, slash, Corner, TextLine, vertexLine, faceLine, commentLine, partText, cornerText, lineText, roundsText, objText, Without, PartFits, CornerFits, LineFits, itemOf, itemsOf, Writes, plain, plainFaces, plainLines, CornersFit, ObjFits, ObjBack}
+use Rattle.objform.proofs.Net.{item-none}
+use Rattle.objform.proofs.Examples as examples
 
 -- ---- bytes that are skipped
 skip-back : (stop e : ℕ) → (eqb e stop || eqb e 10) ≡ true → (s rest : List ℕ) → Without stop s → skipTo stop (s ++ (e ∷ rest)) ≡ e ∷ rest
@@ -81,7 +81,8 @@ length-items (x ∷ ls) = ap suc (length-items ls)
 
 rows-all : (ls : List TextLine) (n : ℕ) → length ls ≤ n → Each LineFits ls → rows readItem n (texts lineText ls) ≡ record { values = itemsOf ls; rest = [] }
 unfolding rows texts Each itemsOf
-rows-all [] n h w = rows-bad readItem n [] item-none
+rows-all [] zero h w = refl
+rows-all [] (suc n) h w = rw item-none
 rows-all (l ∷ ls) zero h w = absurd (omega arith)
 rows-all (l ∷ ls) (suc n) h w = rw (line-back l (w .0) (texts lineText ls), rows-all ls n (omega arith) (w .1))
 

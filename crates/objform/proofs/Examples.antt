@@ -12,8 +12,8 @@ use Rattle.text.specs.Bytes.{bytes}
 use Rattle.text.specs.Form.{Vertex, Net, Parsed, parsed, badLine, coordinate, natural, readVertex, rows}
 use Rattle.text.specs.Text.{countsText, pointText, faceText, texts, unmarkedText}
 use Rattle.text.specs.Written.{Each}
-use Rattle.obj.specs.Form.{skipTo, corner, readCorners, readComment, readItem, readRounds, verticesIn, facesIn, netOf, parseItems, parseObj}
-use Rattle.obj.specs.Text.{TextLine, vertexLine, faceLine, commentLine, slash, cornerText, lineText, roundsText, objText, plain, plainFaces, plainLines, ObjFits}
+use Rattle.objform.specs.Form.{skipTo, corner, readCorners, readComment, readItem, readRounds, verticesIn, facesIn, netOf, parseItems, parseObj}
+use Rattle.objform.specs.Text.{TextLine, vertexLine, faceLine, commentLine, slash, cornerText, lineText, roundsText, objText, plain, plainFaces, plainLines, ObjFits}
 
 abbrev at : ℤ → ℤ → ℤ → Vertex
 at x y z = record { x = x; y = y; z = z; mark = 0 }

@@ -4,7 +4,7 @@ use mathlib.Core.List.{List}
 use Prim.Native.Nat.{ℕ}
 use Rattle.text.specs.Form.{line}
 use Rattle.text.proofs.Counts.{Stated, after, ended-stated}
-use Rattle.obj.specs.Form.{readRounds, items, netOf, parseItems, parseObj}
+use Rattle.objform.specs.Form.{readRounds, items, netOf, parseItems, parseObj}
 
 items-stated : (k : ℕ) (l : List ℕ) → Stated (parseItems k l)
 unfolding parseItems netOf

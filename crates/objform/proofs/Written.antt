@@ -7,10 +7,10 @@ use lib.ListN.{length, length-append}
 use Rattle.text.specs.Form.{Vertex, Net}
 use Rattle.text.specs.Text.{texts}
 use Rattle.text.specs.Written.{VertexFits, PointFits, FaceFits, Each, NetFits}
-use Rattle.obj.specs.Form.{verticesIn, facesIn}
-use Rattle.obj.specs.Text.{TextLine, vertexLine, faceLine, commentLine, lineText, roundsText, objText, LineFits, itemsOf, Writes}
-use Rattle.obj.proofs.Passing.{vertices-most, faces-most}
-use Rattle.obj.proofs.Back.{lines-few, length-items}
+use Rattle.objform.specs.Form.{verticesIn, facesIn}
+use Rattle.objform.specs.Text.{TextLine, vertexLine, faceLine, commentLine, lineText, roundsText, objText, LineFits, itemsOf, Writes}
+use Rattle.objform.proofs.Net.{vertices-most, faces-most}
+use Rattle.objform.proofs.Back.{lines-few, length-items}
 
 points-fit : (ls : List TextLine) → Each LineFits ls → Each PointFits (verticesIn (itemsOf ls))
 unfolding Each verticesIn itemsOf
