@@ -82,6 +82,54 @@ f 2/1/2 3/2/2 6/3/2 5/4/2
 f 4/1/3 5/2/3 8/3/3 7/4/3
 f 5/1/4 6/2/4 9/3/4 8/4/4
 """
+# The same net as assimp 5.2.0 wrote it (assimp export, from a PLY file), which numbers the vertices by the faces.
+ASSIMP = """# File produced by Open Asset Import Library (http://www.assimp.sf.net)
+# (assimp v5.2.0)
+
+mtllib hatch.mtl
+
+# 9 vertex positions
+v 0 0 0
+v 450 0 0
+v 450 300 80
+v 0 300 0
+v 900 0 0
+v 900 300 0
+v 450 600 0
+v 0 600 0
+v 900 600 0
+
+# 0 UV coordinates
+
+# 4 vertex normals
+vn 0 0 1
+vn 0 -0.257662654 0.966234982
+vn 0.169295579 0.253943384 0.952287674
+vn -0.175033331 0 0.984562516
+
+# Mesh '' with 4 faces
+usemtl $Material_0
+f  1//1 2//2 3//3 4//4
+f  2//2 5//2 6//3 3//3
+f  4//4 3//3 7//3 8//4
+f  3//3 6//3 9//3 7//3
+
+"""
+ASSIMP_NET = """# rounds 3
+v 0 0 0
+v 45000 0 0
+v 45000 30000 8000
+v 0 30000 0
+v 90000 0 0
+v 90000 30000 0
+v 45000 60000 0
+v 0 60000 0
+v 90000 60000 0
+f 1 2 3 4
+f 2 5 6 3
+f 4 3 7 8
+f 3 6 9 7
+"""
 HATCH_NET = """# rounds 3
 v 0 0 0
 v 45000 0 0
@@ -215,6 +263,9 @@ def nets():
 def obj_form():
     """The OBJ form that ./refine reads: what is written, both ways with its rounds, and its answer."""
     gives("another program's file", HATCH_NET, "net", "--scale=100", "--rounds=3", text=HATCH)
+    gives("a file that assimp wrote", ASSIMP_NET, "net", "--scale=100", "--rounds=3", text=ASSIMP)
+    if refine(ASSIMP_NET.encode()) != refine(convert("text", text=ASSIMP_NET).stdout) or refine(ASSIMP.encode()) != b"refusal place\n13 1\n":
+        faults.append("the file that assimp wrote gets another answer")
     text = convert("text", "--scale=100", "--rounds=3", text=HATCH).stdout.decode()
     gives("the OBJ form to text", text, "text", text=HATCH_NET)
     gives("text to the OBJ form", HATCH_NET, "net", text=text)
