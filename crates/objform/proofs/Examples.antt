@@ -18,9 +18,9 @@ use Rattle.objform.specs.Text.{TextLine, vertexLine, faceLine, commentLi
 abbrev at : ℤ → ℤ → ℤ → Vertex
 at x y z = record { x = x; y = y; z = z; mark = 0 }
 
--- paper 01's square without marks
-abbrev square : ℕ → Net
-square k =
+-- one face, with a coordinate below zero
+abbrev panel : ℕ → Net
+panel k =
     record {
       rule = false;
       counts = record { vertices = 4; faces = 1; rounds = k };
@@ -29,8 +29,8 @@ square k =
     }
 
 -- as it is; with comments, slashes, `v` and `f` in another order, and a later line of rounds
-abbrev squares : List String
-squares =
+abbrev panels : List String
+panels =
     "# rounds 3\nv 0 0 0\nv 16 0 0\nv 16 16 0\nv 0 -16 0\nf 1 2 3 4\n"
     ∷ "# rounds 3\n# rounds 1\nv 0 0 0\nf 1/ 2/7 3//7 4/7/7\nv 16 0 0\n#\nv 16 16 0\nv 0 -16 0\n##\r\t\n"
     ∷ "# rounds 3\nf 1/é/\t/\r 2/f 3/- 4/.\nv 0 0 0\nv 16 0 0\nv 16 16 0\nv 0 -16 0\n# rounds 2 \n"
@@ -40,9 +40,9 @@ readAll : List String → List (Parsed Net)
 readAll [] = []
 readAll (s ∷ ss) = parseObj (bytes s) ∷ readAll ss
 
-squares-read : readAll squares ≡ parsed (square 3) [] ∷ parsed (square 3) [] ∷ parsed (square 3) [] ∷ []
+panels-read : readAll panels ≡ parsed (panel 3) [] ∷ parsed (panel 3) [] ∷ parsed (panel 3) [] ∷ []
 unfolding readAll parseObj parseItems readRounds readItem readCorners readComment corner skipTo verticesIn facesIn netOf readVertex coordinate natural rows readInteger readNatural readDigits bytes
-squares-read = refl
+panels-read = refl
 
 -- a text written by its lines
 abbrev lines : List TextLine
@@ -57,14 +57,14 @@ lines-written : objText 3 lines ≡ bytes "# rounds 3\n# rounds 1\nv 0 0 0\nf 1/
 unfolding objText roundsText lineText cornerText pointText texts naturalText integerText bytes
 lines-written = refl
 
--- the square's own lines, and its text of the other form
-square-written : objText 3 (plainLines (square 3 .vertices) (square 3 .faces)) ≡ bytes "# rounds 3\nv 0 0 0\nv 16 0 0\nv 16 16 0\nv 0 -16 0\nf 1 2 3 4\n"
+-- its own lines, and its text of the other form
+panel-written : objText 3 (plainLines (panel 3 .vertices) (panel 3 .faces)) ≡ bytes "# rounds 3\nv 0 0 0\nv 16 0 0\nv 16 16 0\nv 0 -16 0\nf 1 2 3 4\n"
 unfolding objText roundsText lineText cornerText plainLines plainFaces pointText texts naturalText integerText bytes
-square-written = refl
+panel-written = refl
 
-square-unmarked : unmarkedText (square 3) ≡ bytes "vertices faces rounds\n4 1 3\nx y z\n0 0 0\n16 0 0\n16 16 0\n0 -16 0\na b c d\n0 1 2 3\n"
+panel-unmarked : unmarkedText (panel 3) ≡ bytes "vertices faces rounds\n4 1 3\nx y z\n0 0 0\n16 0 0\n16 16 0\n0 -16 0\na b c d\n0 1 2 3\n"
 unfolding unmarkedText countsText pointText faceText texts naturalText integerText bytes
-square-unmarked = refl
+panel-unmarked = refl
 
 -- the largest numbers fit
 abbrev largest : Net
