@@ -11,7 +11,11 @@ pub record Weights : Type 0 where
 abbrev pub kobbelt : Weights
 kobbelt = record { near = 9; far = 1 }
 
--- the denominator: 16
+-- Paper 02: a tension t from 0 to 4, with ω = t/4: "four-point weights (8+ω)/16 and -ω/16", which are 32 + t and -t over 64; "ω/(8+ω) for the 1/9" is far / near
+abbrev pub tension : ℕ → Weights
+tension t = record { near = 32 + t; far = t }
+
+-- the denominator: 16, and 64 at a tension
 abbrev pub scale : Weights → ℕ
 scale w = 2 * (w .near - w .far)
 
