@@ -9,3 +9,4 @@ pub mod AsBefore
 pub mod SplitSegment
 pub mod Moved
 pub mod Traced
+pub mod OldPoints

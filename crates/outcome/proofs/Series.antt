@@ -4,7 +4,7 @@ use mathlib.Core.List.{List, [], _∷_}
 use Prim.Native.Nat.{ℕ, _+_, _≤_}
 use native.Mathlib.Omega.{arith}
 use lib.ListN.{length}
-use Rattle.curve.specs.Weights.{kobbelt}
+use Rattle.curve.specs.Weights.{tension}
 use Rattle.nets.specs.Net.{ControlNet}
 use Rattle.nets.specs.Buffers.{Buffers, Letters}
 use Rattle.scheme.specs.Step.{steps}
@@ -19,13 +19,13 @@ use Rattle.outcome.proofs.Counts.{control-among}
 use Rattle.outcome.proofs.Tally.{tally-le}
 
 -- ---- one call, by its verdict
-module _ (m : ControlNet) (k t : ℕ) (o : Buffers) (l : Letters) (w : List ℕ) where
+module _ (τ : ℕ) (m : ControlNet) (k t : ℕ) (o : Buffers) (l : Letters) (w : List ℕ) where
   abbrev by : Verdict → Outcome
-  by v = outcomeBy v t (newPoints k m) (steps kobbelt k (startNet m)) (letters kobbelt m k) o l w
+  by v = outcomeBy v t (newPoints τ k m) (steps (tension τ) k (startNet m)) (letters (tension τ) m k) o l w
 
   adds-by : (v : Verdict) (x y : ℕ) → by v .result ≡ refinedTo x y → by v .tally + length (m .marks) ≡ t + x
   unfolding newPoints
-  adds-by accepted x y e = let d = control-among m k in let z : length (steps kobbelt k (startNet m) .marks) ≡ x = cc in omega arith
+  adds-by accepted x y e = let d = control-among τ m k in let z : length (steps (tension τ) k (startNet m) .marks) ≡ x = cc in omega arith
   adds-by (refused r p) x y e = let z : _≡_ {A = ℕ} 0 1 = cc in absurd (omega arith)
 
   keeps-by : (v : Verdict) (x y : ℕ) → by v .result ≡ refusedWith x y → by v .tally ≡ t
@@ -35,8 +35,8 @@ module _ (m : ControlNet) (k t : ℕ) (o : Buffers) (l : Letters) (w : List ℕ)
 pub tally-by-report : TallyByReport
 unfolding outcome
 tally-by-report = record {
-  adds = λ a v f e. adds-by (a .net) (a .rounds) (a .tally) (a .buffers) (a .letters) (workAfter (callOf a) (a .buffers .work)) (requestVerdict a) v f e;
-  keeps = λ a r p e. keeps-by (a .net) (a .rounds) (a .tally) (a .buffers) (a .letters) (workAfter (callOf a) (a .buffers .work)) (requestVerdict a) r p e;
+  adds = λ a v f e. adds-by (a .tension) (a .net) (a .rounds) (a .tally) (a .buffers) (a .letters) (workAfter (callOf a) (a .buffers .work)) (requestVerdict a) v f e;
+  keeps = λ a r p e. keeps-by (a .tension) (a .net) (a .rounds) (a .tally) (a .buffers) (a .letters) (workAfter (callOf a) (a .buffers .work)) (requestVerdict a) r p e;
 }
 
 -- ---- a series
@@ -45,7 +45,7 @@ module _ (t : ℕ) (a : Request) where
   b = fromTally t a
 
   abbrev given : Verdict → Outcome
-  given v = outcomeBy v t (toAdd a) (steps kobbelt (a .rounds) (startNet (a .net))) (letters kobbelt (a .net) (a .rounds)) (a .buffers) (a .letters) (workAfter (callOf b) (a .buffers .work))
+  given v = outcomeBy v t (toAdd a) (steps (tension (a .tension)) (a .rounds) (startNet (a .net))) (letters (tension (a .tension)) (a .net) (a .rounds)) (a .buffers) (a .letters) (workAfter (callOf b) (a .buffers .work))
 
   -- the outcome by its verdict
   is-given : (v : Verdict) → requestVerdict b ≡ v → outcome (fromTally t a) ≡ given v

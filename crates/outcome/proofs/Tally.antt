@@ -7,7 +7,7 @@ use native.Mathlib.Omega.{arith}
 use lib.IntN.{ℤ}
 use lib.ListN.{length}
 use borrow.Author.Tests.{le-ltb, lt-ltb}
-use Rattle.curve.specs.Weights.{kobbelt}
+use Rattle.curve.specs.Weights.{tension}
 use Rattle.nets.specs.Net.{ControlNet, controlNet}
 use Rattle.refinedfaces.specs.Refined.{verticesAfter}
 use Rattle.schemelaws.proofs.Steps.{steps-count}
@@ -40,21 +40,21 @@ tally-le t n e = go (decLt 4000000000 (t + n))
 
 -- ---- new points
 -- fewer rounds, fewer points
-pub fewer-points : (m : ControlNet) (j k : ℕ) → j ≤ k → newPoints j m ≤ newPoints k m
+pub fewer-points : (τ : ℕ) (m : ControlNet) (j k : ℕ) → j ≤ k → newPoints τ j m ≤ newPoints τ k m
 unfolding newPoints
-fewer-points m j k h = let a = more-vertices (startNet m) j k h in omega arith
+fewer-points τ m j k h = let a = more-vertices τ (startNet m) j k h in omega arith
 
 -- coordinates do not matter
-pub same-points : (k : ℕ) (v v′ : List ℤ) (l s marks : List ℕ) → newPoints k (controlNet v l s marks) ≡ newPoints k (controlNet v′ l s marks)
+pub same-points : (τ k : ℕ) (v v′ : List ℤ) (l s marks : List ℕ) → newPoints τ k (controlNet v l s marks) ≡ newPoints τ k (controlNet v′ l s marks)
 unfolding newPoints
-same-points k v v′ l s marks =
-    let a = steps-count kobbelt (startNet (controlNet v l s marks)) k in
-    let b = steps-count kobbelt (startNet (controlNet v′ l s marks)) k in
+same-points τ k v v′ l s marks =
+    let a = steps-count (tension τ) (startNet (controlNet v l s marks)) k in
+    let b = steps-count (tension τ) (startNet (controlNet v′ l s marks)) k in
     let c = ap₂ (λ (ms fs : List ℕ). verticesAfter k (length ms) fs) (start-marks v v′ l s marks) (start-faces v v′ l s marks) in
     omega arith
 
 -- at most 4G
-pub few-points : (c : Call) → verdict c ≡ accepted → newPoints (c .rounds) (c .net) ≤ 1048576
+pub few-points : (c : Call) → verdict c ≡ accepted → newPoints (c .tension) (c .rounds) (c .net) ≤ 1048576
 unfolding newPoints
 few-points c e = let a = few-vertices c e in let b = accepted-limits c e .final in omega arith
 
@@ -73,6 +73,6 @@ unfolding requestVerdict
 accepted-for-fewer a h k l =
     let n : ControlNet = a .net in
     let e = accepted-fewer (callOf a) k l (accepted-verdict a (a .rounds) h) in
-    let t = tally-le (a .tally) (newPoints (a .rounds) n) (accepted-tally a (a .rounds) h) in
-    let f = fewer-points n k (a .rounds) l in
-    or-accepted e (tally-if (a .tally) (newPoints k n) (omega arith))
+    let t = tally-le (a .tally) (newPoints (a .tension) (a .rounds) n) (accepted-tally a (a .rounds) h) in
+    let f = fewer-points (a .tension) n k (a .rounds) l in
+    or-accepted e (tally-if (a .tally) (newPoints (a .tension) k n) (omega arith))

@@ -7,3 +7,4 @@ pub mod AsBefore
 pub mod SplitSegment
 pub mod Moved
 pub mod Traced
+pub mod OldPoints

@@ -74,8 +74,9 @@ limitsVerdict rounds sides n =
     (orElse (sizeVerdict (n .coordinates / 3) (quadrilaterals sides (n .corners)) (quadrilaterals sides (n .corners) * 4 ^ rounds))
     (roomVerdict (quadrilaterals sides (n .corners) * 4 ^ rounds) (n .room))))
 
+-- 16 of paper 02: "t above 4, place 0, nothing touched, tested after 4"
 abbrev pub callVerdict : Call → Verdict
-callVerdict c = limitsVerdict (c .rounds) (c .net .sides) (lengthsOf (c .net) (c .room))
+callVerdict c = orElse (limitsVerdict (c .rounds) (c .net .sides) (lengthsOf (c .net) (c .room))) (refusedIf 16 (ltb 4 (c .tension)))
 
 -- ---- "Whoever drew the net"
 -- 5: "a coordinate outside -1,048,576 to 1,048,576; vertex."
