@@ -6,7 +6,7 @@ use Prim.Native.Nat.{ℕ, _+_, _*_, _%_}
 use lib.Dec.{ltb}
 use lib.IntN.{ℤ, pos, _*ℤ_}
 use lib.ListN.{getD}
-use Rattle.curve.specs.Weights.{kobbelt}
+use Rattle.curve.specs.Weights.{Weights}
 use Rattle.rings.specs.Scales.{virtualScale}
 use Rattle.coordinates.specs.Packed.{packedAt}
 
@@ -29,12 +29,12 @@ unfoldable pub placeOf : (n t : ℕ) → ℕ
 placeOf n t = 2 * n + 6 * edgeOf t
 
 -- what makes a stored numerator one over `edgeScale`: those of edges that are not wide are kept over `scale`
-unfoldable pub unitOf : ℕ → ℕ
-unitOf t = cond (ltb t wideFlag) (virtualScale kobbelt) (cond (ltb t boundaryFlag) 1 (virtualScale kobbelt))
+unfoldable pub unitOf : Weights → ℕ → ℕ
+unitOf ω t = cond (ltb t wideFlag) (virtualScale ω) (cond (ltb t boundaryFlag) 1 (virtualScale ω))
 
 -- coordinate a of the exact point of an entry, over `edgeScale`; and of the edge of h
-unfoldable pub exactAt : (n : ℕ) (w : List ℕ) (a t : ℕ) → ℤ
-exactAt n w a t = pos (unitOf t) *ℤ packedAt w (placeOf n t + 2 * a)
+unfoldable pub exactAt : Weights → (n : ℕ) (w : List ℕ) (a t : ℕ) → ℤ
+exactAt ω n w a t = pos (unitOf ω t) *ℤ packedAt w (placeOf n t + 2 * a)
 
-unfoldable pub exactOf : (n : ℕ) (w : List ℕ) (a h : ℕ) → ℤ
-exactOf n w a h = exactAt n w a (entryOf n w h)
+unfoldable pub exactOf : Weights → (n : ℕ) (w : List ℕ) (a h : ℕ) → ℤ
+exactOf ω n w a h = exactAt ω n w a (entryOf n w h)

@@ -6,7 +6,7 @@ use lib.IntN.{ℤ, pos, natAbs, _*ℤ_}
 use lib.ListN.{length, getD, take, set}
 use Rattle.integers.specs.Within.{Within}
 use Rattle.rounding.specs.Rounding.{round}
-use Rattle.curve.specs.Weights.{kobbelt}
+use Rattle.curve.specs.Weights.{Weights, tension}
 use Rattle.rings.specs.Scales.{virtualScale, edgeScale, coordinateRange, edgeRange}
 use Rattle.topology.specs.Shape.{quads}
 use Rattle.topology.specs.HalfEdge.{mate, edge}
@@ -24,28 +24,29 @@ use Rattle.coordinates.specs.Entry.{wideFlag, entryOf, placeOf, unitOf}
 use Rattle.edgepoints.specs.Edge.{Flagged, ExactPoint}
 
 -- a stored numerator of an edge with this flag, rounded
-unfoldable pub roundedBy : ℕ → ℤ → ℤ
-roundedBy flag z = round (pos (unitOf flag) *ℤ z) (edgeScale kobbelt)
+unfoldable pub roundedBy : Weights → ℕ → ℤ → ℤ
+roundedBy ω flag z = round (pos (unitOf ω flag) *ℤ z) (edgeScale ω)
 
 -- an exact point in the range of edges, with a flag that tells its denominator
-pub record Small (flag : ℕ) (x y z : ℤ) : Type 0 where
-  pub plain : (flag ≡ wideFlag → ⊥) → unitOf flag ≡ virtualScale kobbelt
-  pub on₀ : natAbs (pos (unitOf flag) *ℤ x) ≤ edgeRange kobbelt
-  pub on₁ : natAbs (pos (unitOf flag) *ℤ y) ≤ edgeRange kobbelt
-  pub on₂ : natAbs (pos (unitOf flag) *ℤ z) ≤ edgeRange kobbelt
+pub record Small (ω : Weights) (flag : ℕ) (x y z : ℤ) : Type 0 where
+  pub plain : (flag ≡ wideFlag → ⊥) → unitOf ω flag ≡ virtualScale ω
+  pub on₀ : natAbs (pos (unitOf ω flag) *ℤ x) ≤ edgeRange ω
+  pub on₁ : natAbs (pos (unitOf ω flag) *ℤ y) ≤ edgeRange ω
+  pub on₂ : natAbs (pos (unitOf ω flag) *ℤ z) ≤ edgeRange ω
 
 -- coordinate a of the old vertices, of the refined ones, and of the exact points of edges
 unfoldable pub oldAxis : List ℕ → List ℤ → ℕ → ℕ → ℤ
 oldAxis marks p a = axis (take (3 * length marks) p) a
 
-unfoldable pub refinedAxis : List ℕ → List ℕ → List ℤ → ℕ → ℕ → ℤ
-refinedAxis l marks p a i = refinedCoordinate kobbelt (length marks) l marks (oldAxis marks p a) i
+unfoldable pub refinedAxis : Weights → List ℕ → List ℕ → List ℤ → ℕ → ℕ → ℤ
+refinedAxis ω l marks p a i = refinedCoordinate ω (length marks) l marks (oldAxis marks p a) i
 
-unfoldable pub edgeAxis : List ℕ → List ℕ → List ℤ → ℕ → ℕ → ℤ
-edgeAxis l marks p a h = edgeZ kobbelt l marks (oldAxis marks p a) h
+unfoldable pub edgeAxis : Weights → List ℕ → List ℕ → List ℤ → ℕ → ℕ → ℤ
+edgeAxis ω l marks p a h = edgeZ ω l marks (oldAxis marks p a) h
 
 -- what the pass assumes of the tables: mates in front of w, classes of the vertices from `at` on, and room
-pub record Round (l marks : List ℕ) (p : List ℤ) (w : List ℕ) (at initial : ℕ) : Type 0 where
+pub record Round (τ : ℕ) (l marks : List ℕ) (p : List ℤ) (w : List ℕ) (at initial : ℕ) : Type 0 where
+  pub low : τ ≤ 4
   pub net : Manifold quads (length marks) l
   pub table : Connectivity l w
   pub classes : Classes (length marks) at initial l w
@@ -55,7 +56,8 @@ pub record Round (l marks : List ℕ) (p : List ℤ) (w : List ℕ) (at initial 
   pub bounded : Within coordinateRange (take (3 * length marks) p)
 
 -- before half-edge h, with e edges met, the tables have room for the point of its edge
-pub record Turn (l marks : List ℕ) (p : List ℤ) (w : List ℕ) (at initial h e : ℕ) : Type 0 where
+pub record Turn (τ : ℕ) (l marks : List ℕ) (p : List ℤ) (w : List ℕ) (at initial h e : ℕ) : Type 0 where
+  pub low : τ ≤ 4
   pub ready : Ready l w
   pub points : Points l (take (3 * length marks) p)
   pub marked : Marks l marks
@@ -70,11 +72,11 @@ pub record Turn (l marks : List ℕ) (p : List ℤ) (w : List ℕ) (at initial h
   pub exact : h < mate quads l h → 2 * length l + 6 * e + 6 ≤ length w
 
 -- after it, with r edges met: the point of its edge went, rounded and exact, to the tables, and its entry; or the edge was met before, and has the entry of its mate
-pub data Turned (l marks : List ℕ) (h e r : ℕ) (p : List ℤ) (w : List ℕ) (p′ : List ℤ) (w′ : List ℕ) : Type 0 where
-  met : (flag : ℕ) (x y z : ℤ) → h < mate quads l h → r ≡ e + 1 → Flagged l h flag → ExactPoint flag (λ (a : ℕ). edgeZ kobbelt l marks (axis (take (3 * length marks) p) a) h) x y z
-      → p′ ≡ putPoint p (length marks + e) (roundedBy flag x) (roundedBy flag y) (roundedBy flag z) → w′ ≡ set (putThree w (2 * length l + 6 * e) x y z) (length l + h) (e + flag)
-      → Turned l marks h e r p w p′ w′
-  passed : mate quads l h < h → r ≡ e → p′ ≡ p → w′ ≡ set w (length l + h) (getD w (length l + mate quads l h) 0) → Turned l marks h e r p w p′ w′
+pub data Turned (τ : ℕ) (l marks : List ℕ) (h e r : ℕ) (p : List ℤ) (w : List ℕ) (p′ : List ℤ) (w′ : List ℕ) : Type 0 where
+  met : (flag : ℕ) (x y z : ℤ) → h < mate quads l h → r ≡ e + 1 → Flagged l h flag → ExactPoint (tension τ) flag (λ (a : ℕ). edgeZ (tension τ) l marks (axis (take (3 * length marks) p) a) h) x y z
+      → p′ ≡ putPoint p (length marks + e) (roundedBy (tension τ) flag x) (roundedBy (tension τ) flag y) (roundedBy (tension τ) flag z) → w′ ≡ set (putThree w (2 * length l + 6 * e) x y z) (length l + h) (e + flag)
+      → Turned τ l marks h e r p w p′ w′
+  passed : mate quads l h < h → r ≡ e → p′ ≡ p → w′ ≡ set w (length l + h) (getD w (length l + mate quads l h) 0) → Turned τ l marks h e r p w p′ w′
 
 -- the entry t of the edge of h: its number and its flag
 pub record Entry (l : List ℕ) (h t : ℕ) : Type 0 where
@@ -83,17 +85,17 @@ pub record Entry (l : List ℕ) (h t : ℕ) : Type 0 where
   pub is : t ≡ edge quads l h + flag
 
 -- w has coordinate a of an exact point for the entry t: over `edgeScale` it is X
-pub record StoredAt (n : ℕ) (w : List ℕ) (a t : ℕ) (X : ℤ) : Type 0 where
+pub record StoredAt (ω : Weights) (n : ℕ) (w : List ℕ) (a t : ℕ) (X : ℤ) : Type 0 where
   pub number : ℤ
   pub holds : Holds w (placeOf n t + 2 * a) number
-  pub value : pos (unitOf t) *ℤ number ≡ X
+  pub value : pos (unitOf ω t) *ℤ number ≡ X
 
 -- of the tables p₀ and w₀, p and w have the points of the edges of the half-edges below h, of which there are e: rounded behind the old ones, and exact
-pub record Edges (l marks : List ℕ) (p₀ : List ℤ) (w₀ : List ℕ) (p : List ℤ) (w : List ℕ) (h e : ℕ) : Type 0 where
+pub record Edges (τ : ℕ) (l marks : List ℕ) (p₀ : List ℤ) (w₀ : List ℕ) (p : List ℤ) (w : List ℕ) (h e : ℕ) : Type 0 where
   pub old : take (3 * length marks) p ≡ take (3 * length marks) p₀
-  pub points : Written (refinedAxis l marks p₀) p₀ p (length marks + e)
+  pub points : Written (refinedAxis (tension τ) l marks p₀) p₀ p (length marks + e)
   pub kept : length w ≡ length w₀
   pub mates : (k : ℕ) → k < length l → getD w k 0 ≡ getD w₀ k 0
   pub behind : (k : ℕ) → 8 * length l ≤ k → getD w k 0 ≡ getD w₀ k 0
   pub entries : (g : ℕ) → g < h → Entry l g (entryOf (length l) w g)
-  pub stored : (a g : ℕ) → a < 3 → g < h → StoredAt (length l) w a (entryOf (length l) w g) (edgeAxis l marks p₀ a g)
+  pub stored : (a g : ℕ) → a < 3 → g < h → StoredAt (tension τ) (length l) w a (entryOf (length l) w g) (edgeAxis (tension τ) l marks p₀ a g)

@@ -1,11 +1,11 @@
 // The pass over the edges of a round: each edge is numbered as it is met, its exact point goes to the work table, its rounded point behind the old ones.
 ghost use mathlib.Core.Path.{_≡_};
-ghost use Prim.Native.Nat.{_+_, _*_, _≤_};
-ghost use lib.IntN.{pos, natAbs, _*ℤ_};
+ghost use Prim.Native.Nat.{_+_, _*_, _^_, _≤_};
+ghost use lib.IntN.{natAbs};
 ghost use lib.ListN.{length};
 ghost use Rattle.rounding.specs.Rounding.{round};
-ghost use Rattle.curve.specs.Weights.{kobbelt};
-ghost use Rattle.rings.specs.Scales.{virtualScale, edgeScale, edgeRange};
+ghost use Rattle.curve.specs.Weights.{tension};
+ghost use Rattle.rings.specs.Scales.{edgeScale, edgeRange};
 ghost use Rattle.topology.specs.Shape.{quads};
 ghost use Rattle.topology.specs.HalfEdge.{edgeCount};
 ghost use Rattle.coordinates.specs.Points.{putPoint};
@@ -15,33 +15,39 @@ use edgepoints::Edge;
 
 const WIDE: u32 = 536870912;
 
-const HALF_EDGE_SCALE: u64 = 3628800;
-
-// A coordinate over 16, rounded.
+// A coordinate over 64, rounded.
 fn rounded_plain(z: i64) -> i32
-    requires { ⌜ natAbs (pos (virtualScale kobbelt) *ℤ z) ≤ edgeRange kobbelt ⌝ }
-    ensures { λ r. ⌜ r ≡ round (pos (virtualScale kobbelt) *ℤ z) (edgeScale kobbelt) ⌝ }
+    requires { ⌜ natAbs z ≤ 2 ^ 33 ⌝ }
+    ensures { λ r. ⌜ r ≡ round z 64 ⌝ }
 {
-    rounding::round_shift(z, 8, 4) as i32
+    rounding::round_shift(z, 32, 6) as i32
+}
+
+// Half the denominator of wide edges.
+fn half_edge_scale(t: u32) -> u64
+    requires { ⌜ t ≤ 4 ⌝ }
+    ensures { λ r. ⌜ (2 * r ≡ edgeScale (tension t)) × (r ≡ 1612800 * (32 + t)) ⌝ }
+{
+    1612800 * (32 + t as u64)
 }
 
 // A coordinate over the wide denominator, rounded.
-fn rounded_wide(z: i64) -> i32
-    requires { ⌜ natAbs z ≤ edgeRange kobbelt ⌝ }
-    ensures { λ r. ⌜ r ≡ round z (edgeScale kobbelt) ⌝ }
+fn rounded_wide(z: i64, t: u32) -> i32
+    requires { ⌜ (natAbs z ≤ edgeRange (tension t)) × (t ≤ 4) ⌝ }
+    ensures { λ r. ⌜ r ≡ round z (edgeScale (tension t)) ⌝ }
 {
-    rounding::round_div(z, HALF_EDGE_SCALE) as i32
+    rounding::round_div(z, half_edge_scale(t)) as i32
 }
 
 // Writes the rounded coordinates of vertex i, from its exact point.
-fn put_rounded(points: &mut [i32], i: usize, e: Edge)
-    requires { ⌜ (3 * i + 3 ≤ length (now points)) × Small (e .flag) (e .x) (e .y) (e .z) ⌝ }
-    ensures { λ _. ⌜ now (points .exit) ≡ putPoint (now (points .entry)) i (roundedBy (e .flag) (e .x)) (roundedBy (e .flag) (e .y)) (roundedBy (e .flag) (e .z)) ⌝ }
+fn put_rounded(points: &mut [i32], i: usize, e: Edge, t: u32)
+    requires { ⌜ (3 * i + 3 ≤ length (now points)) × Small (tension t) (e .flag) (e .x) (e .y) (e .z) × (t ≤ 4) ⌝ }
+    ensures { λ _. ⌜ now (points .exit) ≡ putPoint (now (points .entry)) i (roundedBy (tension t) (e .flag) (e .x)) (roundedBy (tension t) (e .flag) (e .y)) (roundedBy (tension t) (e .flag) (e .z)) ⌝ }
 {
     if e.flag == WIDE {
-        let x = rounded_wide(e.x);
-        let y = rounded_wide(e.y);
-        let z = rounded_wide(e.z);
+        let x = rounded_wide(e.x, t);
+        let y = rounded_wide(e.y, t);
+        let z = rounded_wide(e.z, t);
         coordinates::put_point(&mut *points, i, x, y, z);
         return;
     }
@@ -61,21 +67,22 @@ fn edge_side(
     initial: usize,
     h: usize,
     edges: usize,
+    t: u32,
 ) -> usize
-    requires { ⌜ Turn (now faces) (now marks) (now points) (now work) at initial h edges ⌝ }
-    ensures { λ r. ⌜ Turned (now (faces .entry)) (now (marks .entry)) h edges r (now (points .entry)) (now (work .entry)) (now (points .exit)) (now (work .exit)) ⌝ }
+    requires { ⌜ Turn t (now faces) (now marks) (now points) (now work) at initial h edges ⌝ }
+    ensures { λ r. ⌜ Turned t (now (faces .entry)) (now (marks .entry)) h edges r (now (points .entry)) (now (work .entry)) (now (points .exit)) (now (work .exit)) ⌝ }
 {
     let n = faces.len();
     let v = marks.len();
     let m = halfedges::mate_side(faces, &*work, h);
     if m < h {
-        let t = work[n + m];
-        work[n + h] = t;
+        let entry = work[n + m];
+        work[n + h] = entry;
         return edges;
     }
     let end = 3 * v;
-    let e = edgepoints::edge_exact(&points[..end], faces, marks, &*work, at, initial, h, m);
-    put_rounded(&mut *points, v + edges, e);
+    let e = edgepoints::edge_exact(&points[..end], faces, marks, &*work, at, initial, h, m, t);
+    put_rounded(&mut *points, v + edges, e, t);
     let x = Exact {
         x: e.x,
         y: e.y,
@@ -94,10 +101,11 @@ pub fn edge_points(
     work: &mut [u32],
     at: usize,
     initial: usize,
+    t: u32,
 ) -> usize
-    requires { ⌜ Round (now faces) (now marks) (now points) (now work) at initial ⌝ }
+    requires { ⌜ Round t (now faces) (now marks) (now points) (now work) at initial ⌝ }
     ensures { λ r. ⌜ r ≡ edgeCount quads (now (faces .entry)) ⌝ }
-    ensures { λ r. ⌜ Edges (now (faces .entry)) (now (marks .entry)) (now (points .entry)) (now (work .entry)) (now (points .exit)) (now (work .exit)) (length (now (faces .entry))) (edgeCount quads (now (faces .entry))) ⌝ }
+    ensures { λ r. ⌜ Edges t (now (faces .entry)) (now (marks .entry)) (now (points .entry)) (now (work .entry)) (now (points .exit)) (now (work .exit)) (length (now (faces .entry))) (edgeCount quads (now (faces .entry))) ⌝ }
 {
     let n = faces.len();
     let mut edges = 0;
@@ -112,6 +120,7 @@ pub fn edge_points(
             initial,
             h,
             edges,
+            t,
         );
         h += 1;
     }

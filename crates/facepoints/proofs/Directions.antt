@@ -15,11 +15,12 @@ use mir.Val.{SFits}
 use Rattle.integers.proofs.AbsoluteValue.{abs-add}
 use Rattle.integers.proofs.Range.{fits-abs}
 use Rattle.rounding.specs.Rounding.{round}
-use Rattle.rounding.proofs.Laws.{round-size}
-use Rattle.curve.specs.Weights.{kobbelt, interior, mirror}
+use Rattle.rounding.proofs.Laws.{round-within}
+use Rattle.curve.specs.Weights.{tension, interior, mirror}
 use Rattle.curve.proofs.Distance.{interior-size, end-size, single-size}
-use Rattle.curve.proofs.Kobbelt.{tame}
+use Rattle.curve.proofs.Tension.{tame}
 use Rattle.curve.proofs.Mirror.{end-mirrored, single-mirrored, interior-turned, mirror-size}
+use Rattle.rings.proofs.Tension.{edge-range-at, face-scale-at}
 use Rattle.rings.specs.Scales.{edgeRange, faceScale}
 use Rattle.topology.specs.Quads.{across}
 use Rattle.coordinates.specs.Points.{putPoint}
@@ -28,89 +29,6 @@ use Rattle.facepoints.specs.declared.FaceRule.{FaceRule}
 use Rattle.facepoints.specs.declared.FaceRule.the-variants.{FirstAlone, SecondAlone, BothInner, NeitherInner}
 use Rattle.facepoints.specs.Faces.{FaceTable, beyondOf, farOf, directionOf, innerTwiceOf, fourInnerOf, faceRuleOf, faceValueOf, faceCoordinate}
 use Rattle.facepoints.proofs.Reading.{across-lt}
-
--- the interior rule with mirrored points is that of an end edge or of a single edge, so it grows no more
-four-size : (x y u v : ℤ) (B : ℕ) → natAbs x ≤ B → natAbs y ≤ B → (natAbs u ≤ B) ⊎ (u ≡ mirror x y) → (natAbs v ≤ B) ⊎ (v ≡ mirror y x) → natAbs (interior kobbelt u x y v) ≤ 20 * B
-four-size x y u v B sx sy (inl su) (inl sv) = interior-size kobbelt tame u x y v B su sx sy sv
-four-size x y u v B sx sy (inr eu) (inl sv) =
-    let s = end-size kobbelt tame x y v B sx sy sv in
-    let e = ap natAbs (ap (λ (p : ℤ). interior kobbelt p x y v) eu ∙ sym (end-mirrored kobbelt (omega arith) x y v)) in
-    omega arith
-four-size x y u v B sx sy (inl su) (inr ev) =
-    let s = end-size kobbelt tame y x u B sy sx su in
-    let e = ap natAbs (interior-turned kobbelt u x y v ∙ ap (λ (p : ℤ). interior kobbelt p y x u) ev ∙ sym (end-mirrored kobbelt (omega arith) y x u)) in
-    omega arith
-four-size x y u v B sx sy (inr eu) (inr ev) =
-    let s = single-size kobbelt tame x y B sx sy in
-    let e = ap natAbs (ap₂ (λ (p q : ℤ). interior kobbelt p x y q) eu ev ∙ sym (single-mirrored kobbelt (omega arith) x y)) in
-    omega arith
-
-module _ (n : ℕ) (w : List ℕ) (a : ℕ) where
-  -- ---- beyond a side
-  pub far-mated : (h : ℕ) (x y : ℤ) → getD w h 0 < n → farOf n w a h x y ≡ exactOf n w a (beyondOf w h)
-  unfolding farOf
-  far-mated h x y k = let t = lt-ltb (getD w h 0) n k in rw t refl
-
-  pub far-none : (h : ℕ) (x y : ℤ) → n ≤ getD w h 0 → farOf n w a h x y ≡ mirror x y
-  unfolding farOf
-  far-none h x y k = let t = le-ltb (getD w h 0) n k in rw t refl
-
-  pub direction-read : (h g : ℕ) (z u x y v : ℤ) → g ≡ across h → z ≡ interior kobbelt u x y v → x ≡ exactOf n w a h → y ≡ exactOf n w a g
-      → u ≡ farOf n w a h x y → v ≡ farOf n w a g y x → z ≡ directionOf n w a h
-  unfolding directionOf
-  direction-read h g z u x y v e k ex ey eu ev = cc
-
-  -- ---- sizes
-  module _ (ok : FaceTable n w) (on : a < 3) where
-    far-kind : (h : ℕ) (x y : ℤ) → (natAbs (farOf n w a h x y) ≤ edgeRange kobbelt) ⊎ (farOf n w a h x y ≡ mirror x y)
-    unfolding beyondOf
-    far-kind h x y = go (decLt (getD w h 0) n)
-      where
-        go : Dec (getD w h 0 < n) → (natAbs (farOf n w a h x y) ≤ edgeRange kobbelt) ⊎ (farOf n w a h x y ≡ mirror x y)
-        go (yes k) = let s = ok .small a (across (getD w h 0)) on (across-lt n (getD w h 0) (ok .fours) k) in let e = ap natAbs (far-mated h x y k) in inl (omega arith)
-        go (no k) = inr (far-none h x y (omega arith))
-
-    pub far-size : (h : ℕ) (x y u : ℤ) → natAbs x ≤ edgeRange kobbelt → natAbs y ≤ edgeRange kobbelt → u ≡ farOf n w a h x y → natAbs u ≤ 3 * edgeRange kobbelt
-    far-size h x y u sx sy e = go (far-kind h x y)
-      where
-        go : (natAbs (farOf n w a h x y) ≤ edgeRange kobbelt) ⊎ (farOf n w a h x y ≡ mirror x y) → natAbs u ≤ 3 * edgeRange kobbelt
-        go (inl k) = let d = ap natAbs e in omega arith
-        go (inr k) = let b = mirror-size x y (edgeRange kobbelt) sx sy in let d = ap natAbs (e ∙ k) in omega arith
-
-    pub direction-size : (h : ℕ) → h < n → natAbs (directionOf n w a h) ≤ 20 * edgeRange kobbelt
-    unfolding directionOf
-    direction-size h lt =
-        let x = exactOf n w a h in
-        let y = exactOf n w a (across h) in
-        four-size x y (farOf n w a h x y) (farOf n w a (across h) y x) (edgeRange kobbelt) (ok .small a h on lt) (ok .small a (across h) on (across-lt n h (ok .fours) lt)) (far-kind h x y) (far-kind (across h) y x)
-
--- ---- the steps from two directions to a face
-pub record Sizes (u v : ℤ) : Type 0 where
-  pub first : SFits w64 u
-  pub second : SFits w64 v
-  pub sum : SFits w64 (u +ℤ v)
-  pub mean : SFits w32 (round (u +ℤ v) (faceScale kobbelt))
-  pub range : natAbs (u +ℤ v) ≤ 40 * edgeRange kobbelt
-
-pub sizes : (u v : ℤ) → natAbs u ≤ 20 * edgeRange kobbelt → natAbs v ≤ 20 * edgeRange kobbelt → Sizes u v
-sizes u v h k =
-    let b = abs-add u v in
-    let r = round-size (u +ℤ v) (faceScale kobbelt) (omega arith) in
-    record {
-      first = fits-abs w64 u (omega arith);
-      second = fits-abs w64 v (omega arith);
-      sum = fits-abs w64 (u +ℤ v) (omega arith);
-      mean = fits-abs w32 (round (u +ℤ v) (faceScale kobbelt)) (omega arith);
-      range = omega arith;
-    }
-
-pub direction-sizes : (n : ℕ) (w : List ℕ) (a g h : ℕ) (u v : ℤ) → FaceTable n w → a < 3 → g < n → h < n → u ≡ directionOf n w a g → v ≡ directionOf n w a h → Sizes u v
-direction-sizes n w a g h u v ok on lg lh eu ev =
-    let b = direction-size n w a ok on g lg in
-    let c = direction-size n w a ok on h lh in
-    let d = ap natAbs eu in
-    let e = ap natAbs ev in
-    sizes u v (omega arith) (omega arith)
 
 -- ---- which directions count
 module _ (n : ℕ) (w : List ℕ) where
@@ -134,9 +52,95 @@ module _ (n : ℕ) (w : List ℕ) where
   unfolding faceRuleOf
   rule-is f b c p q = rw (p, q) refl
 
--- ---- the three coordinates of a face
-pub put-by-rule : (n : ℕ) (w : List ℕ) (f : ℕ) (r : FaceRule) (t t′ : List ℤ) (x y z : ℤ) → r ≡ faceRuleOf n w f → x ≡ round (faceValueOf n w 0 f r) (faceScale kobbelt)
-    → y ≡ round (faceValueOf n w 1 f r) (faceScale kobbelt) → z ≡ round (faceValueOf n w 2 f r) (faceScale kobbelt) → t′ ≡ putPoint t f x y z
-    → t′ ≡ putPoint t f (faceCoordinate n w 0 f) (faceCoordinate n w 1 f) (faceCoordinate n w 2 f)
-unfolding faceCoordinate
-put-by-rule n w f r t t′ x y z e a b c d = cc
+module _ (τ : ℕ) where
+  -- the interior rule with mirrored points is that of an end edge or of a single edge, so it grows no more
+  four-size : τ ≤ 4 → (x y u v : ℤ) (B : ℕ) → natAbs x ≤ B → natAbs y ≤ B → (natAbs u ≤ B) ⊎ (u ≡ mirror x y) → (natAbs v ≤ B) ⊎ (v ≡ mirror y x) → natAbs (interior (tension τ) u x y v) ≤ 80 * B
+  four-size low x y u v B sx sy (inl su) (inl sv) = interior-size (tension τ) (tame τ low) u x y v B su sx sy sv
+  four-size low x y u v B sx sy (inr eu) (inl sv) =
+      let s = end-size (tension τ) (tame τ low) x y v B sx sy sv in
+      let e = ap natAbs (ap (λ (p : ℤ). interior (tension τ) p x y v) eu ∙ sym (end-mirrored (tension τ) (omega arith) x y v)) in
+      omega arith
+  four-size low x y u v B sx sy (inl su) (inr ev) =
+      let s = end-size (tension τ) (tame τ low) y x u B sy sx su in
+      let e = ap natAbs (interior-turned (tension τ) u x y v ∙ ap (λ (p : ℤ). interior (tension τ) p y x u) ev ∙ sym (end-mirrored (tension τ) (omega arith) y x u)) in
+      omega arith
+  four-size low x y u v B sx sy (inr eu) (inr ev) =
+      let s = single-size (tension τ) (tame τ low) x y B sx sy in
+      let e = ap natAbs (ap₂ (λ (p q : ℤ). interior (tension τ) p x y q) eu ev ∙ sym (single-mirrored (tension τ) (omega arith) x y)) in
+      omega arith
+
+  module _ (n : ℕ) (w : List ℕ) (a : ℕ) where
+    -- ---- beyond a side
+    pub far-mated : (h : ℕ) (x y : ℤ) → getD w h 0 < n → farOf (tension τ) n w a h x y ≡ exactOf (tension τ) n w a (beyondOf w h)
+    unfolding farOf
+    far-mated h x y k = let t = lt-ltb (getD w h 0) n k in rw t refl
+
+    pub far-none : (h : ℕ) (x y : ℤ) → n ≤ getD w h 0 → farOf (tension τ) n w a h x y ≡ mirror x y
+    unfolding farOf
+    far-none h x y k = let t = le-ltb (getD w h 0) n k in rw t refl
+
+    pub direction-read : (h g : ℕ) (z u x y v : ℤ) → g ≡ across h → z ≡ interior (tension τ) u x y v → x ≡ exactOf (tension τ) n w a h → y ≡ exactOf (tension τ) n w a g
+        → u ≡ farOf (tension τ) n w a h x y → v ≡ farOf (tension τ) n w a g y x → z ≡ directionOf (tension τ) n w a h
+    unfolding directionOf
+    direction-read h g z u x y v e k ex ey eu ev = cc
+
+    -- ---- sizes
+    module _ (ok : FaceTable τ n w) (on : a < 3) where
+      far-kind : (h : ℕ) (x y : ℤ) → (natAbs (farOf (tension τ) n w a h x y) ≤ edgeRange (tension τ)) ⊎ (farOf (tension τ) n w a h x y ≡ mirror x y)
+      unfolding beyondOf
+      far-kind h x y = go (decLt (getD w h 0) n)
+        where
+          go : Dec (getD w h 0 < n) → (natAbs (farOf (tension τ) n w a h x y) ≤ edgeRange (tension τ)) ⊎ (farOf (tension τ) n w a h x y ≡ mirror x y)
+          go (yes k) = let s = ok .small a (across (getD w h 0)) on (across-lt n (getD w h 0) (ok .entries .fours) k) in let e = ap natAbs (far-mated h x y k) in inl (omega arith)
+          go (no k) = inr (far-none h x y (omega arith))
+
+      pub far-size : (h : ℕ) (x y u : ℤ) → natAbs x ≤ edgeRange (tension τ) → natAbs y ≤ edgeRange (tension τ) → u ≡ farOf (tension τ) n w a h x y → natAbs u ≤ 3 * edgeRange (tension τ)
+      far-size h x y u sx sy e = go (far-kind h x y)
+        where
+          go : (natAbs (farOf (tension τ) n w a h x y) ≤ edgeRange (tension τ)) ⊎ (farOf (tension τ) n w a h x y ≡ mirror x y) → natAbs u ≤ 3 * edgeRange (tension τ)
+          go (inl k) = let d = ap natAbs e in omega arith
+          go (inr k) = let b = mirror-size x y (edgeRange (tension τ)) sx sy in let d = ap natAbs (e ∙ k) in omega arith
+
+      pub direction-size : (h : ℕ) → h < n → natAbs (directionOf (tension τ) n w a h) ≤ 80 * edgeRange (tension τ)
+      unfolding directionOf
+      direction-size h lt =
+          let x = exactOf (tension τ) n w a h in
+          let y = exactOf (tension τ) n w a (across h) in
+          four-size (ok .low) x y (farOf (tension τ) n w a h x y) (farOf (tension τ) n w a (across h) y x) (edgeRange (tension τ)) (ok .small a h on lt) (ok .small a (across h) on (across-lt n h (ok .entries .fours) lt)) (far-kind h x y) (far-kind (across h) y x)
+
+  -- ---- the steps from two directions to a face
+  pub record Sizes (u v : ℤ) : Type 0 where
+    pub first : SFits w64 u
+    pub second : SFits w64 v
+    pub sum : SFits w64 (u +ℤ v)
+    pub mean : SFits w32 (round (u +ℤ v) (faceScale (tension τ)))
+    pub range : natAbs (u +ℤ v) ≤ 160 * edgeRange (tension τ)
+
+  pub sizes : τ ≤ 4 → (u v : ℤ) → natAbs u ≤ 80 * edgeRange (tension τ) → natAbs v ≤ 80 * edgeRange (tension τ) → Sizes u v
+  sizes low u v h k =
+      let b = abs-add u v in
+      let c = edge-range-at τ in
+      let f = face-scale-at τ in
+      let r = round-within (u +ℤ v) (faceScale (tension τ)) 153791147 (omega arith) (omega arith) in
+      record {
+        first = fits-abs w64 u (omega arith);
+        second = fits-abs w64 v (omega arith);
+        sum = fits-abs w64 (u +ℤ v) (omega arith);
+        mean = fits-abs w32 (round (u +ℤ v) (faceScale (tension τ))) (omega arith);
+        range = omega arith;
+      }
+
+  pub direction-sizes : (n : ℕ) (w : List ℕ) (a g h : ℕ) (u v : ℤ) → FaceTable τ n w → a < 3 → g < n → h < n → u ≡ directionOf (tension τ) n w a g → v ≡ directionOf (tension τ) n w a h → Sizes u v
+  direction-sizes n w a g h u v ok on lg lh eu ev =
+      let b = direction-size n w a ok on g lg in
+      let c = direction-size n w a ok on h lh in
+      let d = ap natAbs eu in
+      let e = ap natAbs ev in
+      sizes (ok .low) u v (omega arith) (omega arith)
+
+  -- ---- the three coordinates of a face
+  pub put-by-rule : (n : ℕ) (w : List ℕ) (f : ℕ) (r : FaceRule) (t t′ : List ℤ) (x y z : ℤ) → r ≡ faceRuleOf n w f → x ≡ round (faceValueOf (tension τ) n w 0 f r) (faceScale (tension τ))
+      → y ≡ round (faceValueOf (tension τ) n w 1 f r) (faceScale (tension τ)) → z ≡ round (faceValueOf (tension τ) n w 2 f r) (faceScale (tension τ)) → t′ ≡ putPoint t f x y z
+      → t′ ≡ putPoint t f (faceCoordinate (tension τ) n w 0 f) (faceCoordinate (tension τ) n w 1 f) (faceCoordinate (tension τ) n w 2 f)
+  unfolding faceCoordinate
+  put-by-rule n w f r t t′ x y z e a b c d = cc

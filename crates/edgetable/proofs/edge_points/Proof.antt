@@ -12,24 +12,24 @@ use Rattle.edgetable.proofs.edge_points.Statement.{statement}
 use Rattle.edgetable.proofs.edge_points.Tie as tie
 
 abbrev Inv-loop : tie.InvT-loop
-Inv-loop points₀ faces marks work₀ at initial n edges₀ h₀ points work edges h =
-    (h ≤ length faces) × (edges ≡ count (firstMet quads faces) h) × Edges faces marks points₀ work₀ points work h edges
+Inv-loop points₀ faces marks work₀ at initial t n edges₀ h₀ points work edges h =
+    (h ≤ length faces) × (edges ≡ count (firstMet quads faces) h) × Edges t faces marks points₀ work₀ points work h edges
 
 abbrev μ-loop : tie.MeasureT-loop
-μ-loop points₀ faces marks work₀ at initial n edges₀ h₀ points work edges h = length faces - h
+μ-loop points₀ faces marks work₀ at initial t n edges₀ h₀ points work edges h = length faces - h
 
 loop-holds : tie.Need-loop-holds Inv-loop μ-loop
 unfolding count
 loop-holds c =
     let s = c .before .before .before in
-    (omega arith, refl, edges-none (s .args .faces .now) (s .args .marks .now) (s .args .points .now) (s .args .work .now) (s .args .at) (s .args .initial) (s .pre))
+    (omega arith, refl, edges-none (s .args .t) (s .args .faces .now) (s .args .marks .now) (s .args .points .now) (s .args .work .now) (s .args .at) (s .args .initial) (s .pre))
 
 edge-side-requires : tie.Need-edge-side-requires Inv-loop μ-loop
 edge-side-requires c κs =
     let x = c .before .before in
     let q = x .before in
     let s = q .before .before .before .before in
-    turn-in (s .args .faces .now) (s .args .marks .now) (s .args .points .now) (s .args .work .now) (s .args .at) (s .args .initial) (s .pre)
+    turn-in (s .args .t) (s .args .faces .now) (s .args .marks .now) (s .args .points .now) (s .args .work .now) (s .args .at) (s .args .initial) (s .pre)
     (q .loop .points) (q .loop .work) (q .loop .h) (q .loop .edges) (q .loop .inv .2) (x .loop-test .taken) (q .loop .inv .1)
 
 add-h : tie.Need-add-h Inv-loop μ-loop
@@ -46,9 +46,9 @@ loop-again c =
     let s = q .before .before .before .before in
     let i = q .loop .inv in (
       omega arith,
-      turned-count (s .args .faces .now) (s .args .marks .now) (s .args .points .now) (s .args .work .now) (s .args .at) (s .args .initial) (s .pre)
+      turned-count (s .args .t) (s .args .faces .now) (s .args .marks .now) (s .args .points .now) (s .args .work .now) (s .args .at) (s .args .initial) (s .pre)
           (q .loop .points) (q .loop .work) (q .loop .h) (q .loop .edges) (i .2) (x .loop-test .taken) (i .1) _ _ _ (d .edge-side .ensures),
-      turned-edges (s .args .faces .now) (s .args .marks .now) (s .args .points .now) (s .args .work .now) (s .args .at) (s .args .initial) (s .pre)
+      turned-edges (s .args .t) (s .args .faces .now) (s .args .marks .now) (s .args .points .now) (s .args .work .now) (s .args .at) (s .args .initial) (s .pre)
           (q .loop .points) (q .loop .work) (q .loop .h) (q .loop .edges) (i .2) (x .loop-test .taken) (i .1) _ _ _ (d .edge-side .ensures),
     )
 
@@ -67,7 +67,7 @@ returns c =
     let b = i .0 in
     let n : q .loop .h ≡ length (s .args .faces .now) = omega arith in
     let e = i .1 ∙ ap (count (firstMet quads (s .args .faces .now))) n in
-    let E = Edges (s .args .faces .now) (s .args .marks .now) (s .args .points .now) (s .args .work .now) (q .loop .points) (q .loop .work) in
+    let E = Edges (s .args .t) (s .args .faces .now) (s .args .marks .now) (s .args .points .now) (s .args .work .now) (q .loop .points) (q .loop .work) in
     (e, subst (E (length (s .args .faces .now))) e (subst (λ (h : ℕ). E h (q .loop .edges)) n (i .2)))
 
 pub edge-points-spec : {M : Type 1} → statement M

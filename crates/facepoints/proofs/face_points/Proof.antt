@@ -6,20 +6,21 @@ use Rattle.topology.specs.Shape.{quads}
 use Rattle.refinedfaces.specs.Refined.{corner}
 use Rattle.tables.proofs.Written.{Refining, refining-none, refining-next}
 use Rattle.roundfaces.proofs.Faces.{face-in, corners-as, corners-all}
+use Rattle.curve.specs.Weights.{tension}
 use Rattle.facepoints.specs.Faces.{faceCoordinate, faceCoordinates}
 use Rattle.facepoints.proofs.Pass.{Writing, writing-none, writing-next, writing-all}
 use Rattle.facepoints.proofs.face_points.Statement.{statement}
 use Rattle.facepoints.proofs.face_points.Tie as tie
 
 abbrev Inv-loop : tie.InvT-loop
-Inv-loop out₀ faces₀ work n v edges f₀ out faces f =
-    Writing (faceCoordinate n work) (n / 4) out₀ out f × Refining n (λ (k : ℕ). corner quads v (take n faces₀) (k / 4) (k % 4)) faces₀ faces f
+Inv-loop out₀ faces₀ work n v edges t f₀ out faces f =
+    Writing (faceCoordinate (tension t) n work) (n / 4) out₀ out f × Refining n (λ (k : ℕ). corner quads v (take n faces₀) (k / 4) (k % 4)) faces₀ faces f
 
 abbrev μ-loop : tie.MeasureT-loop
-μ-loop out₀ faces₀ work n v edges f₀ out faces f = f
+μ-loop out₀ faces₀ work n v edges t f₀ out faces f = f
 
 loop-holds : tie.Need-loop-holds Inv-loop μ-loop
-loop-holds c = let s = c .before .before in (writing-none (faceCoordinate (s .args .n) (s .args .work .now)) (s .args .n / 4) (s .args .out .now), refining-none _ _ _ (s .pre .1 .sides .fours))
+loop-holds c = let s = c .before .before in (writing-none (faceCoordinate (tension (s .args .t)) (s .args .n) (s .args .work .now)) (s .args .n / 4) (s .args .out .now), refining-none _ _ _ (s .pre .1 .sides .fours))
 
 sub-f : tie.Need-sub-f Inv-loop μ-loop
 sub-f c = omega arith
@@ -52,7 +53,7 @@ loop-again c =
     let s = c .before .before .before .before .before .before .before .before .before .before .before in
     let t = c .before .before .before .before .before .before .before .loop-test .taken in
     let call = c .before .before .refine-face in (
-      writing-next (faceCoordinate (s .args .n) (s .args .work .now)) (s .args .n / 4) (s .args .out .now) (head .out) _ (head .f) t (s .pre .2) (head .inv .0) (c .before .before .before .before .before .put-face .ensures),
+      writing-next (faceCoordinate (tension (s .args .t)) (s .args .n) (s .args .work .now)) (s .args .n / 4) (s .args .out .now) (head .out) _ (head .f) t (s .pre .2) (head .inv .0) (c .before .before .before .before .before .put-face .ensures),
       refining-next (s .args .n) _ (s .args .faces .now) (head .faces) _ (head .f) t (head .inv .1) (call .kept .0)
           (corners-as (s .args .n) (s .args .v) (s .args .edges) (s .args .faces .now) (s .args .work .now) (s .pre .1) (head .faces) _ (head .f) t (head .inv .1) (call .ensures)),
     )
@@ -69,7 +70,7 @@ returns c =
     let head = c .before .loop in
     let s = c .before .before .before .before in
     let z = c .loop-test .left in (
-      writing-all (faceCoordinate (s .args .n) (s .args .work .now)) (s .args .n / 4) (s .args .out .now) (head .out) (head .f) z (s .pre .2) (head .inv .0),
+      writing-all (faceCoordinate (tension (s .args .t)) (s .args .n) (s .args .work .now)) (s .args .n / 4) (s .args .out .now) (head .out) (head .f) z (s .pre .2) (head .inv .0),
       corners-all (s .args .n) (s .args .v) (s .args .edges) (s .args .faces .now) (s .args .work .now) (s .pre .1) (head .faces) (head .f) z (head .inv .1),
     )
 
