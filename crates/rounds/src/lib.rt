@@ -20,10 +20,11 @@ fn round(
     n: usize,
     at: usize,
     initial: usize,
+    t: u32,
 ) -> usize
-    requires { ⌜ Current v n at initial (buffers (now points) (now faces) (now marks) (now work)) ⌝ }
+    requires { ⌜ Current t v n at initial (buffers (now points) (now faces) (now marks) (now work)) ⌝ }
     requires { ⌜ LettersFit «with_letters» (4 * n) (now letters) ⌝ }
-    ensures { λ r. ⌜ Refines v n r (buffers (now (points .entry)) (now (faces .entry)) (now (marks .entry)) (now (work .entry)))
+    ensures { λ r. ⌜ Refines t v n r (buffers (now (points .entry)) (now (faces .entry)) (now (marks .entry)) (now (work .entry)))
         (buffers (now (points .exit)) (now (faces .exit)) (now (marks .exit)) (now (work .exit))) ⌝ }
     ensures { λ r. ⌜ WrittenIf «with_letters» v r (newLetter (take n (now (faces .entry))) (take v (now (marks .entry)))) (now (letters .entry)) (now (letters .exit)) ⌝ }
 {
@@ -34,6 +35,7 @@ fn round(
         &mut *work,
         at,
         initial,
+        t,
     );
     letters::name_points(
         with_letters,
@@ -46,7 +48,7 @@ fn round(
     let count = v + edges + n / 4;
     roundfaces::extend_marks(&mut *marks, v, count);
     let first = 3 * (v + edges);
-    facepoints::face_points(&mut points[first..], &mut *faces, &*work, n, v, edges);
+    facepoints::face_points(&mut points[first..], &mut *faces, &*work, n, v, edges, t);
     count
 }
 
@@ -63,12 +65,13 @@ pub fn rounds(
     n: usize,
     k: u32,
     last: usize,
+    t: u32,
 ) -> usize
-    requires { ⌜ Prepared k v n last (buffers (now points) (now faces) (now marks) (now work)) ⌝ }
+    requires { ⌜ Prepared t k v n last (buffers (now points) (now faces) (now marks) (now work)) ⌝ }
     requires { ⌜ LettersFit «with_letters» (n * 4 ^ k) (now letters) ⌝ }
-    ensures { λ r. ⌜ After k v n r (buffers (now (points .entry)) (now (faces .entry)) (now (marks .entry)) (now (work .entry)))
+    ensures { λ r. ⌜ After t k v n r (buffers (now (points .entry)) (now (faces .entry)) (now (marks .entry)) (now (work .entry)))
         (buffers (now (points .exit)) (now (faces .exit)) (now (marks .exit)) (now (work .exit))) ⌝ }
-    ensures { λ r. ⌜ LettersAfter «with_letters» k v r (frontNet v n (now (points .entry)) (now (faces .entry)) (now (marks .entry))) (now (letters .entry)) (now (letters .exit)) ⌝ }
+    ensures { λ r. ⌜ LettersAfter «with_letters» t k v r (frontNet v n (now (points .entry)) (now (faces .entry)) (now (marks .entry))) (now (letters .entry)) (now (letters .exit)) ⌝ }
 {
     if k == 0 {
         return v;
@@ -90,6 +93,7 @@ pub fn rounds(
             corners,
             at,
             v,
+            t,
         );
         i += 1;
         if i == k {
