@@ -138,7 +138,7 @@ cmake_finds() {
         && cmake -S "$scratch/find" -B "$scratch/find/build" -DCMAKE_PREFIX_PATH="$prefix" "${@:2}"
 }
 
-# of version 0.5.1, say
+# of version 0.6.0, say
 cmake_versions() {
     local major minor patch
     IFS=. read -r major minor patch <<<"$version"
@@ -191,11 +191,12 @@ wrong_header() {
 
 wrong_constants() {
     for wrong in MAX_ROUNDS/5 MAX_ROUNDS/7 MAX_VERTICES/8190 MAX_VERTICES/8194 MAX_FACES/4095 MAX_FACES/5000 MAX_REFINED_FACES/262143 MAX_REFINED_FACES/266240 \
-        MAX_COORDINATE/1048575 MAX_COORDINATE/1048577 MAX_RING/7 MAX_RING/9 MAX_FAN/5 MAX_FAN/7 MIN_SIDES/2 MIN_SIDES/4 MAX_SIDES/7 MAX_SIDES/9 MAX_TALLY/3999999999 MAX_TALLY/4000000001; do
+        MAX_COORDINATE/1048575 MAX_COORDINATE/1048577 MAX_RING/7 MAX_RING/9 MAX_FAN/5 MAX_FAN/7 MIN_SIDES/2 MIN_SIDES/4 MAX_SIDES/7 MAX_SIDES/9 MAX_TALLY/3999999999 MAX_TALLY/4000000001 \
+        MAX_TENSION/3 MAX_TENSION/5 DEFAULT_TENSION/0 DEFAULT_TENSION/3; do
         wrong_header "s/(define GEDROVIT_${wrong%/*}) .*/\\1 ${wrong#*/}/" || return
     done
     local reason=1 next
-    for next in {2..12} 14 15; do
+    for next in {2..12} 14 15 16; do
         wrong_header "s/^(    GEDROVIT_.* = )$reason,/\\1@,/; s/^(    GEDROVIT_.* = )$next(,?)$/\\1$reason\\2/; s/@/$next/" || return
         reason=$next
     done
