@@ -111,6 +111,12 @@ for name, text in texts.items():
     for pattern, due, least in LIMITS:
         hold(name, pattern, text, due, least if name.endswith("gedrovit.h") else 0)
 
+# ---- the overshoot of the cushion, at 100 counts to a millimetre
+CUSHION = re.findall(r"^tension (\d): .*, (\d+) beyond .*, (\d+) above ", read("tests/package/tension.out"), re.M)
+for tension, outline, top in CUSHION:
+    if f"| {tension} | {int(top) / 100:.2f} mm | {int(outline) / 100:.2f} mm |" not in read("docs/MAKERS.md").splitlines():
+        faults.append(f"docs/MAKERS.md: no row with the overshoot at tension {tension}")
+
 # ---- the table of refusals: a table with rows 1 to 12. Rows have these numbers, and no other ones of four digits or more
 ROWS = {1: {ROUNDS}, 3: {V, F, G}, 5: {COORDINATE}, 11: {RING_LEAST, RING, FAN}, 13: {TEXT}, 14: set(SIDES), 15: {TALLY}, 16: {TENSION}}
 ALSO = {4: {PROGRAM_V}}
