@@ -2,10 +2,10 @@
  * Gedrovit refines nets of quadrilateral faces by Kobbelt's interpolatory subdivision, at a tension
  * that the caller may choose. Nets with faces of 3 to 8 sides are first split into quadrilaterals.
  * Every new coordinate is worked out exactly and rounded once, to the nearest whole number, halves
- * upward: 2.5 to 3, -2.5 to -2. Two nets of one tension that share a boundary segment where refining
- * begins, after the split if there is one, share it afterwards, point for point, whatever the rest of
- * either net is. A net that is moved by whole numbers gives its refined net moved by the same, if the
- * coordinates of both are in range.
+ * upward: 2.5 to 3, -2.5 to -2. Two nets of equal tension that share a boundary segment where
+ * refining begins, after the split if there is one, share it afterwards, point for point, whatever the
+ * rest of either net is. A net that is moved by whole numbers gives its refined net moved by the
+ * same, if the coordinates of both are in range.
  *
  * C11 and C++17, x86-64 Linux (System V ABI). Link with libgedrovit.a; nothing but the C library is
  * needed beside it.
@@ -30,7 +30,8 @@
  * Side s of a face runs from corner s to corner s + 1, the last side from the last corner to corner
  * 0. Two faces that share an edge run along it in opposite directions. An edge of one face is a
  * boundary edge. Marked vertices cut a boundary loop into segments, from one mark to the next; a loop
- * without marks is one closed segment. Each segment is refined as a curve of its own points alone.
+ * without marks is one closed segment. Each segment is refined as a curve of its own points alone, at
+ * the net's tension.
  *
  * An open segment is read from one end to the other, both included; with one mark on a loop both
  * ends are that vertex. A closed segment is read once round from any of its vertices, the first not
@@ -42,9 +43,8 @@
  * share as they are drawn is shared there if both have side counts or neither has. If only one has
  * them it need not be: one net has the midpoints of its edges, the other has not.
  *
- * Both nets must have the same tension: at two tensions they need not share the segment afterwards.
- *
- * Both nets must be refined by versions with the same rounding: this version rounds halves upward, as
+ * Both nets must have the same tension; at two tensions they need not share the segment afterwards.
+ * Both must be refined by versions with the same rounding: this version rounds halves upward, as
  * every version since 0.3.0; 0.1.x and 0.2.0 away from zero. Two nets of which only one is refined by
  * one of these need not share the segment afterwards. Versions before 0.6.0 refine at tension 4.
  *

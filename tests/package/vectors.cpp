@@ -166,15 +166,27 @@ void tensions()
     }
 }
 
-// The same four points as a closed segment and as an open one, between two marks, are not shared, nor are those of an open one at two tensions.
+const gedrovit::net strip{{0, 0, 0, 16, 0, 0, 16, 16, 0, 0, 16, 0, 0, 0, 9, 16, 0, 9, 16, 16, 9, 0, 16, 9},
+                          {0, 1, 5, 4, 1, 2, 6, 5, 2, 3, 7, 6}, {1, 0, 0, 1, 0, 0, 0, 0}};
+
+// The same four points as a closed segment and as an open one, between two marks, are not shared.
 void closed_and_open()
 {
-    gedrovit::net strip{{0, 0, 0, 16, 0, 0, 16, 16, 0, 0, 16, 0, 0, 0, 9, 16, 0, 9, 16, 16, 9, 0, 16, 9},
-                              {0, 1, 5, 4, 1, 2, 6, 5, 2, 3, 7, 6}, {1, 0, 0, 1, 0, 0, 0, 0}};
     expect("closed segment", first_edge_point(square) == std::array<std::int32_t, 2>{8, -2});
     expect("open segment", first_edge_point(strip) == std::array<std::int32_t, 2>{9, -1});
-    strip.tension = 0;
-    expect("open segment at tension 0", first_edge_point(strip) == std::array<std::int32_t, 2>{8, 0});
+}
+
+// An open segment of two nets is shared at equal tensions, and here at no others.
+void seams()
+{
+    gedrovit::net one = strip, other = strip;
+    for (std::size_t i = 0; i < one.vertices.size(); i++)
+        other.vertices[i] = one.vertices[i] *= 16;
+    for (std::size_t i = 12; i < other.vertices.size(); i++)
+        other.vertices[i] += static_cast<std::int32_t>(7 * i);
+    for (one.tension = 0; one.tension <= GEDROVIT_MAX_TENSION; one.tension++)
+        for (other.tension = 0; other.tension <= GEDROVIT_MAX_TENSION; other.tension++)
+            expect("seam", (first_edge_point(one) == first_edge_point(other)) == (one.tension == other.tension));
 }
 
 } // namespace
@@ -189,5 +201,6 @@ int main()
     bill_of_a_series();
     tensions();
     closed_and_open();
+    seams();
     return faults == 0 ? 0 : 1;
 }
