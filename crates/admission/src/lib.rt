@@ -118,9 +118,9 @@ fn examine_net(
 fn call_fault(rounds: u32, sides: &[u8], n: Lengths, tension: u32) -> u32
     ensures { λ r. ⌜ orElse (limitsVerdict rounds (now (sides .entry)) (lengthsIn n)) (refusedIf 16 (ltb 4 tension)) ≡ limitsOf r ⌝ }
 {
-    let fault = limits::limits(rounds, sides, n);
-    if fault != 0 {
-        return fault;
+    let limit = limits::limits(rounds, sides, n);
+    if limit != 0 {
+        return limit;
     }
     if tension > 4 {
         return 16;

@@ -116,9 +116,9 @@ ends-mate v l ok h m o e =
 
 -- ---- the point between ordinary vertices
 module _ (v : ℕ) (l : List ℕ) (ok : Manifold quads v l) (h m : ℕ) (o : OrdinaryEnds l h) (em : m ≡ mate quads l h) (p q : ℕ) (ep : p ≡ from l h) (eq : q ≡ to quads l h) where
-  pub sided-made : (ω : Weights) (f g : Far) → StraightFar l h f → StraightFar l m g → (e : ℕ → ℤ) → stencilValue ω e f p q g ≡ ordinaryValue ω l e h innerRule
+  pub sided-made : (weights : Weights) (f g : Far) → StraightFar l h f → StraightFar l m g → (e : ℕ → ℤ) → stencilValue weights e f p q g ≡ ordinaryValue weights l e h innerRule
   unfolding stencilValue ordinaryValue
-  sided-made ω f g sf sg e =
+  sided-made weights f g sf sg e =
       let r = mate-is quads l h (o .inner) in
       let a : farValue e f (e p) (e q) ≡ straight l e h = ap₂ (λ (x y : ℕ). farValue e f (e x) (e y)) ep eq ∙ sf .value e in
       let s₁ : from l m ≡ q = ap (from l) em ∙ r .start ∙ sym eq in
@@ -126,10 +126,10 @@ module _ (v : ℕ) (l : List ℕ) (ok : Manifold quads v l) (h m : ℕ) (o : Ord
       let b : farValue e g (e q) (e p) ≡ straight l e (mate quads l h) = sym (ap₂ (λ (x y : ℕ). farValue e g (e x) (e y)) s₁ s₂) ∙ sg .value e ∙ ap (straight l e) em in
       cc
 
-  pub plain-made : (ω : Weights) (g k : ℕ) → g ≡ turn quads l h → g < length l → k ≡ turn quads l m → k < length l → (u w : ℕ) → u ≡ from l (quads .prev g) → w ≡ from l (quads .prev k)
-      → (e : ℕ → ℤ) → interiorValue ω e u p q w ≡ ordinaryValue ω l e h innerRule
+  pub plain-made : (weights : Weights) (g k : ℕ) → g ≡ turn quads l h → g < length l → k ≡ turn quads l m → k < length l → (u w : ℕ) → u ≡ from l (quads .prev g) → w ≡ from l (quads .prev k)
+      → (e : ℕ → ℤ) → interiorValue weights e u p q w ≡ ordinaryValue weights l e h innerRule
   unfolding ordinaryValue
-  plain-made ω g k eg bg ek bk u w eu ew e =
+  plain-made weights g k eg bg ek bk u w eu ew e =
       let c = ends-mate v l ok h m o em in
       let a : e u ≡ straight l e h = ap e eu ∙ sym (straight-vertex v l ok h (o .lt) (o .inner) (o .start) g eg bg e) in
       let b : e w ≡ straight l e (mate quads l h) = ap e ew ∙ sym (straight-vertex v l ok m (c .lt) (c .inner) (c .start) k ek bk e) ∙ ap (straight l e) em in

@@ -38,156 +38,156 @@ use Rattle.coordinates.specs.Points.{Points, OnAxes}
 use Rattle.coordinates.specs.Entry.{wideFlag, boundaryFlag, unitOf}
 use Rattle.coordinates.specs.Stencil.{farValue, stencilValue}
 use Rattle.coordinates.proofs.Values.{axis-bound}
-use Rattle.edgepoints.specs.Edge.{farBefore, farAfter, farOn, StraightFar, OrdinaryEnds, Told, Flagged, plain, wide, boundary, ExactEdge, ExactPoint}
+use Rattle.edgepoints.specs.Edge.{farBefore, farAfter, farOn, StraightFar, OrdinaryEnds, ClassedCorners, Flagged, plain, wide, boundary, ExactEdge, ExactPoint}
 use Rattle.edgepoints.proofs.Plain.{rule-inner, rule-boundary}
 
 -- ---- the end of a half-edge is a corner too
-pub told-end : (v : ℕ) (l : List ℕ) → Manifold quads v l → (w : List ℕ) (at initial : ℕ) → Told at initial l w → (h : ℕ) → h < length l
+pub classed-end : (v : ℕ) (l : List ℕ) → Manifold quads v l → (w : List ℕ) (at initial : ℕ) → ClassedCorners at initial l w → (h : ℕ) → h < length l
     → ordinaryBy w at initial (to quads l h) ≡ true → Ordinary l (to quads l h)
 unfolding to
-told-end v l ok w at initial t h k e = t .ordinary (quads .next h) (ok .oriented .shape .next-lt h k) e
+classed-end v l ok w at initial c h k e = c .ordinary (quads .next h) (ok .oriented .shape .next-lt h k) e
 
-module _ (τ : ℕ) (low : τ ≤ 4) where
+module _ (t : ℕ) (low : t ≤ 4) where
   -- ---- scaled coordinates
-  pub scaled-fits : (z : ℤ) → natAbs z ≤ 3 * coordinateRange → SFits w64 (pos (virtualScale (tension τ)) *ℤ z)
-  scaled-fits z h = let a = abs-mul (pos (virtualScale (tension τ))) z in let b : virtualScale (tension τ) ≤ 1814400 = omega arith in let m = mul-le-mul-right (natAbs z) b in fits-abs w64 _ (omega arith)
+  pub scaled-fits : (z : ℤ) → natAbs z ≤ 3 * coordinateRange → SFits w64 (pos (virtualScale (tension t)) *ℤ z)
+  scaled-fits z h = let a = abs-mul (pos (virtualScale (tension t))) z in let b : virtualScale (tension t) ≤ 1814400 = omega arith in let m = mul-le-mul-right (natAbs z) b in fits-abs w64 _ (omega arith)
 
-  pub scaled-size : (z x : ℤ) → natAbs z ≤ coordinateRange → x ≡ pos (virtualScale (tension τ)) *ℤ z → natAbs x ≤ virtualScale (tension τ) * coordinateRange
-  scaled-size z x h e = let a = abs-mul (pos (virtualScale (tension τ))) z in let b = ap natAbs e in let m = mul-le-mul-left (virtualScale (tension τ)) h in omega arith
+  pub scaled-size : (z x : ℤ) → natAbs z ≤ coordinateRange → x ≡ pos (virtualScale (tension t)) *ℤ z → natAbs x ≤ virtualScale (tension t) * coordinateRange
+  scaled-size z x h e = let a = abs-mul (pos (virtualScale (tension t))) z in let b = ap natAbs e in let m = mul-le-mul-left (virtualScale (tension t)) h in omega arith
 
   -- ---- virtual points in whole numbers
   module _ (v : ℕ) (l : List ℕ) (ok : Manifold quads v l) (e : ℕ → ℤ) (h : ℕ) (k : h < length l) where
-    pub straight-virtual : mate quads l h < length l → Ordinary l (from l h) → pos (virtualScale (tension τ)) *ℤ straight l e h ≡ virtualAtZ (tension τ) l e h
+    pub straight-virtual : mate quads l h < length l → Ordinary l (from l h) → pos (virtualScale (tension t)) *ℤ straight l e h ≡ virtualAtZ (tension t) l e h
     straight-virtual m o =
-        equals-one (pos (virtualScale (tension τ)) *ℤ straight l e h) (virtualAtZ (tension τ) l e h)
-        (equals-cong refl (mul-one (virtualScale (tension τ))) (equals-scaled (virtualScale (tension τ)) (virtual-ordinary (tension τ) (omega arith) v l ok e h k m o))) (equals-virtualAt (tension τ) (omega arith) v l ok e h k)
+        equals-one (pos (virtualScale (tension t)) *ℤ straight l e h) (virtualAtZ (tension t) l e h)
+        (equals-cong refl (mul-one (virtualScale (tension t))) (equals-scaled (virtualScale (tension t)) (virtual-ordinary (tension t) (omega arith) v l ok e h k m o))) (equals-virtualAt (tension t) (omega arith) v l ok e h k)
 
   pub far-virtual : (v : ℕ) (l : List ℕ) → Manifold quads v l → (h : ℕ) → h < length l → mate quads l h < length l → Ordinary l (from l h) → (f : Far) → StraightFar l h f
-      → (p q : ℕ) → p ≡ from l h → q ≡ to quads l h → (e : ℕ → ℤ) (z : ℤ) → z ≡ pos (virtualScale (tension τ)) *ℤ farOn e f p q → z ≡ virtualAtZ (tension τ) l e h
+      → (p q : ℕ) → p ≡ from l h → q ≡ to quads l h → (e : ℕ → ℤ) (z : ℤ) → z ≡ pos (virtualScale (tension t)) *ℤ farOn e f p q → z ≡ virtualAtZ (tension t) l e h
   far-virtual v l ok h k m o f s p q ep eq e z ez =
       ez
-      ∙ ap (λ (x : ℤ). pos (virtualScale (tension τ)) *ℤ x) (ap₂ (λ (x y : ℕ). farOn e f x y) ep eq ∙ s .value e)
+      ∙ ap (λ (x : ℤ). pos (virtualScale (tension t)) *ℤ x) (ap₂ (λ (x y : ℕ). farOn e f x y) ep eq ∙ s .value e)
       ∙ straight-virtual v l ok e h k m o
 
   -- ---- ranges
-  module _ (v : ℕ) (l : List ℕ) (ok : Manifold quads v l) (t : List ℤ) (room : Points l t) where
-    small : (a x : ℕ) → x < v → natAbs (axis t a x) ≤ coordinateRange
-    small a x b = axis-bound t a x (room .bounded)
+  module _ (v : ℕ) (l : List ℕ) (ok : Manifold quads v l) (points : List ℤ) (room : Points l points) where
+    small : (a x : ℕ) → x < v → natAbs (axis points a x) ≤ coordinateRange
+    small a x b = axis-bound points a x (room .bounded)
 
-    pub virtual-small : (a h : ℕ) → h < length l → mate quads l h < length l → (z : ℤ) → z ≡ virtualAtZ (tension τ) l (axis t a) h → natAbs z ≤ virtualRange (tension τ)
-    virtual-small a h k m z e = let r = virtual-range v l ok (axis t a) (small a) (tension τ) (tame τ low) h k m in let d = ap natAbs e in omega arith
+    pub virtual-small : (a h : ℕ) → h < length l → mate quads l h < length l → (z : ℤ) → z ≡ virtualAtZ (tension t) l (axis points a) h → natAbs z ≤ virtualRange (tension t)
+    virtual-small a h k m z e = let r = virtual-range v l ok (axis points a) (small a) (tension t) (tame t low) h k m in let d = ap natAbs e in omega arith
 
-    edge-in-range : (marks : List ℕ) (a h : ℕ) → h < length l → natAbs (edgeZ (tension τ) l marks (axis t a) h) ≤ edgeRange (tension τ)
-    edge-in-range marks a h k = edge-range v l ok (axis t a) (small a) (tension τ) (tame τ low) marks h k
+    edge-in-range : (marks : List ℕ) (a h : ℕ) → h < length l → natAbs (edgeZ (tension t) l marks (axis points a) h) ≤ edgeRange (tension t)
+    edge-in-range marks a h k = edge-range v l ok (axis points a) (small a) (tension t) (tame t low) marks h k
 
-    inner-value : (marks : List ℕ) (e : ℕ → ℤ) (h : ℕ) → mate quads l h < length l → edgeZ (tension τ) l marks e h ≡ edgeValueZ (tension τ) l e h innerRule
+    inner-value : (marks : List ℕ) (e : ℕ → ℤ) (h : ℕ) → mate quads l h < length l → edgeZ (tension t) l marks e h ≡ edgeValueZ (tension t) l e h innerRule
     unfolding edgeZ
-    inner-value marks e h m = ap (edgeValueZ (tension τ) l e h) (rule-inner l marks h m)
+    inner-value marks e h m = ap (edgeValueZ (tension t) l e h) (rule-inner l marks h m)
 
-    inner-in-range : (a h : ℕ) → h < length l → mate quads l h < length l → natAbs (edgeValueZ (tension τ) l (axis t a) h innerRule) ≤ edgeRange (tension τ)
-    inner-in-range a h k m = let s = edge-in-range [] a h k in let d = ap natAbs (inner-value [] (axis t a) h m) in omega arith
+    inner-in-range : (a h : ℕ) → h < length l → mate quads l h < length l → natAbs (edgeValueZ (tension t) l (axis points a) h innerRule) ≤ edgeRange (tension t)
+    inner-in-range a h k m = let s = edge-in-range [] a h k in let d = ap natAbs (inner-value [] (axis points a) h m) in omega arith
 
     -- ---- with its flag: a wide edge
     module _ (h : ℕ) (k : h < length l) (m : mate quads l h < length l) where
-      wide-edge : (flag : ℕ) → flag ≡ wideFlag → (a : ℕ) (z : ℤ) → z ≡ edgeValueZ (tension τ) l (axis t a) h innerRule → ExactEdge (tension τ) flag (edgeValueZ (tension τ) l (axis t a) h innerRule) z
+      wide-edge : (flag : ℕ) → flag ≡ wideFlag → (a : ℕ) (z : ℤ) → z ≡ edgeValueZ (tension t) l (axis points a) h innerRule → ExactEdge (tension t) flag (edgeValueZ (tension t) l (axis points a) h innerRule) z
       unfolding unitOf
-      wide-edge flag f a z e = record { value = ap (λ (i : ℕ). pos (unitOf (tension τ) i) *ℤ z) f ∙ one-*ℤ z ∙ e; small = inner-in-range a h k m }
+      wide-edge flag f a z e = record { value = ap (λ (i : ℕ). pos (unitOf (tension t) i) *ℤ z) f ∙ one-*ℤ z ∙ e; small = inner-in-range a h k m }
 
-      pub wide-point : (flag : ℕ) (x y z : ℤ) → (flag ≡ wideFlag) × OnAxes (λ (a : ℕ). edgeValueZ (tension τ) l (axis t a) h innerRule) x y z
-          → Flagged l h flag × ExactPoint (tension τ) flag (λ (a : ℕ). edgeValueZ (tension τ) l (axis t a) h innerRule) x y z
+      pub wide-point : (flag : ℕ) (x y z : ℤ) → (flag ≡ wideFlag) × OnAxes (λ (a : ℕ). edgeValueZ (tension t) l (axis points a) h innerRule) x y z
+          → Flagged l h flag × ExactPoint (tension t) flag (λ (a : ℕ). edgeValueZ (tension t) l (axis points a) h innerRule) x y z
       wide-point flag x y z (f, p) = (wide m f, record { on₀ = wide-edge flag f 0 x (p .on₀); on₁ = wide-edge flag f 1 y (p .on₁); on₂ = wide-edge flag f 2 z (p .on₂) })
 
     -- an inner edge between ordinary vertices
     module _ (h : ℕ) (o : OrdinaryEnds l h) where
-      plain-value : (e : ℕ → ℤ) → edgeValueZ (tension τ) l e h innerRule ≡ pos (virtualScale (tension τ)) *ℤ ordinaryValue (tension τ) l e h innerRule
+      plain-value : (e : ℕ → ℤ) → edgeValueZ (tension t) l e h innerRule ≡ pos (virtualScale (tension t)) *ℤ ordinaryValue (tension t) l e h innerRule
       unfolding ordinaryEdge
       plain-value e =
           sym (inner-value [] e h (o .inner))
-          ∙ edge-plain (tension τ) (omega arith) (omega arith) v l [] ok e h (o .lt) (inr (o .inner, o .start, o .end))
-          ∙ ap (λ (r : EdgeRule). pos (virtualScale (tension τ)) *ℤ ordinaryValue (tension τ) l e h r) (rule-inner l [] h (o .inner))
+          ∙ edge-plain (tension t) (omega arith) (omega arith) v l [] ok e h (o .lt) (inr (o .inner, o .start, o .end))
+          ∙ ap (λ (r : EdgeRule). pos (virtualScale (tension t)) *ℤ ordinaryValue (tension t) l e h r) (rule-inner l [] h (o .inner))
 
-      plain-edge : (a : ℕ) (z : ℤ) → z ≡ ordinaryValue (tension τ) l (axis t a) h innerRule → ExactEdge (tension τ) 0 (edgeValueZ (tension τ) l (axis t a) h innerRule) z
+      plain-edge : (a : ℕ) (z : ℤ) → z ≡ ordinaryValue (tension t) l (axis points a) h innerRule → ExactEdge (tension t) 0 (edgeValueZ (tension t) l (axis points a) h innerRule) z
       unfolding unitOf
       plain-edge a z e = record {
-        value = ap (λ (x : ℤ). pos (virtualScale (tension τ)) *ℤ x) e ∙ sym (plain-value (axis t a));
+        value = ap (λ (x : ℤ). pos (virtualScale (tension t)) *ℤ x) e ∙ sym (plain-value (axis points a));
         small = inner-in-range a h (o .lt) (o .inner);
       }
 
-      pub plain-point : (x y z : ℤ) → OnAxes (λ (a : ℕ). ordinaryValue (tension τ) l (axis t a) h innerRule) x y z
-          → Flagged l h 0 × ExactPoint (tension τ) 0 (λ (a : ℕ). edgeValueZ (tension τ) l (axis t a) h innerRule) x y z
+      pub plain-point : (x y z : ℤ) → OnAxes (λ (a : ℕ). ordinaryValue (tension t) l (axis points a) h innerRule) x y z
+          → Flagged l h 0 × ExactPoint (tension t) 0 (λ (a : ℕ). edgeValueZ (tension t) l (axis points a) h innerRule) x y z
       plain-point x y z p = (plain (o .inner) (o .start) (o .end) refl, record { on₀ = plain-edge 0 x (p .on₀); on₁ = plain-edge 1 y (p .on₁); on₂ = plain-edge 2 z (p .on₂) })
 
     pub inner-point : (marks : List ℕ) (h : ℕ) → mate quads l h < length l → (flag : ℕ) (x y z : ℤ)
-        → Flagged l h flag × ExactPoint (tension τ) flag (λ (a : ℕ). edgeValueZ (tension τ) l (axis t a) h innerRule) x y z
-        → Flagged l h flag × ExactPoint (tension τ) flag (λ (a : ℕ). edgeZ (tension τ) l marks (axis t a) h) x y z
+        → Flagged l h flag × ExactPoint (tension t) flag (λ (a : ℕ). edgeValueZ (tension t) l (axis points a) h innerRule) x y z
+        → Flagged l h flag × ExactPoint (tension t) flag (λ (a : ℕ). edgeZ (tension t) l marks (axis points a) h) x y z
     inner-point marks h m flag x y z (f, p) =
-        let at : (a : ℕ) → edgeValueZ (tension τ) l (axis t a) h innerRule ≡ edgeZ (tension τ) l marks (axis t a) h = λ a. sym (inner-value marks (axis t a) h m) in (
+        let at : (a : ℕ) → edgeValueZ (tension t) l (axis points a) h innerRule ≡ edgeZ (tension t) l marks (axis points a) h = λ a. sym (inner-value marks (axis points a) h m) in (
           f,
           record {
-            on₀ = subst (λ (X : ℤ). ExactEdge (tension τ) flag X x) (at 0) (p .on₀);
-            on₁ = subst (λ (X : ℤ). ExactEdge (tension τ) flag X y) (at 1) (p .on₁);
-            on₂ = subst (λ (X : ℤ). ExactEdge (tension τ) flag X z) (at 2) (p .on₂);
+            on₀ = subst (λ (X : ℤ). ExactEdge (tension t) flag X x) (at 0) (p .on₀);
+            on₁ = subst (λ (X : ℤ). ExactEdge (tension t) flag X y) (at 1) (p .on₁);
+            on₂ = subst (λ (X : ℤ). ExactEdge (tension t) flag X z) (at 2) (p .on₂);
           },
         )
 
     -- ---- a boundary edge, by its far points
     module _ (marks : List ℕ) (h : ℕ) (k : h < length l) (none : mate quads l h ≡ length l) (f g : Far)
-        (value : (e : ℕ → ℤ) → stencilValue (tension τ) e f (from l h) (to quads l h) g ≡ ordinaryValue (tension τ) l e h (edgeRule l marks h)) where
-      boundary-value : (e : ℕ → ℤ) → pos (virtualScale (tension τ)) *ℤ stencilValue (tension τ) e f (from l h) (to quads l h) g ≡ edgeZ (tension τ) l marks e h
+        (value : (e : ℕ → ℤ) → stencilValue (tension t) e f (from l h) (to quads l h) g ≡ ordinaryValue (tension t) l e h (edgeRule l marks h)) where
+      boundary-value : (e : ℕ → ℤ) → pos (virtualScale (tension t)) *ℤ stencilValue (tension t) e f (from l h) (to quads l h) g ≡ edgeZ (tension t) l marks e h
       unfolding ordinaryEdge
       boundary-value e =
-          ap (λ (x : ℤ). pos (virtualScale (tension τ)) *ℤ x) (value e)
-          ∙ sym (edge-boundary (tension τ) l marks e h (λ m. omega arith))
+          ap (λ (x : ℤ). pos (virtualScale (tension t)) *ℤ x) (value e)
+          ∙ sym (edge-boundary (tension t) l marks e h (λ m. omega arith))
 
-      boundary-edge : (flag : ℕ) → flag ≡ boundaryFlag → (a : ℕ) (z : ℤ) → z ≡ stencilValue (tension τ) (axis t a) f (from l h) (to quads l h) g → ExactEdge (tension τ) flag (edgeZ (tension τ) l marks (axis t a) h) z
+      boundary-edge : (flag : ℕ) → flag ≡ boundaryFlag → (a : ℕ) (z : ℤ) → z ≡ stencilValue (tension t) (axis points a) f (from l h) (to quads l h) g → ExactEdge (tension t) flag (edgeZ (tension t) l marks (axis points a) h) z
       unfolding unitOf
       boundary-edge flag ef a z e = record {
-        value = ap (λ (i : ℕ). pos (unitOf (tension τ) i) *ℤ z) ef ∙ ap (λ (x : ℤ). pos (virtualScale (tension τ)) *ℤ x) e ∙ boundary-value (axis t a);
+        value = ap (λ (i : ℕ). pos (unitOf (tension t) i) *ℤ z) ef ∙ ap (λ (x : ℤ). pos (virtualScale (tension t)) *ℤ x) e ∙ boundary-value (axis points a);
         small = edge-in-range marks a h k;
       }
 
-      pub boundary-point : (flag : ℕ) (x y z : ℤ) → (flag ≡ boundaryFlag) × OnAxes (λ (a : ℕ). stencilValue (tension τ) (axis t a) f (from l h) (to quads l h) g) x y z
-          → Flagged l h flag × ExactPoint (tension τ) flag (λ (a : ℕ). edgeZ (tension τ) l marks (axis t a) h) x y z
+      pub boundary-point : (flag : ℕ) (x y z : ℤ) → (flag ≡ boundaryFlag) × OnAxes (λ (a : ℕ). stencilValue (tension t) (axis points a) f (from l h) (to quads l h) g) x y z
+          → Flagged l h flag × ExactPoint (tension t) flag (λ (a : ℕ). edgeZ (tension t) l marks (axis points a) h) x y z
       boundary-point flag x y z (ef, p) = (boundary none ef, record { on₀ = boundary-edge flag ef 0 x (p .on₀); on₁ = boundary-edge flag ef 1 y (p .on₁); on₂ = boundary-edge flag ef 2 z (p .on₂) })
 
   -- ---- an inner edge from its virtual points
   pub wide-made : (l : List ℕ) (h m : ℕ) → m ≡ mate quads l h → (p q : ℕ) → p ≡ from l h → q ≡ to quads l h → (e : ℕ → ℤ) (u w z : ℤ)
-      → u ≡ virtualAtZ (tension τ) l e h → w ≡ virtualAtZ (tension τ) l e m → z ≡ innerEdgeZ (tension τ) (e p) (e q) u w → z ≡ edgeValueZ (tension τ) l e h innerRule
+      → u ≡ virtualAtZ (tension t) l e h → w ≡ virtualAtZ (tension t) l e m → z ≡ innerEdgeZ (tension t) (e p) (e q) u w → z ≡ edgeValueZ (tension t) l e h innerRule
   unfolding edgeValueZ
   wide-made l h m em p q ep eq e u w z eu ew ez =
       ez
-      ∙ ap₂ (λ (x y : ℕ). innerEdgeZ (tension τ) (e x) (e y) u w) ep eq
-      ∙ ap₂ (λ (x y : ℤ). innerEdgeZ (tension τ) (e (from l h)) (e (to quads l h)) x y) eu (ew ∙ ap (virtualAtZ (tension τ) l e) em)
+      ∙ ap₂ (λ (x y : ℕ). innerEdgeZ (tension t) (e x) (e y) u w) ep eq
+      ∙ ap₂ (λ (x y : ℤ). innerEdgeZ (tension t) (e (from l h)) (e (to quads l h)) x y) eu (ew ∙ ap (virtualAtZ (tension t) l e) em)
 
   -- ---- the far points of each rule
   module _ (l : List ℕ) (h : ℕ) (e : ℕ → ℤ) where
-    inside-rule : (o r : ℕ) → o ≡ from l (back quads l h) → r ≡ to quads l (along quads l h) → stencilValue (tension τ) e (At o) (from l h) (to quads l h) (At r) ≡ ordinaryValue (tension τ) l e h insideSegment
+    inside-rule : (o r : ℕ) → o ≡ from l (back quads l h) → r ≡ to quads l (along quads l h) → stencilValue (tension t) e (At o) (from l h) (to quads l h) (At r) ≡ ordinaryValue (tension t) l e h insideSegment
     unfolding stencilValue farValue ordinaryValue
-    inside-rule o r eo er = ap₂ (λ (x y : ℕ). interior (tension τ) (e x) (e (from l h)) (e (to quads l h)) (e y)) eo er
+    inside-rule o r eo er = ap₂ (λ (x y : ℕ). interior (tension t) (e x) (e (from l h)) (e (to quads l h)) (e y)) eo er
 
-    start-rule : (r : ℕ) → r ≡ to quads l (along quads l h) → stencilValue (tension τ) e Nowhere (from l h) (to quads l h) (At r) ≡ ordinaryValue (tension τ) l e h startOfSegment
+    start-rule : (r : ℕ) → r ≡ to quads l (along quads l h) → stencilValue (tension t) e Nowhere (from l h) (to quads l h) (At r) ≡ ordinaryValue (tension t) l e h startOfSegment
     unfolding stencilValue farValue ordinaryValue
     start-rule r er =
-        ap (λ (x : ℕ). interior (tension τ) (mirror (e (from l h)) (e (to quads l h))) (e (from l h)) (e (to quads l h)) (e x)) er
-        ∙ sym (end-mirrored (tension τ) (omega arith) (e (from l h)) (e (to quads l h)) (e (to quads l (along quads l h))))
+        ap (λ (x : ℕ). interior (tension t) (mirror (e (from l h)) (e (to quads l h))) (e (from l h)) (e (to quads l h)) (e x)) er
+        ∙ sym (end-mirrored (tension t) (omega arith) (e (from l h)) (e (to quads l h)) (e (to quads l (along quads l h))))
 
-    end-rule : (o : ℕ) → o ≡ from l (back quads l h) → stencilValue (tension τ) e (At o) (from l h) (to quads l h) Nowhere ≡ ordinaryValue (tension τ) l e h endOfSegment
+    end-rule : (o : ℕ) → o ≡ from l (back quads l h) → stencilValue (tension t) e (At o) (from l h) (to quads l h) Nowhere ≡ ordinaryValue (tension t) l e h endOfSegment
     unfolding stencilValue farValue ordinaryValue
     end-rule o eo =
-        ap (λ (x : ℕ). interior (tension τ) (e x) (e (from l h)) (e (to quads l h)) (mirror (e (to quads l h)) (e (from l h)))) eo
-        ∙ interior-turned (tension τ) (e (from l (back quads l h))) (e (from l h)) (e (to quads l h)) (mirror (e (to quads l h)) (e (from l h)))
-        ∙ sym (end-mirrored (tension τ) (omega arith) (e (to quads l h)) (e (from l h)) (e (from l (back quads l h))))
+        ap (λ (x : ℕ). interior (tension t) (e x) (e (from l h)) (e (to quads l h)) (mirror (e (to quads l h)) (e (from l h)))) eo
+        ∙ interior-turned (tension t) (e (from l (back quads l h))) (e (from l h)) (e (to quads l h)) (mirror (e (to quads l h)) (e (from l h)))
+        ∙ sym (end-mirrored (tension t) (omega arith) (e (to quads l h)) (e (from l h)) (e (from l (back quads l h))))
 
-    whole-rule : stencilValue (tension τ) e Nowhere (from l h) (to quads l h) Nowhere ≡ ordinaryValue (tension τ) l e h wholeSegment
+    whole-rule : stencilValue (tension t) e Nowhere (from l h) (to quads l h) Nowhere ≡ ordinaryValue (tension t) l e h wholeSegment
     unfolding stencilValue farValue ordinaryValue
-    whole-rule = sym (single-mirrored (tension τ) (omega arith) (e (from l h)) (e (to quads l h)))
+    whole-rule = sym (single-mirrored (tension t) (omega arith) (e (from l h)) (e (to quads l h)))
 
-    by-marks : (b c : Bool) → stencilValue (tension τ) e (cond b Nowhere (At (from l (back quads l h)))) (from l h) (to quads l h) (cond c Nowhere (At (to quads l (along quads l h))))
-        ≡ ordinaryValue (tension τ) l e h (cond b (cond c wholeSegment startOfSegment) (cond c endOfSegment insideSegment))
+    by-marks : (b c : Bool) → stencilValue (tension t) e (cond b Nowhere (At (from l (back quads l h)))) (from l h) (to quads l h) (cond c Nowhere (At (to quads l (along quads l h))))
+        ≡ ordinaryValue (tension t) l e h (cond b (cond c wholeSegment startOfSegment) (cond c endOfSegment insideSegment))
     by-marks true true = whole-rule
     by-marks true false = start-rule _ refl
     by-marks false true = end-rule _ refl
     by-marks false false = inside-rule _ _ refl refl
 
-    pub far-rule : (marks : List ℕ) → length l ≤ mate quads l h → stencilValue (tension τ) e (farBefore l marks h) (from l h) (to quads l h) (farAfter l marks h) ≡ ordinaryValue (tension τ) l e h (edgeRule l marks h)
-    far-rule marks n = by-marks (marked marks (from l h)) (marked marks (to quads l h)) ∙ ap (ordinaryValue (tension τ) l e h) (sym (rule-boundary l marks h _ _ n refl refl))
+    pub far-rule : (marks : List ℕ) → length l ≤ mate quads l h → stencilValue (tension t) e (farBefore l marks h) (from l h) (to quads l h) (farAfter l marks h) ≡ ordinaryValue (tension t) l e h (edgeRule l marks h)
+    far-rule marks n = by-marks (marked marks (from l h)) (marked marks (to quads l h)) ∙ ap (ordinaryValue (tension t) l e h) (sym (rule-boundary l marks h _ _ n refl refl))

@@ -59,7 +59,7 @@ abbrev pub farOn : (ℕ → ℤ) → Far → (p q : ℕ) → ℤ
 farOn e f p q = farValue e f (e p) (e q)
 
 -- the corners of l that the classes in w, from `at` on, call ordinary are
-pub record Told (at initial : ℕ) (l w : List ℕ) : Type 0 where
+pub record ClassedCorners (at initial : ℕ) (l w : List ℕ) : Type 0 where
   pub room : at + initial ≤ length w
   pub ordinary : (h : ℕ) → h < length l → ordinaryBy w at initial (from l h) ≡ true → Ordinary l (from l h)
 

@@ -19,7 +19,7 @@ ghost use Rattle.walks.specs.Ready.{Ready};
 ghost use Rattle.coordinates.specs.Points.{InTable, Points, Marks, OnAxes};
 ghost use Rattle.coordinates.specs.Entry.{wideFlag, boundaryFlag};
 ghost use Rattle.coordinates.specs.Stencil.{FarIn, stencilValue};
-ghost use Rattle.edgepoints.specs.Edge.{ruleOf, farBefore, farAfter, farOn, StraightFar, OrdinaryEnds, Told, Flagged, ExactPoint};
+ghost use Rattle.edgepoints.specs.Edge.{ruleOf, farBefore, farAfter, farOn, StraightFar, OrdinaryEnds, ClassedCorners, Flagged, ExactPoint};
 use coordinates::Exact;
 use coordinates::Far;
 
@@ -228,7 +228,7 @@ fn end_virtual(
     t: u32,
 ) -> Exact
     requires { ⌜ Ready (now faces) (now work) ⌝ }
-    requires { ⌜ Points (now faces) (now points) × Told at initial (now faces) (now work) ⌝ }
+    requires { ⌜ Points (now faces) (now points) × ClassedCorners at initial (now faces) (now work) ⌝ }
     requires { ⌜ (h < length (now faces)) × (mate quads (now faces) h < length (now faces)) × (t ≤ 4) ⌝ }
     ensures { λ e. ⌜ OnAxes (λ (a : ℕ). virtualAtZ (tension t) (now (faces .entry)) (axis (now (points .entry)) a) h) (e .x) (e .y) (e .z) ⌝ }
 {
@@ -259,7 +259,7 @@ fn wide_edge(
     t: u32,
 ) -> Edge
     requires { ⌜ Ready (now faces) (now work) ⌝ }
-    requires { ⌜ Points (now faces) (now points) × Told at initial (now faces) (now work) ⌝ }
+    requires { ⌜ Points (now faces) (now points) × ClassedCorners at initial (now faces) (now work) ⌝ }
     requires { ⌜ (h < length (now faces)) × (m ≡ mate quads (now faces) h) × (m < length (now faces)) × (t ≤ 4) ⌝ }
     ensures { λ e. ⌜ (e .flag ≡ wideFlag) × OnAxes (λ (a : ℕ). edgeValueZ (tension t) (now (faces .entry)) (axis (now (points .entry)) a) h innerRule) (e .x) (e .y) (e .z) ⌝ }
 {
@@ -287,7 +287,7 @@ fn inner_edge(
     t: u32,
 ) -> Edge
     requires { ⌜ Ready (now faces) (now work) ⌝ }
-    requires { ⌜ Points (now faces) (now points) × Told at initial (now faces) (now work) ⌝ }
+    requires { ⌜ Points (now faces) (now points) × ClassedCorners at initial (now faces) (now work) ⌝ }
     requires { ⌜ (h < length (now faces)) × (m ≡ mate quads (now faces) h) × (m < length (now faces)) × (t ≤ 4) ⌝ }
     ensures { λ e. ⌜ Flagged (now (faces .entry)) h (e .flag) × ExactPoint (tension t) (e .flag) (λ (a : ℕ). edgeValueZ (tension t) (now (faces .entry)) (axis (now (points .entry)) a) h innerRule) (e .x) (e .y) (e .z) ⌝ }
 {
@@ -318,7 +318,7 @@ pub fn edge_exact(
     t: u32,
 ) -> Edge
     requires { ⌜ Ready (now faces) (now work) ⌝ }
-    requires { ⌜ Points (now faces) (now points) × Marks (now faces) (now marks) × Told at initial (now faces) (now work) ⌝ }
+    requires { ⌜ Points (now faces) (now points) × Marks (now faces) (now marks) × ClassedCorners at initial (now faces) (now work) ⌝ }
     requires { ⌜ (h < length (now faces)) × (m ≡ mate quads (now faces) h) × (t ≤ 4) ⌝ }
     ensures { λ e. ⌜ Flagged (now (faces .entry)) h (e .flag) × ExactPoint (tension t) (e .flag) (λ (a : ℕ). edgeZ (tension t) (now (faces .entry)) (now (marks .entry)) (axis (now (points .entry)) a) h) (e .x) (e .y) (e .z) ⌝ }
 {

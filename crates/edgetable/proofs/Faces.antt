@@ -34,16 +34,16 @@ use Rattle.edgetable.specs.EdgeTable.{oldAxis, edgeAxis, Round, Entry, E
 use Rattle.edgetable.proofs.EdgeTable.{entry-edge, edge-few, edge-small, ready-now}
 
 -- ---- an entry tells what its edge is
-module _ (l : List ℕ) (h t : ℕ) (few : edge quads l h < wideFlag) (o : Entry l h t) where
-  pub entry-inner : ltb t boundaryFlag ≡ ltb (mate quads l h) (length l)
+module _ (l : List ℕ) (h entry : ℕ) (few : edge quads l h < wideFlag) (o : Entry l h entry) where
+  pub entry-inner : ltb entry boundaryFlag ≡ ltb (mate quads l h) (length l)
   entry-inner = go (o .flagged)
     where
-      go : Flagged l h (o .flag) → ltb t boundaryFlag ≡ ltb (mate quads l h) (length l)
-      go (plain m a b e) = let q = o .is in lt-ltb t boundaryFlag (omega arith) ∙ sym (lt-ltb (mate quads l h) (length l) m)
-      go (wide m e) = let q = o .is in lt-ltb t boundaryFlag (omega arith) ∙ sym (lt-ltb (mate quads l h) (length l) m)
-      go (boundary m e) = let q = o .is in le-ltb t boundaryFlag (omega arith) ∙ sym (le-ltb (mate quads l h) (length l) (omega arith))
+      go : Flagged l h (o .flag) → ltb entry boundaryFlag ≡ ltb (mate quads l h) (length l)
+      go (plain m a b e) = let q = o .is in lt-ltb entry boundaryFlag (omega arith) ∙ sym (lt-ltb (mate quads l h) (length l) m)
+      go (wide m e) = let q = o .is in lt-ltb entry boundaryFlag (omega arith) ∙ sym (lt-ltb (mate quads l h) (length l) m)
+      go (boundary m e) = let q = o .is in le-ltb entry boundaryFlag (omega arith) ∙ sym (le-ltb (mate quads l h) (length l) (omega arith))
 
-  pub entry-plain : t < wideFlag → (mate quads l h < length l) × Ordinary l (from l h) × Ordinary l (to quads l h)
+  pub entry-plain : entry < wideFlag → (mate quads l h < length l) × Ordinary l (from l h) × Ordinary l (to quads l h)
   entry-plain b = go (o .flagged)
     where
       go : Flagged l h (o .flag) → (mate quads l h < length l) × Ordinary l (from l h) × Ordinary l (to quads l h)
@@ -60,32 +60,32 @@ swapped true false true d = refl
 swapped true false false d = refl
 swapped false b c d = refl
 
-module _ (τ : ℕ) where
+module _ (t : ℕ) where
   -- ---- a direction with mirrored points
-  module _ (low : τ ≤ 4) (x y : ℤ) where
-    first-mirrored : (u : ℤ) → interior (tension τ) u x y (mirror y x) ≡ endEdge (tension τ) y x u
-    first-mirrored u = interior-turned (tension τ) u x y (mirror y x) ∙ sym (end-mirrored (tension τ) (omega arith) y x u)
+  module _ (low : t ≤ 4) (x y : ℤ) where
+    first-mirrored : (u : ℤ) → interior (tension t) u x y (mirror y x) ≡ endEdge (tension t) y x u
+    first-mirrored u = interior-turned (tension t) u x y (mirror y x) ∙ sym (end-mirrored (tension t) (omega arith) y x u)
 
     by-neighbours : (b c : Bool) (u v : ℤ)
-        → interior (tension τ) (cond b u (mirror x y)) x y (cond c v (mirror y x))
-        ≡ cond b (cond c (interior (tension τ) u x y v) (endEdge (tension τ) y x u)) (cond c (endEdge (tension τ) x y v) (singleEdge (tension τ) x y))
+        → interior (tension t) (cond b u (mirror x y)) x y (cond c v (mirror y x))
+        ≡ cond b (cond c (interior (tension t) u x y v) (endEdge (tension t) y x u)) (cond c (endEdge (tension t) x y v) (singleEdge (tension t) x y))
     by-neighbours true true u v = refl
     by-neighbours true false u v = first-mirrored u
-    by-neighbours false true u v = sym (end-mirrored (tension τ) (omega arith) x y v)
-    by-neighbours false false u v = sym (single-mirrored (tension τ) (omega arith) x y)
+    by-neighbours false true u v = sym (end-mirrored (tension t) (omega arith) x y v)
+    by-neighbours false false u v = sym (single-mirrored (tension t) (omega arith) x y)
 
-  module _ (l marks : List ℕ) (p₀ : List ℤ) (w₀ : List ℕ) (at initial : ℕ) (ok : Round τ l marks p₀ w₀ at initial) (p : List ℤ) (w : List ℕ) (done : Edges τ l marks p₀ w₀ p w (length l) (edgeCount quads l)) where
+  module _ (l marks : List ℕ) (p₀ : List ℤ) (w₀ : List ℕ) (at initial : ℕ) (ok : Round t l marks p₀ w₀ at initial) (p : List ℤ) (w : List ℕ) (done : Edges t l marks p₀ w₀ p w (length l) (edgeCount quads l)) where
     abbrev n : ℕ
     n = length l
 
     abbrev E : ℕ → ℕ → ℤ
-    E a = edgeAxis (tension τ) l marks p₀ a
+    E a = edgeAxis (tension t) l marks p₀ a
 
     few : (h : ℕ) → h < n → edge quads l h < wideFlag
-    few h k = edge-few τ l marks p₀ w₀ at initial ok h k
+    few h k = edge-few t l marks p₀ w₀ at initial ok h k
 
     mate-now : (h : ℕ) → h < n → getD w h 0 ≡ mate quads l h
-    mate-now h k = ready-now τ l marks p₀ w₀ at initial ok p w n (edgeCount quads l) done .table .mated .mates h k
+    mate-now h k = ready-now t l marks p₀ w₀ at initial ok p w n (edgeCount quads l) done .table .mated .mates h k
 
     beyond-now : (h : ℕ) → h < n → beyondOf w h ≡ beyond l h
     unfolding beyondOf beyond
@@ -96,22 +96,22 @@ module _ (τ : ℕ) where
     beyond-lt h m = across-lt (length marks) l (ok .net) (mate quads l h) m
 
     -- ---- values
-    exact-is : (a h : ℕ) → a < 3 → h < n → exactOf (tension τ) n w a h ≡ E a h
+    exact-is : (a h : ℕ) → a < 3 → h < n → exactOf (tension t) n w a h ≡ E a h
     unfolding exactOf exactAt
     exact-is a h k b =
         let s = done .stored a h k b in
-        ap (λ (z : ℤ). pos (unitOf (tension τ) (entryOf n w h)) *ℤ z) (holds-value w (placeOf n (entryOf n w h) + 2 * a) (s .number) (s .holds)) ∙ s .value
+        ap (λ (z : ℤ). pos (unitOf (tension t) (entryOf n w h)) *ℤ z) (holds-value w (placeOf n (entryOf n w h) + 2 * a) (s .number) (s .holds)) ∙ s .value
 
-    far-is : (a h : ℕ) (x y : ℤ) → a < 3 → h < n → farOf (tension τ) n w a h x y ≡ cond (ltb (mate quads l h) n) (E a (beyond l h)) (mirror x y)
+    far-is : (a h : ℕ) (x y : ℤ) → a < 3 → h < n → farOf (tension t) n w a h x y ≡ cond (ltb (mate quads l h) n) (E a (beyond l h)) (mirror x y)
     unfolding farOf
     far-is a h x y k b =
-        ap₂ (λ (i j : ℕ). cond (ltb i n) (exactOf (tension τ) n w a j) (mirror x y)) (mate-now h b) (beyond-now h b) ∙ go (decLt (mate quads l h) n)
+        ap₂ (λ (i j : ℕ). cond (ltb i n) (exactOf (tension t) n w a j) (mirror x y)) (mate-now h b) (beyond-now h b) ∙ go (decLt (mate quads l h) n)
       where
-        go : Dec (mate quads l h < n) → cond (ltb (mate quads l h) n) (exactOf (tension τ) n w a (beyond l h)) (mirror x y) ≡ cond (ltb (mate quads l h) n) (E a (beyond l h)) (mirror x y)
+        go : Dec (mate quads l h < n) → cond (ltb (mate quads l h) n) (exactOf (tension t) n w a (beyond l h)) (mirror x y) ≡ cond (ltb (mate quads l h) n) (E a (beyond l h)) (mirror x y)
         go (yes m) = ap (λ (z : ℤ). cond (ltb (mate quads l h) n) z (mirror x y)) (exact-is a (beyond l h) k (beyond-lt h m))
-        go (no m) = let t = le-ltb (mate quads l h) n (omega arith) in rw t
+        go (no m) = let b = le-ltb (mate quads l h) n (omega arith) in rw b
 
-    direction-is : (a h : ℕ) → a < 3 → h < n → directionOf (tension τ) n w a h ≡ directionZ (tension τ) l (E a) h
+    direction-is : (a h : ℕ) → a < 3 → h < n → directionOf (tension t) n w a h ≡ directionZ (tension t) l (E a) h
     unfolding directionOf directionZ
     direction-is a h k b =
         let j = across-lt (length marks) l (ok .net) h b in
@@ -119,8 +119,8 @@ module _ (τ : ℕ) where
         let y = exact-is a (across h) k j in
         let u = far-is a h (E a h) (E a (across h)) k b in
         let v = far-is a (across h) (E a (across h)) (E a h) k j in
-        ap₂ (λ (s t : ℤ). interior (tension τ) (farOf (tension τ) n w a h s t) s t (farOf (tension τ) n w a (across h) t s)) x y
-        ∙ ap₂ (λ (s t : ℤ). interior (tension τ) s (E a h) (E a (across h)) t) u v
+        ap₂ (λ (s r : ℤ). interior (tension t) (farOf (tension t) n w a h s r) s r (farOf (tension t) n w a (across h) r s)) x y
+        ∙ ap₂ (λ (s r : ℤ). interior (tension t) s (E a h) (E a (across h)) r) u v
         ∙ by-neighbours (ok .low) (E a h) (E a (across h)) (ltb (mate quads l h) n) (ltb (mate quads l (across h)) n) (E a (beyond l h)) (E a (beyond l (across h)))
 
     -- ---- rules
@@ -131,7 +131,7 @@ module _ (τ : ℕ) where
       where
         go : Dec (mate quads l h < n) → ltb (mate quads l h) n && ltb (entryOf n w (beyond l h)) boundaryFlag ≡ ltb (mate quads l h) n && ltb (mate quads l (beyond l h)) n
         go (yes m) = let j = beyond-lt h m in ap (λ (c : Bool). ltb (mate quads l h) n && c) (entry-inner l (beyond l h) (entryOf n w (beyond l h)) (few (beyond l h) j) (done .entries (beyond l h) j))
-        go (no m) = let t = le-ltb (mate quads l h) n (omega arith) in rw t
+        go (no m) = let b = le-ltb (mate quads l h) n (omega arith) in rw b
 
     four-is : (h : ℕ) → h < n → fourInnerOf n w h ≡ fourInner l h
     unfolding fourInnerOf fourInner
@@ -143,21 +143,21 @@ module _ (τ : ℕ) where
     twice : (x : ℤ) → x +ℤ x ≡ pos 2 *ℤ x
     twice x = same (var 0 ⊞ var 0) (lit (pos 2) ⊠ var 0) (x ∷ []) refl
 
-    by-rule : (e : ℕ → ℤ) (f : ℕ) (a : ℕ) (b c : Bool) → directionOf (tension τ) n w a (4 * f) ≡ directionZ (tension τ) l e (4 * f) → directionOf (tension τ) n w a (4 * f + 1) ≡ directionZ (tension τ) l e (4 * f + 1)
-        → faceValueOf (tension τ) n w a f (cond b (cond c BothInner FirstAlone) (cond c SecondAlone NeitherInner)) ≡ faceValueZ (tension τ) l e f (cond b (cond c bothInner firstAlone) (cond c secondAlone neitherInner))
+    by-rule : (e : ℕ → ℤ) (f : ℕ) (a : ℕ) (b c : Bool) → directionOf (tension t) n w a (4 * f) ≡ directionZ (tension t) l e (4 * f) → directionOf (tension t) n w a (4 * f + 1) ≡ directionZ (tension t) l e (4 * f + 1)
+        → faceValueOf (tension t) n w a f (cond b (cond c BothInner FirstAlone) (cond c SecondAlone NeitherInner)) ≡ faceValueZ (tension t) l e f (cond b (cond c bothInner firstAlone) (cond c secondAlone neitherInner))
     unfolding faceValueOf faceValueZ
-    by-rule e f a true true x y = ap₂ (λ (s t : ℤ). s +ℤ t) x y
-    by-rule e f a true false x y = ap₂ (λ (s t : ℤ). s +ℤ t) x x ∙ twice (directionZ (tension τ) l e (4 * f))
-    by-rule e f a false true x y = ap₂ (λ (s t : ℤ). s +ℤ t) y y ∙ twice (directionZ (tension τ) l e (4 * f + 1))
-    by-rule e f a false false x y = ap₂ (λ (s t : ℤ). s +ℤ t) x y
+    by-rule e f a true true x y = ap₂ (λ (s r : ℤ). s +ℤ r) x y
+    by-rule e f a true false x y = ap₂ (λ (s r : ℤ). s +ℤ r) x x ∙ twice (directionZ (tension t) l e (4 * f))
+    by-rule e f a false true x y = ap₂ (λ (s r : ℤ). s +ℤ r) y y ∙ twice (directionZ (tension t) l e (4 * f + 1))
+    by-rule e f a false false x y = ap₂ (λ (s r : ℤ). s +ℤ r) x y
 
-    pub face-is : (a f : ℕ) → a < 3 → f < quads .faces n → faceCoordinate (tension τ) n w a f ≡ round (faceZ (tension τ) l (E a) f) (faceScale (tension τ))
+    pub face-is : (a f : ℕ) → a < 3 → f < quads .faces n → faceCoordinate (tension t) n w a f ≡ round (faceZ (tension t) l (E a) f) (faceScale (tension t))
     unfolding faceCoordinate faceRuleOf faceZ faceRule
     face-is a f k b =
         let b₀ = side₀-lt l f b in
         let b₁ = side₁-lt l f b in
-        ap (λ (z : ℤ). round z (faceScale (tension τ)))
-        (ap₂ (λ (c d : Bool). faceValueOf (tension τ) n w a f (cond c (cond d BothInner FirstAlone) (cond d SecondAlone NeitherInner))) (four-is (4 * f) b₀) (four-is (4 * f + 1) b₁)
+        ap (λ (z : ℤ). round z (faceScale (tension t)))
+        (ap₂ (λ (c d : Bool). faceValueOf (tension t) n w a f (cond c (cond d BothInner FirstAlone) (cond d SecondAlone NeitherInner))) (four-is (4 * f) b₀) (four-is (4 * f + 1) b₁)
         ∙ by-rule (E a) f a (fourInner l (4 * f)) (fourInner l (4 * f + 1)) (direction-is a (4 * f) k b₀) (direction-is a (4 * f + 1) k b₁))
 
     -- ---- where all eight edges are plain, both directions agree
@@ -189,20 +189,20 @@ module _ (τ : ℕ) where
       unfolding quads
       face-lt = let r = ok .table .sides .fours in omega arith
 
-      agree-now : (a : ℕ) → a < 3 → directionOf (tension τ) n w a (4 * f) ≡ directionOf (tension τ) n w a (4 * f + 1)
+      agree-now : (a : ℕ) → a < 3 → directionOf (tension t) n w a (4 * f) ≡ directionOf (tension t) n w a (4 * f + 1)
       unfolding edgeAxis
       agree-now a k =
           direction-is a (4 * f) k b
-          ∙ directions-equal (tension τ) (omega arith) (omega arith) (length marks) l marks (ok .net) (oldAxis marks p₀ a) f face-lt eight
+          ∙ directions-equal (tension t) (omega arith) (omega arith) (length marks) l marks (ok .net) (oldAxis marks p₀ a) f face-lt eight
           ∙ sym (direction-is a (4 * f + 1) k (side₁-lt l f face-lt))
 
     pub number-is : (h : ℕ) → h < n → edgeOf (entryOf n w h) ≡ edge quads l h
-    number-is h b = let o = done .entries h b in ap edgeOf (o .is) ∙ entry-edge τ l h (o .flag) (edge quads l h) (few h b) (o .flagged)
+    number-is h b = let o = done .entries h b in ap edgeOf (o .is) ∙ entry-edge l h (o .flag) (edge quads l h) (few h b) (o .flagged)
 
     pub inner-is : (h : ℕ) → h < n → ltb (entryOf n w h) boundaryFlag ≡ ltb (mate quads l h) n
     inner-is h b = entry-inner l h (entryOf n w h) (few h b) (done .entries h b)
 
-    pub face-table : FaceTable τ n w
+    pub face-table : FaceTable t n w
     face-table =
         let r = ok .classes .room in
         let q = ok .behind in
@@ -220,6 +220,6 @@ module _ (τ : ℕ) where
             high = λ a h c b. let s = done .stored a h c b in holds-high w (placeOf n (entryOf n w h) + 2 * a) (s .number) (s .holds);
           };
           low = ok .low;
-          small = λ a h c b. let e = ap natAbs (exact-is a h c b) in let s = edge-small τ l marks p₀ w₀ at initial ok a h b in omega arith;
+          small = λ a h c b. let e = ap natAbs (exact-is a h c b) in let s = edge-small t l marks p₀ w₀ at initial ok a h b in omega arith;
           agree = λ a f c b all. agree-now f b all a c;
         }

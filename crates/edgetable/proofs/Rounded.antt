@@ -17,40 +17,40 @@ use Rattle.rings.specs.Scales.{virtualScale, edgeScale, edgeRange}
 use Rattle.coordinates.specs.Entry.{wideFlag, unitOf}
 use Rattle.edgetable.specs.EdgeTable.{roundedBy}
 
-module _ (τ : ℕ) where
-  pub rounded-fits : (z : ℤ) → natAbs z ≤ edgeRange (tension τ) → SFits w32 (round z (edgeScale (tension τ)))
-  rounded-fits z h = let c = edge-range-at τ in let d = edge-scale-at τ in let r = round-within z (edgeScale (tension τ)) 123032918 (omega arith) (omega arith) in fits-abs w32 (round z (edgeScale (tension τ))) (omega arith)
+module _ (t : ℕ) where
+  pub rounded-fits : (z : ℤ) → natAbs z ≤ edgeRange (tension t) → SFits w32 (round z (edgeScale (tension t)))
+  rounded-fits z h = let c = edge-range-at t in let d = edge-scale-at t in let r = round-within z (edgeScale (tension t)) 123032918 (omega arith) (omega arith) in fits-abs w32 (round z (edgeScale (tension t))) (omega arith)
 
   -- ---- over the scale
-  pub plain-small : (z : ℤ) → natAbs (pos (virtualScale (tension τ)) *ℤ z) ≤ edgeRange (tension τ) → natAbs z ≤ 2 ^ 33
+  pub plain-small : (z : ℤ) → natAbs (pos (virtualScale (tension t)) *ℤ z) ≤ edgeRange (tension t) → natAbs z ≤ 2 ^ 33
   plain-small z h =
-      let a = abs-mul (pos (virtualScale (tension τ))) z in
-      let c = edge-range-at τ in
-      let f : virtualScale (tension τ) * natAbs z ≡ (32 + τ) * (50400 * natAbs z) = mul-assoc (32 + τ) 50400 (natAbs z) in
-      let j : 0 < 32 + τ = omega arith in
-      let m : 50400 * natAbs z ≤ 5913600 * 67108864 = le-of-mul-le-mul-left {k = 32 + τ} (omega arith) j in
+      let a = abs-mul (pos (virtualScale (tension t))) z in
+      let c = edge-range-at t in
+      let f : virtualScale (tension t) * natAbs z ≡ (32 + t) * (50400 * natAbs z) = mul-assoc (32 + t) 50400 (natAbs z) in
+      let j : 0 < 32 + t = omega arith in
+      let m : 50400 * natAbs z ≤ 5913600 * 67108864 = le-of-mul-le-mul-left {k = 32 + t} (omega arith) j in
       omega arith
 
-  pub round-plain : (z : ℤ) → round z 64 ≡ round (pos (virtualScale (tension τ)) *ℤ z) (edgeScale (tension τ))
+  pub round-plain : (z : ℤ) → round z 64 ≡ round (pos (virtualScale (tension t)) *ℤ z) (edgeScale (tension t))
   round-plain z =
-      let e : virtualScale (tension τ) * 64 ≡ edgeScale (tension τ) = (let d = edge-scale-at τ in omega arith) in
-      sym (round-scale (virtualScale (tension τ)) z 64 (omega arith) (omega arith)) ∙ ap (round (pos (virtualScale (tension τ)) *ℤ z)) e
+      let e : virtualScale (tension t) * 64 ≡ edgeScale (tension t) = (let d = edge-scale-at t in omega arith) in
+      sym (round-scale (virtualScale (tension t)) z 64 (omega arith) (omega arith)) ∙ ap (round (pos (virtualScale (tension t)) *ℤ z)) e
 
   -- ---- by the flag
-  unit-wide : (flag : ℕ) → flag ≡ wideFlag → (z : ℤ) → pos (unitOf (tension τ) flag) *ℤ z ≡ z
+  unit-wide : (flag : ℕ) → flag ≡ wideFlag → (z : ℤ) → pos (unitOf (tension t) flag) *ℤ z ≡ z
   unfolding unitOf
-  unit-wide flag e z = ap (λ (t : ℕ). pos (unitOf (tension τ) t) *ℤ z) e ∙ one-*ℤ z
+  unit-wide flag e z = ap (λ (i : ℕ). pos (unitOf (tension t) i) *ℤ z) e ∙ one-*ℤ z
 
-  pub wide-is : (flag : ℕ) → flag ≡ wideFlag → (z : ℤ) → round z (edgeScale (tension τ)) ≡ roundedBy (tension τ) flag z
+  pub wide-is : (flag : ℕ) → flag ≡ wideFlag → (z : ℤ) → round z (edgeScale (tension t)) ≡ roundedBy (tension t) flag z
   unfolding roundedBy
-  wide-is flag e z = ap (λ (x : ℤ). round x (edgeScale (tension τ))) (sym (unit-wide flag e z))
+  wide-is flag e z = ap (λ (x : ℤ). round x (edgeScale (tension t))) (sym (unit-wide flag e z))
 
-  pub wide-range : (flag : ℕ) → flag ≡ wideFlag → (z : ℤ) → natAbs (pos (unitOf (tension τ) flag) *ℤ z) ≤ edgeRange (tension τ) → natAbs z ≤ edgeRange (tension τ)
+  pub wide-range : (flag : ℕ) → flag ≡ wideFlag → (z : ℤ) → natAbs (pos (unitOf (tension t) flag) *ℤ z) ≤ edgeRange (tension t) → natAbs z ≤ edgeRange (tension t)
   wide-range flag e z h = let a = ap natAbs (unit-wide flag e z) in omega arith
 
-  pub plain-is : (flag : ℕ) → unitOf (tension τ) flag ≡ virtualScale (tension τ) → (z : ℤ) → round (pos (virtualScale (tension τ)) *ℤ z) (edgeScale (tension τ)) ≡ roundedBy (tension τ) flag z
+  pub plain-is : (flag : ℕ) → unitOf (tension t) flag ≡ virtualScale (tension t) → (z : ℤ) → round (pos (virtualScale (tension t)) *ℤ z) (edgeScale (tension t)) ≡ roundedBy (tension t) flag z
   unfolding roundedBy
-  plain-is flag e z = ap (λ (u : ℕ). round (pos u *ℤ z) (edgeScale (tension τ))) (sym e)
+  plain-is flag e z = ap (λ (u : ℕ). round (pos u *ℤ z) (edgeScale (tension t))) (sym e)
 
-  pub plain-range : (flag : ℕ) → unitOf (tension τ) flag ≡ virtualScale (tension τ) → (z : ℤ) → natAbs (pos (unitOf (tension τ) flag) *ℤ z) ≤ edgeRange (tension τ) → natAbs (pos (virtualScale (tension τ)) *ℤ z) ≤ edgeRange (tension τ)
+  pub plain-range : (flag : ℕ) → unitOf (tension t) flag ≡ virtualScale (tension t) → (z : ℤ) → natAbs (pos (unitOf (tension t) flag) *ℤ z) ≤ edgeRange (tension t) → natAbs (pos (virtualScale (tension t)) *ℤ z) ≤ edgeRange (tension t)
   plain-range flag e z h = let a = ap (λ (u : ℕ). natAbs (pos u *ℤ z)) e in omega arith

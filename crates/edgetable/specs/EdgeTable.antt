@@ -25,28 +25,28 @@ use Rattle.edgepoints.specs.Edge.{Flagged, ExactPoint}
 
 -- a stored numerator of an edge with this flag, rounded
 unfoldable pub roundedBy : Weights → ℕ → ℤ → ℤ
-roundedBy ω flag z = round (pos (unitOf ω flag) *ℤ z) (edgeScale ω)
+roundedBy weights flag z = round (pos (unitOf weights flag) *ℤ z) (edgeScale weights)
 
 -- an exact point in the range of edges, with a flag that tells its denominator
-pub record Small (ω : Weights) (flag : ℕ) (x y z : ℤ) : Type 0 where
-  pub plain : (flag ≡ wideFlag → ⊥) → unitOf ω flag ≡ virtualScale ω
-  pub on₀ : natAbs (pos (unitOf ω flag) *ℤ x) ≤ edgeRange ω
-  pub on₁ : natAbs (pos (unitOf ω flag) *ℤ y) ≤ edgeRange ω
-  pub on₂ : natAbs (pos (unitOf ω flag) *ℤ z) ≤ edgeRange ω
+pub record Small (weights : Weights) (flag : ℕ) (x y z : ℤ) : Type 0 where
+  pub plain : (flag ≡ wideFlag → ⊥) → unitOf weights flag ≡ virtualScale weights
+  pub on₀ : natAbs (pos (unitOf weights flag) *ℤ x) ≤ edgeRange weights
+  pub on₁ : natAbs (pos (unitOf weights flag) *ℤ y) ≤ edgeRange weights
+  pub on₂ : natAbs (pos (unitOf weights flag) *ℤ z) ≤ edgeRange weights
 
 -- coordinate a of the old vertices, of the refined ones, and of the exact points of edges
 unfoldable pub oldAxis : List ℕ → List ℤ → ℕ → ℕ → ℤ
 oldAxis marks p a = axis (take (3 * length marks) p) a
 
 unfoldable pub refinedAxis : Weights → List ℕ → List ℕ → List ℤ → ℕ → ℕ → ℤ
-refinedAxis ω l marks p a i = refinedCoordinate ω (length marks) l marks (oldAxis marks p a) i
+refinedAxis weights l marks p a i = refinedCoordinate weights (length marks) l marks (oldAxis marks p a) i
 
 unfoldable pub edgeAxis : Weights → List ℕ → List ℕ → List ℤ → ℕ → ℕ → ℤ
-edgeAxis ω l marks p a h = edgeZ ω l marks (oldAxis marks p a) h
+edgeAxis weights l marks p a h = edgeZ weights l marks (oldAxis marks p a) h
 
 -- what the pass assumes of the tables: mates in front of w, classes of the vertices from `at` on, and room
-pub record Round (τ : ℕ) (l marks : List ℕ) (p : List ℤ) (w : List ℕ) (at initial : ℕ) : Type 0 where
-  pub low : τ ≤ 4
+pub record Round (t : ℕ) (l marks : List ℕ) (p : List ℤ) (w : List ℕ) (at initial : ℕ) : Type 0 where
+  pub low : t ≤ 4
   pub net : Manifold quads (length marks) l
   pub table : Connectivity l w
   pub classes : Classes (length marks) at initial l w
@@ -56,8 +56,8 @@ pub record Round (τ : ℕ) (l marks : List ℕ) (p : List ℤ) (w : List ℕ) (
   pub bounded : Within coordinateRange (take (3 * length marks) p)
 
 -- before half-edge h, with e edges met, the tables have room for the point of its edge
-pub record Turn (τ : ℕ) (l marks : List ℕ) (p : List ℤ) (w : List ℕ) (at initial h e : ℕ) : Type 0 where
-  pub low : τ ≤ 4
+pub record Turn (t : ℕ) (l marks : List ℕ) (p : List ℤ) (w : List ℕ) (at initial h e : ℕ) : Type 0 where
+  pub low : t ≤ 4
   pub ready : Ready l w
   pub points : Points l (take (3 * length marks) p)
   pub marked : Marks l marks
@@ -72,30 +72,30 @@ pub record Turn (τ : ℕ) (l marks : List ℕ) (p : List ℤ) (w : List ℕ) (a
   pub exact : h < mate quads l h → 2 * length l + 6 * e + 6 ≤ length w
 
 -- after it, with r edges met: the point of its edge went, rounded and exact, to the tables, and its entry; or the edge was met before, and has the entry of its mate
-pub data Turned (τ : ℕ) (l marks : List ℕ) (h e r : ℕ) (p : List ℤ) (w : List ℕ) (p′ : List ℤ) (w′ : List ℕ) : Type 0 where
-  met : (flag : ℕ) (x y z : ℤ) → h < mate quads l h → r ≡ e + 1 → Flagged l h flag → ExactPoint (tension τ) flag (λ (a : ℕ). edgeZ (tension τ) l marks (axis (take (3 * length marks) p) a) h) x y z
-      → p′ ≡ putPoint p (length marks + e) (roundedBy (tension τ) flag x) (roundedBy (tension τ) flag y) (roundedBy (tension τ) flag z) → w′ ≡ set (putThree w (2 * length l + 6 * e) x y z) (length l + h) (e + flag)
-      → Turned τ l marks h e r p w p′ w′
-  passed : mate quads l h < h → r ≡ e → p′ ≡ p → w′ ≡ set w (length l + h) (getD w (length l + mate quads l h) 0) → Turned τ l marks h e r p w p′ w′
+pub data Turned (t : ℕ) (l marks : List ℕ) (h e r : ℕ) (p : List ℤ) (w : List ℕ) (p′ : List ℤ) (w′ : List ℕ) : Type 0 where
+  met : (flag : ℕ) (x y z : ℤ) → h < mate quads l h → r ≡ e + 1 → Flagged l h flag → ExactPoint (tension t) flag (λ (a : ℕ). edgeZ (tension t) l marks (axis (take (3 * length marks) p) a) h) x y z
+      → p′ ≡ putPoint p (length marks + e) (roundedBy (tension t) flag x) (roundedBy (tension t) flag y) (roundedBy (tension t) flag z) → w′ ≡ set (putThree w (2 * length l + 6 * e) x y z) (length l + h) (e + flag)
+      → Turned t l marks h e r p w p′ w′
+  passed : mate quads l h < h → r ≡ e → p′ ≡ p → w′ ≡ set w (length l + h) (getD w (length l + mate quads l h) 0) → Turned t l marks h e r p w p′ w′
 
--- the entry t of the edge of h: its number and its flag
-pub record Entry (l : List ℕ) (h t : ℕ) : Type 0 where
+-- the entry of the edge of h: its number and its flag
+pub record Entry (l : List ℕ) (h entry : ℕ) : Type 0 where
   pub flag : ℕ
   pub flagged : Flagged l h flag
-  pub is : t ≡ edge quads l h + flag
+  pub is : entry ≡ edge quads l h + flag
 
--- w has coordinate a of an exact point for the entry t: over `edgeScale` it is X
-pub record StoredAt (ω : Weights) (n : ℕ) (w : List ℕ) (a t : ℕ) (X : ℤ) : Type 0 where
+-- w has coordinate a of an exact point for an entry: over `edgeScale` it is X
+pub record StoredAt (weights : Weights) (n : ℕ) (w : List ℕ) (a entry : ℕ) (X : ℤ) : Type 0 where
   pub number : ℤ
-  pub holds : Holds w (placeOf n t + 2 * a) number
-  pub value : pos (unitOf ω t) *ℤ number ≡ X
+  pub holds : Holds w (placeOf n entry + 2 * a) number
+  pub value : pos (unitOf weights entry) *ℤ number ≡ X
 
 -- of the tables p₀ and w₀, p and w have the points of the edges of the half-edges below h, of which there are e: rounded behind the old ones, and exact
-pub record Edges (τ : ℕ) (l marks : List ℕ) (p₀ : List ℤ) (w₀ : List ℕ) (p : List ℤ) (w : List ℕ) (h e : ℕ) : Type 0 where
+pub record Edges (t : ℕ) (l marks : List ℕ) (p₀ : List ℤ) (w₀ : List ℕ) (p : List ℤ) (w : List ℕ) (h e : ℕ) : Type 0 where
   pub old : take (3 * length marks) p ≡ take (3 * length marks) p₀
-  pub points : Written (refinedAxis (tension τ) l marks p₀) p₀ p (length marks + e)
+  pub points : Written (refinedAxis (tension t) l marks p₀) p₀ p (length marks + e)
   pub kept : length w ≡ length w₀
   pub mates : (k : ℕ) → k < length l → getD w k 0 ≡ getD w₀ k 0
   pub behind : (k : ℕ) → 8 * length l ≤ k → getD w k 0 ≡ getD w₀ k 0
   pub entries : (g : ℕ) → g < h → Entry l g (entryOf (length l) w g)
-  pub stored : (a g : ℕ) → a < 3 → g < h → StoredAt (tension τ) (length l) w a (entryOf (length l) w g) (edgeAxis (tension τ) l marks p₀ a g)
+  pub stored : (a g : ℕ) → a < 3 → g < h → StoredAt (tension t) (length l) w a (entryOf (length l) w g) (edgeAxis (tension t) l marks p₀ a g)

@@ -21,14 +21,14 @@ beyondOf w h = across (getD w h 0)
 
 -- ---- a direction, over `directionScale`
 -- the exact value beyond the side h; where h has no mate, y mirrored at x, where x is the value of h and y that of the opposite side
-unfoldable pub farOf : (ω : Weights) (n : ℕ) (w : List ℕ) (a h : ℕ) (x y : ℤ) → ℤ
-farOf ω n w a h x y = cond (ltb (getD w h 0) n) (exactOf ω n w a (beyondOf w h)) (mirror x y)
+unfoldable pub farOf : (weights : Weights) (n : ℕ) (w : List ℕ) (a h : ℕ) (x y : ℤ) → ℤ
+farOf weights n w a h x y = cond (ltb (getD w h 0) n) (exactOf weights n w a (beyondOf w h)) (mirror x y)
 
-unfoldable pub directionOf : (ω : Weights) (n : ℕ) (w : List ℕ) (a h : ℕ) → ℤ
-directionOf ω n w a h =
-    let x = exactOf ω n w a h in
-    let y = exactOf ω n w a (across h) in
-    interior ω (farOf ω n w a h x y) x y (farOf ω n w a (across h) y x)
+unfoldable pub directionOf : (weights : Weights) (n : ℕ) (w : List ℕ) (a h : ℕ) → ℤ
+directionOf weights n w a h =
+    let x = exactOf weights n w a h in
+    let y = exactOf weights n w a (across h) in
+    interior weights (farOf weights n w a h x y) x y (farOf weights n w a (across h) y x)
 
 -- ---- which directions count
 -- whether h has a mate and the edge beyond it is an inner edge
@@ -44,19 +44,19 @@ faceRuleOf n w f =
     (cond (fourInnerOf n w (4 * f + 1)) SecondAlone NeitherInner)
 
 -- ---- a face, over `faceScale`: a direction that counts alone is doubled
-unfoldable pub faceValueOf : (ω : Weights) (n : ℕ) → List ℕ → (a f : ℕ) → FaceRule → ℤ
-faceValueOf ω n w a f FirstAlone = directionOf ω n w a (4 * f) +ℤ directionOf ω n w a (4 * f)
-faceValueOf ω n w a f SecondAlone = directionOf ω n w a (4 * f + 1) +ℤ directionOf ω n w a (4 * f + 1)
-faceValueOf ω n w a f BothInner = directionOf ω n w a (4 * f) +ℤ directionOf ω n w a (4 * f + 1)
-faceValueOf ω n w a f NeitherInner = directionOf ω n w a (4 * f) +ℤ directionOf ω n w a (4 * f + 1)
+unfoldable pub faceValueOf : (weights : Weights) (n : ℕ) → List ℕ → (a f : ℕ) → FaceRule → ℤ
+faceValueOf weights n w a f FirstAlone = directionOf weights n w a (4 * f) +ℤ directionOf weights n w a (4 * f)
+faceValueOf weights n w a f SecondAlone = directionOf weights n w a (4 * f + 1) +ℤ directionOf weights n w a (4 * f + 1)
+faceValueOf weights n w a f BothInner = directionOf weights n w a (4 * f) +ℤ directionOf weights n w a (4 * f + 1)
+faceValueOf weights n w a f NeitherInner = directionOf weights n w a (4 * f) +ℤ directionOf weights n w a (4 * f + 1)
 
 -- coordinate a of the point of face f, rounded
-unfoldable pub faceCoordinate : (ω : Weights) (n : ℕ) → List ℕ → (a f : ℕ) → ℤ
-faceCoordinate ω n w a f = round (faceValueOf ω n w a f (faceRuleOf n w f)) (faceScale ω)
+unfoldable pub faceCoordinate : (weights : Weights) (n : ℕ) → List ℕ → (a f : ℕ) → ℤ
+faceCoordinate weights n w a f = round (faceValueOf weights n w a f (faceRuleOf n w f)) (faceScale weights)
 
 -- of all faces, three for each
-unfoldable pub faceCoordinates : (ω : Weights) (n : ℕ) → List ℕ → List ℤ
-faceCoordinates ω n w = tabulate (3 * (n / 4)) (λ (k : ℕ). faceCoordinate ω n w (k % 3) (k / 3))
+unfoldable pub faceCoordinates : (weights : Weights) (n : ℕ) → List ℕ → List ℤ
+faceCoordinates weights n w = tabulate (3 * (n / 4)) (λ (k : ℕ). faceCoordinate weights n w (k % 3) (k / 3))
 
 -- ---- what the functions ask of the table
 -- the edges of h and beyond it are plain: inner edges whose points are kept over `scale`
@@ -82,8 +82,8 @@ pub record EntryTable (n : ℕ) (w : List ℕ) : Type 0 where
   pub high : (a h : ℕ) → a < 3 → h < n → getD w (placeOf n (entryOf n w h) + 2 * a + 1) 0 < 2 ^ 31
 
 -- the points are those of a tension; where all eight edges of a face are plain, its directions agree
-pub record FaceTable (τ n : ℕ) (w : List ℕ) : Type 0 where
+pub record FaceTable (t n : ℕ) (w : List ℕ) : Type 0 where
   pub entries : EntryTable n w
-  pub low : τ ≤ 4
-  pub small : (a h : ℕ) → a < 3 → h < n → natAbs (exactOf (tension τ) n w a h) ≤ edgeRange (tension τ)
-  pub agree : (a f : ℕ) → a < 3 → 4 * f < n → AllPlain n w f → directionOf (tension τ) n w a (4 * f) ≡ directionOf (tension τ) n w a (4 * f + 1)
+  pub low : t ≤ 4
+  pub small : (a h : ℕ) → a < 3 → h < n → natAbs (exactOf (tension t) n w a h) ≤ edgeRange (tension t)
+  pub agree : (a f : ℕ) → a < 3 → 4 * f < n → AllPlain n w f → directionOf (tension t) n w a (4 * f) ≡ directionOf (tension t) n w a (4 * f + 1)

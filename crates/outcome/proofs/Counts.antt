@@ -20,30 +20,30 @@ use Rattle.verdict.specs.Verdict.{accepted, verdict}
 use Rattle.verdict.proofs.Accepted.{by-fours, by-sides, accepted-limits}
 use Rattle.outcome.proofs.Accepted.{accepted-refinable}
 
-pub zero-steps : (τ : ℕ) (m : Net) → length (steps (tension τ) 0 m .marks) ≡ length (m .marks)
+pub zero-steps : (t : ℕ) (m : Net) → length (steps (tension t) 0 m .marks) ≡ length (m .marks)
 unfolding steps
-zero-steps τ m = refl
+zero-steps t m = refl
 
 -- vertices never grow fewer
-pub more-vertices : (τ : ℕ) (m : Net) (j k : ℕ) → j ≤ k → length (steps (tension τ) j m .marks) ≤ length (steps (tension τ) k m .marks)
+pub more-vertices : (t : ℕ) (m : Net) (j k : ℕ) → j ≤ k → length (steps (tension t) j m .marks) ≤ length (steps (tension t) k m .marks)
 unfolding steps
-more-vertices τ m j zero h = let e : j ≡ zero = omega arith in rw e (omega arith)
-more-vertices τ m j (suc k) h = go (ℕ-discrete j (suc k)) (λ l. more-vertices τ m j k l)
+more-vertices t m j zero h = let e : j ≡ zero = omega arith in rw e (omega arith)
+more-vertices t m j (suc k) h = go (ℕ-discrete j (suc k)) (λ l. more-vertices t m j k l)
   where
-    go : Dec (j ≡ suc k) → (j ≤ k → length (steps (tension τ) j m .marks) ≤ length (steps (tension τ) k m .marks)) → length (steps (tension τ) j m .marks) ≤ length (steps (tension τ) (suc k) m .marks)
+    go : Dec (j ≡ suc k) → (j ≤ k → length (steps (tension t) j m .marks) ≤ length (steps (tension t) k m .marks)) → length (steps (tension t) j m .marks) ≤ length (steps (tension t) (suc k) m .marks)
     go (yes e) f = rw e (omega arith)
-    go (no e) f = let a = f (omega arith) in let b = step-count (tension τ) (steps (tension τ) k m) in omega arith
+    go (no e) f = let a = f (omega arith) in let b = step-count (tension t) (steps (tension t) k m) in omega arith
 
 -- the vertices of the control net are among them
-pub control-among : (τ : ℕ) (m : ControlNet) (k : ℕ) → length (m .marks) ≤ length (steps (tension τ) k (startNet m) .marks)
-control-among τ m k = omega (arith, start-grows m, more-vertices τ (startNet m) 0 k (omega arith), zero-steps τ (startNet m))
+pub control-among : (t : ℕ) (m : ControlNet) (k : ℕ) → length (m .marks) ≤ length (steps (tension t) k (startNet m) .marks)
+control-among t m k = omega (arith, start-grows m, more-vertices t (startNet m) 0 k (omega arith), zero-steps t (startNet m))
 
-pub corners-grown : (τ : ℕ) (m : Net) (k : ℕ) → length (steps (tension τ) k m .faces) ≡ length (m .faces) * 4 ^ k
+pub corners-grown : (t : ℕ) (m : Net) (k : ℕ) → length (steps (tension t) k m .faces) ≡ length (m .faces) * 4 ^ k
 unfolding steps
-corners-grown τ m zero = omega arith
-corners-grown τ m (suc k) =
-    let a = corners-grown τ m k in
-    let b : length (steps (tension τ) (suc k) m .faces) ≡ 4 * length (steps (tension τ) k m .faces) = ap length (step-faces (tension τ) (steps (tension τ) k m)) ∙ length-refined quads _ _ in
+corners-grown t m zero = omega arith
+corners-grown t m (suc k) =
+    let a = corners-grown t m k in
+    let b : length (steps (tension t) (suc k) m .faces) ≡ 4 * length (steps (tension t) k m .faces) = ap length (step-faces (tension t) (steps (tension t) k m)) ∙ length-refined quads _ _ in
     let c : length (m .faces) * 4 ^ suc k ≡ length (m .faces) * 4 ^ k * 4 = ap (λ (x : ℕ). length (m .faces) * x) (pow-suc 4 k) ∙ sym (mul-assoc (length (m .faces)) (4 ^ k) 4) in
     omega arith
 

@@ -10,9 +10,9 @@ use Rattle.scheme.specs.Step.{steps}
 use Rattle.splitting.specs.Splitting.{startNet}
 
 -- "refined vertices minus drawn vertices", of the net m after k rounds
-unfoldable pub newPoints : (τ k : ℕ) → ControlNet → ℕ
-newPoints τ k m = vertexCount (steps (tension τ) k (startNet m)) - length (m .marks)
+unfoldable pub newPoints : (t k : ℕ) → ControlNet → ℕ
+newPoints t k m = vertexCount (steps (tension t) k (startNet m)) - length (m .marks)
 
--- 15: "the tally after the call would be above 4,000,000,000, even if nothing is added": the record holds t, and the call would add n
-unfoldable pub tallyVerdict : (t n : ℕ) → Verdict
-tallyVerdict t n = refusedIf 15 (ltb 4000000000 (t + n))
+-- 15: "the tally after the call would be above 4,000,000,000, even if nothing is added": the record holds tally, and the call would add n
+unfoldable pub tallyVerdict : (tally n : ℕ) → Verdict
+tallyVerdict tally n = refusedIf 15 (ltb 4000000000 (tally + n))

@@ -1,22 +1,21 @@
--- The table of weights: where a row has the weights of neighbours and of opposite corners, how they are made of shares, and how large they are. Assumes nothing.
-use mathlib.Core.Path.{_≡_, refl, sym, ap, _∙_}
+-- The table of weights: where a row has the weights of neighbours and of opposite corners, how they are made of unit weights, and how large they are. Assumes nothing.
+use mathlib.Core.Path.{_≡_, refl, _∙_}
 use mathlib.Core.Bool.{Bool, true, false, cond}
-use mathlib.Core.List.{List, [], _∷_, _++_}
-use Prim.Native.Nat.{ℕ, zero, suc, _+_, _-_, _*_, _/_, _%_, _≤_, _<_}
+use mathlib.Core.List.{[], _∷_}
+use Prim.Native.Nat.{ℕ, _+_, _-_, _*_, _/_, _%_, _≤_, _<_}
 use native.Mathlib.Nat.{mul-le-mul}
 use native.Mathlib.Omega.{arith}
 use borrow.Author.Tests.{lt-ltb, le-ltb}
 use lib.Dec.{T, ltb, leb, leb→le}
 use lib.IntN.{ℤ, pos, natAbs, _+ℤ_, _-ℤ_, _*ℤ_}
-use lib.ListN.{getD, drop}
-use Rattle.lists.specs.Tabulate.{tabulate}
+use lib.ListN.{getD}
 use Rattle.lists.proofs.Table.{everyBelow, below-at}
 use Rattle.lists.proofs.Tabulate.{getD-tabulate}
 use Rattle.integers.proofs.AbsoluteValue.{abs-mul}
 use Rattle.integers.proofs.Polynomial.{var, lit, _⊠_, same}
 use Rattle.curve.specs.Weights.{Weights, tension}
 use Rattle.integers.specs.Within.{WithinFirst}
-use Rattle.rings.specs.RingWeights.{oneAt, weightL, weightK, shared, entry, row, weightOf}
+use Rattle.rings.specs.RingWeights.{oneAt, weightL, weightK, unitWeights, entry, row, weightOf}
 
 module _ (w : Weights) where
   pub row-l : (n d : ℕ) → d < n → n ≤ 8 → getD (row w n) d (pos 0) ≡ weightL w n d
@@ -25,7 +24,7 @@ module _ (w : Weights) where
   pub row-k : (n d : ℕ) → d < n → n ≤ 8 → getD (row w n) (8 + d) (pos 0) ≡ weightK w n d
   row-k n d h k = let e : 8 + d - 8 ≡ d = omega arith in getD-tabulate 16 (entry w n) (8 + d) (pos 0) (omega arith) ∙ rw (le-ltb (8 + d) 8 (omega arith), e, lt-ltb d n h)
 
-  -- ---- shares
+  -- ---- made of unit weights
   once : (c : ℕ) (z : ℤ) → pos c *ℤ z ≡ pos c *ℤ (pos 1 *ℤ z)
   once c z = same (var 0 ⊠ var 1) (var 0 ⊠ (lit (pos 1) ⊠ var 1)) (pos c ∷ z ∷ []) refl
 
@@ -39,26 +38,26 @@ module _ (w : Weights) where
   by-half false b true x y = once (w .far) y
   by-half false b false x y = none (w .far)
 
-  pub entry-shared : (n o : ℕ) → entry w n o ≡ weightOf w o (entry shared n o)
-  entry-shared n o =
+  pub entry-unit : (n o : ℕ) → entry w n o ≡ weightOf w o (entry unitWeights n o)
+  entry-unit n o =
       by-half (ltb o 8) (ltb o n) (ltb (o - 8) n) (pos 4 -ℤ pos n *ℤ (oneAt (n - 1) o +ℤ oneAt 0 o +ℤ oneAt 1 o))
       (pos n *ℤ (oneAt (n - 2) (o - 8) +ℤ oneAt (n - 1) (o - 8) +ℤ oneAt 0 (o - 8) +ℤ oneAt 1 (o - 8)) -ℤ pos 4)
 
--- ---- no share exceeds 4, and at a tension no weight 144
+-- ---- no unit weight exceeds 4, and at a tension no weight 144
 small : ℕ → Bool
-small i = leb (natAbs (entry shared (i / 16 + 3) (i % 16))) 4
+small i = leb (natAbs (entry unitWeights (i / 16 + 3) (i % 16))) 4
 
 all-small : T (everyBelow 96 small)
 unfolding small
 all-small = tt
 
-pub share-small : (n : ℕ) → 3 ≤ n → n ≤ 8 → (o : ℕ) → o < 16 → natAbs (entry shared n o) ≤ 4
+pub unit-small : (n : ℕ) → 3 ≤ n → n ≤ 8 → (o : ℕ) → o < 16 → natAbs (entry unitWeights n o) ≤ 4
 unfolding small
-share-small n h k o l =
+unit-small n h k o l =
     let i : ℕ = (n - 3) * 16 + o in
     let a : i / 16 + 3 ≡ n = omega arith in
     let b : i % 16 ≡ o = omega arith in
-    let s = leb→le (natAbs (entry shared (i / 16 + 3) (i % 16))) 4 (below-at 96 small all-small i (omega arith)) in
+    let s = leb→le (natAbs (entry unitWeights (i / 16 + 3) (i % 16))) 4 (below-at 96 small all-small i (omega arith)) in
     rw (a, b) at s
 
 product-small : (c : ℕ) (x : ℤ) → c ≤ 36 → natAbs x ≤ 4 → natAbs (pos c *ℤ x) ≤ 144
@@ -73,16 +72,5 @@ weight-small t o x h k = go (ltb o 8)
 
 pub row-small : (n t : ℕ) → 3 ≤ n → n ≤ 8 → t ≤ 4 → WithinFirst 16 144 (row (tension t) n)
 row-small n t h k g = record {
-  at = λ o l. let e = getD-tabulate 16 (entry (tension t) n) o (pos 0) l ∙ entry-shared (tension t) n o in rw e (weight-small t o (entry shared n o) g (share-small n h k o l));
+  at = λ o l. let e = getD-tabulate 16 (entry (tension t) n) o (pos 0) l ∙ entry-unit (tension t) n o in rw e (weight-small t o (entry unitWeights n o) g (unit-small n h k o l));
 }
-
--- ---- a row while it is made: what is not written yet
-drop-none : {A : Type 0} (i : ℕ) → drop {A = A} i [] ≡ []
-drop-none zero = refl
-drop-none (suc i) = refl
-
-pub unwritten : {A : Type 0} (f : ℕ → A) (o : List A) (i : ℕ) (d : A) → getD (tabulate i f ++ drop i o) i d ≡ getD o i d
-unfolding tabulate
-unwritten f o zero d = refl
-unwritten {A} f [] (suc i) d = ap (λ (l : List A). getD (tabulate i (λ (j : ℕ). f (suc j)) ++ l) i d) (sym (drop-none i)) ∙ unwritten (λ (j : ℕ). f (suc j)) [] i d
-unwritten f (y ∷ o) (suc i) d = unwritten (λ (j : ℕ). f (suc j)) o i d

@@ -13,7 +13,7 @@ use Rattle.integers.proofs.Polynomial.{var, lit, _⊞_, _⊟_, _⊠_, same}
 use Rattle.rounding.specs.Rounding.{round}
 use Rattle.rounding.proofs.Laws.{round-scale}
 use Rattle.curve.specs.Weights.{kobbelt, tension}
-use Rattle.curve.proofs.Old.{Times, exact-carries}
+use Rattle.curve.proofs.Old.{Times, exact-carries, once}
 use Rattle.rings.specs.Ring.{wrap}
 use Rattle.rings.specs.RingWeights.{virtualZ, virtualNumerator}
 use Rattle.rings.specs.Scales.{valenceScale, virtualScale, edgeScale, faceScale}
@@ -35,9 +35,6 @@ use Rattle.schemelaws.specs.Ordinary.{ordinaryValue}
 use Rattle.schemelaws.specs.Numerators.{fanNeighbourZ, fanCornerZ, ringNeighbourZ, ringCornerZ, ringVirtualZ, fanVirtualZ, virtualAtZ, edgeValueZ, edgeZ, directionZ, faceValueZ, faceZ}
 use Rattle.schemelaws.proofs.Coordinates.{refined-old, refined-edge, refined-face}
 use Rattle.schemelaws.proofs.Steps.{refinable-manifold, refinable-steps}
-
-once : (x : ℤ) → Times 1 x x
-once x = record { is = same (var 0) (lit (pos 1) ⊠ var 0) (x ∷ []) refl }
 
 by-cond : (b : Bool) {x y x′ y′ : ℤ} {c : ℕ} → Times c x x′ → Times c y y′ → Times c (cond b x y) (cond b x′ y′)
 by-cond true e f = e

@@ -40,10 +40,10 @@ module _ (w : Weights) where
     reads-exactly k = reads-only quads (steps w k m) way c u (curve w c k L) (reads-steps k)
 
 -- demand 3, of the nets themselves
-pub seam : (τ : ℕ) → τ ≤ 4 → (a b : Net) → Admissible a → Admissible b → (v w : Way) (c : Kind) (s t : ℕ) (L : List Point) → Reads a v c s L → Reads b w c t L
-    → (k : ℕ) → Seam τ a b v w c s t L k
-seam τ low a b p q v w c s t L x y k = record {
-  left = reads-exactly (tension τ) (omega arith) a p v c s L x k;
-  right = reads-exactly (tension τ) (omega arith) b q w c t L y k;
-  close = distance τ low c k L;
+pub seam : (t : ℕ) → t ≤ 4 → (a b : Net) → Admissible a → Admissible b → (v w : Way) (c : Kind) (s s′ : ℕ) (L : List Point) → Reads a v c s L → Reads b w c s′ L
+    → (k : ℕ) → Seam t a b v w c s s′ L k
+seam t low a b p q v w c s s′ L x y k = record {
+  left = reads-exactly (tension t) (omega arith) a p v c s L x k;
+  right = reads-exactly (tension t) (omega arith) b q w c s′ L y k;
+  close = distance t low c k L;
 }

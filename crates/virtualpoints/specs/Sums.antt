@@ -39,6 +39,6 @@ fanSum w n t s x y x′ y′ = pos (valenceScale / n) *ℤ (pos extrapolatedScal
 
 -- on edge j of a fan of m faces, closed with its last neighbour c and the extrapolated points P of its vertex, C of c and B of its first neighbour
 abbrev pub fanOn : Weights → (ℕ → ℤ) → List ℕ → List ℕ → (m j c : ℕ) → (P C B : ℤ) → ℤ
-fanOn ω p L K m j c P C B =
+fanOn weights p L K m j c P C B =
     let n = m + 2 in
-    fanSum (row ω n) n (m - j) (weightedSum (row ω n) n (n - j) m p L K) (pos extrapolatedScale *ℤ p c) C P B
+    fanSum (row weights n) n (m - j) (weightedSum (row weights n) n (n - j) m p L K) (pos extrapolatedScale *ℤ p c) C P B

@@ -11,7 +11,7 @@ use Rattle.topology.specs.Shape.{quads}
 use Rattle.topology.specs.HalfEdge.{mate}
 use Rattle.classes.specs.Classes.{ordinaryBy}
 use Rattle.edgepoints.specs.Edge.{OrdinaryEnds}
-use Rattle.edgepoints.proofs.Wide.{plain-point, wide-point, told-end}
+use Rattle.edgepoints.proofs.Wide.{plain-point, wide-point, classed-end}
 use Rattle.edgepoints.proofs.inner_edge.Statement.{statement}
 use Rattle.edgepoints.proofs.inner_edge.Tie as tie
 
@@ -26,15 +26,15 @@ ends c =
     let x = i .before in
     let p = x .before in
     let s = p .before .before .before in
-    let told = s .pre .1 .0 .1 in
+    let classed = s .pre .1 .0 .1 in
     let by = ordinaryBy (s .args .work .now) (s .args .at) (s .args .initial) in
     let e = ap by (sym (p .start-of .ensures)) ∙ sym (x .is-ordinary .ensures) ∙ i .if1 .taken in
     let f = ap by (sym (q .end-of .ensures)) ∙ sym (y .is-ordinary2 .ensures) ∙ c .if2 .taken in
     record {
       lt = s .pre .1 .1 .0;
       inner = inner s;
-      start = told .ordinary _ (s .pre .1 .1 .0) e;
-      end = told-end (s .pre .0 .vertices) _ (s .pre .0 .net) _ _ _ told _ (s .pre .1 .1 .0) f;
+      start = classed .ordinary _ (s .pre .1 .1 .0) e;
+      end = classed-end (s .pre .0 .vertices) _ (s .pre .0 .net) _ _ _ classed _ (s .pre .1 .1 .0) f;
     }
 
 fits : (e : tie.After-plain-exact) → SFits w64 (e .plain-exact .result .x) × SFits w64 (e .plain-exact .result .y) × SFits w64 (e .plain-exact .result .z)

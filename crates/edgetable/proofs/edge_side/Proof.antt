@@ -16,7 +16,7 @@ use Rattle.coordinates.specs.Points.{putPoint}
 use Rattle.coordinates.specs.Packed.{putThree}
 use Rattle.curve.specs.Weights.{tension}
 use Rattle.edgetable.specs.EdgeTable.{roundedBy, met, passed}
-use Rattle.edgetable.proofs.EdgeTable.{small-of, told-of, flag-fits, exact-small}
+use Rattle.edgetable.proofs.EdgeTable.{small-of, classed-of, flag-fits, exact-small}
 use Rattle.edgetable.proofs.edge_side.Statement.{statement}
 use Rattle.edgetable.proofs.edge_side.Tie as tie
 
@@ -112,7 +112,7 @@ edge-exact-requires : tie.Need-edge-exact-requires
 edge-exact-requires c κs =
     let i = c .before .before in
     let s = start i in
-    (s .pre .ready, ((s .pre .points, s .pre .marked, told-of (s .args .t) _ _ _ _ _ (s .pre .marked) (s .pre .classes)), (s .pre .lt, i .before .mate-side .ensures, s .pre .low)))
+    (s .pre .ready, ((s .pre .points, s .pre .marked, classed-of _ _ _ _ _ (s .pre .marked) (s .pre .classes)), (s .pre .lt, i .before .mate-side .ensures, s .pre .low)))
 
 add-put-rounded : tie.Need-add-put-rounded
 add-put-rounded c = let s = start (at (c .before)) in let a = s .pre .vertices in let b = s .pre .below in let k = s .pre .ready .table .sides .few in omega arith
@@ -158,7 +158,7 @@ add-work-2 c =
     let s = start (at e) in
     let b = s .pre .below in
     let k = s .pre .ready .table .sides .few in
-    let f = flag-fits (s .args .t) _ _ (e .edge-exact .result .flag) (e .edge-exact .ensures .0) in
+    let f = flag-fits _ _ (e .edge-exact .result .flag) (e .edge-exact .ensures .0) in
     record { fits = omega arith }
 
 add-work-3 : tie.Need-add-work-3

@@ -1,4 +1,4 @@
--- `rings::shares` meets its contract: the table computes to that of the formula, in one test. Assumes nothing.
+-- `rings::unit_weights` meets its contract: the table computes to that of the formula, in one test. Assumes nothing.
 use mathlib.Core.Path.{_≡_, refl, ap, _∙_}
 use mathlib.Core.List.{List, [], _∷_}
 use Prim.Native.Nat.{ℕ, _+_, _-_}
@@ -8,9 +8,9 @@ use lib.IntN.{ℤ, pos, negsuc}
 use lib.ListN.{getD}
 use Rattle.lists.specs.Tabulate.{tabulate}
 use Rattle.lists.proofs.Tabulate.{getD-tabulate}
-use Rattle.rings.specs.RingWeights.{shared, row}
-use Rattle.rings.proofs.shares.Statement.{statement}
-use Rattle.rings.proofs.shares.Tie as tie
+use Rattle.rings.specs.RingWeights.{unitWeights, row}
+use Rattle.rings.proofs.unit_weights.Statement.{statement}
+use Rattle.rings.proofs.unit_weights.Tie as tie
 
 -- the table of the code
 abbrev table : List (List ℤ)
@@ -23,7 +23,7 @@ table =
     (negsuc 3 ∷ negsuc 3 ∷ pos 4 ∷ pos 4 ∷ pos 4 ∷ pos 4 ∷ pos 4 ∷ negsuc 3 ∷ pos 4 ∷ pos 4 ∷ negsuc 3 ∷ negsuc 3 ∷ negsuc 3 ∷ negsuc 3 ∷ pos 4 ∷ pos 4 ∷ []) ∷ []
 
 -- the one computed test: all of it is as the formula gives it
-computed : table ≡ tabulate 6 (λ (i : ℕ). row shared (i + 3))
+computed : table ≡ tabulate 6 (λ (i : ℕ). row unitWeights (i + 3))
 unfolding tabulate
 computed = refl
 
@@ -40,7 +40,7 @@ returns : tie.Need-returns
 returns c =
     let n = c .before .args .n in
     let e : n - 3 + 3 ≡ n = omega arith in
-    ap (λ (t : List (List ℤ)). getD t (n - 3) []) computed ∙ getD-tabulate 6 (λ (i : ℕ). row shared (i + 3)) (n - 3) [] (omega arith) ∙ ap (row shared) e
+    ap (λ (t : List (List ℤ)). getD t (n - 3) []) computed ∙ getD-tabulate 6 (λ (i : ℕ). row unitWeights (i + 3)) (n - 3) [] (omega arith) ∙ ap (row unitWeights) e
 
-pub shares-spec : {M : Type 1} → statement M
-shares-spec = tie.close (tie.spec sub-result mul-result array-copy-out-result returns)
+pub unit-weights-spec : {M : Type 1} → statement M
+unit-weights-spec = tie.close (tie.spec sub-result mul-result array-copy-out-result returns)

@@ -26,8 +26,8 @@ Inv-loop points₀ faces₀ marks₀ asked letters₀ work₀ v n k last t at co
 abbrev μ-loop : tie.MeasureT-loop
 μ-loop points₀ faces₀ marks₀ asked letters₀ work₀ v n k last t at count₀ corners₀ i₀ points faces marks letters work count corners i = k - i
 
-abbrev lent : tie.Start Inv-loop μ-loop → Buffers
-lent s = buffers (s .args .points .now) (s .args .faces .now) (s .args .marks .now) (s .args .work .now)
+abbrev given : tie.Start Inv-loop μ-loop → Buffers
+given s = buffers (s .args .points .now) (s .args .faces .now) (s .args .marks .now) (s .args .work .now)
 
 -- after the classes are made
 abbrev begun : tie.After-count-ring-sizes Inv-loop μ-loop → tie.Start Inv-loop μ-loop
@@ -39,14 +39,14 @@ tables x = let s = begun x in buffers (s .args .points .now) (s .args .faces .no
 ready : (x : tie.After-count-ring-sizes Inv-loop μ-loop) → (let s = begun x in Prepared (s .args .t) (s .args .k) (s .args .v) (s .args .n) (s .args .last) (tables x))
 ready x =
     let s = begun x in
-    prepared-classes (s .args .t) (s .args .k) (s .args .v) (s .args .n) (s .args .last) (lent s) (s .pre .0) _ (x .count-ring-sizes .kept .1 .0) (x .count-ring-sizes .ensures .1)
+    prepared-classes (s .args .t) (s .args .k) (s .args .v) (s .args .n) (s .args .last) (given s) (s .pre .0) _ (x .count-ring-sizes .kept .1 .0) (x .count-ring-sizes .ensures .1)
 
 -- all rounds made since then are all rounds
 since : (x : tie.After-count-ring-sizes Inv-loop μ-loop) (i r : ℕ) (t : Buffers) → i ≡ begun x .args .k
-    → (let s = begun x in After (s .args .t) i (s .args .v) (s .args .n) r (tables x) t → After (s .args .t) (s .args .k) (s .args .v) (s .args .n) r (lent s) t)
+    → (let s = begun x in After (s .args .t) i (s .args .v) (s .args .n) r (tables x) t → After (s .args .t) (s .args .k) (s .args .v) (s .args .n) r (given s) t)
 since x i r t e =
     let s = begun x in
-    after-classes (s .args .t) (s .args .k) (s .args .v) (s .args .n) (s .args .last) (lent s) (s .pre .0) _ (x .count-ring-sizes .kept .1 .0) (x .count-ring-sizes .ensures .1) i r t e
+    after-classes (s .args .t) (s .args .k) (s .args .v) (s .args .n) (s .args .last) (given s) (s .pre .0) _ (x .count-ring-sizes .kept .1 .0) (x .count-ring-sizes .ensures .1) i r t e
 
 -- before a round
 abbrev counted : tie.At-loop Inv-loop μ-loop → tie.After-count-ring-sizes Inv-loop μ-loop
@@ -106,25 +106,25 @@ returns c =
     let s = c .before .before .before .before .before in
     let e : s .args .k ≡ 0 = c .if1 .taken in
     rw e (
-      after-none (s .args .t) (s .args .k) (s .args .v) (s .args .n) (s .args .last) (lent s) (s .pre .0),
-      letters-none (s .args .t) (s .args .k) (s .args .v) (s .args .n) (s .args .last) (lent s) (s .pre .0) (s .args .with-letters) (s .args .letters .now),
+      after-none (s .args .t) (s .args .k) (s .args .v) (s .args .n) (s .args .last) (given s) (s .pre .0),
+      letters-none (s .args .t) (s .args .k) (s .args .v) (s .args .n) (s .args .last) (given s) (s .pre .0) (s .args .with-letters) (s .args .letters .now),
     )
 
 mul-at : tie.Need-mul-at Inv-loop μ-loop
 mul-at c = let s = c .before .before .before .before .before in let z = s .pre .0 .size in let e = s .pre .0 .final in omega arith
 
 slice-reshare-prefix-count-ring-sizes : tie.Need-slice-reshare-prefix-count-ring-sizes Inv-loop μ-loop
-slice-reshare-prefix-count-ring-sizes c = let s = c .before .before .before .before .before in corners-room (s .args .t) (s .args .k) (s .args .v) (s .args .n) (s .args .last) (lent s) (s .pre .0)
+slice-reshare-prefix-count-ring-sizes c = let s = c .before .before .before .before .before in corners-room (s .args .t) (s .args .k) (s .args .v) (s .args .n) (s .args .last) (given s) (s .pre .0)
 
 slice-aggregate-count-ring-sizes : tie.Need-slice-aggregate-count-ring-sizes Inv-loop μ-loop
-slice-aggregate-count-ring-sizes c = let s = c .before .before .before .before .before .before in sym (corners-length (s .args .t) (s .args .k) (s .args .v) (s .args .n) (s .args .last) (lent s) (s .pre .0))
+slice-aggregate-count-ring-sizes c = let s = c .before .before .before .before .before .before in sym (corners-length (s .args .t) (s .args .k) (s .args .v) (s .args .n) (s .args .last) (given s) (s .pre .0))
 
 count-ring-sizes-requires : tie.Need-count-ring-sizes-requires Inv-loop μ-loop
 count-ring-sizes-requires c κs =
     let y = c .before .before in
     let s = y .before .before .before .before .before in
     let e = y .if1 .left in
-    countable (s .args .t) (s .args .k) (s .args .v) (s .args .n) (s .args .last) (lent s) (s .pre .0) (omega arith)
+    countable (s .args .t) (s .args .k) (s .args .v) (s .args .n) (s .args .last) (given s) (s .pre .0) (omega arith)
 
 loop-holds : tie.Need-loop-holds Inv-loop μ-loop
 loop-holds c =
@@ -146,7 +146,7 @@ round-requires c κs =
     let s = start x in
     let h = x .loop in
     let e : h .corners ≡ s .args .n * 4 ^ h .i = h .inv .1 in
-    let r = sized (s .args .t) (s .args .k) (s .args .v) (s .args .n) (s .args .last) (lent s) (s .pre .0) (h .i) (y .loop-test .taken) in
+    let r = sized (s .args .t) (s .args .k) (s .args .v) (s .args .n) (s .args .last) (given s) (s .pre .0) (h .i) (y .loop-test .taken) in
     let l = h .inv .6 in
     rw e (open-round y, λ a. omega (arith, s .pre .1 a))
 

@@ -99,8 +99,8 @@ fan-sum-requires c κs =
     let x₃ = c .before .before .extrapolated-point2 in
     let es = f .fan-start .ensures .side in
     let ej = f .fan-start .ensures .place (s .pre .1 .1) in
-    let k = fan-sizes (tension (s .args .t)) v l (r .net) (s .args .h) (s .pre .1 .0 .1) (s .pre .1 .0 .2) (s .pre .1 .1) in
-    let n = count-is (tension (s .args .t)) v l (r .net) (s .args .h) (s .pre .1 .0 .1) (s .pre .1 .0 .2) (s .pre .1 .1) h (m .count) es (w .circuit .whole (on-s f)) in
+    let k = fan-sizes v l (r .net) (s .args .h) (s .pre .1 .0 .1) (s .pre .1 .0 .2) (s .pre .1 .1) in
+    let n = count-is v l (r .net) (s .args .h) (s .pre .1 .0 .1) (s .pre .1 .0 .2) (s .pre .1 .1) h (m .count) es (w .circuit .whole (on-s f)) in
     let ec = c .before .before .before .before .before .before .before .start-of .ensures in (
       (b, omega arith, omega arith, omega arith, rw ec (s .pre .1 .0 .0 .room (e .prev-side .result) (on-e e .lt)), s .pre .1 .0 .3),
       (
@@ -130,8 +130,8 @@ returns c =
     let x₃ = c .before .before .before .extrapolated-point2 in
     let z = c .fan-sum in
     let made =
-    fan-made _ (r .vertices) (s .args .faces .now) (r .net) (s .args .h) (s .pre .1 .0 .1) (s .pre .1 .0 .2) (s .pre .1 .1) (f .fan-start .result .side) (m .count) (f .fan-start .result .place) (m .last) (e .prev-side .result) (o .start-of .result) (d .along-side .result)
-    (f .fan-start .ensures .side) (f .fan-start .ensures .place (s .pre .1 .1)) (w .circuit .whole (on-s f)) (w .last) (e .prev-side .ensures) (o .start-of .ensures) (d .along-side .ensures) _ _ (w .filled) t in
+    fan-made (r .vertices) (s .args .faces .now) (r .net) (s .args .h) (s .pre .1 .0 .1) (s .pre .1 .0 .2) (s .pre .1 .1) (f .fan-start .result .side) (m .count) (f .fan-start .result .place) (m .last) (e .prev-side .result) (o .start-of .result) (d .along-side .result)
+    (f .fan-start .ensures .side) (f .fan-start .ensures .place (s .pre .1 .1)) (w .circuit .whole (on-s f)) (w .last) (e .prev-side .ensures) (o .start-of .ensures) (d .along-side .ensures) _ _ (w .filled) (tension (s .args .t)) t in
     record {
       on₀ = made 0 (z .result .x) (x₁ .result .x) (x₂ .result .x) (x₃ .result .x) (x₁ .ensures .on₀) (x₂ .ensures .on₀) (x₃ .ensures .on₀) (z .ensures .0);
       on₁ = made 1 (z .result .y) (x₁ .result .y) (x₂ .result .y) (x₃ .result .y) (x₁ .ensures .on₁) (x₂ .ensures .on₁) (x₃ .ensures .on₁) (z .ensures .1 .0);

@@ -49,7 +49,7 @@ returns c =
     let p = s .args .points .now in
     let g = t .before .before .gather in
     let z = c .ring-point .result in
-    ring-made _ (r .vertices) l (r .net) (s .args .h) (s .pre .1 .1 .0) (inner t) (g .result .count) (g .ensures .circuit .ring (inner t) .0) _ _ (g .ensures .filled) p (z .x) (z .y) (z .z) (c .ring-point .ensures)
+    ring-made (r .vertices) l (r .net) (s .args .h) (s .pre .1 .1 .0) _ (inner t) (g .result .count) (g .ensures .circuit .ring (inner t) .0) _ _ (g .ensures .filled) p (z .x) (z .y) (z .z) (c .ring-point .ensures)
 
 fan-point-requires : tie.Need-fan-point-requires
 fan-point-requires c κs =
