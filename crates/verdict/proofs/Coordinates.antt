@@ -33,7 +33,7 @@ module _ (rounds : ℕ) (vs ws : List ℤ) (faces sides marks : List ℕ) (tensi
   abbrev other : Call
   other = call rounds (controlNet ws faces sides marks) tension room
 
-  -- rounds, side counts and lengths decide refusals 1 to 4 and 14
+  -- rounds, side counts, lengths and the tension decide refusals 1 to 4, 14 and 16
   abbrev limits : ℕ → Verdict
   limits n = orElse (limitsVerdict rounds sides (lengths n (length faces) (length marks) room)) (refusedIf 16 (ltb 4 tension))
 

@@ -113,6 +113,6 @@ unfoldable pub verdict : Call → Verdict
 verdict c = orElse (callVerdict c) (netVerdict (c .net))
 
 -- ---- the work table
--- "(place 0, all memory untouched)" on 1 to 4 and 14; "first 16G work numbers zero" on 5 to 12, on 15 and on acceptance; "Work numbers beyond 16G are never touched."
+-- "(place 0, all memory untouched)" on 1 to 4, 14 and 16; "first 16G work numbers zero" on 5 to 12, on 15 and on acceptance; "Work numbers beyond 16G are never touched."
 abbrev pub workAfter : Call → List ℕ → List ℕ
 workAfter c w = afterCall (callVerdict c) w (cleared (16 * finalFaces c) w)
