@@ -29,9 +29,9 @@ const MOST_FIRST_FACES: usize = 4_096;
 /// differ in their marks alone: six rounds.
 const MOST_DEEP_FACES: usize = 20_480;
 
-/// Most faces of a named net after two rounds at the tensions that it is not
-/// refined with in all rounds.
-const MOST_OTHER_FACES: usize = 64;
+/// Most refined faces of a named net at the tensions that it is not refined with
+/// in every number of rounds, but for one round.
+const MOST_OTHER_FACES: usize = 256;
 
 /// Nets of many named ones: rounds, with as many faces as these allow, and
 /// whether there are side counts.
@@ -105,8 +105,8 @@ impl NamedNets {
 
     /// Compares a net after each number of rounds at one tension; its new points
     /// are worked out again from their letters, where there are some, and from the
-    /// net that was given for one round less. Then at each other tension after one
-    /// round, or two.
+    /// net that was given for one round less. Then at each other tension after as
+    /// many rounds as few faces allow, or one.
     pub fn compare(
         &mut self,
         number: u64,
@@ -132,7 +132,7 @@ impl NamedNets {
             before = Some(given.net);
         }
         for other in Tension::ALL.into_iter().filter(|&other| other != tension) {
-            let rounds = most_rounds(drawn.quadrilaterals(), 2, MOST_OTHER_FACES).max(1);
+            let rounds = most_rounds(drawn.quadrilaterals(), MAX_ROUNDS, MOST_OTHER_FACES).max(1);
             let case = dressed_case(&drawn, other, rounds, rng);
             self.refined(&name, &case, rng, |given| retraced.compare(&case, given))?;
         }
