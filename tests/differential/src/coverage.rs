@@ -40,8 +40,8 @@ impl Coverage {
     pub fn add(&mut self, known: &Known) {
         let case = &known.case;
         if known.report.reason == 0 && case.rounds > 0 {
-            let start = start_net(&case.vertices, &case.faces, &case.sides, &case.marks);
-            self.add_first(&Met::of(&start.expect("an accepted net")));
+            let start = start_net(&case.net()).expect("an accepted net");
+            self.add_first(&Met::of(&start));
         }
     }
 

@@ -5,6 +5,7 @@ use nets::case::{Case, Expected};
 use nets::letters::fit_letters;
 use nets::rng::Rng;
 use nets::shapes;
+use nets::tension::fit_tension;
 use reference::net::PolygonNet;
 use reference::refusal::Capacity;
 
@@ -88,7 +89,8 @@ pub fn compare(number: u64, rng: &mut Rng) -> Result<(), String> {
     } else {
         Case::with_sides(&PolygonNet::from(&square), 1, Expected::Accepted)
     };
-    let known = Known::new(fit_letters(case, rng), rng)?;
+    let case = fit_tension(fit_letters(case, rng), rng);
+    let known = Known::new(case, rng)?;
     match reasons[at % 2] {
         Some(reason) => {
             compare_claim(&known, reason, claim).map_err(|fault| format!("{name}: {fault}"))
