@@ -126,7 +126,7 @@ impl NamedNets {
             })?;
             match rounds {
                 _ if rounds == most => {}
-                0 => coverage.add_first(&Met::of(&given.net)),
+                0 => coverage.add_first(&Met::of(&given.net), case.tension),
                 _ => later.extend(Met::of(&given.net).features),
             }
             before = Some(given.net);

@@ -88,10 +88,9 @@ impl Seams {
         let mut do_part = false;
         for rounds in 0..=most[0].min(most[1]) {
             let mut after = Vec::new();
-            for at in 0..2 {
-                let tension = pair.tensions[at];
-                let refined = refined(&pair.nets[at], tension, rounds, rng)?;
-                self.readings += compare_readings(&starts[at], tension, &refined, rounds)?;
+            for ((net, start), tension) in pair.nets.iter().zip(&starts).zip(pair.tensions) {
+                let refined = refined(net, tension, rounds, rng)?;
+                self.readings += compare_readings(start, tension, &refined, rounds)?;
                 after.push(refined);
             }
             match (parting(&after, &shared), is_equal) {
@@ -103,20 +102,24 @@ impl Seams {
             }
         }
         self.pairs += 1;
-        if !is_equal {
-            self.different
-                .add(if do_part { PART } else { "stay equal" });
-            return Ok(());
+        match (is_equal, do_part) {
+            (true, _) => self.add_pair(&pair, &starts, &shared),
+            (false, true) => self.different.add(PART),
+            (false, false) => self.different.add("stay equal"),
         }
-        for readings in &shared {
-            self.add_sorts(&starts, readings);
+        Ok(())
+    }
+
+    /// Counts a pair with equal tensions by what it shares.
+    fn add_pair(&mut self, pair: &SharedPair, starts: &[Net; 2], shared: &[(Reading, Reading)]) {
+        for readings in shared {
+            self.add_sorts(starts, readings);
         }
         match pair.nets.iter().filter(|net| net.has_sides()).count() {
             0 => {}
             1 => self.sorts.add("with counts in one"),
             _ => self.sorts.add("with counts in both"),
         }
-        Ok(())
     }
 
     fn add_shared(&mut self, tension: Tension, rounds: u32, readings: usize) {

@@ -106,9 +106,10 @@ impl Refined {
     }
 }
 
-/// Nets where refining begins, and after a round.
-fn refined(dressing: Dressing, tension: Tension) -> impl Iterator<Item = Refined> {
-    dressed(dressing, tension).flat_map(move |(_, drawn)| {
+/// Nets where refining begins, and after a round; every `step`th of the named ones.
+fn refined(dressing: Dressing, tension: Tension, step: usize) -> impl Iterator<Item = Refined> {
+    let nets = dressed(dressing, tension).step_by(step);
+    nets.flat_map(move |(_, drawn)| {
         let start = drawn.start();
         let after = refine_once(&start, tension).net;
         [start, after].map(|net| Refined::new(net, tension))
@@ -127,7 +128,7 @@ const DENOMINATORS: [i128; 5] = [2, 64, 32, 64, 16];
 fn plain_edges_have_the_denominator_of_their_rule_and_wide_ones_need_not() {
     for (tension, denominator) in Tension::ALL.into_iter().zip(DENOMINATORS) {
         let mut others = 0;
-        for Refined { net, edges, .. } in refined(Dressing::Wide, tension).step_by(3) {
+        for Refined { net, edges, .. } in refined(Dressing::Wide, tension, 3) {
             let adjacency = Adjacency::new(&net);
             for (&(from, to), point) in &edges {
                 let is_wide = adjacency.sort(from, to) == Sort::Wide;
@@ -150,7 +151,7 @@ fn directions_agree_where_all_eight_edges_are_regular_and_may_differ_elsewhere()
 fn directions_agree_where_all_eight_edges_are_regular(tension: Tension, denominator: i128) {
     // By the regular, wide and boundary edges among the eight.
     let mut differing: BTreeMap<[usize; 3], usize> = BTreeMap::new();
-    for Refined { net, edges, faces } in refined(Dressing::Wide, tension) {
+    for Refined { net, edges, faces } in refined(Dressing::Wide, tension, 1) {
         let (adjacency, surface) = (Adjacency::new(&net), Surface::new(&net, tension));
         for (&face, point) in net.faces.iter().zip(&faces) {
             let rows = adjacency.rows(face);
@@ -189,7 +190,7 @@ fn edges_of_every_sort_and_faces_of_several_are_halves() {
 fn assert_halves(tension: Tension) {
     let mut edge_halves: BTreeMap<Sort, BTreeSet<bool>> = BTreeMap::new();
     let mut face_halves: BTreeMap<[bool; 2], BTreeSet<bool>> = BTreeMap::new();
-    for Refined { net, edges, faces } in refined(Dressing::Halves, tension).step_by(2) {
+    for Refined { net, edges, faces } in refined(Dressing::Halves, tension, 1).step_by(2) {
         let adjacency = Adjacency::new(&net);
         for (&(from, to), point) in &edges {
             let sort = adjacency.sort(from, to);
@@ -219,13 +220,11 @@ fn greatest(sums: &[Fraction]) -> Fraction {
 /// On the first axis one is there, on the second a face point, below 0.
 #[test]
 fn peaks_are_as_far_out_as_can_be() {
-    for (number, tension) in (0..).zip(Tension::ALL) {
-        assert_peaks(number, tension);
-    }
-}
-
-fn assert_peaks(first: usize, tension: Tension) {
-    for (name, drawn) in dressed(Dressing::Peaks, tension).skip(first).step_by(12) {
+    // Every fourth net, at all tensions by turns.
+    let tensions = Tension::ALL.into_iter().cycle();
+    for ((seed, named), tension) in (0..).zip(NAMED.iter()).step_by(4).zip(tensions) {
+        let drawn = named.dressed(Dressing::Peaks, tension, &mut Rng::new(seed));
+        let name = named.name.as_str();
         assert_accepted((name, drawn.clone()));
         if drawn.has_sides() {
             continue;

@@ -4,8 +4,11 @@ mod common;
 
 use std::collections::BTreeSet;
 
-use common::{SAMPLE_TEXT, bent_grid, cube, grid, scattered, square, unmarked, wheel, with_marks};
-use reference::call::{Call, Outcome, Tables, refine, refine_into};
+use common::{
+    SAMPLE_TEXT, bent_grid, cube, grid, refine_drawn, scattered, square, unmarked, wheel,
+    with_marks,
+};
+use reference::call::{Call, Outcome, Tables, refine};
 use reference::letter::{Letter, letter_table, refine_with_letters};
 use reference::net::{Net, NetRecord, PolygonNet};
 use reference::point::Point;
@@ -175,14 +178,7 @@ fn tables(refined_faces: usize, with_letters: bool, letters: usize) -> Tables {
 }
 
 fn call(tally: u64, net: &Net, rounds: u32, tables: &mut Tables) -> Outcome {
-    let record = NetRecord {
-        vertices: &net.vertex_table(),
-        faces: &net.face_table(),
-        sides: &[],
-        marks: &net.marks,
-        tension: 1,
-    };
-    refine_into(&mut { tally }, rounds, record, tables)
+    refine_drawn(&mut { tally }, net, &[], 1, rounds, tables)
 }
 
 #[test]

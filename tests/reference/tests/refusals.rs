@@ -3,9 +3,10 @@
 mod common;
 
 use common::{
-    cube, fan, grid, refine_at, refine_net, scattered, square, unmarked, verdict, wheel, with_marks,
+    cube, fan, grid, refine_at, refine_drawn, refine_net, scattered, square, unmarked, verdict,
+    wheel, with_marks,
 };
-use reference::call::{Call, Outcome, Tables, refine, refine_into};
+use reference::call::{Call, Outcome, Tables, refine};
 use reference::net::{Net, NetRecord};
 use reference::refusal::Capacity;
 use reference::rules::Tension;
@@ -121,18 +122,7 @@ fn sixteen_comes_after_4_and_before_5() {
     flawed.points[8][0] = i32::MAX;
     nets.push(flawed);
     for net in nets {
-        for tension in [
-            5,
-            6,
-            8,
-            255,
-            256,
-            260,
-            65_540,
-            1 << 31,
-            (1 << 31) + 4,
-            u32::MAX,
-        ] {
+        for tension in [5, 256, 1 << 31, u32::MAX] {
             assert_eq!(refine_at(&net, tension, 1), refused(16, 0));
             assert_eq!(refine_at(&net, tension, 7), refused(1, 0));
             let before = filled_tables(15, 0);
@@ -296,14 +286,7 @@ fn run(net: &Net, rounds: u32, tables: Tables) -> (Outcome, Tables) {
 
 /// The same at any tension.
 fn run_at(net: &Net, tension: u32, rounds: u32, mut tables: Tables) -> (Outcome, Tables) {
-    let record = NetRecord {
-        vertices: &net.vertex_table(),
-        faces: &net.face_table(),
-        sides: &[],
-        marks: &net.marks,
-        tension,
-    };
-    let outcome = refine_into(&mut 0, rounds, record, &mut tables);
+    let outcome = refine_drawn(&mut 0, net, &[], tension, rounds, &mut tables);
     (outcome, tables)
 }
 

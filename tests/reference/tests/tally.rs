@@ -3,9 +3,9 @@
 
 mod common;
 
-use common::{cube, grid, square, unmarked, with_marks};
-use reference::call::{Outcome, Tables, refine_into};
-use reference::net::{Mesh, Net, NetRecord, PolygonNet};
+use common::{cube, grid, refine_drawn, square, unmarked, with_marks};
+use reference::call::{Outcome, Tables};
+use reference::net::{Net, PolygonNet};
 use reference::refusal::{Capacity, MAX_TALLY};
 use reference::rules::Tension;
 
@@ -51,25 +51,6 @@ fn call_with_sides(tally: &mut u64, net: &PolygonNet, rounds: u32) -> Outcome {
         rounds,
         tables,
     )
-}
-
-/// Any call on a record.
-fn refine_drawn<F: AsRef<[u32]>>(
-    tally: &mut u64,
-    net: &Mesh<F>,
-    sides: &[u8],
-    tension: u32,
-    rounds: u32,
-    tables: &mut Tables,
-) -> Outcome {
-    let record = NetRecord {
-        vertices: &net.vertex_table(),
-        faces: &net.face_table(),
-        sides,
-        marks: &net.marks,
-        tension,
-    };
-    refine_into(tally, rounds, record, tables)
 }
 
 /// What a call adds to a record from zero.

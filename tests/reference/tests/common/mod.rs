@@ -2,8 +2,8 @@
 
 #![allow(dead_code)]
 
-use reference::call::{Call, Outcome, refine};
-use reference::net::{Net, NetRecord};
+use reference::call::{Call, Outcome, Tables, refine, refine_into};
+use reference::net::{Mesh, Net, NetRecord};
 use reference::point::Point;
 use reference::refusal::{Capacity, Refusal, check_net};
 use reference::rules::Tension;
@@ -132,6 +132,25 @@ pub fn refine_at(net: &Net, tension: u32, rounds: u32) -> Outcome {
         },
         capacity: Capacity::for_refined_faces(refined),
     })
+}
+
+/// Any call, with the record and the tables that it writes.
+pub fn refine_drawn<F: AsRef<[u32]>>(
+    tally: &mut u64,
+    net: &Mesh<F>,
+    sides: &[u8],
+    tension: u32,
+    rounds: u32,
+    tables: &mut Tables,
+) -> Outcome {
+    let record = NetRecord {
+        vertices: &net.vertex_table(),
+        faces: &net.face_table(),
+        sides,
+        marks: &net.marks,
+        tension,
+    };
+    refine_into(tally, rounds, record, tables)
 }
 
 /// The net that an accepted call gives, at the tension of old callers.
