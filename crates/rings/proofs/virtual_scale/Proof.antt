@@ -1,6 +1,6 @@
 -- `rings::virtual_scale` meets its contract: no step leaves its range. Assumes nothing.
-use mathlib.Core.Path.{_≡_, subst⁻¹, ap, _∙_}
-use Prim.Native.Nat.{ℕ, _+_, _*_, _≤_}
+use mathlib.Core.Path.{_≡_, sym, subst⁻¹, ap, _∙_}
+use Prim.Native.Nat.{ℕ, _≤_}
 use native.Mathlib.Omega.{arith}
 use borrow.Author.Needs.{needs}
 use lib.IntN.{ℤ, pos, _+ℤ_, _*ℤ_}
@@ -8,6 +8,9 @@ use mir.Syntax.{w64}
 use mir.Val.{SFits, toZ}
 use mir.Facts.{toZ-ofZ, toZ-pos}
 use Rattle.integers.proofs.Range.{fits-abs}
+use Rattle.curve.specs.Weights.{tension}
+use Rattle.rings.specs.Scales.{virtualScale}
+use Rattle.rings.proofs.Tension.{virtual-scale-at}
 use Rattle.rings.proofs.virtual_scale.Statement.{statement}
 use Rattle.rings.proofs.virtual_scale.Tie as tie
 
@@ -26,8 +29,8 @@ read c = toZ-pos w64 (omega (arith, c .pre))
 at : (c : tie.Start) → Sizes (toZ w64 (c .args .t))
 at c = subst⁻¹ Sizes (read c) (sizes (c .args .t) (c .pre))
 
-value : (t : ℕ) (e : ℤ) → e ≡ pos t → pos 50400 *ℤ (pos 32 +ℤ e) ≡ pos ((32 + t) * 50400)
-value t e i = let n : 50400 * (32 + t) ≡ (32 + t) * 50400 = omega arith in ap (λ (x : ℤ). pos 50400 *ℤ (pos 32 +ℤ x)) i ∙ ap pos n
+value : (t : ℕ) (e : ℤ) → e ≡ pos t → pos 50400 *ℤ (pos 32 +ℤ e) ≡ pos (virtualScale (tension t))
+value t e i = ap (λ (x : ℤ). pos 50400 *ℤ (pos 32 +ℤ x)) i ∙ ap pos (sym (virtual-scale-at t))
 
 cast-result : tie.Need-cast-result
 cast-result c = let k = at c in search needs

@@ -10,7 +10,7 @@ use mir.Syntax.{w8, w64}
 use mir.Val.{SFits}
 use mir.Facts.{toZ-ofZ}
 use Rattle.lists.specs.Tabulate.{tabulate}
-use Rattle.lists.proofs.Tabulate.{length-tabulate, getD-tabulate, write-none, write-one}
+use Rattle.lists.proofs.Tabulate.{getD-tabulate, write-none, write-one}
 use Rattle.integers.proofs.Range.{fits-abs}
 use Rattle.curve.specs.Weights.{tension}
 use Rattle.rings.specs.RingWeights.{unitWeights, weightOf, entry, row}
