@@ -34,6 +34,9 @@ abbrev pub curveCases : List Case
 curveCases =
     -- "open stretch 0, 16, 32, 80 on one axis gives 8, 22, 54"
     record { computed = step (rounded (tension 4)) Open (pos 0 ∷ pos 16 ∷ pos 32 ∷ pos 80 ∷ []); stated = pos 0 ∷ pos 8 ∷ pos 16 ∷ pos 22 ∷ pos 32 ∷ pos 54 ∷ pos 80 ∷ [] }
+    -- the same list at tensions 2 and 0
+    ∷ record { computed = step (rounded (tension 2)) Open (pos 0 ∷ pos 16 ∷ pos 32 ∷ pos 80 ∷ []); stated = pos 0 ∷ pos 8 ∷ pos 16 ∷ pos 23 ∷ pos 32 ∷ pos 55 ∷ pos 80 ∷ [] }
+    ∷ record { computed = step (rounded (tension 0)) Open (pos 0 ∷ pos 16 ∷ pos 32 ∷ pos 80 ∷ []); stated = pos 0 ∷ pos 8 ∷ pos 16 ∷ pos 24 ∷ pos 32 ∷ pos 56 ∷ pos 80 ∷ [] }
     -- Paper 02: "the stretch 0, 0, 0, 8 gives 0". Paper 01: "-8, 0, 0, 0 gives 1; 0, 0, 0, -7 gives 0"
     ∷ record { computed = rounded (tension 4) .inside (pos 0) (pos 0) (pos 0) (pos 8) ∷ []; stated = pos 0 ∷ [] }
     ∷ record { computed = rounded (tension 4) .inside (negsuc 7) (pos 0) (pos 0) (pos 0) ∷ []; stated = pos 1 ∷ [] }
@@ -132,9 +135,9 @@ tilted = record {
   marks = unmarked 4;
 }
 
--- z of the refined vertex i of `raised`
-abbrev pub raisedZ : ℕ → ℤ
-raisedZ i = refinedCoordinate (tension 4) 9 (raised .faces) (raised .marks) (axis (raised .vertices) 2) i
+-- z of the refined vertex i of `raised`, at tension t
+abbrev pub raisedZ : (t i : ℕ) → ℤ
+raisedZ t i = refinedCoordinate (tension t) 9 (raised .faces) (raised .marks) (axis (raised .vertices) 2) i
 
 -- the exact z of the point of face f, and of that of side h; such a z is n / k if `times` of it and k is `over` of it and n
 abbrev pub facePointZ : (t : ℕ) → Net → ℕ → Fraction
@@ -160,11 +163,14 @@ netCases =
     ∷ record { computed = refinedPoint 4 cube 11 ++ refinedPoint 4 cube 20; stated = coordinates (at (pos 0) (negsuc 589) (negsuc 589) ∷ at (pos 0) (pos 0) (negsuc 736) ∷ []) }
     ∷ record { computed = times (facePointZ 4 cube 0) 2 ∷ []; stated = over (facePointZ 4 cube 0) (negsuc 1474) ∷ [] }
     -- "two by two squares of side 16, four outer corners marked, centre raised to z = 16, rest 0: inner edge points have z = 10, face points z = 6 (100/16)."
-    ∷ record { computed = raisedZ 10 ∷ raisedZ 11 ∷ raisedZ 15 ∷ raisedZ 16 ∷ []; stated = pos 10 ∷ pos 10 ∷ pos 10 ∷ pos 10 ∷ [] }
-    ∷ record { computed = raisedZ 21 ∷ raisedZ 22 ∷ raisedZ 23 ∷ raisedZ 24 ∷ []; stated = pos 6 ∷ pos 6 ∷ pos 6 ∷ pos 6 ∷ [] }
+    ∷ record { computed = raisedZ 4 10 ∷ raisedZ 4 11 ∷ raisedZ 4 15 ∷ raisedZ 4 16 ∷ []; stated = pos 10 ∷ pos 10 ∷ pos 10 ∷ pos 10 ∷ [] }
+    ∷ record { computed = raisedZ 4 21 ∷ raisedZ 4 22 ∷ raisedZ 4 23 ∷ raisedZ 4 24 ∷ []; stated = pos 6 ∷ pos 6 ∷ pos 6 ∷ pos 6 ∷ [] }
     ∷ record { computed = times (facePointZ 4 raised 0) 16 ∷ times (facePointZ 4 raised 3) 16 ∷ []; stated = over (facePointZ 4 raised 0) (pos 100) ∷ over (facePointZ 4 raised 3) (pos 100) ∷ [] }
     -- "Face points use the unrounded edge points.": the face point's z is 0, from 1/4; from rounded edge points it would be 1. From the second implementation.
     ∷ record { computed = refinedPoint 4 tilted 6 ++ refinedPoint 4 tilted 8; stated = coordinates (at (pos 8) (pos 18) (pos 1) ∷ at (pos 8) (pos 8) (pos 0) ∷ []) }
+    -- the same squares at tension 2: inner edge points have z = 9, face points z = 5, from 81/16
+    ∷ record { computed = raisedZ 2 10 ∷ raisedZ 2 16 ∷ raisedZ 2 21 ∷ raisedZ 2 24 ∷ []; stated = pos 9 ∷ pos 9 ∷ pos 5 ∷ pos 5 ∷ [] }
+    ∷ record { computed = times (facePointZ 2 raised 0) 16 ∷ []; stated = over (facePointZ 2 raised 0) (pos 81) ∷ [] }
     -- at tension 0 the midpoints of the square's sides
     ∷ record {
       computed = refinedPoint 0 square 4 ++ refinedPoint 0 square 5 ++ refinedPoint 0 square 6 ++ refinedPoint 0 square 7;

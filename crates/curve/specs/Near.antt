@@ -5,9 +5,9 @@ use lib.IntN.{ℤ, pos, natAbs, _-ℤ_, _*ℤ_}
 use Rattle.curve.specs.Weights.{tension}
 use Rattle.curve.specs.Curve.{Kind, Point, curve, exactCurve}
 
--- p times t is within d of e
-pub record Near (t d : ℕ) (p e : ℤ) : Type 0 where
-  pub near : natAbs (pos t *ℤ p -ℤ e) ≤ d
+-- p times s is within d of e
+pub record Near (s d : ℕ) (p e : ℤ) : Type 0 where
+  pub near : natAbs (pos s *ℤ p -ℤ e) ≤ d
 
 -- so at each coordinate
 pub record Each (R : ℤ → ℤ → Type 0) (p e : Point) : Type 0 where

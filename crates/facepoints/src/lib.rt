@@ -186,7 +186,8 @@ fn general_face(out: &mut [i32], work: &[u32], n: usize, f: usize, t: u32)
     coordinates::put_point(&mut *out, f, x, y, z);
 }
 
-// One direction by the numerators over 64 at the places p, q, r, s, rounded.
+// One direction by the numerators over 64 at the places p, q, r, s, rounded: on the numbers as they are packed, with 2^56 + 2^31 more each. The weights add up to 64 at
+// every tension, so 64 times that is too much.
 fn plain_on(work: &[u32], p: usize, q: usize, r: usize, s: usize, t: u32) -> i32
     requires { ⌜ PlainAt (now work) p × PlainAt (now work) q × PlainAt (now work) r × PlainAt (now work) s × (t ≤ 4) ⌝ }
     ensures { λ z. ⌜ z ≡ plainDirection (tension t) (now (work .entry)) p q r s ⌝ }

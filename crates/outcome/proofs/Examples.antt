@@ -60,7 +60,7 @@ tables g = buffers (zeros (12 * g)) (copies 7 (4 * g)) (copies 7 (4 * g)) (copie
 abbrev unasked : Letters
 unasked = letterTable false []
 
--- the square refined once: five new points fit or do not, the sum beyond 64 bits too; nothing to add, at the limit and above; 1, 4 and 12 go first
+-- the square refined once: five new points fit or do not, the sum beyond 64 bits too; nothing to add, at the limit and above; 1, 4 and 12 go first, and 16 before 12 and after 4; tension 0 passes
 abbrev verdicts : List Verdict
 verdicts =
     requestVerdict (request 3999999995 1 square 4 (tables 4) unasked)
@@ -90,6 +90,11 @@ fifteen = refl
 four : outcome (request 3999999996 2 square 4 (tables 4) unasked) ≡ refusedOutcome 4 0 3999999996 (tables 4) unasked (copies 7 66)
 unfolding outcome requestVerdict tallyVerdict newPoints steps step startNet split tabulate firstFrom first any count iterate quads from to opposed mate firstMet edgeCount edge corner refined refinedMarks shapeOf verdict limitsVerdict tablesVerdict sizeVerdict roomVerdict netVerdict coordinatesVerdict shapeVerdict facesVerdict adjacencyVerdict vertexVerdict badCoordinate badMark badCorner isolated repeatedSide nonManifold badValence markedRing isBoundaryFrom boundaryFrom leaves valence turn start stops facesMet cleared filled
 four = refl
+
+-- so on 16
+sixteen : outcome (request 3999999996 1 square 5 (tables 4) unasked) ≡ refusedOutcome 16 0 3999999996 (tables 4) unasked (copies 7 66)
+unfolding outcome requestVerdict tallyVerdict newPoints steps step startNet split tabulate firstFrom first any count iterate quads from to opposed mate firstMet edgeCount edge corner refined refinedMarks shapeOf verdict limitsVerdict tablesVerdict sizeVerdict roomVerdict netVerdict coordinatesVerdict shapeVerdict facesVerdict adjacencyVerdict vertexVerdict badCoordinate badMark badCorner isolated repeatedSide nonManifold badValence markedRing isBoundaryFrom boundaryFrom leaves valence turn start stops facesMet cleared filled
+sixteen = refl
 
 -- the square twice, then for too many rounds, then once more
 abbrev calls : List Request

@@ -36,7 +36,7 @@ pub record SharedAfter (a b : Request) (v w : Way) (c : Kind) (s t : ℕ) (L : L
   -- the same calls asked for k rounds only are accepted too
   pub accepted-left : AcceptedFor a k
   pub accepted-right : AcceptedFor b k
-  -- "the stretch is read there from the same vertex and the same way", and is the rounded curve worked out from L alone
+  -- "the stretch is read there from the same vertex and the same way", and is the rounded curve worked out from L and the tension alone: "both curves are then fed t as well"
   pub left : (P : List Point) → Reads (netAfter a k) v c s P ↔ (P ≡ curve (tension (a .tension)) c k L)
   pub right : (P : List Point) → Reads (netAfter b k) w c t P ↔ (P ≡ curve (tension (a .tension)) c k L)
   -- each coordinate lies within the seam distance of the exact curve

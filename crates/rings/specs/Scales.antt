@@ -1,5 +1,4 @@
--- The common denominators of the exact points of a round, over the weights, and the ranges of their numerators. The numbers in brackets are those of paper 01's
--- weights.
+-- The common denominators of the exact points of a round, over the weights, and the ranges of their numerators. The numbers in brackets are those at a tension t.
 use Prim.Native.Nat.{ℕ, _*_, _/_}
 use Rattle.curve.specs.Weights.{Weights, scale}
 

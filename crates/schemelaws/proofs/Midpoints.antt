@@ -1,5 +1,5 @@
 -- Paper 02: "t = 0 gives plain midpoints on edges." On faces it gives the mean of the four corners. Assumes a manifold net.
-use mathlib.Core.Path.{_≡_, refl, ap, ap₂, _∙_}
+use mathlib.Core.Path.{_≡_, refl, sym, ap, ap₂, _∙_}
 use mathlib.Core.Bool.{Bool, true, false, cond}
 use mathlib.Core.List.{List, [], _∷_}
 use Prim.Native.Nat.{ℕ, _+_, _*_, _<_}
@@ -8,22 +8,29 @@ use lib.Dec.{ltb}
 use lib.IntN.{ℤ, pos, _+ℤ_, _*ℤ_}
 use lib.ListN.{length}
 use Rattle.integers.proofs.Polynomial.{Poly, var, lit, _⊞_, _⊠_, same}
-use Rattle.fractions.specs.Fraction.{whole, _+ᶠ_, _/ᶠ_, Equals, Same}
-use Rattle.fractions.proofs.Laws.{equals-whole, equals-add, equals-divided, equals-cong, equals-reduced, same-of-equals}
+use Rattle.fractions.specs.Fraction.{whole, toWhole, _+ᶠ_, _/ᶠ_, Equals, Same}
+use Rattle.fractions.proofs.Laws.{toWhole-equals, equals-whole, equals-add, equals-divided, equals-cong, equals-reduced, same-of-equals}
 use Rattle.curve.specs.Weights.{tension, interior, endEdge, singleEdge}
 use Rattle.curve.proofs.Tension.{single-at, interior-zero, end-zero}
 use Rattle.rings.specs.Scales.{virtualScale}
+use Rattle.rings.proofs.Scales.{edgeScale-some}
 use Rattle.rules.specs.Rules.{midpoint}
 use Rattle.topology.specs.Shape.{quads}
-use Rattle.topology.specs.HalfEdge.{from, to, mate}
+use Rattle.topology.specs.HalfEdge.{from, to, mate, edge}
 use Rattle.topology.specs.Boundary.{along, back}
 use Rattle.topology.specs.Manifold.{Manifold}
 use Rattle.topology.specs.Quads.{across, beyond}
 use Rattle.topology.proofs.Shape.{four-sides}
+use Rattle.topology.proofs.Mates.{edge-lt}
+use Rattle.nets.specs.Net.{Net, axis}
 use Rattle.scheme.specs.Points.{EdgeRule, insideSegment, startOfSegment, endOfSegment, wholeSegment, innerRule, edgeRule, edgePoint, FaceRule, firstAlone, secondAlone, bothInner, neitherInner, faceRule, facePoint}
+use Rattle.scheme.specs.Step.{refinedCoordinate, step}
+use Rattle.schemelaws.specs.Nets.{Refinable}
 use Rattle.schemelaws.specs.Ordinary.{ordinaryValue}
 use Rattle.schemelaws.specs.Numerators.{virtualAtZ, edgeValueZ, edgeZ, directionZ, faceValueZ, faceZ}
 use Rattle.schemelaws.proofs.Ties.{equals-edge, equals-face}
+use Rattle.schemelaws.proofs.Coordinates.{refined-edge}
+use Rattle.schemelaws.proofs.Steps.{step-axis, refinable-manifold}
 
 -- half the denominator, by the definitions
 abbrev half : ℕ
@@ -52,14 +59,29 @@ value-half l p h innerRule =
     interior-zero (virtualAtZ (tension 0) l p h) (pos (virtualScale (tension 0)) *ℤ p (from l h)) (pos (virtualScale (tension 0)) *ℤ p (to quads l h)) (virtualAtZ (tension 0) l p (mate quads l h))
     ∙ same (lit (pos 32) ⊠ (D ⊠ var 0 ⊞ D ⊠ var 1)) (H ⊠ (var 0 ⊞ var 1)) (p (from l h) ∷ p (to quads l h) ∷ []) refl
 
-pub plain-midpoints : (v : ℕ) (l marks : List ℕ) → Manifold quads v l → (p : ℕ → ℤ) (h : ℕ) → h < length l
-    → Same (edgePoint (tension 0) l marks p h) (midpoint (whole (p (from l h))) (whole (p (to quads l h))))
-unfolding edgeZ midpoint
-plain-midpoints v l marks ok p h k =
-    let s : ℤ = p (from l h) +ℤ p (to quads l h) in
-    let e : Equals (edgePoint (tension 0) l marks p h) (pos half *ℤ s) (half * 2) = equals-cong (value-half l p h (edgeRule l marks h)) refl (equals-edge (tension 0) (omega arith) (omega arith) v l marks ok p h k) in
-    let i : 0 < half = omega arith in
-    same-of-equals (omega arith) (equals-reduced half s 2 i e) (equals-divided 2 (omega arith) (equals-add (equals-whole (p (from l h))) (equals-whole (p (to quads l h)))))
+module _ (v : ℕ) (l marks : List ℕ) (ok : Manifold quads v l) (p : ℕ → ℤ) (h : ℕ) (k : h < length l) where
+  abbrev ends : ℤ
+  ends = p (from l h) +ℤ p (to quads l h)
+
+  point-half : Equals (edgePoint (tension 0) l marks p h) ends 2
+  unfolding edgeZ
+  point-half =
+      let i : 0 < half = omega arith in
+      let e : Equals (edgePoint (tension 0) l marks p h) (pos half *ℤ ends) (half * 2) = equals-cong (value-half l p h (edgeRule l marks h)) refl (equals-edge (tension 0) (omega arith) (omega arith) v l marks ok p h k) in
+      equals-reduced half ends 2 i e
+
+  midpoint-half : Equals (midpoint (whole (p (from l h))) (whole (p (to quads l h)))) ends 2
+  unfolding midpoint
+  midpoint-half = equals-divided 2 (omega arith) (equals-add (equals-whole (p (from l h))) (equals-whole (p (to quads l h))))
+
+  pub plain-midpoints : Same (edgePoint (tension 0) l marks p h) (midpoint (whole (p (from l h))) (whole (p (to quads l h))))
+  plain-midpoints = same-of-equals (omega arith) point-half midpoint-half
+
+  pub midpoint-rounded : refinedCoordinate (tension 0) v l marks p (v + edge quads l h) ≡ toWhole (midpoint (whole (p (from l h))) (whole (p (to quads l h))))
+  midpoint-rounded =
+      refined-edge (tension 0) (omega arith) (omega arith) v l marks ok p h k
+      ∙ sym (toWhole-equals (edgeScale-some (tension 0) (omega arith) (omega arith)) (equals-edge (tension 0) (omega arith) (omega arith) v l marks ok p h k))
+      ∙ toWhole-equals (omega arith) point-half ∙ sym (toWhole-equals (omega arith) midpoint-half)
 
 -- ---- faces: each direction is the midpoint of two opposite edge points, and they the midpoints of the sides
 direction-half : (l : List ℕ) (e : ℕ → ℤ) (h : ℕ) → directionZ (tension 0) l e h ≡ pos 32 *ℤ (e h +ℤ e (across h))
@@ -127,3 +149,12 @@ module _ (l marks : List ℕ) (p : ℕ → ℤ) (f : ℕ) where
       let i : 0 < 64 * half = omega arith in
       same-of-equals (omega arith) (equals-reduced (64 * half) corners 4 i e)
       (equals-divided 4 (omega arith) (equals-add (equals-add (equals-add (equals-whole (p (from l (4 * f)))) (equals-whole (p (from l (4 * f + 1))))) (equals-whole (p (from l (4 * f + 2))))) (equals-whole (p (from l (4 * f + 3))))))
+
+-- ---- a round: the new vertex on the edge of h
+pub step-midpoints : (m : Net) → Refinable m → (h a : ℕ) → h < length (m .faces) → a < 3
+    → axis (step (tension 0) m .vertices) a (length (m .marks) + edge quads (m .faces) h) ≡ toWhole (midpoint (whole (axis (m .vertices) a (from (m .faces) h))) (whole (axis (m .vertices) a (to quads (m .faces) h))))
+step-midpoints m ok h a k b =
+    let g = refinable-manifold m ok in
+    let e = edge-lt quads (length (m .marks)) (m .faces) (g .oriented) h k in
+    step-axis (tension 0) m a (length (m .marks) + edge quads (m .faces) h) b (omega arith)
+    ∙ midpoint-rounded (length (m .marks)) (m .faces) (m .marks) g (axis (m .vertices) a) h k

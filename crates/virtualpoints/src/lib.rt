@@ -130,7 +130,7 @@ fn weighted_sum(
     coordinates::Exact { x: x, y: y, z: z }
 }
 
-// v, which is over 9n times the extrapolated scale, over one denominator for all sizes n of a ring.
+// v, which is over near · n times the extrapolated scale, over one denominator for all sizes n of a ring.
 fn times_share(n: usize, v: i64) -> i64
     requires { ⌜ (3 ≤ n) × (n ≤ 8) × (natAbs v ≤ 2 ^ 50) ⌝ }
     ensures { λ r. ⌜ r ≡ pos (valenceScale / n) *ℤ v ⌝ }
@@ -139,7 +139,7 @@ fn times_share(n: usize, v: i64) -> i64
     c as i64 * v
 }
 
-// The same for a sum s over vertices, which is over 9n alone.
+// The same for a sum s over vertices, which is over near · n alone.
 fn scaled_share(n: usize, s: i64) -> i64
     requires { ⌜ (3 ≤ n) × (n ≤ 8) × (natAbs s ≤ sumRange) ⌝ }
     ensures { λ r. ⌜ r ≡ ringSum n s ⌝ }
