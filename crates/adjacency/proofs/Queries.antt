@@ -7,17 +7,19 @@ use native.Mathlib.Numerals.{add-one}
 use native.Mathlib.Decide.{decLt}
 use native.Mathlib.Omega.{arith}
 use lib.ListN.{length, getD}
-use borrow.Author.Tests.{eq-eqb}
-use Rattle.search.specs.Search.{first, count}
+use borrow.Author.Tests.{eq-eqb, lt-ltb, le-ltb}
+use Rattle.search.specs.Search.{first, any, count}
 use Rattle.search.proofs.Tests.{refuted}
+use Rattle.search.proofs.First.{first-le}
 use Rattle.search.proofs.Count.{count-more, count-skip, count-le}
 use Rattle.topology.specs.Shape.{Shape}
 use Rattle.topology.specs.HalfEdge.{from, mate}
 use Rattle.topology.specs.Boundary.{isBoundaryFrom, boundaryFrom}
 use Rattle.topology.specs.Vertex.{leaves, valence, start}
 use Rattle.topology.proofs.Boundary.{from-on, from-none, from-at, boundaryFrom-le, start-open, start-closed}
+use Rattle.refusals.specs.Refusals.{isolated}
 use Rattle.adjacency.specs.Chains.{chainFrom, Chained}
-use Rattle.adjacency.proofs.Chains.{leaves-if, chain-ge, chain-gap, OnChain, on-chain}
+use Rattle.adjacency.proofs.Chains.{leaves-if, chain-first, chain-ge, chain-gap, OnChain, on-chain}
 
 -- ---- boundary half-edges that leave p
 
@@ -77,3 +79,17 @@ tally-end l p g m t h = let e : g ≡ length l = omega (arith, t .chain .within)
 pub valence-le : (l : List ℕ) (p : ℕ) → valence l p ≤ length l
 unfolding valence
 valence-le l p = count-le (leaves l p) (length l)
+
+-- ---- empty chains
+
+module _ (l w : List ℕ) (p : ℕ) (c : Chained l w 0) (b : p < length l) where
+  head-first : getD w (length l + p) 0 ≡ first (leaves l p) (length l)
+  head-first = c .heads p b ∙ chain-first l p
+
+  pub empty-isolated : getD w (length l + p) 0 ≡ length l → isolated l p ≡ true
+  unfolding isolated any
+  empty-isolated e = let t = le-ltb (first (leaves l p) (length l)) (length l) (omega (arith, head-first)) in rw t
+
+  pub full-joined : (getD w (length l + p) 0 ≡ length l → ⊥) → isolated l p ≡ false
+  unfolding isolated any
+  full-joined n = let x = first-le (leaves l p) (length l) in let t = lt-ltb (first (leaves l p) (length l)) (length l) (omega (arith, head-first)) in rw t

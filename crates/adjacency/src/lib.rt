@@ -6,10 +6,11 @@ ghost use lib.ListN.{length, drop};
 ghost use lib.Dec.{eqb};
 ghost use Rattle.search.specs.Search.{first};
 ghost use Rattle.topology.specs.HalfEdge.{mate};
-ghost use Rattle.topology.specs.Boundary.{boundaryFrom};
-ghost use Rattle.topology.specs.Vertex.{valence, start, facesMet};
+ghost use Rattle.topology.specs.Vertex.{facesMet};
+ghost use Rattle.refusals.specs.Refusals.{isolated};
 ghost use Rattle.polygons.specs.Polygons.{shapeOf};
 ghost use Rattle.tables.specs.Tables.{SameOutside};
+ghost use Rattle.sidetable.specs.Table.{Linked};
 ghost use Rattle.adjacency.specs.Chains.{side, Tables, Chained, Adjacency};
 
 // Makes every chain empty.
@@ -87,56 +88,27 @@ pub fn build_mates(faces: &[u32], sides: &[u8], work: &mut [u32])
     }
 }
 
-// The boundary half-edge that leaves the vertex p, or the number of half-edges.
-pub fn boundary_from(faces: &[u32], sides: &[u8], work: &[u32], p: usize) -> usize
-    requires { ⌜ Adjacency (now sides) (now faces) (now work) ⌝ }
-    requires { ⌜ p < length (now faces) ⌝ }
-    ensures { λ r. ⌜ r ≡ boundaryFrom (shapeOf (now (sides .entry))) (now (faces .entry)) p ⌝ }
+// The first of nv vertices that no half-edge leaves, or nv. The chains must be there.
+pub fn first_empty(faces: &[u32], sides: &[u8], nv: usize, work: &[u32]) -> usize
+    requires { ⌜ Tables (now sides) (now faces) (now work) ⌝ }
+    requires { ⌜ Chained (now faces) (now work) 0 ⌝ }
+    requires { ⌜ nv ≤ length (now faces) ⌝ }
+    ensures { λ r. ⌜ r ≡ first (isolated (now (faces .entry))) nv ⌝ }
 {
     let n = faces.len();
-    let mut g = work[n + p] as usize;
-    while g < n {
-        if sidetable::mate_in(faces, sides, work, g) == n {
-            return g;
+    let mut p = 0;
+    while p < nv {
+        if work[n + p] as usize == n {
+            return p;
         }
-        g = work[2 * n + g] as usize;
+        p += 1;
     }
-    g
-}
-
-// The number of faces at the vertex p.
-pub fn valence_at(faces: &[u32], sides: &[u8], work: &[u32], p: usize) -> u16
-    requires { ⌜ Adjacency (now sides) (now faces) (now work) ⌝ }
-    requires { ⌜ p < length (now faces) ⌝ }
-    ensures { λ r. ⌜ r ≡ valence (now (faces .entry)) p ⌝ }
-{
-    let n = faces.len();
-    let mut g = work[n + p] as usize;
-    let mut m: u16 = 0;
-    while g < n {
-        g = work[2 * n + g] as usize;
-        m += 1;
-    }
-    m
-}
-
-// Where turning round the vertex p starts.
-pub fn start_at(faces: &[u32], sides: &[u8], work: &[u32], p: usize) -> usize
-    requires { ⌜ Adjacency (now sides) (now faces) (now work) ⌝ }
-    requires { ⌜ p < length (now faces) ⌝ }
-    ensures { λ r. ⌜ r ≡ start (shapeOf (now (sides .entry))) (now (faces .entry)) p ⌝ }
-{
-    let n = faces.len();
-    let g = boundary_from(faces, sides, work, p);
-    if g < n {
-        return g;
-    }
-    work[n + p] as usize
+    p
 }
 
 // Whether turning from h meets d faces. It takes at most d turns.
 pub fn meets_all(faces: &[u32], sides: &[u8], work: &[u32], h: usize, d: u16) -> bool
-    requires { ⌜ Adjacency (now sides) (now faces) (now work) ⌝ }
+    requires { ⌜ Linked (now sides) (now faces) (now work) ⌝ }
     requires { ⌜ (h < length (now faces)) × (d ≤ length (now faces)) ⌝ }
     ensures { λ r. ⌜ r ≡ eqb (facesMet (shapeOf (now (sides .entry))) (now (faces .entry)) h) d ⌝ }
 {

@@ -40,10 +40,8 @@ joined l v e = record { few = go (decLt (length l) v); none = e }
     go (yes h) = let k = isolated-soon l v h in absurd (omega arith)
     go (no h) = omega arith
 
-pub tables : (s l w w′ : List ℕ) (v : ℕ) → CheckTables s l w → Joined l v → CornersBelow v l → length w′ ≡ length w → drop (4 * length l) w′ ≡ drop (4 * length l) w → Tables s l w′
-tables s l w w′ v t j r e d =
-    let b = t .room in
-    record { shaped = shaped-kept s (length l) w w′ e d (t .shaped); few = t .few; corners = corners-below-le v (length l) l (j .few) r; room = omega arith }
+pub chain-tables : (s l w : List ℕ) (v : ℕ) → CheckTables s l w → v ≤ length l → CornersBelow v l → Tables s l w
+chain-tables s l w v t h r = let b = t .room in record { shaped = t .shaped; few = t .few; corners = corners-below-le v (length l) l h r; room = omega arith }
 
 -- a search that passes all found nothing
 pub all : (t : ℕ → Bool) (n i : ℕ) → i ≡ first t n → n ≤ i → first t n ≡ n

@@ -1,13 +1,16 @@
 // Admitting the net of a call, or refusing it; and the check, which only says which.
 ghost use mathlib.Core.Path.{_≡_};
 ghost use lib.ListN.{length};
+ghost use Rattle.search.specs.Search.{first};
+ghost use Rattle.refusals.specs.Refusals.{badCorner};
 ghost use Rattle.polygons.specs.Polygons.{shapeOf};
 ghost use Rattle.nets.specs.Net.{controlNet};
 ghost use Rattle.verdict.specs.Call.{room, call};
 ghost use lib.Dec.{ltb};
 ghost use Rattle.limits.specs.Answer.{limitsOf, lengthsIn};
 ghost use Rattle.verdict.specs.Verdict.{orElse, refusedIf, limitsVerdict, vertexVerdict, adjacencyVerdict, facesVerdict, shapeVerdict, netVerdict};
-ghost use Rattle.adjacency.specs.Chains.{Tables, Adjacency, CornersBelow};
+ghost use Rattle.slots.specs.Slots.{SlotTables};
+ghost use Rattle.vertexcounts.specs.Counts.{Counted};
 ghost use Rattle.admission.specs.Answer.{verdictOf, found, checked};
 ghost use Rattle.admission.specs.Examine.{CheckTables, Joined, Examined};
 ghost use Rattle.admission.specs.Admission.{Admits};
@@ -24,9 +27,9 @@ pub enum Admission {
     Admitted(usize),
 }
 
-// Refusals 10 to 12 of a net with its adjacency built.
+// Refusals 10 to 12 of a net with its mates built and its vertices counted.
 fn examine_vertices(faces: &[u32], sides: &[u8], marks: &[u8], work: &[u32]) -> Answer
-    requires { ⌜ Adjacency (now sides) (now faces) (now work) ⌝ }
+    requires { ⌜ Counted (length (now marks)) (now sides) (now faces) (now work) ⌝ }
     requires { ⌜ Joined (now faces) (length (now marks)) ⌝ }
     ensures { λ r. ⌜ verdictOf r ≡ vertexVerdict (shapeOf (now (sides .entry))) (length (now (marks .entry))) (now (faces .entry)) (now (marks .entry)) ⌝ }
 {
@@ -45,25 +48,25 @@ fn examine_vertices(faces: &[u32], sides: &[u8], marks: &[u8], work: &[u32]) -> 
     Answer::Accepted
 }
 
-// Refusals 9 to 12 of a net whose vertices all are in faces. On acceptance the work table starts with the mates.
+// Refusals 9 to 12 of a net whose vertices all are in faces, with its chains built. On acceptance the work table starts with the mates.
 fn examine_adjacency(faces: &[u32], sides: &[u8], marks: &[u8], work: &mut [u32]) -> Answer
-    requires { ⌜ Tables (now sides) (now faces) (now work) ⌝ }
+    requires { ⌜ SlotTables (length (now marks)) (now sides) (now faces) (now work) ⌝ }
     requires { ⌜ Joined (now faces) (length (now marks)) ⌝ }
+    requires { ⌜ first (badCorner (shapeOf (now sides)) (length (now marks)) (now faces)) (length (now faces)) ≡ length (now faces) ⌝ }
     ensures { λ r. ⌜ Examined (adjacencyVerdict (shapeOf (now (sides .entry))) (length (now (marks .entry))) (now (faces .entry)) (now (marks .entry))) (now (sides .entry)) (now (faces .entry)) (now (work .entry)) r (now (work .exit)) ⌝ }
 {
-    adjacency::build_chains(faces, sides, &mut *work);
-    let h = manifold::first_repeated(faces, sides, &*work);
+    let h = slots::link(faces, sides, marks.len(), &mut *work);
     if h < faces.len() {
         return Answer::Refused(9, sidetable::face_in(sides, &*work, faces.len(), h));
     }
-    adjacency::build_mates(faces, sides, &mut *work);
+    vertexcounts::count_faces(faces, sides, marks.len(), &mut *work);
     examine_vertices(faces, sides, marks, &*work)
 }
 
 // Refusals 8 to 12 of a net whose corners all are vertices.
 fn examine_faces(faces: &[u32], sides: &[u8], marks: &[u8], work: &mut [u32]) -> Answer
     requires { ⌜ CheckTables (now sides) (now faces) (now work) ⌝ }
-    requires { ⌜ CornersBelow (length (now marks)) (now faces) ⌝ }
+    requires { ⌜ first (badCorner (shapeOf (now sides)) (length (now marks)) (now faces)) (length (now faces)) ≡ length (now faces) ⌝ }
     ensures { λ r. ⌜ Examined (facesVerdict (shapeOf (now (sides .entry))) (length (now (marks .entry))) (now (faces .entry)) (now (marks .entry))) (now (sides .entry)) (now (faces .entry)) (now (work .entry)) r (now (work .exit)) ⌝ }
 {
     if faces.len() == 0 {
@@ -72,7 +75,11 @@ fn examine_faces(faces: &[u32], sides: &[u8], marks: &[u8], work: &mut [u32]) ->
         }
         return Answer::Refused(8, 0);
     }
-    let p = scan::first_isolated(faces, marks.len(), &mut *work);
+    if faces.len() < marks.len() {
+        return Answer::Refused(8, scan::first_isolated(faces, marks.len(), &mut *work));
+    }
+    adjacency::build_chains(faces, sides, &mut *work);
+    let p = adjacency::first_empty(faces, sides, marks.len(), &*work);
     if p < marks.len() {
         return Answer::Refused(8, p);
     }
@@ -130,8 +137,7 @@ fn call_fault(rounds: u32, sides: &[u8], n: Lengths, tension: u32) -> u32
 
 // Admits the net of a call, given the lengths of its output tables, that of the letter table too where letters are asked for, and leaves its mates at the front of
 // the work table, and its shape where there are side counts; or refuses it.
-// Beside clearing the work table on a refusal the time is linear in the tables for nets of bounded valence; with d faces at a vertex, finding
-// the mates there takes d * d steps at most.
+// The time is linear in the tables.
 pub fn admit(
     rounds: u32,
     vertices: &[i32],

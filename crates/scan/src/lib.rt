@@ -1,13 +1,16 @@
 // The first place of refusals 5 to 8, found by scanning tables.
-ghost use Prim.Native.Nat.{_+_, _*_, _≤_, _<_};
+ghost use Prim.Native.Nat.{_+_, _*_, _%_, _≤_, _<_};
 ghost use mathlib.Core.Path.{_≡_};
 ghost use lib.ListN.{length, drop};
 ghost use Rattle.search.specs.Search.{first};
 ghost use Rattle.verdict.specs.Verdict.{badCoordinate};
 ghost use Rattle.refusals.specs.Refusals.{badMark, badCorner, isolated};
-ghost use Rattle.polygons.specs.Polygons.{shapeOf};
+ghost use Rattle.search.proofs.First.{Passed};
+ghost use Rattle.topology.specs.Shape.{quads};
+ghost use Rattle.polygons.specs.Polygons.{shapeOf, Sided};
 ghost use Rattle.sidetable.specs.Table.{Shaped};
 ghost use Rattle.scan.specs.Flags.{Flagged, IsolatedFound};
+ghost use Rattle.scan.specs.Good.{Good};
 
 // The first coordinate out of range, or their number.
 pub fn first_bad_coordinate(vertices: &[i32]) -> usize
@@ -115,12 +118,77 @@ fn bad_corner(faces: &[u32], sides: &[u8], nv: usize, work: &[u32], h: usize) ->
     false
 }
 
+// Whether the corners of the four-sided face from h on are below nv and differ.
+fn good_face(faces: &[u32], nv: usize, h: usize) -> bool
+    requires { ⌜ h + 4 ≤ length (now faces) ⌝ }
+    ensures { λ r. ⌜ Good nv (now (faces .entry)) h r ⌝ }
+{
+    let p = faces[h];
+    let q = faces[h + 1];
+    let r = faces[h + 2];
+    let s = faces[h + 3];
+    if p as usize >= nv {
+        return false;
+    }
+    if q as usize >= nv {
+        return false;
+    }
+    if r as usize >= nv {
+        return false;
+    }
+    if s as usize >= nv {
+        return false;
+    }
+    if p == q {
+        return false;
+    }
+    if p == r {
+        return false;
+    }
+    if p == s {
+        return false;
+    }
+    if q == r {
+        return false;
+    }
+    if q == s {
+        return false;
+    }
+    r != s
+}
+
+// The first corner of the first four-sided face that is not good, or their number.
+fn skip_good(faces: &[u32], nv: usize) -> usize
+    requires { ⌜ length (now faces) % 4 ≡ 0 ⌝ }
+    ensures { λ r. ⌜ (r ≤ length (now (faces .entry))) × Passed (badCorner quads nv (now (faces .entry))) r ⌝ }
+{
+    let mut h = 0;
+    while h < faces.len() {
+        if !good_face(faces, nv, h) {
+            return h;
+        }
+        h += 4;
+    }
+    h
+}
+
+// A half-edge with no bad corner before it.
+fn first_suspect(faces: &[u32], sides: &[u8], nv: usize) -> usize
+    requires { ⌜ Sided (now sides) (length (now faces)) ⌝ }
+    ensures { λ r. ⌜ (r ≤ length (now (faces .entry))) × Passed (badCorner (shapeOf (now (sides .entry))) nv (now (faces .entry))) r ⌝ }
+{
+    if sides.len() == 0 {
+        return skip_good(faces, nv);
+    }
+    0
+}
+
 // The first half-edge with a bad corner, or their number.
 pub fn first_bad_corner(faces: &[u32], sides: &[u8], nv: usize, work: &[u32]) -> usize
     requires { ⌜ Shaped (now sides) (length (now faces)) (now work) ⌝ }
     ensures { λ r. ⌜ r ≡ first (badCorner (shapeOf (now (sides .entry))) nv (now (faces .entry))) (length (now (faces .entry))) ⌝ }
 {
-    let mut h = 0;
+    let mut h = first_suspect(faces, sides, nv);
     while h < faces.len() {
         if bad_corner(faces, sides, nv, work, h) {
             return h;

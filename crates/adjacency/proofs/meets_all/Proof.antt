@@ -4,7 +4,6 @@ use mathlib.Core.Path.{sym, ap}
 use native.Mathlib.Omega.{arith}
 use lib.Dec.{eqb}
 use Rattle.polygons.specs.Polygons.{shapeOf}
-use Rattle.adjacency.proofs.Chains.{linked}
 use Rattle.adjacency.proofs.Turning.{Turned, turned-start, turned-next, met-none, met-back, met-more}
 use Rattle.adjacency.proofs.meets_all.Statement.{statement}
 use Rattle.adjacency.proofs.meets_all.Tie as tie
@@ -22,7 +21,7 @@ turn-in-requires : tie.Need-turn-in-requires Inv-loop μ-loop
 turn-in-requires c κs =
     let q = c .before in
     let s = q .before .before .before .before in
-    (linked (s .args .sides .now) (s .args .faces .now) (s .args .work .now) (s .pre .0), q .loop .inv .1 .inside)
+    (s .pre .0, q .loop .inv .1 .inside)
 
 add-k : tie.Need-add-k Inv-loop μ-loop
 add-k c = omega arith

@@ -5,7 +5,6 @@ use Rattle.refusals.specs.Refusals.{badMark, badCorner}
 use Rattle.polygons.specs.Polygons.{shapeOf}
 use Rattle.verdict.specs.Verdict.{refused, shapeVerdict}
 use Rattle.verdict.proofs.Accepted.{never, at-hit, at-pass}
-use Rattle.adjacency.proofs.Chains.{corners-below-if}
 use Rattle.admission.proofs.Laws.{all}
 use borrow.Author.Needs.{needs}
 use Rattle.admission.proofs.examine_shape.Statement.{statement}
@@ -58,7 +57,7 @@ examine-faces-requires c κs =
     let S = shapeOf (s .args .sides .now) in
     let l = s .args .faces .now in
     let v = length (s .args .marks .now) in
-    (s .pre, corners-below-if S v l (all (badCorner S v l) (length l) _ (y .first-bad-corner .ensures) (c .before .if2 .left)))
+    (s .pre, all (badCorner S v l) (length l) _ (y .first-bad-corner .ensures) (c .before .if2 .left))
 
 same-length-2 : tie.Need-same-length-2
 same-length-2 c = search needs

@@ -18,7 +18,7 @@ loop-holds : tie.Need-loop-holds Inv-loop μ-loop
 loop-holds c = (omega arith, passed-start _)
 
 bad-valence-requires : tie.Need-bad-valence-requires Inv-loop μ-loop
-bad-valence-requires c κs = (c .before .before .before .before .before .pre .0, omega arith)
+bad-valence-requires c κs = (c .before .before .before .before .before .pre, omega arith)
 
 returns : tie.Need-returns Inv-loop μ-loop
 returns c = passed-hit _ _ _ (c .before .before .before .loop .inv .1) (c .before .before .loop-test .taken) (sym (c .before .bad-valence .ensures) ∙ c .if1 .taken)

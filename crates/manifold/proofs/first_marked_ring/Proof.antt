@@ -19,7 +19,7 @@ loop-holds : tie.Need-loop-holds Inv-loop μ-loop
 loop-holds c = (omega arith, passed-start _)
 
 marked-ring-requires : tie.Need-marked-ring-requires Inv-loop μ-loop
-marked-ring-requires c κs = (c .before .before .before .before .before .before .pre .0, (omega arith, omega arith))
+marked-ring-requires c κs = (c .before .before .before .before .before .before .pre, omega arith)
 
 returns : tie.Need-returns Inv-loop μ-loop
 returns c = passed-hit _ _ _ (c .before .before .before .loop .inv .1) (c .before .before .loop-test .taken) (sym (c .before .marked-ring .ensures) ∙ c .if1 .taken)

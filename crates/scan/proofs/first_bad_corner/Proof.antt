@@ -17,14 +17,17 @@ Inv-loop faces sides nv work h₀ h = (h ≤ length faces) × ((k : ℕ) → k <
 abbrev μ-loop : tie.MeasureT-loop
 μ-loop faces sides nv work h₀ h = length faces - h
 
+first-suspect-requires : tie.Need-first-suspect-requires Inv-loop μ-loop
+first-suspect-requires c κs = c .before .before .before .pre .space .sided
+
 loop-holds : tie.Need-loop-holds Inv-loop μ-loop
-loop-holds c = (omega arith, λ k h. absurd (omega arith))
+loop-holds c = let e = c .first-suspect .ensures in (e .0, e .1 .none)
 
 bad-corner-requires : tie.Need-bad-corner-requires Inv-loop μ-loop
-bad-corner-requires c κs = (c .before .before .before .before .before .pre, c .loop-test .taken)
+bad-corner-requires c κs = (c .before .before .before .before .before .before .pre, c .loop-test .taken)
 
 returns : tie.Need-returns Inv-loop μ-loop
-returns c = let s = c .before .before .before .before .before .before .before in let l = s .args .faces .now in hit (badCorner (shapeOf (s .args .sides .now)) (s .args .nv) l) (length l) (c .before .before .before .loop .h) (c .before .before .loop-test .taken) (c .before .before .before .loop .inv .1) (sym (c .before .bad-corner .ensures) ∙ c .if1 .taken)
+returns c = let s = c .before .before .before .before .before .before .before .before in let l = s .args .faces .now in hit (badCorner (shapeOf (s .args .sides .now)) (s .args .nv) l) (length l) (c .before .before .before .loop .h) (c .before .before .loop-test .taken) (c .before .before .before .loop .inv .1) (sym (c .before .bad-corner .ensures) ∙ c .if1 .taken)
 
 add-h : tie.Need-add-h Inv-loop μ-loop
 add-h c = omega arith
@@ -36,7 +39,7 @@ loop-again : tie.Need-loop-again Inv-loop μ-loop
 loop-again c = (omega arith, below-more _ _ (c .before .before .before .loop .inv .1) (sym (c .before .bad-corner .ensures) ∙ c .if1 .left))
 
 returns-2 : tie.Need-returns-2 Inv-loop μ-loop
-returns-2 c = let s = c .before .before .before .before .before in let l = s .args .faces .now in end (badCorner (shapeOf (s .args .sides .now)) (s .args .nv) l) (length l) (c .before .loop .h) (omega arith) (omega arith) (c .before .loop .inv .1)
+returns-2 c = let s = c .before .before .before .before .before .before in let l = s .args .faces .now in end (badCorner (shapeOf (s .args .sides .now)) (s .args .nv) l) (length l) (c .before .loop .h) (omega arith) (omega arith) (c .before .loop .inv .1)
 
 pub first-bad-corner-spec : {M : Type 1} → statement M
 first-bad-corner-spec =
@@ -44,6 +47,7 @@ first-bad-corner-spec =
     (tie.spec
     Inv-loop
     μ-loop
+    first-suspect-requires
     loop-holds
     bad-corner-requires
     returns

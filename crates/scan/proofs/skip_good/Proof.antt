@@ -1,0 +1,62 @@
+-- `scan::skip_good` meets its contract: the faces before h are good. Assumes nothing.
+use mathlib.Core.Path.{_≡_, refl, sym, ap, _∙_}
+use mathlib.Core.Bool.{true, false, not}
+use Prim.Native.Nat.{ℕ, _+_, _-_, _%_, _≤_, _<_}
+use native.Mathlib.Omega.{arith}
+use lib.ListN.{length}
+use Rattle.search.proofs.First.{Passed, passed-start}
+use Rattle.search.proofs.Tests.{clash, decided}
+use mathlib.Core.Logic.{_⊎_, inl, inr}
+use Rattle.topology.specs.Shape.{quads}
+use Rattle.refusals.specs.Refusals.{badCorner}
+use Rattle.scan.proofs.Good.{good-passed, not-false}
+use Rattle.scan.proofs.skip_good.Statement.{statement}
+use Rattle.scan.proofs.skip_good.Tie as tie
+
+abbrev Inv-loop : tie.InvT-loop
+Inv-loop faces nv h₀ h = (h ≤ length faces) × (h % 4 ≡ 0) × Passed (badCorner quads nv faces) h
+
+abbrev μ-loop : tie.MeasureT-loop
+μ-loop faces nv h₀ h = length faces - h
+
+loop-holds : tie.Need-loop-holds Inv-loop μ-loop
+loop-holds c = (omega arith, refl, passed-start _)
+
+good-face-requires : tie.Need-good-face-requires Inv-loop μ-loop
+good-face-requires c κs = let i = c .before .loop .inv .1 in let n = c .before .before .before .pre in omega arith
+
+returns : tie.Need-returns Inv-loop μ-loop
+returns c = let y = c .before .before .before in (y .loop .inv .0, y .loop .inv .2)
+
+add-h : tie.Need-add-h Inv-loop μ-loop
+add-h c = omega arith
+
+loop-less : tie.Need-loop-less Inv-loop μ-loop
+loop-less c = omega arith
+
+loop-again : tie.Need-loop-again Inv-loop μ-loop
+loop-again c =
+    let x = c .before in
+    let y = x .before .before in
+    let s = y .before .before in
+    let i = y .loop .inv .1 in
+    let n = s .pre in
+    let t = x .before .loop-test .taken in
+    (omega arith, omega arith, good-passed (s .args .nv) (s .args .faces .now) (y .loop .h) n i (omega arith) (x .good-face .ensures .good (not-false _ (c .if1 .left))) (y .loop .inv .2))
+
+returns-2 : tie.Need-returns-2 Inv-loop μ-loop
+returns-2 c = let y = c .before in (y .loop .inv .0, y .loop .inv .2)
+
+pub skip-good-spec : {M : Type 1} → statement M
+skip-good-spec =
+    tie.close
+    (tie.spec
+    Inv-loop
+    μ-loop
+    loop-holds
+    good-face-requires
+    returns
+    add-h
+    loop-less
+    loop-again
+    returns-2)
