@@ -21,13 +21,13 @@ use Rattle.topology.specs.Vertex.{leaves, valence}
 use Rattle.topology.specs.Manifold.{Manifold}
 use Rattle.topology.proofs.Mates.{mate-le}
 use Rattle.topology.proofs.Boundary.{from-on, from-none, from-at, boundaryFrom-le, boundaryFrom-is, ring-range, fan-range}
-use Rattle.tables.specs.Tables.{SameOutside}
+use Rattle.tables.specs.Tables.{ZerosFrom, SameOutside}
 use Rattle.tables.proofs.Laws.{same-front}
 use Rattle.halfedges.proofs.Tables.{mates-cong}
 use Rattle.refinedfaces.specs.Refined.{refinedVertices, refined}
 use Rattle.schemelaws.specs.Ordinary.{Ordinary, ringOfFour, fanOfTwo}
 use Rattle.schemelaws.proofs.Made.{made-ordinary, old-ordinary}
-use Rattle.classes.specs.Classes.{ringSize, sizeAt, RingSizes, ordinaryBy, Classes, Countable, ZerosFrom, shareOf, CountedBelow}
+use Rattle.classes.specs.Classes.{ringSize, sizeAt, RingSizes, ordinaryBy, Classes, Countable, shareOf, CountedBelow}
 
 leaves-on : (l : List ℕ) (p h : ℕ) → from l h ≡ p → leaves l p h ≡ true
 unfolding leaves
@@ -126,16 +126,6 @@ classes-counted v at l w ok b r = record {
 
 pub counted-all : (v at : ℕ) (l w : List ℕ) → Manifold quads v l → CountedBelow v at l w (length l) → RingSizes v at l w
 counted-all v at l w ok c = record { sizes = λ p b. c .sizes p b ∙ counted-size v l ok p }
-
-pub zeros-none : (at : ℕ) (w : List ℕ) → ZerosFrom 0 at w
-zeros-none at w = record { zeros = λ p b. let z : ⊥ = omega arith in absurd z }
-
-pub zeros-next : (v at : ℕ) (w : List ℕ) → at + v < length w → ZerosFrom v at w → ZerosFrom (v + 1) at (set w (at + v) 0)
-zeros-next v at w b c = record { zeros = λ p d. go p d (ℕ-discrete p v) }
-  where
-    go : (p : ℕ) → p < v + 1 → Dec (p ≡ v) → getD (set w (at + v) 0) (at + p) 0 ≡ 0
-    go p d (yes e) = rw e (getD-set-same w (at + v) 0 0 b)
-    go p d (no e) = getD-set-other w (at + v) (at + p) 0 0 (λ q. e (omega arith)) ∙ c .zeros p (omega arith)
 
 pub counted-none : (v at : ℕ) (l w : List ℕ) → ZerosFrom v at w → CountedBelow v at l w 0
 unfolding count

@@ -44,9 +44,6 @@ pub record Countable (v at : ℕ) (l w : List ℕ) : Type 0 where
   pub behind : length l ≤ at
   pub room : at + v ≤ length w
 
-pub record ZerosFrom (v at : ℕ) (w : List ℕ) : Type 0 where
-  pub zeros : (p : ℕ) → p < v → getD w (at + p) 0 ≡ 0
-
 -- what half-edge h counts for the vertex that it leaves: 1, and 2 more on the boundary
 unfoldable pub shareOf : List ℕ → ℕ → ℕ
 shareOf l h = cond (ltb (mate quads l h) (length l)) 1 3

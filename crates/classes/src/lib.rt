@@ -4,20 +4,7 @@ ghost use Prim.Native.Nat.{_+_, _≤_, _<_};
 ghost use lib.ListN.{length};
 ghost use Rattle.tables.specs.Tables.{SameOutside};
 ghost use Rattle.halfedges.specs.Tables.{Connectivity};
-ghost use Rattle.classes.specs.Classes.{RingSizes, sizeAt, ordinaryBy, Countable, ZerosFrom, shareOf, CountedBelow};
-
-// Sets the v numbers from `at` on to zero.
-fn clear_sizes(work: &mut [u32], at: usize, v: usize)
-    requires { ⌜ at + v ≤ length (now work) ⌝ }
-    ensures { λ _. ⌜ ZerosFrom v at (now (work .exit)) ⌝ }
-    ensures { λ _. ⌜ SameOutside at (at + v) (now (work .entry)) (now (work .exit)) ⌝ }
-{
-    let mut p = 0;
-    while p < v {
-        work[at + p] = 0;
-        p += 1;
-    }
-}
+ghost use Rattle.classes.specs.Classes.{RingSizes, sizeAt, ordinaryBy, Countable, shareOf, CountedBelow};
 
 // The ring size at a place of the table.
 fn size_at(work: &[u32], i: usize) -> u16
@@ -57,7 +44,7 @@ pub fn count_ring_sizes(faces: &[u32], work: &mut [u32], at: usize, v: usize)
     ensures { λ _. ⌜ RingSizes v at (now (faces .entry)) (now (work .exit)) ⌝ }
     ensures { λ _. ⌜ SameOutside at (at + v) (now (work .entry)) (now (work .exit)) ⌝ }
 {
-    clear_sizes(&mut *work, at, v);
+    tables::clear_from(&mut *work, at, v);
     let mut h = 0;
     while h < faces.len() {
         count_side(faces, &mut *work, at, v, h);

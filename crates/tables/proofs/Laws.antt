@@ -2,12 +2,13 @@
 use mathlib.Core.Path.{_≡_, refl, sym, ap, _∙_, subst}
 use mathlib.Core.List.{List, _++_}
 use Prim.Native.Nat.{ℕ, _+_, _-_, _≤_, _<_}
+use native.Mathlib.Decide.{ℕ-discrete}
 use native.Mathlib.Omega.{arith}
 use borrow.Author.Fill.{fill-more}
 use lib.ListN.{length, getD, take, drop, set, replicate, length-append, length-drop, length-replicate, List·getD-append}
-use lib.Seq.{getD-take, getD-drop, take-at, drop-at, drop-append-add, drop-drop, take-take, take-set-le, drop-set-lt}
+use lib.Seq.{getD-take, getD-drop, take-at, drop-at, drop-append-add, drop-drop, take-take, take-set-le, drop-set-lt, getD-set-same, getD-set-other}
 use Rattle.lists.proofs.Prefix.{copy-one}
-use Rattle.tables.specs.Tables.{filled, cleared, SameOutside}
+use Rattle.tables.specs.Tables.{filled, cleared, ZerosFrom, SameOutside}
 
 -- a turn of each loop
 pub copy-turn : {A : Type 0} (s d₀ : List A) {d : List A} (i : ℕ) (z : A) → d ≡ take i s ++ drop i d₀ → i < length s → i < length d₀
@@ -16,6 +17,17 @@ copy-turn s d₀ i z e h k = rw e (copy-one s d₀ i z h k)
 
 pub clear-turn : (w₀ : List ℕ) {w : List ℕ} (i : ℕ) → w ≡ replicate i 0 ++ drop i w₀ → i < length w₀ → set w i 0 ≡ replicate (i + 1) 0 ++ drop (i + 1) w₀
 clear-turn w₀ i e k = rw e (fill-more i 0 w₀ k)
+
+-- zeros from a place on
+pub zeros-none : (at : ℕ) (w : List ℕ) → ZerosFrom 0 at w
+zeros-none at w = record { zeros = λ i b. let z : ⊥ = omega arith in absurd z }
+
+pub zeros-next : (n at : ℕ) (w : List ℕ) → at + n < length w → ZerosFrom n at w → ZerosFrom (n + 1) at (set w (at + n) 0)
+zeros-next n at w b c = record { zeros = λ i d. go i d (ℕ-discrete i n) }
+  where
+    go : (i : ℕ) → i < n + 1 → Dec (i ≡ n) → getD (set w (at + n) 0) (at + i) 0 ≡ 0
+    go i d (yes e) = rw e (getD-set-same w (at + n) 0 0 b)
+    go i d (no e) = getD-set-other w (at + n) (at + i) 0 0 (λ q. e (omega arith)) ∙ c .zeros i (omega arith)
 
 -- what lies past the cleared part is as found; so clearing again clears what was there before
 pub drop-cleared : (n : ℕ) (w : List ℕ) → drop n (cleared n w) ≡ drop n w
@@ -69,6 +81,9 @@ outside-then a e a′ e′ w w₁ w₂ h k s t =
       front = s .front ∙ sym (take-take a a′ w₁ h) ∙ ap (take a) (t .front) ∙ take-take a a′ w h;
       rest = s .rest ∙ subst (λ (m : ℕ). drop m w₁ ≡ drop m w) d (sym (drop-drop (e - e′) e′ w₁) ∙ ap (drop (e - e′)) (t .rest) ∙ drop-drop (e - e′) e′ w);
     }
+
+pub outside-wider : (a e a′ e′ : ℕ) (w w′ : List ℕ) → a ≤ a′ → e′ ≤ e → SameOutside a′ e′ w w′ → SameOutside a e w w′
+outside-wider a e a′ e′ w w′ h k s = outside-then a e a′ e′ w w′ w′ h k (same-outside a e w′) s
 
 -- equal before m: equal at each place there
 pub same-front : (m : ℕ) (w w′ : List ℕ) → take m w′ ≡ take m w → (i : ℕ) → i < m → getD w′ i 0 ≡ getD w i 0

@@ -26,3 +26,7 @@ pub record Written (a e : ℕ) (f : ℕ → ℕ) (w w′ : List ℕ) : Type 0 wh
 pub record SameOutside (a e : ℕ) (w w′ : List ℕ) : Type 0 where
   pub front : take a w′ ≡ take a w
   pub rest : drop e w′ ≡ drop e w
+
+-- the n numbers of w from the place `at` on are zero
+pub record ZerosFrom (n at : ℕ) (w : List ℕ) : Type 0 where
+  pub zeros : (i : ℕ) → i < n → getD w (at + i) 0 ≡ 0

@@ -2,7 +2,7 @@
 ghost use Prim.Native.Nat.{_+_, _≤_};
 ghost use mathlib.Core.Path.{_≡_};
 ghost use lib.ListN.{length};
-ghost use Rattle.tables.specs.Tables.{filled, cleared, putFour};
+ghost use Rattle.tables.specs.Tables.{filled, cleared, putFour, ZerosFrom, SameOutside};
 
 // Sets the first n numbers to zero.
 pub fn clear(work: &mut [u32], n: usize)
@@ -12,6 +12,19 @@ pub fn clear(work: &mut [u32], n: usize)
     let mut i = 0;
     while i < n {
         work[i] = 0;
+        i += 1;
+    }
+}
+
+// Sets the n numbers from the place `at` on to zero.
+pub fn clear_from(work: &mut [u32], at: usize, n: usize)
+    requires { ⌜ at + n ≤ length (now work) ⌝ }
+    ensures { λ _. ⌜ ZerosFrom n at (now (work .exit)) ⌝ }
+    ensures { λ _. ⌜ SameOutside at (at + n) (now (work .entry)) (now (work .exit)) ⌝ }
+{
+    let mut i = 0;
+    while i < n {
+        work[at + i] = 0;
         i += 1;
     }
 }

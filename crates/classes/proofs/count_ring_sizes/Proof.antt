@@ -16,21 +16,21 @@ Inv-loop faces work₀ at v h₀ work h = (h ≤ length faces) × (length work �
 abbrev μ-loop : tie.MeasureT-loop
 μ-loop faces work₀ at v h₀ work h = length faces - h
 
-abbrev start : tie.After-clear-sizes Inv-loop μ-loop → tie.Start Inv-loop μ-loop
+abbrev start : tie.After-clear-from Inv-loop μ-loop → tie.Start Inv-loop μ-loop
 start x = x .before .before .before .before
 
-kept : (x : tie.After-clear-sizes Inv-loop μ-loop) → length (x .clear-sizes .last .0) ≡ length (start x .args .work .now)
-kept x = x .clear-sizes .kept .0
+kept : (x : tie.After-clear-from Inv-loop μ-loop) → length (x .clear-from .last .0) ≡ length (start x .args .work .now)
+kept x = x .clear-from .kept .0
 
 -- the table outside the ring sizes, since the start
 outside : (y : tie.At-loop Inv-loop μ-loop) → (let s = start (y .before .before .before) in SameOutside (s .args .at) (s .args .at + s .args .v) (s .args .work .now) (y .loop .work))
-outside y = outside-then _ _ _ _ _ _ _ (omega arith) (omega arith) (y .loop .inv .3) (y .before .before .before .clear-sizes .ensures .1)
+outside y = outside-then _ _ _ _ _ _ _ (omega arith) (omega arith) (y .loop .inv .3) (y .before .before .before .clear-from .ensures .1)
 
-clear-sizes-requires : tie.Need-clear-sizes-requires Inv-loop μ-loop
-clear-sizes-requires c κs = c .before .before .before .pre .room
+clear-from-requires : tie.Need-clear-from-requires Inv-loop μ-loop
+clear-from-requires c κs = c .before .before .before .pre .room
 
 loop-holds : tie.Need-loop-holds Inv-loop μ-loop
-loop-holds c = let x = c .before .before in (omega arith, refl, counted-none _ _ _ _ (x .clear-sizes .ensures .0), same-outside _ _ _)
+loop-holds c = let x = c .before .before in (omega arith, refl, counted-none _ _ _ _ (x .clear-from .ensures .0), same-outside _ _ _)
 
 count-side-requires : tie.Need-count-side-requires Inv-loop μ-loop
 count-side-requires c κs =
@@ -72,7 +72,7 @@ count-ring-sizes-spec =
     (tie.spec
     Inv-loop
     μ-loop
-    clear-sizes-requires
+    clear-from-requires
     loop-holds
     count-side-requires
     add-h

@@ -1,20 +1,18 @@
--- `clear_sizes` meets its contract: the first p vertices have their zero. Assumes nothing.
+-- `clear_from` meets its contract: the first i numbers are zero. Assumes nothing.
 use mathlib.Core.Path.{_≡_, refl, subst}
 use Prim.Native.Nat.{ℕ, _+_, _-_, _≤_}
 use native.Mathlib.Omega.{arith}
 use lib.ListN.{length, length-set}
-use Rattle.tables.specs.Tables.{SameOutside}
-use Rattle.tables.proofs.Laws.{same-outside, outside-set}
-use Rattle.classes.specs.Classes.{ZerosFrom}
-use Rattle.classes.proofs.Classes.{zeros-none, zeros-next}
-use Rattle.classes.proofs.clear_sizes.Statement.{statement}
-use Rattle.classes.proofs.clear_sizes.Tie as tie
+use Rattle.tables.specs.Tables.{ZerosFrom, SameOutside}
+use Rattle.tables.proofs.Laws.{zeros-none, zeros-next, same-outside, outside-set}
+use Rattle.tables.proofs.clear_from.Statement.{statement}
+use Rattle.tables.proofs.clear_from.Tie as tie
 
 abbrev Inv-loop : tie.InvT-loop
-Inv-loop work₀ at v p₀ work p = (p ≤ v) × (length work ≡ length work₀) × ZerosFrom p at work × SameOutside at (at + v) work₀ work
+Inv-loop work₀ at n i₀ work i = (i ≤ n) × (length work ≡ length work₀) × ZerosFrom i at work × SameOutside at (at + n) work₀ work
 
 abbrev μ-loop : tie.MeasureT-loop
-μ-loop work₀ at v p₀ work p = v - p
+μ-loop work₀ at n i₀ work i = n - i
 
 loop-holds : tie.Need-loop-holds Inv-loop μ-loop
 loop-holds c = (omega arith, refl, zeros-none _ _, same-outside _ _ _)
@@ -28,8 +26,8 @@ mul-work c = omega arith
 slice-write-work : tie.Need-slice-write-work Inv-loop μ-loop
 slice-write-work c = omega arith
 
-add-p : tie.Need-add-p Inv-loop μ-loop
-add-p c = omega arith
+add-i : tie.Need-add-i Inv-loop μ-loop
+add-i c = omega arith
 
 loop-less : tie.Need-loop-less Inv-loop μ-loop
 loop-less c = omega arith
@@ -46,11 +44,11 @@ returns : tie.Need-returns Inv-loop μ-loop
 returns c =
     let s = c .before .before in
     let x = c .before .loop in
-    let e : x .p ≡ s .args .v = omega arith in
-    (subst (λ (p : ℕ). ZerosFrom p (s .args .at) (x .work)) e (x .inv .2), x .inv .3)
+    let e : x .i ≡ s .args .n = omega arith in
+    (subst (λ (i : ℕ). ZerosFrom i (s .args .at) (x .work)) e (x .inv .2), x .inv .3)
 
-pub clear-sizes-spec : {M : Type 1} → statement M
-clear-sizes-spec =
+pub clear-from-spec : {M : Type 1} → statement M
+clear-from-spec =
     tie.close
     (tie.spec
     Inv-loop
@@ -59,7 +57,7 @@ clear-sizes-spec =
     add-work
     mul-work
     slice-write-work
-    add-p
+    add-i
     loop-less
     loop-again
     same-length
