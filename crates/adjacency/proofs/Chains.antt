@@ -148,10 +148,6 @@ tables-kept s l w w′ m h e d t = record {
 pub tables-lawful : (s l w : List ℕ) → Tables s l w → Lawful (shapeOf s) (length l)
 tables-lawful s l w t = shape-lawful s (length l) (t .shaped .space .sided)
 
--- chains apart, corners and mates are linked
-pub linked : (s l w : List ℕ) → Adjacency s l w → Linked s l w
-linked s l w a = record { shaped = a .tables .shaped; room = omega (arith, a .tables .room); mated = a .mated }
-
 -- ---- corners in range
 
 pub corners-below-le : (u v : ℕ) (l : List ℕ) → u ≤ v → CornersBelow u l → CornersBelow v l

@@ -1,4 +1,4 @@
--- Sides from one vertex to another: mates and repeated sides.
+-- Sides from one vertex to another, and mates. Assumes nothing.
 use mathlib.Core.Path.{_≡_, refl}
 use mathlib.Core.Bool.{true, false}
 use mathlib.Core.List.{List}
@@ -22,9 +22,16 @@ module _ (S : Shape) (l : List ℕ) (a b : ℕ) where
   unfolding side from to
   side-on g e f = and-on _ _ (eq-eqb (getD l g 0) a e) (eq-eqb (getD l (S .next g) 0) b f)
 
-  pub side-off : (g : ℕ) → (getD l (S .next g) 0 ≡ b → ⊥) → side S l a b g ≡ false
+  pub side-from : (g : ℕ) → side S l a b g ≡ true → getD l g 0 ≡ a
   unfolding side from to
-  side-off g n = refuted (side S l a b g) (λ t. n (eqb-true (getD l (S .next g) 0) b (and-right (eqb (getD l g 0) a) (eqb (getD l (S .next g) 0) b) t)))
+  side-from g t = eqb-true (getD l g 0) a (and-left (eqb (getD l g 0) a) (eqb (getD l (S .next g) 0) b) t)
+
+  pub side-to : (g : ℕ) → side S l a b g ≡ true → getD l (S .next g) 0 ≡ b
+  unfolding side from to
+  side-to g t = eqb-true (getD l (S .next g) 0) b (and-right (eqb (getD l g 0) a) (eqb (getD l (S .next g) 0) b) t)
+
+  pub side-off : (g : ℕ) → (getD l (S .next g) 0 ≡ b → ⊥) → side S l a b g ≡ false
+  side-off g n = refuted (side S l a b g) (λ t. n (side-to g t))
 
 -- the mate is the first side the other way
 pub mate-side : (S : Shape) (l : List ℕ) (h : ℕ) → first (side S l (getD l (S .next h) 0) (getD l h 0)) (length l) ≡ mate S l h

@@ -10,13 +10,13 @@ use lib.Dec.{leb, eqb}
 use borrow.Author.Tests.{lt-leb, eqb-true}
 use Rattle.search.specs.Search.{any, iterate}
 use Rattle.search.proofs.Tests.{refuted, or-off, clash}
-use Rattle.search.proofs.First.{any-which, Passed, passed-start, passed-skip}
+use Rattle.search.proofs.First.{any-which}
 use Rattle.topology.specs.Shape.{Shape, quads, Lawful}
 use Rattle.topology.specs.HalfEdge.{from}
 use Rattle.topology.proofs.Shape.{quads-lawful, nexts-lt, face-nexts}
 use Rattle.refusals.specs.Refusals.{badCorner}
 use Rattle.polygons.specs.Polygons.{shapeOf}
-use Rattle.scan.specs.Good.{GoodFace, Good}
+use Rattle.scan.specs.Good.{GoodFace, GoodBefore}
 
 -- one of four
 four : (P : ℕ → Type 0) (h : ℕ) → P h → P (h + 1) → P (h + 2) → P (h + 3) → (k : ℕ) → h ≤ k → k < h + 4 → P k
@@ -62,10 +62,17 @@ module _ (v : ℕ) (l : List ℕ) (h : ℕ) where
         apart j e x y n (yes o) = g .differ j k x o b e
         apart j e x y n (no o) = g .differ k j a (omega arith) y (sym e)
 
-    pub good-passed : Passed (badCorner quads v l) h → Passed (badCorner quads v l) (h + 4)
-    good-passed p = passed-skip (badCorner quads v l) h (h + 4) p (λ j a b. corner j a b)
+    pub good-next : GoodBefore quads v l h → GoodBefore quads v l (h + 4)
+    good-next p = record { within = lt; none = λ k b. go k b (decLt k h) }
+      where
+        go : (k : ℕ) → k < h + 4 → Dec (k < h) → badCorner quads v l k ≡ false
+        go k b (yes a) = p .none k a
+        go k b (no a) = corner k (omega arith) b
 
-pub four-sided : (s l : List ℕ) (v r : ℕ) → length s ≡ 0 → Passed (badCorner quads v l) r → Passed (badCorner (shapeOf s) v l) r
+pub good-none : (S : Shape) (v : ℕ) (l : List ℕ) → GoodBefore S v l 0
+good-none S v l = record { within = omega arith; none = λ k b. let z : ⊥ = omega arith in absurd z }
+
+pub four-sided : (s l : List ℕ) (v r : ℕ) → length s ≡ 0 → GoodBefore quads v l r → GoodBefore (shapeOf s) v l r
 unfolding shapeOf
 four-sided [] l v r e p = p
 four-sided (c ∷ s) l v r e p = absurd (omega arith)

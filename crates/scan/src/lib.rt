@@ -5,12 +5,11 @@ ghost use lib.ListN.{length, drop};
 ghost use Rattle.search.specs.Search.{first};
 ghost use Rattle.verdict.specs.Verdict.{badCoordinate};
 ghost use Rattle.refusals.specs.Refusals.{badMark, badCorner, isolated};
-ghost use Rattle.search.proofs.First.{Passed};
 ghost use Rattle.topology.specs.Shape.{quads};
 ghost use Rattle.polygons.specs.Polygons.{shapeOf, Sided};
 ghost use Rattle.sidetable.specs.Table.{Shaped};
 ghost use Rattle.scan.specs.Flags.{Flagged, IsolatedFound};
-ghost use Rattle.scan.specs.Good.{Good};
+ghost use Rattle.scan.specs.Good.{Good, GoodBefore};
 
 // The first coordinate out of range, or their number.
 pub fn first_bad_coordinate(vertices: &[i32]) -> usize
@@ -83,18 +82,14 @@ fn first_unflagged(faces: &[u32], m: usize, work: &[u32]) -> usize
     p
 }
 
-// The first of nv vertices that is in no face, or nv. One of the first n + 1 is, if there are more vertices than the n corners.
+// The first of nv vertices that is in no face, where there are more of them than the n corners: it is one of the first n + 1.
 pub fn first_isolated(faces: &[u32], nv: usize, work: &mut [u32]) -> usize
-    requires { ⌜ (0 < length (now faces)) × (4 * length (now faces) ≤ length (now work)) ⌝ }
+    requires { ⌜ (0 < length (now faces)) × (length (now faces) < nv) × (4 * length (now faces) ≤ length (now work)) ⌝ }
     ensures { λ r. ⌜ IsolatedFound (now (faces .entry)) nv (4 * length (now (faces .entry))) (now (work .entry)) (now (work .exit)) r ⌝ }
 {
-    let n = faces.len();
-    if nv <= n {
-        flag_all(faces, nv, &mut *work);
-        return first_unflagged(faces, nv, &*work);
-    }
-    flag_all(faces, n + 1, &mut *work);
-    first_unflagged(faces, n + 1, &*work)
+    let m = faces.len() + 1;
+    flag_all(faces, m, &mut *work);
+    first_unflagged(faces, m, &*work)
 }
 
 // Whether the corner of half-edge h is not below nv, or equals another corner of its face.
@@ -160,7 +155,7 @@ fn good_face(faces: &[u32], nv: usize, h: usize) -> bool
 // The first corner of the first four-sided face that is not good, or their number.
 fn skip_good(faces: &[u32], nv: usize) -> usize
     requires { ⌜ length (now faces) % 4 ≡ 0 ⌝ }
-    ensures { λ r. ⌜ (r ≤ length (now (faces .entry))) × Passed (badCorner quads nv (now (faces .entry))) r ⌝ }
+    ensures { λ r. ⌜ GoodBefore quads nv (now (faces .entry)) r ⌝ }
 {
     let mut h = 0;
     while h < faces.len() {
@@ -175,7 +170,7 @@ fn skip_good(faces: &[u32], nv: usize) -> usize
 // A half-edge with no bad corner before it.
 fn first_suspect(faces: &[u32], sides: &[u8], nv: usize) -> usize
     requires { ⌜ Sided (now sides) (length (now faces)) ⌝ }
-    ensures { λ r. ⌜ (r ≤ length (now (faces .entry))) × Passed (badCorner (shapeOf (now (sides .entry))) nv (now (faces .entry))) r ⌝ }
+    ensures { λ r. ⌜ GoodBefore (shapeOf (now (sides .entry))) nv (now (faces .entry)) r ⌝ }
 {
     if sides.len() == 0 {
         return skip_good(faces, nv);

@@ -26,7 +26,7 @@ returns-2 : tie.Need-returns-2
 returns-2 c = let s = c .before .before .before .before .before .before in lonely-vertex (s .args .sides .now) (s .args .faces .now) (s .args .marks .now) (s .args .work .now) (c .before .if1 .taken) (c .if2 .left)
 
 first-isolated-requires : tie.Need-first-isolated-requires
-first-isolated-requires c κs = let s = c .before .before .before .before .before .before .before in let r = s .pre .0 .room in let n = c .before .before .if1 .left in (omega arith, r)
+first-isolated-requires c κs = let s = c .before .before .before .before .before .before .before in let r = s .pre .0 .room in let n = c .before .before .if1 .left in (omega arith, c .before .if3 .taken, r)
 
 same-length : tie.Need-same-length
 same-length c = search needs

@@ -21,7 +21,7 @@ first-suspect-requires : tie.Need-first-suspect-requires Inv-loop μ-loop
 first-suspect-requires c κs = c .before .before .before .pre .space .sided
 
 loop-holds : tie.Need-loop-holds Inv-loop μ-loop
-loop-holds c = let e = c .first-suspect .ensures in (e .0, e .1 .none)
+loop-holds c = let e = c .first-suspect .ensures in (e .within, e .none)
 
 bad-corner-requires : tie.Need-bad-corner-requires Inv-loop μ-loop
 bad-corner-requires c κs = (c .before .before .before .before .before .before .pre, c .loop-test .taken)
