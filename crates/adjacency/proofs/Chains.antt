@@ -22,9 +22,8 @@ use Rattle.polygons.specs.Polygons.{shapeOf}
 use Rattle.polygons.proofs.Counts.{shape-lawful}
 use Rattle.tables.proofs.Laws.{same-rest}
 use Rattle.halfedges.specs.Tables.{MateTableOf}
-use Rattle.sidetable.specs.Table.{Linked}
 use Rattle.sidetable.proofs.Table.{shaped-kept}
-use Rattle.adjacency.specs.Chains.{chainFrom, CornersBelow, Tables, Chained, Adjacency}
+use Rattle.adjacency.specs.Chains.{chainFrom, CornersBelow, Tables, Chained}
 
 -- ---- the first half-edge from i on that leaves v
 

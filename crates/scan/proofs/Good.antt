@@ -1,19 +1,19 @@
 -- A four-sided face whose corners are below v and differ has no bad corner. Assumes nothing.
-use mathlib.Core.Path.{_≡_, refl, sym, ap, _∙_, subst}
+use mathlib.Core.Path.{_≡_, refl, sym, subst}
 use mathlib.Core.Bool.{Bool, true, false, not}
 use mathlib.Core.List.{List, [], _∷_}
-use Prim.Native.Nat.{ℕ, zero, suc, _+_, _-_, _*_, _/_, _%_, _≤_, _<_}
+use Prim.Native.Nat.{ℕ, suc, _+_, _-_, _/_, _%_, _≤_, _<_}
 use native.Mathlib.Decide.{ℕ-discrete, decLt}
 use native.Mathlib.Omega.{arith}
 use lib.ListN.{length, getD}
 use lib.Dec.{leb, eqb}
 use borrow.Author.Tests.{lt-leb, eqb-true}
 use Rattle.search.specs.Search.{any, iterate}
-use Rattle.search.proofs.Tests.{refuted, or-off, clash}
+use Rattle.search.proofs.Tests.{refuted, or-off}
 use Rattle.search.proofs.First.{any-which}
-use Rattle.topology.specs.Shape.{Shape, quads, Lawful}
+use Rattle.topology.specs.Shape.{Shape, quads}
 use Rattle.topology.specs.HalfEdge.{from}
-use Rattle.topology.proofs.Shape.{quads-lawful, nexts-lt, face-nexts}
+use Rattle.topology.proofs.Shape.{quads-lawful, face-nexts}
 use Rattle.refusals.specs.Refusals.{badCorner}
 use Rattle.polygons.specs.Polygons.{shapeOf}
 use Rattle.scan.specs.Good.{GoodFace, GoodBefore}

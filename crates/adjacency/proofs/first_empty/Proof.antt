@@ -1,6 +1,5 @@
 -- `first_empty` meets its contract: the vertices below p have half-edges. Assumes nothing.
 use Prim.Native.Nat.{_+_, _-_, _≤_}
-use mathlib.Core.Path.{sym, _∙_}
 use native.Mathlib.Omega.{arith}
 use lib.ListN.{length}
 use Rattle.search.proofs.First.{Passed, passed-start, passed-next, passed-hit, passed-end}
