@@ -199,10 +199,9 @@
  * dynamic linker's work where the call is the program's first to use memset or another memory
  * function of the C library. It needs no other functions.
  *
- * The net is checked first, in time linear in its tables where few faces meet at each vertex; where
- * d faces meet, finding the neighbours there takes at most d * d steps. Side counts take time linear
- * in the face table, however many there are. After that the time is linear in G, for a net that is
- * refused as well: its work table is cleared.
+ * The net is checked first, in time linear in its tables. Side counts take time linear in the face
+ * table, however many there are. After that the time is linear in G, for a net that is refused as
+ * well: its work table is cleared.
  *
  * The archive has no unwind tables, no frame pointers and no debug information. A trace that a crash
  * handler, debugger or profiler takes while a call runs ends at the archive's innermost function or
