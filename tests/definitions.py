@@ -632,7 +632,7 @@ def run_mutations(cases, options):
 
 # ---- the whole
 def cases_from_generator(options):
-    command = ["cargo", "run", "--offline", "--quiet", "--manifest-path", HERE / "Cargo.toml", "--bin", "nets", "--"]
+    command = ["cargo", "run", "--release", "--offline", "--quiet", "--manifest-path", HERE / "Cargo.toml", "--bin", "nets", "--"]
     command += ["facts", "--seed", str(options.seed), "--count", str(options.count)]
     lines = subprocess.run(command, check=True, capture_output=True, text=True).stdout.splitlines()
     cases = [json.loads(line) for line in lines]

@@ -1,8 +1,6 @@
 //! Nets with side counts: the split, refusal 14 and the order of refusals.
 
-mod common;
-
-use common::{grid, refined, scattered, square};
+use crate::common::{grid, refined, scattered, square};
 use reference::call::{Call, Outcome, Tables, refine, refine_into};
 use reference::net::{Net, NetRecord, PolygonNet};
 use reference::point::Point;

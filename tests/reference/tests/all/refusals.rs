@@ -1,8 +1,6 @@
 //! Refusals 1 to 12 and 16: their order, their places and what they leave behind.
 
-mod common;
-
-use common::{
+use crate::common::{
     cube, fan, grid, refine_at, refine_drawn, refine_net, scattered, square, unmarked, verdict,
     wheel, with_marks,
 };
@@ -340,6 +338,6 @@ fn a_refused_caller_finds_all_tables_untouched() {
 fn zero_rounds_copy_the_net() {
     let net = with_marks(grid(3, 2), &[0, 3]);
     for tension in Tension::ALL {
-        assert_eq!(common::refined_at(&net, tension, 0), net);
+        assert_eq!(crate::common::refined_at(&net, tension, 0), net);
     }
 }

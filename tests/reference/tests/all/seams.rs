@@ -1,8 +1,6 @@
 //! Curves on their own, readings of boundary segments, and the seam.
 
-mod common;
-
-use common::{cube, grid, refined_at, unmarked, with_marks};
+use crate::common::{cube, grid, refined_at, unmarked, with_marks};
 use reference::curve::{Form, distance_bound, exact_curve, rounded_curve, scale};
 use reference::net::Net;
 use reference::point::Point;

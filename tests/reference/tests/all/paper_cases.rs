@@ -1,9 +1,7 @@
 //! The cases marked P in the scope paper, where paper 02 does not state them
 //! anew, and its sample text; some of them at other tensions.
 
-mod common;
-
-use common::{
+use crate::common::{
     SAMPLE_ANSWER, SAMPLE_TEXT, cube, grid, refine_net, refined, refined_at, square, unmarked,
     verdict, with_marks,
 };
@@ -163,7 +161,7 @@ fn sixty_four_faces_pass_six_rounds_and_sixty_five_do_not() {
 
 #[test]
 fn touching_squares_get_10_and_a_repeated_face_9() {
-    let points = common::scattered(7);
+    let points = crate::common::scattered(7);
     let touching = unmarked(&points, &[[1, 2, 3, 0], [4, 5, 0, 6]]);
     assert_eq!(verdict(&touching), Some((10, 0)));
     let twice = unmarked(&square().points, &[[0, 1, 2, 3], [0, 1, 2, 3]]);

@@ -1,8 +1,6 @@
 //! OBJ texts: which are read, as which net, and refusal 13 with its line.
 
-mod common;
-
-use common::{SAMPLE_TEXT, assert_bad_line, cube, document, grid, refusal, with_line};
+use crate::common::{SAMPLE_TEXT, assert_bad_line, cube, document, grid, refusal, with_line};
 use reference::net::Net;
 use reference::text::{Document, MAX_BYTES, answer, parse};
 

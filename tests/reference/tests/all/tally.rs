@@ -1,9 +1,7 @@
 //! Paper 02, the usage tally: "An accepted call adds refined vertices minus
 //! drawn vertices; a refused call adds nothing."
 
-mod common;
-
-use common::{cube, grid, refine_drawn, square, unmarked, with_marks};
+use crate::common::{cube, grid, refine_drawn, square, unmarked, with_marks};
 use reference::call::{Outcome, Tables};
 use reference::net::{Net, PolygonNet};
 use reference::refusal::{Capacity, MAX_TALLY};

@@ -1,12 +1,10 @@
 //! Believable wrong readings of the paper: each is written out here and gives
 //! another answer than the reference on a concrete net.
 
-mod common;
-
 use std::cmp::Ordering;
 use std::collections::BTreeMap;
 
-use common::{bent_grid, cube, fan, grid, square, unmarked, wheel, with_marks};
+use crate::common::{bent_grid, cube, fan, grid, square, unmarked, wheel, with_marks};
 use reference::fraction::Fraction;
 use reference::net::{Net, edge};
 use reference::point::{ExactPoint, Point};
@@ -251,7 +249,7 @@ fn only_inner_points_in_the_extrapolation() {
 #[test]
 fn always_the_mean_of_both_directions() {
     let net = bent_grid();
-    assert_eq!(common::verdict(&net), None);
+    assert_eq!(crate::common::verdict(&net), None);
     let edges = edge_points(&net);
     let surface = Surface::new(&net, T);
     let differs = net.faces.iter().any(|&face| {
@@ -328,9 +326,9 @@ fn the_nearer_vertex_before_the_lower_number() {
     // Vertex 0 has a ring of nine (11); two faces touch at a later one (10).
     let mut net = wheel(9);
     let first = u32::try_from(net.points.len()).expect("small");
-    net.points.extend(common::scattered(3));
+    net.points.extend(crate::common::scattered(3));
     net.marks.extend([0; 3]);
     net.faces.push([18, first, first + 1, first + 2]);
-    assert_eq!(common::verdict(&net), Some((10, 18)));
-    assert_eq!(common::verdict(&wheel(9)), Some((11, 0)));
+    assert_eq!(crate::common::verdict(&net), Some((10, 18)));
+    assert_eq!(crate::common::verdict(&wheel(9)), Some((11, 0)));
 }

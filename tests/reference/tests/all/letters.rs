@@ -1,10 +1,8 @@
 //! Paper 02: "a letter beside each refined point".
 
-mod common;
-
 use std::collections::BTreeSet;
 
-use common::{
+use crate::common::{
     SAMPLE_TEXT, bent_grid, cube, grid, refine_drawn, scattered, square, unmarked, wheel,
     with_marks,
 };
@@ -74,7 +72,7 @@ fn the_square_has_one_edge_segments_or_a_loop() {
 fn with_a_side_count_the_square_is_split() {
     let square = PolygonNet::from(&square());
     assert_eq!(letters_of_polygons(&square, 0), "VVVVSSSSS");
-    let marked = PolygonNet::from(&with_marks(common::square(), &[0, 1, 2, 3]));
+    let marked = PolygonNet::from(&with_marks(crate::common::square(), &[0, 1, 2, 3]));
     assert_eq!(letters_of_polygons(&marked, 0), "VVVVSSSSS");
     // A round on two by two faces: eight boundary edges, four inner ones.
     let round = letters_of_polygons(&square, 1);

@@ -1,9 +1,7 @@
 //! On regular lattices a step is the curve rule in one direction and then in
 //! the other.
 
-mod common;
-
-use common::{scattered, unmarked};
+use crate::common::{scattered, unmarked};
 use reference::curve::{Form, exact_curve};
 use reference::fraction::Fraction;
 use reference::net::Net;

@@ -1,8 +1,6 @@
 //! The text form: refusal 13 with its line, and the program's own limits.
 
-mod common;
-
-use common::{SAMPLE_TEXT, assert_bad_line, document, grid, refusal, with_line};
+use crate::common::{SAMPLE_TEXT, assert_bad_line, document, grid, refusal, with_line};
 use reference::refusal::Refusal;
 use reference::text::{Document, MAX_BYTES, answer, parse};
 
