@@ -53,6 +53,7 @@ cargo_tests() {
 
 program_lane() {
     run "reference implementation" cargo_tests test tests/Cargo.toml
+    run "definitions against the reference, a short run" python3 tests/definitions.py --short
     run "program against the reference" python3 tests/program.py
     run "the script ./refine" python3 tests/script.py
     run "the converter" python3 tests/convert.py

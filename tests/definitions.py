@@ -6,6 +6,7 @@ scratch repository outside this one; the definitions stand there without their p
 a definition gives something else than the reference, 2 if the kit could not tell.
 
     tests/definitions.py                    all kinds: 200 accepted nets, 50 with side counts, some 90 named nets, every refusal alone and in pairs
+    tests/definitions.py --short            a chunk of each group of facts, as the test command runs it
     tests/definitions.py --mutate           wrong definitions in the scratch copy must be found out
 """
 import argparse
@@ -37,6 +38,8 @@ WORD_FACES = 5
 # The estimated seconds of processor time, and the nets, of a chunk.
 CHUNK_SECONDS = 30.0
 CHUNK_CASES = 20
+# The estimated seconds of a group in a short run.
+SHORT_SECONDS = 6.0
 # Disagreements that are printed for a chunk.
 SHOWN = 4
 
@@ -444,6 +447,25 @@ def chunks_of(cases):
         yield chunk
 
 
+def of_group(cases, group):
+    own = [case._replace(facts=[fact for fact in case.facts if fact.group == group]) for case in cases]
+    return [case for case in own if case.facts]
+
+
+def short_chunks(cases):
+    """A chunk for each group: cases from all over its list, none of them slow."""
+    for group in GROUPS:
+        own = [(sum(fact.cost for fact in case.facts), case) for case in of_group(cases, group)]
+        quick = [(cost, case) for cost, case in own if cost <= SHORT_SECONDS / 3] or own[:1]
+        picked = quick[:: max(1, len(quick) // CHUNK_CASES)]
+        chunk, left = [], SHORT_SECONDS
+        for cost, case in picked:
+            if not chunk or cost <= left:
+                chunk.append(case)
+                left -= cost
+        yield chunk
+
+
 # ---- the kit
 def kit_check(folder, name):
     environment = {**os.environ, "RT_JOBS": "1", "RT_CUT": "4000"}
@@ -638,6 +660,8 @@ def cases_from_generator(options):
     cases = [json.loads(line) for line in lines]
     if options.only:
         cases = [case for case in cases if case["kind"].startswith(options.only)]
+        if not cases:
+            sys.exit(f"definitions: no kind of net begins with {options.only}")
     for case in cases:
         if "steps" in case:
             case["steps"] = case["steps"][:options.rounds]
@@ -652,9 +676,10 @@ def write_scratch(folder, cases, options):
     options.seam, options.outcome = "Seam" in uses, "Outcome" in uses
     written = [written_case(number, case, unfolding, options) for number, case in enumerate(cases, options.first)]
     if options.group:
-        written = [case._replace(facts=[fact for fact in case.facts if fact.group == options.group]) for case in written]
+        written = of_group(written, options.group)
     written = [case for case in written if case.facts]
-    chunks = {f"facts{number:02}": chunk for number, chunk in enumerate(chunks_of(written), 1)}
+    chunks = {f"facts{number:02}": chunk for number, chunk in enumerate((short_chunks if options.short else chunks_of)(written), 1)}
+    written = [case for chunk in chunks.values() for case in chunk]
     for name, chunk in chunks.items():
         write_chunk(folder, name, chunk, uses, crates)
     options.checked = len(written), sum(len(case.facts) for case in written)
@@ -719,6 +744,7 @@ def arguments():
     parser.add_argument("--first", type=int, default=0, metavar="NUMBER", help="only the cases from this number on, as after a run that was broken off")
     parser.add_argument("--group", choices=GROUPS, help="only the facts of this group")
     parser.add_argument("--tree", type=pathlib.Path, default=HERE.parent, help="the tree whose definitions are checked")
+    parser.add_argument("--short", action="store_true", help="a chunk of each group of facts, some nets of each kind")
     parser.add_argument("--mutate", action="store_true", help="self-test: wrong definitions must be found out")
     return parser.parse_args()
 
@@ -733,7 +759,8 @@ def main():
     start = time.time()
     with tempfile.TemporaryDirectory() as folder:
         wrong = check_all(pathlib.Path(folder), cases, options)
-    print_coverage(cases, options)
+    if not options.short:
+        print_coverage(cases, options)
     used = resource.getrusage(resource.RUSAGE_CHILDREN)
     print(f"{used.ru_utime + used.ru_stime:.0f} s of processor time, {time.time() - start:.0f} s")
     nets, facts = options.checked
