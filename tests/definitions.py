@@ -105,6 +105,14 @@ GROUPS["Outcome"] = {
     "outcome.Tally": "",
     "outcome.Outcome": "refinedTo, refusedWith, request",
 }
+GROUPS["Obj"] = {
+    "decimalform.Decimal": "",
+    "textform.Bytes": "",
+    "textform.Form": "Vertex, badLine",
+    "textform.Text": "",
+    "objform.Form": "",
+    "objform.Text": "none, slash, vertexLine, faceLine, commentLine",
+}
 # Names that two modules of a group have; the group does not need the first module's.
 LEFT_OUT = {("Round", "topology.Boundary", "step"), ("Letters", "topology.Boundary", "step"), ("Outcome", "topology.Boundary", "step"), ("Seam", "topology.Boundary", "step"), ("Seam", "curve.Curve", "step"), ("Seam", "curve.Curve", "steps")}
 LIBRARY = """use mathlib.Core.Path.{_≡_, refl, ap, _∙_}
@@ -318,7 +326,36 @@ def reading_facts(label, place, reading, case, with_seam):
             yield "Seam", f"marks{place}-{rounds}", f"tabulate {count} {marked}", sequence(marks), cost
 
 
+def corner_text(field):
+    number, slash, part = field.partition(b"/")
+    return f"(record {{ vertex = {int(number) - 1}; part = {f'slash ({naturals(part)})' if slash else 'none'} }})"
+
+
+def line_text(line):
+    """A line of an OBJ text that has the form, as a value."""
+    if line.startswith(b"v "):
+        x, y, z = (integer(int(value)) for value in line[2:].split(b" "))
+        return f"vertexLine (record {{ x = {x}; y = {y}; z = {z}; mark = 0 }})"
+    if line.startswith(b"f "):
+        return "faceLine " + " ".join(map(corner_text, line[2:].split(b" ")))
+    return f"commentLine ({naturals(line[1:])})"
+
+
+def obj_facts(case):
+    """The lines of an OBJ text are its bytes; or its first bad line."""
+    text = bytes(case["bytes"])
+    cost = 0.01 * len(text)
+    if "bad_line" in case:
+        yield "Obj", "bad", f"parseObj ({naturals(text)})", f"badLine {case['bad_line']}", cost
+        return
+    lines = text.split(b"\n")[1:-1]
+    yield "Obj", "lines", f"objText {case['rounds']} ({sequence(map(line_text, lines))})", naturals(text), cost
+
+
 def all_facts(label, number, case, options):
+    if "bytes" in case:
+        yield from obj_facts(case)
+        return
     yield from verdict_facts(label, case)
     if options.outcome:
         yield from outcome_facts(label, case)
@@ -718,9 +755,11 @@ def print_coverage(cases, options):
     splits = [case for case in cases if "split" in case]
     told = sum(len(case["net"][1]) <= ROUND_CORNERS for case in splits)
     print(f"{len(splits)} accepted nets with side counts with their split, {told} of them with the round after it")
-    calls = collections.Counter(re.sub(r"-(?!refused|damaged|random|limits|stored).*", "", case["kind"]) for case in cases if "steps" not in case and "split" not in case)
+    calls = collections.Counter(re.sub(r"-(?!refused|damaged|random|limits|stored).*", "", case["kind"]) for case in cases if "call" in case and "steps" not in case and "split" not in case)
     print("calls for their verdict alone: " + ", ".join(f"{kind} {count}" for kind, count in calls.items()))
     print(f"{len(readings)} readings with their curves after 1 and 2 steps: " + ", ".join(f"{way} {count}" for way, count in sorted(ways.items())))
+    texts = [case for case in cases if "bytes" in case]
+    print(f"{len(texts)} OBJ texts, {sum('bad_line' in case for case in texts)} of them with a bad line")
     letters = collections.Counter(chr(byte) for case in nets + splits for byte in case["letters"][-1])
     words = sum(len(case["words"]) for case in nets if len(case["net"][1]) // 4 <= WORD_FACES)
     print("letters after the last of these rounds: " + ", ".join(f"{letter} {letters[letter]}" for letter in sorted(letters)) + f"; {words} points that letters name")
@@ -729,7 +768,7 @@ def print_coverage(cases, options):
     traits = collections.Counter(trait for case in cases for trait in case["traits"])
     by_number = sorted(traits, key=lambda trait: re.sub(r"\d+", lambda digits: digits.group().zfill(2), trait))
     print("nets with: " + ", ".join(f"{trait}: {traits[trait]}" for trait in by_number))
-    lent = sum("lent" in case["call"] for case in cases)
+    lent = sum("lent" in case.get("call", {}) for case in cases)
     print(f"crate `seam`: {f'lists of points and marks of the readings in nets of up to {SEAM_CORNERS // 4} faces' if options.seam else 'not there'}")
     print(f"crate `outcome`: {f'{lent} small calls with their lent tables' if options.outcome else 'not there'}")
 
