@@ -500,7 +500,8 @@ def short_chunks(cases):
             if not chunk or cost <= left:
                 chunk.append(case)
                 left -= cost
-        yield chunk
+        if chunk:
+            yield chunk
 
 
 # ---- the kit
