@@ -108,7 +108,7 @@ GROUPS["Outcome"] = {
 GROUPS["Obj"] = {
     "decimalform.Decimal": "",
     "textform.Bytes": "",
-    "textform.Form": "Vertex, badLine",
+    "textform.Form": "Vertex, Face, parsed, badLine",
     "textform.Text": "",
     "objform.Form": "",
     "objform.Text": "none, slash, vertexLine, faceLine, commentLine",
@@ -326,6 +326,19 @@ def reading_facts(label, place, reading, case, with_seam):
             yield "Seam", f"marks{place}-{rounds}", f"tabulate {count} {marked}", sequence(marks), cost
 
 
+def rows(values, width):
+    return [values[at : at + width] for at in range(0, len(values), width)]
+
+
+def vertex_text(values):
+    x, y, z = map(integer, values)
+    return f"record {{ x = {x}; y = {y}; z = {z}; mark = 0 }}"
+
+
+def face_text(values):
+    return "record {{ a = {}; b = {}; c = {}; d = {} }}".format(*values)
+
+
 def corner_text(field):
     number, slash, part = field.partition(b"/")
     return f"(record {{ vertex = {int(number) - 1}; part = {f'slash ({naturals(part)})' if slash else 'none'} }})"
@@ -334,22 +347,27 @@ def corner_text(field):
 def line_text(line):
     """A line of an OBJ text that has the form, as a value."""
     if line.startswith(b"v "):
-        x, y, z = (integer(int(value)) for value in line[2:].split(b" "))
-        return f"vertexLine (record {{ x = {x}; y = {y}; z = {z}; mark = 0 }})"
+        return f"vertexLine ({vertex_text(map(int, line[2:].split(b' ')))})"
     if line.startswith(b"f "):
         return "faceLine " + " ".join(map(corner_text, line[2:].split(b" ")))
     return f"commentLine ({naturals(line[1:])})"
 
 
 def obj_facts(case):
-    """The lines of an OBJ text are its bytes; or its first bad line."""
+    """The lines of an OBJ text are its bytes, and it is read so; or its first bad line."""
     text = bytes(case["bytes"])
-    cost = 0.01 * len(text)
+    cost = 0.02 + 0.0004 * len(text)
     if "bad_line" in case:
         yield "Obj", "bad", f"parseObj ({naturals(text)})", f"badLine {case['bad_line']}", cost
         return
-    lines = text.split(b"\n")[1:-1]
-    yield "Obj", "lines", f"objText {case['rounds']} ({sequence(map(line_text, lines))})", naturals(text), cost
+    vertices, faces = case["vertices"], case["faces"]
+    counts = f"record {{ vertices = {len(vertices) // 3}; faces = {len(faces) // 4}; rounds = {case['rounds']} }}"
+    read = f"vertices = {sequence(map(vertex_text, rows(vertices, 3)))}; faces = {sequence(map(face_text, rows(faces, 4)))}"
+    yield "Obj", "read", f"parseObj ({naturals(text)})", f"parsed (record {{ rule = false; counts = {counts}; {read} }}) []", cost
+    # the kit takes many steps to write a large number
+    if not re.search(rb"\d{6}", text):
+        lines = text.split(b"\n")[1:-1]
+        yield "Obj", "lines", f"objText {case['rounds']} ({sequence(map(line_text, lines))})", naturals(text), cost
 
 
 def all_facts(label, number, case, options):

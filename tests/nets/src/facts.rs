@@ -137,16 +137,20 @@ fn obj_lines(seed: u64) -> Vec<String> {
 }
 
 fn obj_line(kind: &str, text: &[u8]) -> String {
-    let told = match parse(text) {
-        Ok(document) => ("rounds", document.rounds.to_string()),
-        Err(refusal) => ("bad_line", refusal.place.to_string()),
-    };
-    object(&[
+    let mut fields = vec![
         ("kind", quoted(format!("obj-{kind}"))),
         ("traits", list([])),
         ("bytes", numbers(text)),
-        told,
-    ])
+    ];
+    match parse(text) {
+        Ok(document) => fields.extend([
+            ("rounds", document.rounds.to_string()),
+            ("vertices", numbers(&document.vertices)),
+            ("faces", numbers(&document.faces)),
+        ]),
+        Err(refusal) => fields.push(("bad_line", refusal.place.to_string())),
+    }
+    object(&fields)
 }
 
 /// The facts of some named nets, in all dressings and at all tensions by turns.
