@@ -10,8 +10,16 @@ if [ "$found" != "$pinned" ]; then
     echo "note: this tree was last proved with the kit '$pinned'; this machine has '$found'. A failure below may come from the difference."
 fi
 
-log=$(mktemp)
-trap 'rm -f "$log"' EXIT
+# `rt ci` waits for each batch of RT_JOBS checks, of up to 1 GB each: with more than there are cores, fewer cores idle at the end of a batch
+memory=$(awk '/^MemTotal:/ { print $2 }' /proc/meminfo)
+if [ -z "${RT_JOBS:-}" ] && [ "${memory:-0}" -ge 8000000 ]; then
+    export RT_JOBS=4
+fi
+
+scratch=$(mktemp -d)
+trap 'rm -rf "$scratch"' EXIT
+trap 'kill $(jobs -p) 2>/dev/null; exit 130' INT TERM
+log=$scratch/ci
 rt ci 2>&1 | tee "$log" | sed '$d'
 proved=${PIPESTATUS[0]}
 last=$(tail -n 1 "$log")
@@ -24,31 +32,59 @@ if [ -z "$passed" ]; then
     exit 1
 fi
 
-# run NAME COMMAND ..: one more test, counted if it fails
-more=0
+# run NAME COMMAND ..: one more test; the file `failures` has the names of those that fail
+failures=$scratch/failures
+: >"$failures"
 run() {
     local name=$1
     shift
     echo "== $name"
     if ! "$@"; then
         echo "$name: FAILED"
-        more=$((more + 1))
+        echo "$name" >>"$failures"
     fi
 }
 
-run "documents agree with the tree" python3 tests/documents.py
-run "reference implementation" cargo test --offline --quiet --manifest-path tests/Cargo.toml
-run "program against the reference" python3 tests/program.py
-run "the script ./refine" python3 tests/script.py
-run "the converter" python3 tests/convert.py
-run "examples and pictures" python3 tests/pictures.py
-run "archive for C" rt staticlib capi
-run "against the reference through the C interface" cargo run --release --offline --quiet --manifest-path tests/differential/Cargo.toml
-run "calls from C under sanitizers and valgrind" bash tests/sanitize.sh
-run "the package for makers" bash tests/package.sh
+cargo_tests() {
+    local verb=$1 manifest=$2
+    shift 2
+    cargo "$verb" --release --offline --quiet --manifest-path "$manifest" "$@"
+}
 
+program_lane() {
+    run "reference implementation" cargo_tests test tests/Cargo.toml
+    run "definitions against the reference, a short run" python3 tests/definitions.py --short
+    run "program against the reference" python3 tests/program.py
+    run "the script ./refine" python3 tests/script.py
+    run "the converter" python3 tests/convert.py
+    run "examples and pictures" python3 tests/pictures.py
+}
+
+archive_lane() {
+    run "against the reference through the C interface" cargo_tests run tests/differential/Cargo.toml
+    run "calls from C under sanitizers and valgrind" bash tests/sanitize.sh
+    run "the package for makers" bash tests/package.sh
+}
+
+# lane NAME: the tests of one lane in the background; what they print is shown whole when the last of them has ended
+lane() {
+    {
+        "$1" >"$scratch/$1" 2>&1
+        cat "$scratch/$1"
+    } &
+}
+
+# two commands `rt` on one tree must not meet: the archive is made before the lanes, and only one of them calls ./refine
+run "documents agree with the tree" python3 tests/documents.py
+run "archive for C" rt staticlib capi
+lane program_lane
+lane archive_lane
+wait
+
+more=$(wc -l <"$failures")
 if [ "$proved" -ne 0 ] || [ "$failed" -ne 0 ] || [ "$more" -ne 0 ]; then
     [ "$failed" -eq 0 ] && [ "$more" -eq 0 ] && more=1
+    [ "$more" -eq 0 ] || sed 's/^/failed: /' "$failures"
     echo "$passed passed, $((failed + more)) failed"
     exit 1
 fi

@@ -6,6 +6,7 @@ scratch repository outside this one; the definitions stand there without their p
 a definition gives something else than the reference, 2 if the kit could not tell.
 
     tests/definitions.py                    all kinds: 200 accepted nets, 50 with side counts, some 90 named nets, every refusal alone and in pairs
+    tests/definitions.py --short            a chunk of each group of facts, as the test command runs it
     tests/definitions.py --mutate           wrong definitions in the scratch copy must be found out
 """
 import argparse
@@ -37,6 +38,8 @@ WORD_FACES = 5
 # The estimated seconds of processor time, and the nets, of a chunk.
 CHUNK_SECONDS = 30.0
 CHUNK_CASES = 20
+# The estimated seconds of a group in a short run.
+SHORT_SECONDS = 6.0
 # Disagreements that are printed for a chunk.
 SHOWN = 4
 
@@ -101,6 +104,14 @@ GROUPS["Outcome"] = {
     "tables.Tables": "",
     "outcome.Tally": "",
     "outcome.Outcome": "refinedTo, refusedWith, request",
+}
+GROUPS["Obj"] = {
+    "decimalform.Decimal": "",
+    "textform.Bytes": "",
+    "textform.Form": "Vertex, Face, parsed, badLine",
+    "textform.Text": "",
+    "objform.Form": "",
+    "objform.Text": "none, slash, vertexLine, faceLine, commentLine",
 }
 # Names that two modules of a group have; the group does not need the first module's.
 LEFT_OUT = {("Round", "topology.Boundary", "step"), ("Letters", "topology.Boundary", "step"), ("Outcome", "topology.Boundary", "step"), ("Seam", "topology.Boundary", "step"), ("Seam", "curve.Curve", "step"), ("Seam", "curve.Curve", "steps")}
@@ -315,7 +326,54 @@ def reading_facts(label, place, reading, case, with_seam):
             yield "Seam", f"marks{place}-{rounds}", f"tabulate {count} {marked}", sequence(marks), cost
 
 
+def rows(values, width):
+    return [values[at : at + width] for at in range(0, len(values), width)]
+
+
+def vertex_text(values):
+    x, y, z = map(integer, values)
+    return f"record {{ x = {x}; y = {y}; z = {z}; mark = 0 }}"
+
+
+def face_text(values):
+    return "record {{ a = {}; b = {}; c = {}; d = {} }}".format(*values)
+
+
+def corner_text(field):
+    number, slash, part = field.partition(b"/")
+    return f"(record {{ vertex = {int(number) - 1}; part = {f'slash ({naturals(part)})' if slash else 'none'} }})"
+
+
+def line_text(line):
+    """A line of an OBJ text that has the form, as a value."""
+    if line.startswith(b"v "):
+        return f"vertexLine ({vertex_text(map(int, line[2:].split(b' ')))})"
+    if line.startswith(b"f "):
+        return "faceLine " + " ".join(map(corner_text, line[2:].split(b" ")))
+    return f"commentLine ({naturals(line[1:])})"
+
+
+def obj_facts(case):
+    """The lines of an OBJ text are its bytes, and it is read so; or its first bad line."""
+    text = bytes(case["bytes"])
+    cost = 0.02 + 0.0004 * len(text)
+    if "bad_line" in case:
+        yield "Obj", "bad", f"parseObj ({naturals(text)})", f"badLine {case['bad_line']}", cost
+        return
+    vertices, faces = case["vertices"], case["faces"]
+    counts = f"record {{ vertices = {len(vertices) // 3}; faces = {len(faces) // 4}; rounds = {case['rounds']} }}"
+    read = f"vertices = {sequence(map(vertex_text, rows(vertices, 3)))}; faces = {sequence(map(face_text, rows(faces, 4)))}"
+    yield "Obj", "read", f"parseObj ({naturals(text)})", f"parsed (record {{ rule = false; counts = {counts}; {read} }}) []", cost
+    # the kit takes many steps to write a large number
+    if not re.search(rb"\d{6}", text):
+        lines = text.split(b"\n")[1:-1]
+        yield "Obj", "lines", f"objText {case['rounds']} ({sequence(map(line_text, lines))})", naturals(text), cost
+
+
 def all_facts(label, number, case, options):
+    if "bytes" in case:
+        yield from obj_facts(case)
+        return
     yield from verdict_facts(label, case)
     if options.outcome:
         yield from outcome_facts(label, case)
@@ -442,6 +500,26 @@ def chunks_of(cases):
         cost += own
     if chunk:
         yield chunk
+
+
+def of_group(cases, group):
+    own = [case._replace(facts=[fact for fact in case.facts if fact.group == group]) for case in cases]
+    return [case for case in own if case.facts]
+
+
+def short_chunks(cases):
+    """A chunk for each group: cases from all over its list, none of them slow."""
+    for group in GROUPS:
+        own = [(sum(fact.cost for fact in case.facts), case) for case in of_group(cases, group)]
+        quick = [(cost, case) for cost, case in own if cost <= SHORT_SECONDS / 3] or own[:1]
+        picked = quick[:: max(1, len(quick) // CHUNK_CASES)]
+        chunk, left = [], SHORT_SECONDS
+        for cost, case in picked:
+            if not chunk or cost <= left:
+                chunk.append(case)
+                left -= cost
+        if chunk:
+            yield chunk
 
 
 # ---- the kit
@@ -632,12 +710,14 @@ def run_mutations(cases, options):
 
 # ---- the whole
 def cases_from_generator(options):
-    command = ["cargo", "run", "--offline", "--quiet", "--manifest-path", HERE / "Cargo.toml", "--bin", "nets", "--"]
+    command = ["cargo", "run", "--release", "--offline", "--quiet", "--manifest-path", HERE / "Cargo.toml", "--bin", "nets", "--"]
     command += ["facts", "--seed", str(options.seed), "--count", str(options.count)]
     lines = subprocess.run(command, check=True, capture_output=True, text=True).stdout.splitlines()
     cases = [json.loads(line) for line in lines]
     if options.only:
         cases = [case for case in cases if case["kind"].startswith(options.only)]
+        if not cases:
+            sys.exit(f"definitions: no kind of net begins with {options.only}")
     for case in cases:
         if "steps" in case:
             case["steps"] = case["steps"][:options.rounds]
@@ -652,9 +732,10 @@ def write_scratch(folder, cases, options):
     options.seam, options.outcome = "Seam" in uses, "Outcome" in uses
     written = [written_case(number, case, unfolding, options) for number, case in enumerate(cases, options.first)]
     if options.group:
-        written = [case._replace(facts=[fact for fact in case.facts if fact.group == options.group]) for case in written]
+        written = of_group(written, options.group)
     written = [case for case in written if case.facts]
-    chunks = {f"facts{number:02}": chunk for number, chunk in enumerate(chunks_of(written), 1)}
+    chunks = {f"facts{number:02}": chunk for number, chunk in enumerate((short_chunks if options.short else chunks_of)(written), 1)}
+    written = [case for chunk in chunks.values() for case in chunk]
     for name, chunk in chunks.items():
         write_chunk(folder, name, chunk, uses, crates)
     options.checked = len(written), sum(len(case.facts) for case in written)
@@ -693,9 +774,11 @@ def print_coverage(cases, options):
     splits = [case for case in cases if "split" in case]
     told = sum(len(case["net"][1]) <= ROUND_CORNERS for case in splits)
     print(f"{len(splits)} accepted nets with side counts with their split, {told} of them with the round after it")
-    calls = collections.Counter(re.sub(r"-(?!refused|damaged|random|limits|stored).*", "", case["kind"]) for case in cases if "steps" not in case and "split" not in case)
+    calls = collections.Counter(re.sub(r"-(?!refused|damaged|random|limits|stored).*", "", case["kind"]) for case in cases if "call" in case and "steps" not in case and "split" not in case)
     print("calls for their verdict alone: " + ", ".join(f"{kind} {count}" for kind, count in calls.items()))
     print(f"{len(readings)} readings with their curves after 1 and 2 steps: " + ", ".join(f"{way} {count}" for way, count in sorted(ways.items())))
+    texts = [case for case in cases if "bytes" in case]
+    print(f"{len(texts)} OBJ texts, {sum('bad_line' in case for case in texts)} of them with a bad line")
     letters = collections.Counter(chr(byte) for case in nets + splits for byte in case["letters"][-1])
     words = sum(len(case["words"]) for case in nets if len(case["net"][1]) // 4 <= WORD_FACES)
     print("letters after the last of these rounds: " + ", ".join(f"{letter} {letters[letter]}" for letter in sorted(letters)) + f"; {words} points that letters name")
@@ -704,7 +787,7 @@ def print_coverage(cases, options):
     traits = collections.Counter(trait for case in cases for trait in case["traits"])
     by_number = sorted(traits, key=lambda trait: re.sub(r"\d+", lambda digits: digits.group().zfill(2), trait))
     print("nets with: " + ", ".join(f"{trait}: {traits[trait]}" for trait in by_number))
-    lent = sum("lent" in case["call"] for case in cases)
+    lent = sum("lent" in case.get("call", {}) for case in cases)
     print(f"crate `seam`: {f'lists of points and marks of the readings in nets of up to {SEAM_CORNERS // 4} faces' if options.seam else 'not there'}")
     print(f"crate `outcome`: {f'{lent} small calls with their lent tables' if options.outcome else 'not there'}")
 
@@ -719,6 +802,7 @@ def arguments():
     parser.add_argument("--first", type=int, default=0, metavar="NUMBER", help="only the cases from this number on, as after a run that was broken off")
     parser.add_argument("--group", choices=GROUPS, help="only the facts of this group")
     parser.add_argument("--tree", type=pathlib.Path, default=HERE.parent, help="the tree whose definitions are checked")
+    parser.add_argument("--short", action="store_true", help="a chunk of each group of facts, some nets of each kind")
     parser.add_argument("--mutate", action="store_true", help="self-test: wrong definitions must be found out")
     return parser.parse_args()
 
@@ -733,7 +817,8 @@ def main():
     start = time.time()
     with tempfile.TemporaryDirectory() as folder:
         wrong = check_all(pathlib.Path(folder), cases, options)
-    print_coverage(cases, options)
+    if not options.short:
+        print_coverage(cases, options)
     used = resource.getrusage(resource.RUSAGE_CHILDREN)
     print(f"{used.ru_utime + used.ru_stime:.0f} s of processor time, {time.time() - start:.0f} s")
     nets, facts = options.checked

@@ -49,6 +49,48 @@ def promise_faults():
                 yield f"GUARANTEES names `{word}`, and nothing in crates/ is called {part}"
 
 
+def declared(crate, folders):
+    """The names that the files in these folders of a crate declare, and the names of the files and folders."""
+    names = set()
+    for folder in folders:
+        for path in (ROOT / "crates" / crate / folder).rglob("*"):
+            names.add(path.stem)
+            if path.suffix == ".antt":
+                text = path.read_text(encoding="utf-8")
+                names.update(re.findall(r"^\s*(?:abbrev |unfoldable |pub )*(?:record |data )?([^\s(){}]+)(?: [^\n]*)? :(?= |$)", text, re.M))
+                names.update(re.findall(r"^\s*(?:pub )?(?:record|data) (\S+)", text, re.M))
+            elif path.suffix == ".rt":
+                names.update(re.findall(r"\b(?:fn|struct|enum) (\w+)", path.read_text(encoding="utf-8")))
+    return names
+
+
+def promise_rows():
+    """The rows of the table of promises: what is promised, its definitions, its theorems or contracts, where they are proved."""
+    table = read("docs/GUARANTEES.md").split("## Promises")[1].split("\n## ")[0]
+    for line in table.splitlines():
+        cells = [cell.strip() for cell in re.split(r"(?<!\\)\|", line)[1:-1]]
+        if len(cells) == 4 and not cells[0].startswith("---") and cells[0] != "promise":
+            yield cells
+
+
+def row_faults():
+    """A definition that a promise cites stands in specs/ of the crate named before it, a theorem in a crate that its row names."""
+    crates = {name for _, layer in crate_lines() for name in layer}
+    for promise, definitions, theorems, places in promise_rows():
+        told = f"GUARANTEES, '{promise[:40]}..'"
+        for part in definitions.split(";"):
+            words = re.findall(r"`([^`]+)`", part)
+            if words and words[0] not in crates:
+                yield f"{told}: no crate before `{words[0]}`"
+            elif words:
+                yield from (f"{told}: specs/ of {words[0]} has no `{word}`" for word in words[1:] if word not in declared(words[0], ["specs"]))
+        named = {word for cell in (definitions, theorems, places) for word in re.findall(r"`(\w+)", cell) if word in crates}
+        known = {name for crate in named for name in declared(crate, ["specs", "proofs", "src"])} | crates | {"specs", "proofs"}
+        for word in re.findall(r"`([^`]+)`", theorems + " " + places):
+            if re.fullmatch(r"[\w./: -]+", word) and not (ROOT / word).exists():
+                yield from (f"{told}: the crates that it names have no `{word}`" for part in re.split(r"::|/| ", word) if part not in known)
+
+
 def layer_faults():
     rows = re.findall(r"^\| ([^|`]+) \| ((?:`\w+`(?:, )?)+) \|", read("docs/ARCHITECTURE.md").split("## Layers")[1].split("\n## ")[0], re.M)
     told = [(title, re.findall(r"`(\w+)`", crates)) for title, crates in rows]
@@ -79,7 +121,7 @@ def dependency_faults():
             yield f"crates.txt: {name} stands before {later}, which it names"
 
 
-faults = [*made_faults(), *promise_faults(), *layer_faults(), *dependency_faults()]
+faults = [*made_faults(), *promise_faults(), *row_faults(), *layer_faults(), *dependency_faults()]
 for fault in faults:
     print(fault)
 sys.exit(1 if faults else 0)

@@ -1,15 +1,14 @@
--- What the functions that read and write say.
+-- What the functions that read say.
 use mathlib.Core.Path.{_≡_}
 use mathlib.Core.List.{List}
-use Prim.Native.Nat.{ℕ, _+_, _≤_}
+use Prim.Native.Nat.{ℕ, _≤_}
 use lib.IntN.{ℤ}
 use lib.ListN.{length, drop}
-use lib.Seq.{sets}
 use Rattle.decimal.specs.declared.Number.{Number}
 use Rattle.decimal.specs.declared.Number.the-variants as number
 use Rattle.decimal.specs.declared.Integer.{Integer}
 use Rattle.decimal.specs.declared.Integer.the-variants as integer
-use Rattle.decimal.specs.Decimal.{Read, found, bad}
+use Rattle.decimalform.specs.Decimal.{Read, found, bad}
 
 -- a value and the number of bytes that it took from the front of l
 abbrev pub numberOf : Number → List ℕ → Read ℕ
@@ -39,8 +38,3 @@ GivesNumber r l what = Gives numberOf numberUsed r l what
 
 abbrev pub GivesInteger : Integer → List ℕ → Read ℤ → Type 0
 GivesInteger r l what = Gives integerOf integerUsed r l what
-
--- the text s stands in o from `at` to r, and all else is as in d
-pub record Stored (d o : List ℕ) (at r : ℕ) (s : List ℕ) : Type 0 where
-  pub bytes : o ≡ sets d at s
-  pub end : r ≡ at + length s

@@ -3,8 +3,9 @@ ghost use mathlib.Core.Path.{_≡_};
 ghost use Prim.Native.Nat.{_+_, _≤_};
 ghost use lib.ListN.{length};
 ghost use lib.IntN.{natAbs, pos, negℤ};
-ghost use Rattle.decimal.specs.Decimal.{naturalText, integerText, isDigit, readDigits, atMost, readNatural, readInteger};
-ghost use Rattle.decimal.specs.Answers.{GivesNumber, GivesInteger, Stored};
+ghost use Rattle.decimalform.specs.Decimal.{naturalText, integerText, isDigit, readDigits, atMost, readNatural, readInteger};
+ghost use Rattle.decimalform.specs.Stored.{Stored};
+ghost use Rattle.decimal.specs.Answers.{GivesNumber, GivesInteger};
 
 // A number and how many bytes it took.
 pub enum Number {

@@ -6,15 +6,16 @@ use Prim.Native.Nat.{ℕ, _-_, _≤_, _<_}
 use native.Mathlib.Omega.{arith}
 use lib.IntN.{ℤ}
 use lib.ListN.{length, take, drop, length-drop}
-use Rattle.decimal.specs.Decimal.{found, bad}
+use Rattle.decimalform.specs.Decimal.{found, bad}
 use Rattle.decimal.proofs.Reading.{part-rest}
 use Rattle.limits.specs.Answer.{limitsOf}
-use Rattle.text.specs.Form.{parsed, badLine}
-use Rattle.reading.specs.Loaded.{netRead, loaded, coordinates, marksOf, cornersOf, countsVerdict, readBy}
+use Rattle.textform.specs.Form.{parsed, badLine}
+use Rattle.readingform.specs.Loaded.{netRead, loaded, coordinates, marksOf, cornersOf, countsVerdict, readBy}
 use Rattle.reading.specs.Answers.{countsAre, Tables}
 use Rattle.reading.proofs.Body.{ended-none, ended-some}
-use Rattle.reading.proofs.Limits.{Served}
-use Rattle.reading.proofs.Storing.{front, length-coordinates, length-marks, length-corners}
+use Rattle.readingform.proofs.Limits.{Served}
+use Rattle.readingform.proofs.Lengths.{length-coordinates, length-marks, length-corners}
+use Rattle.reading.proofs.Storing.{front}
 use Rattle.reading.proofs.Cases.{FormRead, tables-serve, net-there}
 use Rattle.obj.proofs.Passing.{vertices-few, faces-few}
 use Rattle.objform.specs.Form.{readRounds, items, netOf, parseItems, parseObj}

@@ -9,14 +9,14 @@ use lib.Dec.{eqb}
 use lib.ListN.{length, getD, take, drop, drop-of-length-le}
 use lib.Seq.{drop-cons, drop-drop}
 use borrow.Author.Tests.{eq-eqb, ne-eqb}
-use Rattle.decimal.specs.Decimal.{Read, found, bad, readNatural}
+use Rattle.decimalform.specs.Decimal.{Read, found, bad, readNatural}
 use Rattle.decimal.specs.Answers.{numberOf, GivesNumber}
 use Rattle.decimal.specs.declared.Number.{Number}
 use Rattle.decimal.specs.declared.Number.the-variants as number
 use Rattle.decimal.proofs.Reading.{says-at}
-use Rattle.text.specs.Bytes.{bytes}
-use Rattle.text.specs.Form.{startsWith, endedBy, natural}
-use Rattle.text.proofs.Lines.{ends-short, ends-other, ends-there, starts-length}
+use Rattle.textform.specs.Bytes.{bytes}
+use Rattle.textform.specs.Form.{startsWith, endedBy, natural}
+use Rattle.textform.proofs.Lines.{ends-short, ends-other, ends-there, starts-length}
 use Rattle.objform.specs.Form.{skipTo, skipPart, named, corner, readRounds}
 use Rattle.obj.specs.Answers.{StartsAt}
 

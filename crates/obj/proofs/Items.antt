@@ -10,17 +10,17 @@ use lib.Dec.{eqb}
 use lib.IntN.{ℤ}
 use lib.ListN.{length, getD, take, drop, drop-of-length-le}
 use lib.Seq.{drop-cons, drop-drop}
-use Rattle.decimal.specs.Decimal.{Read, found, bad}
+use Rattle.decimalform.specs.Decimal.{Read, found, bad}
 use Rattle.decimal.specs.Answers.{Gives}
 use Rattle.decimal.proofs.Reading.{says-at, took-at}
-use Rattle.text.specs.Bytes.{bytes}
-use Rattle.text.specs.Form.{Vertex, startsWith, endedBy, andThen, coordinate, readVertex}
+use Rattle.textform.specs.Bytes.{bytes}
+use Rattle.textform.specs.Form.{Vertex, startsWith, endedBy, andThen, coordinate, readVertex}
 use Rattle.text.specs.Answers.{vertexOf, vertexUsed, faceOf, faceUsed}
 use Rattle.text.specs.declared.VertexLine.{VertexLine}
 use Rattle.text.specs.declared.VertexLine.the-variants as vertexLine
 use Rattle.text.specs.declared.FaceLine.{FaceLine}
 use Rattle.text.specs.declared.FaceLine.the-variants as faceLine
-use Rattle.text.proofs.Lines.{starts-length}
+use Rattle.textform.proofs.Lines.{starts-length}
 use Rattle.objform.specs.Form.{vertex, face, comment, mapped, skipTo, readCorners, readComment, readItem}
 use Rattle.obj.specs.declared.Item.the-variants as item
 use Rattle.obj.specs.declared.Line.the-variants as line

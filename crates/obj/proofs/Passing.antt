@@ -6,14 +6,15 @@ use native.Mathlib.Omega.{arith}
 use lib.IntN.{ℤ}
 use lib.ListN.{length, set, take, drop, length-drop, drop-of-length-le}
 use lib.Seq.{sets, length-sets}
-use Rattle.decimal.specs.Decimal.{found, bad}
+use Rattle.decimalform.specs.Decimal.{found, bad}
 use Rattle.decimal.proofs.Reading.{says-at, took-at}
-use Rattle.decimal.proofs.Writing.{sets-after}
-use Rattle.text.specs.Bytes.{bytes}
-use Rattle.text.specs.Form.{Vertex, Face, Rows, rows, oneMore}
-use Rattle.reading.specs.Loaded.{coordinates, marksOf, cornersOf}
+use Rattle.decimalform.proofs.Writing.{sets-after}
+use Rattle.textform.specs.Bytes.{bytes}
+use Rattle.textform.specs.Form.{Vertex, Face, Rows, rows, oneMore}
+use Rattle.readingform.specs.Loaded.{coordinates, marksOf, cornersOf}
 use Rattle.reading.proofs.Lines.{rows-length, rows-bad, rows-next, Passed, passed-none, passed-bad, passed-more}
-use Rattle.reading.proofs.Storing.{three-stores, four-stores, Filling, filling-none, filling-more, filling-bad, length-coordinates, length-marks, length-corners}
+use Rattle.readingform.proofs.Lengths.{length-coordinates, length-marks, length-corners}
+use Rattle.reading.proofs.Storing.{three-stores, four-stores, Filling, filling-none, filling-more, filling-bad}
 use Rattle.objform.proofs.Net.{item-none, vertices-one, faces-one, vertices-length, faces-length, vertices-most, faces-most}
 use Rattle.objform.specs.Form.{Item, readItem, verticesIn, facesIn, items}
 use Rattle.obj.specs.declared.Line.{Line}

@@ -5,10 +5,10 @@ use lib.IntN.{ℤ}
 use Prim.Native.Nat.{ℕ, _+_, _*_, _≤_, _<_}
 use lib.ListN.{length, drop}
 use lib.Seq.{sets}
-use Rattle.decimal.specs.Decimal.{Read, found, bad}
+use Rattle.decimalform.specs.Decimal.{Read, found, bad}
 use Rattle.decimal.specs.Answers.{Gives}
-use Rattle.text.specs.Form.{Vertex, Face}
-use Rattle.reading.specs.Loaded.{coordinates, marksOf, cornersOf}
+use Rattle.textform.specs.Form.{Vertex, Face}
+use Rattle.readingform.specs.Loaded.{coordinates, marksOf, cornersOf}
 use Rattle.obj.specs.declared.Item.{Item}
 use Rattle.obj.specs.declared.Item.the-variants as item
 use Rattle.obj.specs.declared.Line.{Line}

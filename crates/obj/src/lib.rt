@@ -8,7 +8,7 @@ ghost use Prim.Native.Nat.{_+_, _≤_, _<_};
 ghost use lib.ListN.{length, drop};
 ghost use Rattle.decimal.specs.Answers.{Gives, GivesNumber};
 ghost use Rattle.text.specs.Answers.{faceOf, faceUsed};
-ghost use Rattle.reading.specs.Loaded.{loaded, readBy};
+ghost use Rattle.readingform.specs.Loaded.{loaded, readBy};
 ghost use Rattle.reading.specs.Answers.{answerOf, Tables};
 ghost use Rattle.objform.specs.Form.{skipTo, skipPart, corner, readCorners, readRounds, parseObj};
 ghost use Rattle.obj.specs.Answers.{StartsAt, itemIs, GivesLine, MeetsItem, itemVertices, itemFaces, CountsItems, ItemsStored, ItemsRoom, RoomFor, ItemStored};

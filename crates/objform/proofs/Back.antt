@@ -6,13 +6,13 @@ use Prim.Native.Nat.{ℕ, zero, suc, _+_, _≤_}
 use native.Mathlib.Omega.{arith}
 use lib.Dec.{eqb}
 use lib.ListN.{length, length-append}
-use Rattle.decimal.specs.Decimal.{Read, found, isDigit}
-use Rattle.decimal.proofs.Back.{NoDigit, natural-back}
-use Rattle.text.specs.Bytes.{bytes}
-use Rattle.text.specs.Form.{Vertex, Face, Net, endedBy, Rows, rows, parsed, next, line, ended}
-use Rattle.text.specs.Text.{texts}
-use Rattle.text.specs.Written.{Each, PointFits}
-use Rattle.text.proofs.Back.{ends, natural-field, point-back}
+use Rattle.decimalform.specs.Decimal.{Read, found, isDigit}
+use Rattle.decimalform.proofs.Back.{NoDigit, natural-back}
+use Rattle.textform.specs.Bytes.{bytes}
+use Rattle.textform.specs.Form.{Vertex, Face, Net, endedBy, Rows, rows, parsed, next, line, ended}
+use Rattle.textform.specs.Text.{texts}
+use Rattle.textform.specs.Written.{Each, PointFits}
+use Rattle.textform.proofs.Back.{ends, natural-field, point-back}
 use Rattle.objform.specs.Form.{Item, vertex, face, comment, mapped, skipTo, skipPart, named, corner, readCorners, readComment, readItem, readRounds, verticesIn, facesIn, netOf, parseItems, parseObj}
 use Rattle.objform.specs.Text.{Part, none, slash, Corner, TextLine, vertexLine, faceLine, commentLine, partText, cornerText, lineText, roundsText, objText, Without, PartFits, CornerFits, LineFits, itemOf, itemsOf, Writes, plain, plainFaces, plainLines, CornersFit, ObjFits, ObjBack}
 use Rattle.objform.proofs.Net.{item-none}

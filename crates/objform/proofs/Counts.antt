@@ -2,8 +2,8 @@
 use mathlib.Core.Path.{refl}
 use mathlib.Core.List.{List}
 use Prim.Native.Nat.{ℕ}
-use Rattle.text.specs.Form.{line}
-use Rattle.text.proofs.Counts.{Stated, after, ended-stated}
+use Rattle.textform.specs.Form.{line}
+use Rattle.textform.proofs.Counts.{Stated, after, ended-stated}
 use Rattle.objform.specs.Form.{readRounds, items, netOf, parseItems, parseObj}
 
 items-stated : (k : ℕ) (l : List ℕ) → Stated (parseItems k l)

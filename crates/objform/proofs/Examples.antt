@@ -7,11 +7,11 @@ use native.Mathlib.Omega.{arith}
 use Prim.Native.String.{String}
 use lib.Dec.{eqb}
 use lib.IntN.{ℤ, pos, negsuc}
-use Rattle.decimal.specs.Decimal.{readDigits, readNatural, readInteger, naturalText, integerText}
-use Rattle.text.specs.Bytes.{bytes}
-use Rattle.text.specs.Form.{Vertex, Net, Parsed, parsed, badLine, coordinate, natural, readVertex, rows}
-use Rattle.text.specs.Text.{countsText, pointText, faceText, texts, unmarkedText}
-use Rattle.text.specs.Written.{Each}
+use Rattle.decimalform.specs.Decimal.{readDigits, readNatural, readInteger, naturalText, integerText}
+use Rattle.textform.specs.Bytes.{bytes}
+use Rattle.textform.specs.Form.{Vertex, Net, Parsed, parsed, badLine, coordinate, natural, readVertex, rows}
+use Rattle.textform.specs.Text.{countsText, pointText, faceText, texts, unmarkedText}
+use Rattle.textform.specs.Written.{Each}
 use Rattle.objform.specs.Form.{skipTo, corner, readCorners, readComment, readItem, readRounds, verticesIn, facesIn, netOf, parseItems, parseObj}
 use Rattle.objform.specs.Text.{TextLine, vertexLine, faceLine, commentLine, slash, cornerText, lineText, roundsText, objText, plain, plainFaces, plainLines, ObjFits}
 

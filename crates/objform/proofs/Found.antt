@@ -7,15 +7,15 @@ use native.Mathlib.Omega.{arith}
 use lib.Dec.{eqb}
 use lib.ListN.{length, drop, length-append}
 use borrow.Author.Tests.{eqb-true}
-use Rattle.decimal.specs.Decimal.{Read, found, bad, naturalText, readNatural}
-use Rattle.decimal.proofs.Reading.{natural-at-most}
-use Rattle.decimal.proofs.Found.{natural-found}
-use Rattle.text.specs.Bytes.{bytes}
-use Rattle.text.specs.Form.{Vertex, Face, Net, startsWith, natural, readVertex, Rows, rows, rowsAfter, parsed, badLine, next, line, ended}
-use Rattle.text.specs.Text.{texts}
-use Rattle.text.specs.Written.{Each}
-use Rattle.text.proofs.Lines.{natural-limit}
-use Rattle.text.proofs.Found.{starts-found, ended-found, then-found, field-found, point-found}
+use Rattle.decimalform.specs.Decimal.{Read, found, bad, naturalText, readNatural}
+use Rattle.decimalform.proofs.Reading.{natural-at-most}
+use Rattle.decimalform.proofs.Found.{natural-found}
+use Rattle.textform.specs.Bytes.{bytes}
+use Rattle.textform.specs.Form.{Vertex, Face, Net, startsWith, natural, readVertex, Rows, rows, rowsAfter, parsed, badLine, next, line, ended}
+use Rattle.textform.specs.Text.{texts}
+use Rattle.textform.specs.Written.{Each}
+use Rattle.textform.proofs.Lines.{natural-limit}
+use Rattle.textform.proofs.Found.{starts-found, ended-found, then-found, field-found, point-found}
 use Rattle.objform.specs.Form.{Item, vertex, face, comment, mapped, skipTo, skipPart, named, corner, readCorners, readComment, readItem, readRounds, verticesIn, facesIn, netOf, items, parseItems, parseObj}
 use Rattle.objform.specs.Text.{Part, none, slash, Corner, TextLine, vertexLine, faceLine, commentLine, partText, cornerText, lineText, roundsText, objText, Without, PartFits, CornerFits, LineFits, itemOf, itemsOf, WrittenBy, NoRounds, NoLine, FirstBad, firstLine, laterLine, Recognizes}
 use Rattle.objform.proofs.Net.{item-none}

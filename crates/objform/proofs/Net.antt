@@ -4,8 +4,8 @@ use mathlib.Core.List.{List, [], _∷_, _++_}
 use Prim.Native.Nat.{_+_, _≤_}
 use native.Mathlib.Omega.{arith}
 use lib.ListN.{length, length-append}
-use Rattle.decimal.specs.Decimal.{bad}
-use Rattle.text.specs.Bytes.{bytes}
+use Rattle.decimalform.specs.Decimal.{bad}
+use Rattle.textform.specs.Bytes.{bytes}
 use Rattle.objform.specs.Form.{Item, vertex, face, comment, readItem, verticesIn, facesIn}
 
 -- no line, no item

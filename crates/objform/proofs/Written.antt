@@ -4,9 +4,9 @@ use mathlib.Core.List.{List, [], _∷_}
 use Prim.Native.Nat.{_≤_}
 use native.Mathlib.Omega.{arith}
 use lib.ListN.{length, length-append}
-use Rattle.text.specs.Form.{Vertex, Net}
-use Rattle.text.specs.Text.{texts}
-use Rattle.text.specs.Written.{VertexFits, PointFits, FaceFits, Each, NetFits}
+use Rattle.textform.specs.Form.{Vertex, Net}
+use Rattle.textform.specs.Text.{texts}
+use Rattle.textform.specs.Written.{VertexFits, PointFits, FaceFits, Each, NetFits}
 use Rattle.objform.specs.Form.{verticesIn, facesIn}
 use Rattle.objform.specs.Text.{TextLine, vertexLine, faceLine, commentLine, lineText, roundsText, objText, LineFits, itemsOf, Writes}
 use Rattle.objform.proofs.Net.{vertices-most, faces-most}

@@ -4,9 +4,9 @@ use mathlib.Core.List.{List, [], _∷_}
 use Prim.Native.Nat.{ℕ, zero, suc, _+_}
 use lib.Dec.{eqb}
 use lib.ListN.{length, drop}
-use Rattle.decimal.specs.Decimal.{Read, found, bad, readNatural}
-use Rattle.text.specs.Bytes.{bytes}
-use Rattle.text.specs.Form.{Vertex, Face, Net, startsWith, endedBy, index, readVertex, faceBy, Rows, rows, Parsed, next, line, ended}
+use Rattle.decimalform.specs.Decimal.{Read, found, bad, readNatural}
+use Rattle.textform.specs.Bytes.{bytes}
+use Rattle.textform.specs.Form.{Vertex, Face, Net, startsWith, endedBy, index, readVertex, faceBy, Rows, rows, Parsed, next, line, ended}
 
 -- Paper 02: "Accept `v` with three whole counts, `f` with four numbers from 1, and lines beginning `#`"
 pub data Item : Type 0 where

@@ -5,11 +5,11 @@ use mathlib.Core.List.{List, [], _∷_, _++_}
 use Prim.Native.Nat.{ℕ, suc, _+_, _≤_, _<_}
 use lib.Dec.{eqb}
 use lib.ListN.{length}
-use Rattle.decimal.specs.Decimal.{naturalText}
-use Rattle.text.specs.Bytes.{bytes}
-use Rattle.text.specs.Form.{Vertex, Face, Net, parsed, badLine}
-use Rattle.text.specs.Text.{field, pointText, texts}
-use Rattle.text.specs.Written.{Each, PointFits, NetFits}
+use Rattle.decimalform.specs.Decimal.{naturalText}
+use Rattle.textform.specs.Bytes.{bytes}
+use Rattle.textform.specs.Form.{Vertex, Face, Net, parsed, badLine}
+use Rattle.textform.specs.Text.{field, pointText, texts}
+use Rattle.textform.specs.Written.{Each, PointFits, NetFits}
 use Rattle.objform.specs.Form.{Item, vertex, face, comment, verticesIn, facesIn, parseObj}
 
 -- what stands behind a number of an `f` line: nothing, or a slash and the bytes s

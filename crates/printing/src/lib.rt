@@ -3,11 +3,11 @@ ghost use mathlib.Core.Path.{_≡_};
 ghost use mathlib.Core.Bool.{true};
 ghost use Prim.Native.Nat.{_+_, _*_, _≤_, _<_};
 ghost use lib.ListN.{length, getD};
-ghost use Rattle.decimal.specs.Decimal.{naturalText, integerText};
-ghost use Rattle.decimal.specs.Answers.{Stored};
-ghost use Rattle.text.specs.Text.{field, pairText, numbersText, columnsText, endText, letteredText, faceText, texts, refusalText};
-ghost use Rattle.printing.specs.Tables.{letteredOf, facesOf, columnsRoom, endRoom, roomFor, tablesText};
-ghost use Rattle.printing.specs.Lines.{vertexIs, faceIs, Printed, Written};
+ghost use Rattle.decimalform.specs.Decimal.{naturalText, integerText};
+ghost use Rattle.decimalform.specs.Stored.{Stored};
+ghost use Rattle.textform.specs.Text.{field, pairText, numbersText, columnsText, endText, letteredText, faceText, texts, refusalText};
+ghost use Rattle.printingform.specs.Tables.{letteredOf, facesOf, columnsRoom, endRoom, roomFor, tablesText};
+ghost use Rattle.printingform.specs.Lines.{vertexIs, faceIs, Printed, Written};
 
 fn put_bytes(out: &mut [u8], at: usize, s: &[u8]) -> usize
     requires { ⌜ at + length (now s) ≤ length (now out) ⌝ }

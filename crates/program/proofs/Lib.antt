@@ -1,6 +1,1 @@
-pub mod Examples
-pub mod Parsing
 pub mod Refined
-pub mod Loaded
-pub mod RoundTrip
-pub mod Forms

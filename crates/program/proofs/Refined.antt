@@ -28,13 +28,13 @@ use Rattle.outcome.proofs.Tally.{untallied}
 use Rattle.refine.specs.declared.Answer.the-variants.{Refined, Refused}
 use Rattle.refine.specs.Answer.{answered}
 use Rattle.refine.proofs.Laws.{by-faces}
-use Rattle.text.specs.Text.{refusalText}
-use Rattle.reading.specs.Loaded.{programRoom}
-use Rattle.reading.proofs.Limits.{limits-either}
-use Rattle.printing.specs.Lines.{Written}
-use Rattle.printing.specs.Tables.{vertexAt, faceAt, tablesText}
-use Rattle.printing.proofs.Writing.{tables-same}
-use Rattle.program.specs.Answer.{answerBy, refinedText}
+use Rattle.textform.specs.Text.{refusalText}
+use Rattle.readingform.specs.Loaded.{programRoom}
+use Rattle.readingform.proofs.Limits.{limits-either}
+use Rattle.printingform.specs.Lines.{Written}
+use Rattle.printingform.specs.Tables.{vertexAt, faceAt, tablesText}
+use Rattle.printingform.proofs.Writing.{tables-same}
+use Rattle.programform.specs.Answer.{answerBy, refinedText}
 
 -- ---- the lines of tables that a net was written to
 module _ (n : Net) (vs : List ℤ) (fs ms : List ℕ) (e : length (n .vertices) ≡ 3 * length (n .marks)) where

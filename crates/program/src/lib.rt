@@ -8,10 +8,10 @@ ghost use lib.ListN.{length};
 ghost use Rattle.nets.specs.Net.{net, plain};
 ghost use Rattle.verdict.specs.Call.{lengthsOf};
 ghost use Rattle.verdict.specs.Verdict.{accepted, limitsVerdict};
-ghost use Rattle.reading.specs.Loaded.{programRoom, loaded, readBy};
+ghost use Rattle.readingform.specs.Loaded.{programRoom, loaded, readBy};
 ghost use Rattle.reading.specs.Answers.{answerOf, Tables};
-ghost use Rattle.printing.specs.Lines.{Written};
-ghost use Rattle.program.specs.Answer.{refinedText, parseAny, programText};
+ghost use Rattle.printingform.specs.Lines.{Written};
+ghost use Rattle.programform.specs.Answer.{refinedText, parseAny, programText};
 
 // The answer to a net whose counts pass, with letters if `rule` is asked for.
 fn refine_net(

@@ -6,9 +6,9 @@ use native.Mathlib.Omega.{arith}
 use lib.ListN.{length, take, drop, length-drop}
 use lib.Seq.{drop-drop}
 use borrow.Author.Tests.{eq-eqb, ne-eqb}
-use Rattle.decimal.specs.Decimal.{Read, found, bad}
+use Rattle.decimalform.specs.Decimal.{Read, found, bad}
 use Rattle.decimal.proofs.Reading.{part-rest}
-use Rattle.text.specs.Form.{Head, Vertex, Face, Net, corners, Rows, rows, readVertex, readFace, readNames, only, isCorners, parsed, badLine, lines, ended, parseBody}
+use Rattle.textform.specs.Form.{Head, Vertex, Face, Net, corners, Rows, rows, readVertex, readFace, readNames, only, isCorners, parsed, badLine, lines, ended, parseBody}
 use Rattle.reading.specs.declared.Block.{Block}
 use Rattle.reading.specs.Answers.{Counted}
 

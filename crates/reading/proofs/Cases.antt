@@ -2,33 +2,20 @@
 use mathlib.Core.Path.{_≡_, _∙_}
 use mathlib.Core.Bool.{Bool}
 use mathlib.Core.List.{List, []}
-use Prim.Native.Nat.{ℕ, _-_, _≤_, _<_}
+use Prim.Native.Nat.{ℕ, _-_, _≤_}
 use native.Mathlib.Omega.{arith}
 use lib.IntN.{ℤ}
 use lib.ListN.{length, take, drop}
 use lib.Seq.{sets}
-use borrow.Author.Tests.{lt-ltb, le-ltb, eq-eqb, ne-eqb}
-use Rattle.text.specs.Form.{Net, rows, readVertex, readFace, Parsed, parsed, badLine, parse}
+use borrow.Author.Tests.{le-ltb, eq-eqb, ne-eqb}
+use Rattle.textform.specs.Form.{Net, rows, readVertex, readFace, Parsed, parsed, parse}
 use Rattle.limits.specs.Answer.{limitsOf}
-use Rattle.reading.specs.Loaded.{netRead, refusedWith, loaded, stored, coordinates, marksOf, cornersOf, countsVerdict, readBy}
+use Rattle.readingform.specs.Loaded.{netRead, refusedWith, loaded, stored, coordinates, marksOf, cornersOf, countsVerdict, readBy}
 use Rattle.reading.specs.Answers.{headIs, netAt, VerticesStored, Tables}
 use Rattle.reading.proofs.Lines.{rows-length}
-use Rattle.reading.proofs.Limits.{Served, passed-served}
-use Rattle.reading.proofs.Storing.{placed, length-coordinates, length-marks, length-corners}
-
-module _ (parser : List ℕ → Parsed Net) (text : List ℕ) (vs : List ℤ) (fs ms : List ℕ) where
-  pub too-long : 32768 < length text → loaded (refusedWith 13 0) vs fs ms ≡ readBy parser text vs fs ms
-  unfolding readBy
-  too-long h = rw (lt-ltb 32768 (length text) h)
-
-  pub not-the-form : (n : ℕ) → length text ≤ 32768 → badLine n ≡ parser text → loaded (refusedWith 13 n) vs fs ms ≡ readBy parser text vs fs ms
-  unfolding readBy
-  not-the-form n short p = rw (le-ltb 32768 (length text) short, ← p)
-
--- parsers that agree on the text read the same
-pub read-same : (p q : List ℕ → Parsed Net) (text : List ℕ) (vs : List ℤ) (fs ms : List ℕ) → p text ≡ q text → readBy p text vs fs ms ≡ readBy q text vs fs ms
-unfolding readBy
-read-same p q text vs fs ms e = rw e
+use Rattle.readingform.proofs.Limits.{Served, passed-served}
+use Rattle.readingform.proofs.Lengths.{length-coordinates, length-marks, length-corners}
+use Rattle.reading.proofs.Storing.{placed}
 
 -- the text has the form and writes n, and r is the answer to its counts
 pub record FormRead (parser : List ℕ → Parsed Net) (text : List ℕ) (n : Net) (r : ℕ) : Type 0 where

@@ -6,9 +6,9 @@ use Prim.Native.Nat.{ℕ, _+_, _≤_}
 use native.Mathlib.Omega.{arith}
 use lib.ListN.{length, drop}
 use lib.Seq.{drop-drop}
-use Rattle.decimal.specs.Decimal.{found, bad}
+use Rattle.decimalform.specs.Decimal.{found, bad}
 use Rattle.decimal.specs.Answers.{Gives}
-use Rattle.text.specs.Form.{Names, input, isInput, isColumns, isMarked, only, readNames, readCounts, parsed, badLine, parseHead, parseBody, parse}
+use Rattle.textform.specs.Form.{Names, input, isInput, isColumns, isMarked, only, readNames, readCounts, parsed, badLine, parseHead, parseBody, parse}
 use Rattle.reading.specs.declared.HeadLines.the-variants as head
 use Rattle.reading.specs.declared.Checked.the-variants as checked
 use Rattle.reading.specs.Answers.{countsAre, headIs, headOf, headUsed, netAt, Checks}

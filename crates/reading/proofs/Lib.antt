@@ -1,8 +1,6 @@
-pub mod Examples
 pub mod Lines
 pub mod Head
 pub mod Body
 pub mod Limits
 pub mod Storing
 pub mod Cases
-pub mod Back

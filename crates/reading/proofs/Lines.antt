@@ -5,18 +5,17 @@ use Prim.Native.Nat.{ℕ, zero, suc, _+_, _-_, _≤_, _<_}
 use native.Mathlib.Omega.{arith}
 use lib.ListN.{length, take, drop}
 use lib.Seq.{drop-drop}
-use Rattle.decimal.specs.Decimal.{Read, found, bad}
+use Rattle.decimalform.specs.Decimal.{Read, found, bad}
 use Rattle.decimal.specs.Answers.{Gives}
 use Rattle.decimal.proofs.Reading.{says-at, took-at}
 use types.Run.{OneOf, miss}
 use denote.Enum.Declared.{tagOf}
-use Rattle.text.specs.Form.{rows, rowsAfter, noRows, oneMore, only, isInput, isCorners, readNames}
+use Rattle.textform.specs.Form.{rows, rowsAfter, noRows, oneMore, only, isInput, isCorners, readNames}
 use Rattle.text.specs.Answers.{namesOf, namesUsed}
 use Rattle.text.specs.declared.NamesLine.{NamesLine}
 use Rattle.text.specs.declared.NamesLine.the-variants as names
 use Rattle.text.proofs.NamesLine as generated
 use Rattle.reading.specs.Answers.{Counted}
-use Rattle.reading.proofs.Examples as examples
 
 module _ {A : Type 0} (read : List ℕ → Read A) where
   pub rows-none : (n : ℕ) (l : List ℕ) → n ≡ 0 → rows read n l ≡ noRows l

@@ -6,11 +6,11 @@ use native.Mathlib.Omega.{arith}
 use lib.IntN.{ℤ}
 use lib.ListN.{length, set, take, drop}
 use lib.Seq.{sets, sets-eq}
-use Rattle.decimal.specs.Decimal.{Read, found, bad}
+use Rattle.decimalform.specs.Decimal.{Read, found, bad}
 use Rattle.decimal.proofs.Reading.{part-rest}
-use Rattle.text.specs.Form.{Vertex, Face, Rows, rows, noRows}
+use Rattle.textform.specs.Form.{Vertex, Face, Rows, rows, noRows}
 use Rattle.tables.specs.Tables.{filled}
-use Rattle.reading.specs.Loaded.{coordinates, marksOf, cornersOf}
+use Rattle.readingform.specs.Loaded.{coordinates, marksOf, cornersOf}
 use Rattle.reading.proofs.Lines.{rows-bad, rows-over, rows-next}
 
 -- after i of `count` lines the table t, from k on, takes what is left, and so comes to what t₀ comes to with all of them
@@ -77,21 +77,6 @@ unfolding cornersOf
 no-corners t j = refl
 
 -- ---- a table that has room is filled from the front
-pub length-coordinates : (vs : List Vertex) → length (coordinates vs) ≡ 3 * length vs
-unfolding coordinates
-length-coordinates [] = refl
-length-coordinates (v ∷ vs) = let e = length-coordinates vs in omega arith
-
-pub length-marks : (vs : List Vertex) → length (marksOf vs) ≡ length vs
-unfolding marksOf
-length-marks [] = refl
-length-marks (v ∷ vs) = let e = length-marks vs in omega arith
-
-pub length-corners : (fs : List Face) → length (cornersOf fs) ≡ 4 * length fs
-unfolding cornersOf
-length-corners [] = refl
-length-corners (f ∷ fs) = let e = length-corners fs in omega arith
-
 pub front : {A : Type 0} (new old : List A) → length new ≤ length old → sets old 0 new ≡ filled new old
 unfolding filled
 front new old h = let e : 0 + length new ≡ length new = omega arith in sets-eq new old 0 (omega arith) ∙ ap (λ (k : ℕ). new ++ drop k old) e

@@ -7,8 +7,8 @@ use lib.IntN.{ℤ}
 use lib.ListN.{length, drop}
 use lib.Seq.{sets}
 use Rattle.decimal.specs.Answers.{Gives}
-use Rattle.text.specs.Form.{Counts, Vertex, Net, Head, Rows, rows, readVertex, readFace, Parsed, parsed, badLine, parseBody, parse}
-use Rattle.reading.specs.Loaded.{Answer, netRead, refusedWith, coordinates, marksOf}
+use Rattle.textform.specs.Form.{Counts, Vertex, Net, Head, Rows, rows, readVertex, readFace, Parsed, parsed, badLine, parseBody, parse}
+use Rattle.readingform.specs.Loaded.{Answer, netRead, refusedWith, coordinates, marksOf}
 use Rattle.reading.specs.declared.Block.{Block}
 use Rattle.reading.specs.declared.HeadLines.{HeadLines}
 use Rattle.reading.specs.declared.HeadLines.the-variants as head

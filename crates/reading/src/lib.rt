@@ -9,9 +9,9 @@ ghost use Prim.Native.Nat.{_*_, _≤_, _<_};
 ghost use lib.ListN.{length};
 ghost use lib.Seq.{sets};
 ghost use Rattle.decimal.specs.Answers.{Gives};
-ghost use Rattle.text.specs.Form.{readVertex, readFace, rows, parseHead, parse};
+ghost use Rattle.textform.specs.Form.{readVertex, readFace, rows, parseHead, parse};
 ghost use Rattle.limits.specs.Answer.{limitsOf};
-ghost use Rattle.reading.specs.Loaded.{cornersOf, countsVerdict, loaded, readBy};
+ghost use Rattle.readingform.specs.Loaded.{cornersOf, countsVerdict, loaded, readBy};
 ghost use Rattle.reading.specs.Answers.{Counted, countsAre, headIs, headOf, headUsed, GivesBody, Checks, VerticesStored, answerOf, Tables};
 
 // Lines that have the form, and their bytes.

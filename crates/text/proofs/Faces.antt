@@ -4,9 +4,9 @@ use mathlib.Core.List.{List}
 use Prim.Native.Nat.{ℕ, _≤_}
 use native.Mathlib.Omega.{arith}
 use lib.ListN.{length, drop}
-use Rattle.decimal.specs.Decimal.{Read, found, bad}
+use Rattle.decimalform.specs.Decimal.{Read, found, bad}
 use Rattle.decimal.specs.Answers.{Gives}
-use Rattle.text.specs.Form.{faceBy}
+use Rattle.textform.specs.Form.{faceBy}
 use Rattle.text.specs.Answers.{faceOf, faceUsed}
 use Rattle.text.specs.declared.FaceLine.{FaceLine}
 use Rattle.text.specs.declared.FaceLine.the-variants as face

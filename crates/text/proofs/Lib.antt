@@ -1,6 +1,2 @@
-pub mod Examples
 pub mod Lines
-pub mod Back
-pub mod Counts
-pub mod Found
 pub mod Faces

@@ -2,8 +2,8 @@
 use mathlib.Core.List.{List}
 use Prim.Native.Nat.{ℕ}
 use lib.ListN.{drop}
-use Rattle.decimal.specs.Decimal.{Read, found, bad}
-use Rattle.text.specs.Form.{Names, input, marked, unmarked, corners, Counts, Vertex, Face}
+use Rattle.decimalform.specs.Decimal.{Read, found, bad}
+use Rattle.textform.specs.Form.{Names, input, marked, unmarked, corners, Counts, Vertex, Face}
 use Rattle.text.specs.declared.NamesLine.{NamesLine}
 use Rattle.text.specs.declared.NamesLine.the-variants as names
 use Rattle.text.specs.declared.CountsLine.{CountsLine}

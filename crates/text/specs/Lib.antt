@@ -1,5 +1,1 @@
-pub mod Bytes
-pub mod Form
-pub mod Text
 pub mod Answers
-pub mod Written

@@ -5,7 +5,7 @@ ghost use mathlib.Core.Path.{_≡_};
 ghost use Prim.Native.Nat.{_≤_};
 ghost use lib.ListN.{length, drop};
 ghost use Rattle.decimal.specs.Answers.{Gives, GivesNumber, GivesInteger};
-ghost use Rattle.text.specs.Form.{startsWith, readNames, coordinate, natural, readCounts, readVertex, readFace};
+ghost use Rattle.textform.specs.Form.{startsWith, readNames, coordinate, natural, readCounts, readVertex, readFace};
 ghost use Rattle.text.specs.Answers.{namesOf, namesUsed, countsOf, countsUsed, vertexOf, vertexUsed, faceOf, faceUsed};
 
 // The first line with the word `rule` or without it; the names of the columns; those of the corners.

@@ -16,6 +16,7 @@ use reference::refusal::{Capacity, Refusal, check_call};
 use reference::rules::Tension;
 use reference::seam::{Boundary, Reading, Way};
 use reference::step::{Directions, Rule, Step, Surface, refine_once, split, trace};
+use reference::text::parse;
 use reference::topology::Topology;
 
 use crate::accepted::{Shape, Size, accepted};
@@ -28,6 +29,7 @@ use crate::kind::CallKind;
 use crate::letters::any_letters;
 use crate::moved::MovedPair;
 use crate::named::{Dressing, Family, NAMED, Named};
+use crate::obj::ObjKind;
 use crate::polygons::{PolygonShape, accepted_polygons};
 use crate::refused::{PLAIN_REASONS, POLYGON_REASONS, refused_call, refused_polygons};
 use crate::rng::Rng;
@@ -57,6 +59,8 @@ const FEW_CORNERS: usize = 14;
 const MOST_ROUNDS: u32 = 100;
 /// Calls for each refusal alone.
 const ALONE: usize = 4;
+/// Most bytes of an OBJ text that is told.
+const MOST_BYTES: usize = 240;
 /// Steps of the curves that are told.
 const CURVE_STEPS: u32 = 2;
 
@@ -84,6 +88,7 @@ pub fn lines(seed: u64, count: usize) -> Vec<String> {
     }
     lines.extend(polygon_lines(count, rng));
     lines.extend(named_lines(seed));
+    lines.extend(obj_lines(seed));
     lines
 }
 
@@ -115,6 +120,37 @@ fn polygon_lines(count: usize, rng: &mut Rng) -> Vec<String> {
     }
     lines.extend(stored_lines());
     lines
+}
+
+/// Short OBJ texts of every kind that has them: the bytes, and what the form
+/// makes of them or the first bad line.
+fn obj_lines(seed: u64) -> Vec<String> {
+    let rng = &mut Rng::new(seed);
+    let short = |kind: ObjKind, rng: &mut Rng| {
+        let mut texts = (0..60).map(|_| kind.make(rng).text);
+        texts.find(|text| text.starts_with(b"#") && text.len() <= MOST_BYTES)
+    };
+    ObjKind::all()
+        .into_iter()
+        .filter_map(|kind| Some(obj_line(&kind.name(), &short(kind, rng)?)))
+        .collect()
+}
+
+fn obj_line(kind: &str, text: &[u8]) -> String {
+    let mut fields = vec![
+        ("kind", quoted(format!("obj-{kind}"))),
+        ("traits", list([])),
+        ("bytes", numbers(text)),
+    ];
+    match parse(text) {
+        Ok(document) => fields.extend([
+            ("rounds", document.rounds.to_string()),
+            ("vertices", numbers(&document.vertices)),
+            ("faces", numbers(&document.faces)),
+        ]),
+        Err(refusal) => fields.push(("bad_line", refusal.place.to_string())),
+    }
+    object(&fields)
 }
 
 /// The facts of some named nets, in all dressings and at all tensions by turns.

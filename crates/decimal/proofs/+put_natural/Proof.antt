@@ -2,7 +2,7 @@
 use mathlib.Core.Path.{ap}
 use native.Mathlib.Omega.{arith}
 use lib.ListN.{length, length-set}
-use Rattle.decimal.proofs.Writing.{text-small, length-large, stored-small, stored-large}
+use Rattle.decimalform.proofs.Writing.{text-small, length-large, stored-small, stored-large}
 use Prim.Native.Nat.{ℕ, _<_}
 use borrow.Fn.Kinds.{In}
 use borrow.Fn.PlainCycle.{Measures, is, falls, and}

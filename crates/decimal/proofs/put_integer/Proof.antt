@@ -4,7 +4,7 @@ use native.Mathlib.Omega.{arith}
 use lib.IntN.{natAbs}
 use lib.ListN.{length, length-set}
 use mir.Facts.{toZ-ofZ}
-use Rattle.decimal.proofs.Writing.{text-negative, text-positive, stored-negative, stored-positive}
+use Rattle.decimalform.proofs.Writing.{text-negative, text-positive, stored-negative, stored-positive}
 use borrow.Author.Needs.{needs}
 use Rattle.decimal.proofs.put_integer.Statement.{statement}
 use Rattle.decimal.proofs.put_integer.Tie as tie

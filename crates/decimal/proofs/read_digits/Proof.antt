@@ -5,8 +5,9 @@ use native.Mathlib.Omega.{arith}
 use borrow.Author.Needs.{needs}
 use borrow.Author.Tests.{not-true, not-false}
 use lib.ListN.{length, drop}
-use Rattle.decimal.specs.Decimal.{readDigits}
-use Rattle.decimal.proofs.Reading.{digits-on, digits-stop, digits-end, digits-given, digits-refused, digit-low}
+use Rattle.decimalform.specs.Decimal.{readDigits}
+use Rattle.decimalform.proofs.Reading.{digits-on, digits-stop, digits-end, digit-low}
+use Rattle.decimal.proofs.Reading.{digits-given, digits-refused}
 use Rattle.decimal.proofs.read_digits.Statement.{statement}
 use Rattle.decimal.proofs.read_digits.Tie as tie
 

@@ -4,7 +4,8 @@ use Prim.Native.Nat.{_<_}
 use native.Mathlib.Omega.{arith}
 use lib.ListN.{length}
 use borrow.Author.Tests.{not-true, not-false}
-use Rattle.decimal.proofs.Reading.{natural-none, natural-zero, natural-other, natural-digits}
+use Rattle.decimalform.proofs.Reading.{natural-digits}
+use Rattle.decimal.proofs.Reading.{natural-none, natural-zero, natural-other}
 use borrow.Author.Needs.{needs}
 use Rattle.decimal.proofs.read_natural.Statement.{statement}
 use Rattle.decimal.proofs.read_natural.Tie as tie

@@ -2,7 +2,7 @@
 use native.Mathlib.Omega.{arith}
 use Prim.Native.Nat.{_+_, _≤_}
 use lib.ListN.{length}
-use Rattle.decimal.specs.Decimal.{readNatural}
+use Rattle.decimalform.specs.Decimal.{readNatural}
 use Rattle.decimal.proofs.Reading.{took-at}
 use Rattle.obj.proofs.Fields.{corner-bad, corner-zero, corner-short, corner-other, corner-found}
 use borrow.Author.Needs.{needs}

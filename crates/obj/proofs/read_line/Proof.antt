@@ -6,8 +6,8 @@ use mir.Syntax.{w32}
 use mir.Val.{SFits}
 use mir.Facts.{toZ-ofZ}
 use borrow.Author.Tests.{not-true, not-false}
-use Rattle.text.specs.Bytes.{bytes}
-use Rattle.text.specs.Form.{startsWith}
+use Rattle.textform.specs.Bytes.{bytes}
+use Rattle.textform.specs.Form.{startsWith}
 use Rattle.obj.proofs.Items.{vertex-within, vertex-bad, vertex-used, vertex-good, face-within, face-bad, face-used, face-good, other-line, comment-within, comment-bad, comment-good}
 use borrow.Author.Needs.{needs}
 use Rattle.obj.proofs.read_line.Statement.{statement}

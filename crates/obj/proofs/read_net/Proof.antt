@@ -2,9 +2,10 @@
 use mathlib.Core.Path.{_≡_}
 use Prim.Native.Nat.{_≤_, _<_}
 use lib.ListN.{length, drop}
-use Rattle.decimal.specs.Decimal.{found}
+use Rattle.decimalform.specs.Decimal.{found}
 use Rattle.decimal.proofs.Reading.{says, took}
-use Rattle.reading.proofs.Cases.{too-long, not-the-form, counts-refused}
+use Rattle.readingform.proofs.Cases.{too-long, not-the-form}
+use Rattle.reading.proofs.Cases.{counts-refused}
 use Rattle.objform.specs.Form.{readRounds, parseObj}
 use Rattle.obj.specs.declared.Counted.{Counted}
 use Rattle.obj.specs.Answers.{CountsItems}

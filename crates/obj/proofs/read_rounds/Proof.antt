@@ -1,7 +1,7 @@
 -- `obj::read_rounds` meets its contract. Assumes nothing.
 use mathlib.Core.Path.{sym, _∙_}
 use borrow.Author.Tests.{not-true, not-false}
-use Rattle.text.specs.Bytes.{bytes}
+use Rattle.textform.specs.Bytes.{bytes}
 use Rattle.obj.proofs.Fields.{rounds-none, rounds-within, rounds-there}
 use borrow.Author.Needs.{needs}
 use Rattle.obj.proofs.read_rounds.Statement.{statement}

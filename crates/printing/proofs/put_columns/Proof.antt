@@ -1,8 +1,8 @@
 -- `printing::put_columns` meets its contract. Assumes nothing.
 use mathlib.Core.Path.{ap}
 use native.Mathlib.Omega.{arith}
-use Rattle.text.specs.Bytes.{bytes}
-use Rattle.printing.specs.Tables.{columnsRoom}
+use Rattle.textform.specs.Bytes.{bytes}
+use Rattle.printingform.specs.Tables.{columnsRoom}
 use borrow.Author.Needs.{needs}
 use Rattle.printing.proofs.put_columns.Statement.{statement}
 use Rattle.printing.proofs.put_columns.Tie as tie

@@ -3,8 +3,8 @@ use mathlib.Core.Path.{ap}
 use Prim.Native.Nat.{_+_, _≤_}
 use native.Mathlib.Omega.{arith}
 use lib.ListN.{length, length-set}
-use Rattle.printing.specs.Tables.{endRoom}
-use Rattle.printing.proofs.Writing.{end-letter, end-plain}
+use Rattle.printingform.specs.Tables.{endRoom}
+use Rattle.printingform.proofs.Writing.{end-letter, end-plain}
 use borrow.Author.Needs.{needs}
 use Rattle.printing.proofs.put_end.Statement.{statement}
 use Rattle.printing.proofs.put_end.Tie as tie

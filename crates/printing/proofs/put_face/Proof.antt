@@ -1,6 +1,6 @@
 -- `printing::put_face` meets its contract: four fields in a row. Assumes nothing.
-use Rattle.text.specs.Text.{faceText}
-use Rattle.printing.proofs.Writing.{in-row}
+use Rattle.textform.specs.Text.{faceText}
+use Rattle.printingform.proofs.Writing.{in-row}
 use borrow.Author.Needs.{needs}
 use Rattle.printing.proofs.put_face.Statement.{statement}
 use Rattle.printing.proofs.put_face.Tie as tie

@@ -4,10 +4,10 @@ use Prim.Native.Nat.{_*_, _-_, _≤_}
 use native.Mathlib.Omega.{arith}
 use borrow.Author.Needs.{needs}
 use lib.ListN.{length}
-use Rattle.text.specs.Text.{faceText, texts}
-use Rattle.printing.specs.Tables.{faceAt, facesOf}
-use Rattle.printing.specs.Lines.{Printed}
-use Rattle.printing.proofs.Writing.{lines-none, lines-more}
+use Rattle.textform.specs.Text.{faceText, texts}
+use Rattle.printingform.specs.Tables.{faceAt, facesOf}
+use Rattle.printingform.specs.Lines.{Printed}
+use Rattle.printingform.proofs.Writing.{lines-none, lines-more}
 use Rattle.printing.proofs.put_faces.Statement.{statement}
 use Rattle.printing.proofs.put_faces.Tie as tie
 

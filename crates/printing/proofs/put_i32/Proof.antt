@@ -1,11 +1,21 @@
 -- `printing::put_i32` meets its contract: at most 11 bytes. Assumes nothing.
+use Prim.Native.Nat.{_≤_}
 use native.Mathlib.Omega.{arith}
+use lib.IntN.{ℤ}
+use lib.ListN.{length}
 use mir.Facts.{toZ-ofZ}
-use Rattle.decimal.specs.Decimal.{integerText}
-use Rattle.printing.proofs.Writing.{stored-field, printed-field, length-signed}
+use mir.Syntax.{w32}
+use mir.Val.{SFits}
+use Rattle.integers.proofs.Range.{abs-fits}
+use Rattle.decimalform.specs.Decimal.{integerText}
+use Rattle.decimalform.proofs.Writing.{length-integer}
+use Rattle.printingform.proofs.Writing.{stored-field, printed-field}
 use borrow.Author.Needs.{needs}
 use Rattle.printing.proofs.put_i32.Statement.{statement}
 use Rattle.printing.proofs.put_i32.Tie as tie
+
+length-signed : (z : ℤ) → SFits w32 z → length (integerText z) ≤ 11
+length-signed z f = let a = abs-fits f in length-integer z (omega arith)
 
 put-integer-requires : tie.Need-put-integer-requires
 put-integer-requires c κs = let f = c .before .before .fits .z in let l = length-signed (c .before .before .args .z) f in simp toZ-ofZ (omega arith)

@@ -1,6 +1,6 @@
 -- `printing::put_mark` meets its contract: at most 3 digits. Assumes nothing.
 use native.Mathlib.Omega.{arith}
-use Rattle.decimal.proofs.Writing.{length-byte}
+use Rattle.decimalform.proofs.Writing.{length-byte}
 use borrow.Author.Needs.{needs}
 use Rattle.printing.proofs.put_mark.Statement.{statement}
 use Rattle.printing.proofs.put_mark.Tie as tie

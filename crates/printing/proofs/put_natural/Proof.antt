@@ -1,5 +1,5 @@
 -- `printing::put_natural` meets its contract. Assumes nothing.
-use Rattle.printing.proofs.Writing.{stored-field}
+use Rattle.printingform.proofs.Writing.{stored-field}
 use borrow.Author.Needs.{needs}
 use Rattle.printing.proofs.put_natural.Statement.{statement}
 use Rattle.printing.proofs.put_natural.Tie as tie

@@ -1,7 +1,7 @@
 -- `printing::put_numbers` meets its contract: four numbers in a row. Assumes nothing.
 use mir.Facts.{toZ-ofZ}
-use Rattle.text.specs.Text.{numbersText}
-use Rattle.printing.proofs.Writing.{in-row}
+use Rattle.textform.specs.Text.{numbersText}
+use Rattle.printingform.proofs.Writing.{in-row}
 use borrow.Author.Needs.{needs}
 use Rattle.printing.proofs.put_numbers.Statement.{statement}
 use Rattle.printing.proofs.put_numbers.Tie as tie

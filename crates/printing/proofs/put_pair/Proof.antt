@@ -1,6 +1,6 @@
 -- `printing::put_pair` meets its contract: two fields in a row. Assumes nothing.
-use Rattle.text.specs.Text.{pairText}
-use Rattle.printing.proofs.Writing.{in-row}
+use Rattle.textform.specs.Text.{pairText}
+use Rattle.printingform.proofs.Writing.{in-row}
 use borrow.Author.Needs.{needs}
 use Rattle.printing.proofs.put_pair.Statement.{statement}
 use Rattle.printing.proofs.put_pair.Tie as tie

@@ -8,10 +8,10 @@ use mir.Syntax.{w32}
 use mir.Val.{SFits}
 use mir.Facts.{toZ-ofZ}
 use lib.ListN.{length, getD}
-use Rattle.text.specs.Text.{letteredText, texts}
-use Rattle.printing.specs.Tables.{letteredAt, letteredOf, endRoom}
-use Rattle.printing.specs.Lines.{Printed}
-use Rattle.printing.proofs.Writing.{in-row, lines-none, lines-more, line-room}
+use Rattle.textform.specs.Text.{letteredText, texts}
+use Rattle.printingform.specs.Tables.{letteredAt, letteredOf, endRoom}
+use Rattle.printingform.specs.Lines.{Printed}
+use Rattle.printingform.proofs.Writing.{in-row, lines-none, lines-more, line-room}
 use Rattle.printing.proofs.put_vertices.Statement.{statement}
 use Rattle.printing.proofs.put_vertices.Tie as tie
 

@@ -1,7 +1,7 @@
 -- `printing::write_net` meets its contract: six texts in a row. Assumes nothing.
 use native.Mathlib.Omega.{arith}
-use Rattle.text.specs.Bytes.{bytes}
-use Rattle.printing.proofs.Writing.{in-row, at-front, answer-is}
+use Rattle.textform.specs.Bytes.{bytes}
+use Rattle.printingform.proofs.Writing.{in-row, at-front, answer-is}
 use borrow.Author.Needs.{needs}
 use Rattle.printing.proofs.write_net.Statement.{statement}
 use Rattle.printing.proofs.write_net.Tie as tie

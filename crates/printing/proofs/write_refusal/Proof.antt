@@ -1,8 +1,8 @@
 -- `printing::write_refusal` meets its contract: a line of names and one of two numbers. Assumes nothing.
 use native.Mathlib.Omega.{arith}
-use Rattle.text.specs.Bytes.{bytes}
-use Rattle.text.specs.Text.{refusalText}
-use Rattle.printing.proofs.Writing.{in-row, at-front}
+use Rattle.textform.specs.Bytes.{bytes}
+use Rattle.textform.specs.Text.{refusalText}
+use Rattle.printingform.proofs.Writing.{in-row, at-front}
 use borrow.Author.Needs.{needs}
 use Rattle.printing.proofs.write_refusal.Statement.{statement}
 use Rattle.printing.proofs.write_refusal.Tie as tie

@@ -5,10 +5,10 @@ use lib.IntN.{pos}
 use lib.ListN.{replicate}
 use lib.Seq.{length-take-le}
 use Rattle.reading.specs.declared.Input.{Input}
-use Rattle.reading.specs.Loaded.{loaded, readBy}
+use Rattle.readingform.specs.Loaded.{loaded, readBy}
 use Rattle.reading.specs.Answers.{answerOf}
-use Rattle.program.specs.Answer.{parseAny, programText}
-use Rattle.program.proofs.Loaded.{Handed, net-handed, refusal-handed}
+use Rattle.programform.specs.Answer.{parseAny, programText}
+use Rattle.programform.proofs.Loaded.{Handed, net-handed, refusal-handed}
 use Rattle.program.proofs.Refined.{wider}
 use borrow.Author.Needs.{needs}
 use Rattle.program.proofs.answer.Statement.{statement}

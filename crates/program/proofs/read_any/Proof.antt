@@ -1,11 +1,11 @@
 -- `program::read_any` meets its contract. Assumes nothing.
 use mathlib.Core.Path.{sym, _∙_}
-use Rattle.text.specs.Bytes.{bytes}
-use Rattle.text.specs.Form.{parse}
-use Rattle.reading.proofs.Cases.{read-same}
+use Rattle.textform.specs.Bytes.{bytes}
+use Rattle.textform.specs.Form.{parse}
+use Rattle.readingform.proofs.Cases.{read-same}
 use Rattle.objform.specs.Form.{parseObj}
-use Rattle.program.specs.Answer.{parseAny}
-use Rattle.program.proofs.Parsing.{parse-obj, parse-text}
+use Rattle.programform.specs.Answer.{parseAny}
+use Rattle.programform.proofs.Parsing.{parse-obj, parse-text}
 use borrow.Author.Needs.{needs}
 use Rattle.program.proofs.read_any.Statement.{statement}
 use Rattle.program.proofs.read_any.Tie as tie

@@ -10,7 +10,7 @@ use Rattle.nets.specs.Buffers.{Buffers, buffers, letterTable}
 use Rattle.outcome.specs.Outcome.{Request, request, outcome}
 use Rattle.refine.specs.declared.Answer.{Answer}
 use Rattle.refine.specs.Answer.{answered}
-use Rattle.printing.proofs.Writing.{every-answer-fits}
+use Rattle.printingform.proofs.Writing.{every-answer-fits}
 use Rattle.program.proofs.Refined.{served, refined-text, refused-text, wider}
 use borrow.Author.Needs.{needs}
 use Rattle.program.proofs.refine_net.Statement.{statement}

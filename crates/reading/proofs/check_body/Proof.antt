@@ -4,8 +4,8 @@ use Prim.Native.Nat.{ℕ, _+_, _≤_}
 use native.Mathlib.Omega.{arith}
 use lib.ListN.{length, drop, length-drop, drop-of-length-le}
 use lib.Seq.{drop-drop}
-use Rattle.decimal.specs.Decimal.{found}
-use Rattle.text.specs.Form.{Head, Vertex, Face, Rows, rows, badLine, corners, readNames, readVertex, readFace}
+use Rattle.decimalform.specs.Decimal.{found}
+use Rattle.textform.specs.Form.{Head, Vertex, Face, Rows, rows, badLine, corners, readNames, readVertex, readFace}
 use Rattle.text.specs.Answers.{namesOf, namesUsed}
 use Rattle.text.specs.declared.NamesLine.the-variants as names
 use Rattle.reading.specs.Answers.{headIs}

@@ -3,10 +3,10 @@ use mathlib.Core.Path.{_≡_, refl, ap}
 use Prim.Native.Nat.{ℕ, _+_, _≤_}
 use native.Mathlib.Omega.{arith}
 use lib.ListN.{length, drop}
-use Rattle.decimal.specs.Decimal.{found}
+use Rattle.decimalform.specs.Decimal.{found}
 use Rattle.decimal.proofs.Reading.{says, took, says-at}
 use Rattle.text.specs.declared.NamesLine.{NamesLine}
-use Rattle.text.specs.Form.{input, marked, unmarked, isColumns, only, readNames, readCounts}
+use Rattle.textform.specs.Form.{input, marked, unmarked, isColumns, only, readNames, readCounts}
 use Rattle.text.specs.Answers.{namesOf, namesUsed}
 use Rattle.reading.proofs.Head.{CountsRead, names-bad, counts-bad, columns-bad, head-good}
 use Rattle.reading.proofs.Lines.{LineAt, line-at, not-input}

@@ -4,7 +4,7 @@ use Prim.Native.Nat.{_-_}
 use native.Mathlib.Omega.{arith}
 use borrow.Author.Needs.{needs}
 use Rattle.text.specs.declared.FaceLine.{FaceLine}
-use Rattle.text.specs.Form.{readFace}
+use Rattle.textform.specs.Form.{readFace}
 use Rattle.text.specs.Answers.{faceOf, faceUsed}
 use Rattle.reading.proofs.Lines.{LineAt, line-at, Passed, passed-none, passed-end, passed-bad, passed-more}
 use Rattle.reading.proofs.count_faces.Statement.{statement}

@@ -4,7 +4,7 @@ use Prim.Native.Nat.{_-_}
 use native.Mathlib.Omega.{arith}
 use borrow.Author.Needs.{needs}
 use Rattle.text.specs.declared.VertexLine.{VertexLine}
-use Rattle.text.specs.Form.{readVertex}
+use Rattle.textform.specs.Form.{readVertex}
 use Rattle.text.specs.Answers.{vertexOf, vertexUsed}
 use Rattle.reading.proofs.Lines.{LineAt, line-at, Passed, passed-none, passed-end, passed-bad, passed-more}
 use Rattle.reading.proofs.count_vertices.Statement.{statement}

@@ -4,9 +4,10 @@ use Prim.Native.Nat.{_≤_}
 use native.Mathlib.Omega.{arith}
 use lib.ListN.{length}
 use Rattle.reading.specs.declared.Checked.{Checked}
-use Rattle.text.specs.Form.{parse}
+use Rattle.textform.specs.Form.{parse}
 use Rattle.reading.specs.Answers.{checkedOf, verticesAt, facesAt}
-use Rattle.reading.proofs.Cases.{LinesRead, tables-serve, too-long, not-the-form, counts-refused, net-read}
+use Rattle.readingform.proofs.Cases.{too-long, not-the-form}
+use Rattle.reading.proofs.Cases.{LinesRead, tables-serve, counts-refused, net-read}
 use borrow.Author.Needs.{needs}
 use Rattle.reading.proofs.read_net.Statement.{statement}
 use Rattle.reading.proofs.read_net.Tie as tie

@@ -5,9 +5,9 @@ use native.Mathlib.Omega.{arith}
 use borrow.Author.Needs.{needs}
 use lib.ListN.{length, length-set}
 use Rattle.text.specs.declared.FaceLine.{FaceLine}
-use Rattle.text.specs.Form.{readFace}
+use Rattle.textform.specs.Form.{readFace}
 use Rattle.text.specs.Answers.{faceOf, faceUsed}
-use Rattle.reading.specs.Loaded.{cornersOf}
+use Rattle.readingform.specs.Loaded.{cornersOf}
 use Rattle.reading.proofs.Lines.{LineAt, line-at}
 use Rattle.reading.proofs.Storing.{Filling, filling-none, filling-more, filling-over, filling-bad, four-stores, no-corners}
 use Rattle.reading.proofs.store_faces.Statement.{statement}

@@ -8,9 +8,9 @@ use native.Mathlib.Omega.{arith}
 use borrow.Author.Needs.{needs}
 use lib.ListN.{length, length-set}
 use Rattle.text.specs.declared.VertexLine.{VertexLine}
-use Rattle.text.specs.Form.{readVertex}
+use Rattle.textform.specs.Form.{readVertex}
 use Rattle.text.specs.Answers.{vertexOf, vertexUsed}
-use Rattle.reading.specs.Loaded.{coordinates, marksOf}
+use Rattle.readingform.specs.Loaded.{coordinates, marksOf}
 use Rattle.reading.proofs.Lines.{LineAt, line-at}
 use Rattle.reading.proofs.Storing.{Filling, filling-none, filling-more, filling-over, filling-bad, three-stores, one-store, no-coordinates, no-marks}
 use Rattle.reading.proofs.store_vertices.Statement.{statement}

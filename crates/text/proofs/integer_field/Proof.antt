@@ -6,12 +6,13 @@ use borrow.Author.Needs.{needs}
 use mathlib.Core.Path.{_≡_, sym, _∙_}
 use native.Mathlib.Omega.{arith}
 use lib.ListN.{drop}
-use Rattle.decimal.specs.Decimal.{readInteger}
+use Rattle.decimalform.specs.Decimal.{readInteger}
 use Rattle.decimal.specs.Answers.{integerOf}
 use Rattle.decimal.specs.declared.Integer.{Integer}
 use Rattle.decimal.proofs.Reading.{took-at}
-use Rattle.text.specs.Form.{coordinate, endedBy}
-use Rattle.text.proofs.Lines.{ended-at, field-short, field-other, field-ends}
+use Rattle.textform.specs.Form.{coordinate, endedBy}
+use Rattle.textform.proofs.Lines.{field-short, field-other, field-ends}
+use Rattle.text.proofs.Lines.{ended-at}
 use Rattle.text.proofs.integer_field.Statement.{statement}
 use Rattle.text.proofs.integer_field.Tie as tie
 

@@ -2,12 +2,13 @@
 use mathlib.Core.Path.{_≡_, sym, _∙_}
 use native.Mathlib.Omega.{arith}
 use lib.ListN.{drop}
-use Rattle.decimal.specs.Decimal.{readNatural}
+use Rattle.decimalform.specs.Decimal.{readNatural}
 use Rattle.decimal.specs.Answers.{numberOf}
 use Rattle.decimal.specs.declared.Number.{Number}
 use Rattle.decimal.proofs.Reading.{took-at}
-use Rattle.text.specs.Form.{natural, endedBy}
-use Rattle.text.proofs.Lines.{ended-at, field-short, field-other, field-ends}
+use Rattle.textform.specs.Form.{natural, endedBy}
+use Rattle.textform.proofs.Lines.{field-short, field-other, field-ends}
+use Rattle.text.proofs.Lines.{ended-at}
 use borrow.Author.Needs.{needs}
 use Rattle.text.proofs.natural_field.Statement.{statement}
 use Rattle.text.proofs.natural_field.Tie as tie

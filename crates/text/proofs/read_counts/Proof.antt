@@ -1,7 +1,7 @@
 -- `text::read_counts` meets its contract. Assumes nothing.
 use mathlib.Core.Path.{refl}
 use native.Mathlib.Omega.{arith}
-use Rattle.text.specs.Form.{readCounts}
+use Rattle.textform.specs.Form.{readCounts}
 use Rattle.decimal.proofs.Reading.{says, took}
 use borrow.Author.Needs.{needs}
 use Rattle.text.proofs.read_counts.Statement.{statement}

@@ -1,5 +1,5 @@
 -- `text::read_face` meets its contract. Assumes nothing.
-use Rattle.text.specs.Form.{index, readFace}
+use Rattle.textform.specs.Form.{index, readFace}
 use Rattle.decimal.proofs.Reading.{says, took}
 use Rattle.text.proofs.Faces.{no-corner, one-corner, two-corners, three-corners, four-corners}
 use borrow.Author.Needs.{needs}

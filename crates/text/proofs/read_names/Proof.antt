@@ -1,8 +1,8 @@
 -- `text::read_names` meets its contract. Assumes nothing.
 use mathlib.Core.Path.{_≡_, sym, _∙_}
 use mathlib.Core.Bool.{true, false}
-use Rattle.text.specs.Bytes.{bytes}
-use Rattle.text.specs.Form.{startsWith, input, marked, unmarked, namesText}
+use Rattle.textform.specs.Bytes.{bytes}
+use Rattle.textform.specs.Form.{startsWith, input, marked, unmarked, namesText}
 use Rattle.text.proofs.Lines.{names-input, names-rule, names-marked, names-unmarked, names-corners, names-other}
 use borrow.Author.Needs.{needs}
 use Rattle.text.proofs.read_names.Statement.{statement}

@@ -4,9 +4,9 @@ use native.Mathlib.Omega.{arith}
 use mir.Syntax.{w32}
 use mir.Val.{SFits}
 use mir.Facts.{toZ-ofZ}
-use Rattle.text.specs.Form.{readVertex}
+use Rattle.textform.specs.Form.{readVertex}
 use Rattle.decimal.proofs.Reading.{says, took}
-use Rattle.text.proofs.Lines.{natural-limit}
+use Rattle.textform.proofs.Lines.{natural-limit}
 use borrow.Author.Needs.{needs}
 use Rattle.text.proofs.read_vertex.Statement.{statement}
 use Rattle.text.proofs.read_vertex.Tie as tie

@@ -3,8 +3,8 @@ use mathlib.Core.Path.{_≡_, refl, sym, _∙_}
 use Prim.Native.Nat.{_-_, _≤_}
 use native.Mathlib.Omega.{arith}
 use lib.ListN.{length, drop}
-use Rattle.text.specs.Form.{startsWith}
-use Rattle.text.proofs.Lines.{starts-differ, starts-agree, starts-all, starts-short}
+use Rattle.textform.specs.Form.{startsWith}
+use Rattle.textform.proofs.Lines.{starts-differ, starts-agree, starts-all, starts-short}
 use Rattle.text.proofs.starts_with.Statement.{statement}
 use Rattle.text.proofs.starts_with.Tie as tie
 

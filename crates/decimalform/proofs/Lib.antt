@@ -1,0 +1,5 @@
+pub mod Examples
+pub mod Reading
+pub mod Writing
+pub mod Back
+pub mod Found

@@ -1,0 +1,1 @@
+// Numbers as text: how they are written and read in specs/, laws in proofs/. No function.

@@ -1,0 +1,5 @@
+pub mod Examples
+pub mod Parsing
+pub mod Loaded
+pub mod RoundTrip
+pub mod Forms

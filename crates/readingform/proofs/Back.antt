@@ -1,0 +1,15 @@
+-- A text that writes a net fills the tables with its numbers. Assumes nothing.
+use mathlib.Core.Path.{_≡_}
+use mathlib.Core.List.{List, []}
+use Prim.Native.Nat.{ℕ, _≤_}
+use lib.IntN.{ℤ}
+use lib.ListN.{length}
+use Rattle.verdict.specs.Verdict.{accepted}
+use borrow.Author.Tests.{le-ltb}
+use Rattle.textform.specs.Form.{Net, Parsed, parsed}
+use Rattle.readingform.specs.Loaded.{countsVerdict, stored, readBy}
+
+pub read-back : (parser : List ℕ → Parsed Net) (text : List ℕ) (n : Net) (vs : List ℤ) (fs ms : List ℕ) → parser text ≡ parsed n [] → length text ≤ 32768 → countsVerdict (n .counts) ≡ accepted
+    → readBy parser text vs fs ms ≡ stored vs fs ms n
+unfolding readBy
+read-back parser text n vs fs ms form short room = rw (le-ltb 32768 (length text) short, form, room)

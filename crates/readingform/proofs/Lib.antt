@@ -1,0 +1,5 @@
+pub mod Examples
+pub mod Limits
+pub mod Lengths
+pub mod Cases
+pub mod Back

@@ -1,0 +1,1 @@
+// A net read from a text into tables: what it comes to in specs/, laws in proofs/. No function.

@@ -1,0 +1,75 @@
+-- The text of a net, of an answer and of a refusal.
+use mathlib.Core.Bool.{Bool, cond}
+use mathlib.Core.List.{List, [], _∷_, _++_}
+use Prim.Native.Nat.{ℕ}
+use lib.ListN.{length}
+use Rattle.decimalform.specs.Decimal.{naturalText, integerText}
+use Rattle.textform.specs.Bytes.{bytes}
+use Rattle.textform.specs.Form.{Counts, Vertex, Face, Net, namesText, input, marked, unmarked, corners}
+
+-- a number and the byte after it. Paper 01: "with one blank between and a newline after each line"
+abbrev pub field : List ℕ → ℕ → List ℕ
+field s e = s ++ (e ∷ [])
+
+unfoldable pub countsText : Counts → List ℕ
+countsText n = field (naturalText (n .vertices)) 32 ++ field (naturalText (n .faces)) 32 ++ field (naturalText (n .rounds)) 10
+
+-- two numbers in a line
+unfoldable pub pairText : ℕ → ℕ → List ℕ
+pairText a b = field (naturalText a) 32 ++ field (naturalText b) 10
+
+-- the numbers of a vertex; what ends its line follows the mark
+unfoldable pub numbersText : Vertex → List ℕ
+numbersText v = field (integerText (v .x)) 32 ++ field (integerText (v .y)) 32 ++ field (integerText (v .z)) 32 ++ naturalText (v .mark)
+
+unfoldable pub vertexText : Vertex → List ℕ
+vertexText v = numbersText v ++ (10 ∷ [])
+
+-- a vertex without its mark
+unfoldable pub pointText : Vertex → List ℕ
+pointText v = field (integerText (v .x)) 32 ++ field (integerText (v .y)) 32 ++ field (integerText (v .z)) 10
+
+unfoldable pub faceText : Face → List ℕ
+faceText f = field (naturalText (f .a)) 32 ++ field (naturalText (f .b)) 32 ++ field (naturalText (f .c)) 32 ++ field (naturalText (f .d)) 10
+
+-- the lines of a list
+unfoldable pub texts : {A : Type 0} → (A → List ℕ) → List A → List ℕ
+texts f [] = []
+texts f (v ∷ vs) = f v ++ texts f vs
+
+-- the first two lines, the names of the columns, the lines of the vertices, and those of the faces
+abbrev pub withBody : (head columns lines : List ℕ) → List Face → List ℕ
+withBody head columns lines fs = head ++ columns ++ lines ++ namesText corners ++ texts faceText fs
+
+-- the text that writes a net for the program
+unfoldable pub netText : Net → List ℕ
+netText n = withBody (namesText (input (n .rule)) ++ countsText (n .counts)) (namesText marked) (texts vertexText (n .vertices)) (n .faces)
+
+-- the same without marks. Paper 01: "`x y z` without `corner`"
+unfoldable pub unmarkedText : Net → List ℕ
+unmarkedText n = withBody (namesText (input (n .rule)) ++ countsText (n .counts)) (namesText unmarked) (texts pointText (n .vertices)) (n .faces)
+
+-- ---- the answer, with letters if they are asked for
+
+-- a vertex and its letter
+pub record LetteredVertex : Type 0 where
+  pub vertex : Vertex
+  pub letter : ℕ
+
+-- Paper 01: "The output always has the `corner` column". Paper 02: "prints the letter as a last column named `rule`"
+abbrev pub columnsText : (rule : Bool) → List ℕ
+columnsText rule = cond rule (bytes "x y z corner rule\n") (namesText marked)
+
+abbrev pub endText : (rule : Bool) (letter : ℕ) → List ℕ
+endText rule letter = cond rule (32 ∷ letter ∷ 10 ∷ []) (10 ∷ [])
+
+unfoldable pub letteredText : (rule : Bool) → LetteredVertex → List ℕ
+letteredText rule t = numbersText (t .vertex) ++ endText rule (t .letter)
+
+-- the text of a refined net
+unfoldable pub answerText : (rule : Bool) → List LetteredVertex → List Face → List ℕ
+answerText rule ts fs = withBody (bytes "vertices faces\n" ++ pairText (length ts) (length fs)) (columnsText rule) (texts (letteredText rule) ts) fs
+
+-- Paper 01: "A refusal prints the line `refusal place`, then a line with both numbers and one blank between"
+unfoldable pub refusalText : ℕ → ℕ → List ℕ
+refusalText reason place = bytes "refusal place\n" ++ pairText reason place
