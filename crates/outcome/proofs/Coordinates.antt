@@ -11,12 +11,12 @@ use Rattle.schemelaws.proofs.Growth.{steps-within}
 use Rattle.splitting.specs.Splitting.{startNet}
 use Rattle.splitting.proofs.Growth.{start-within}
 use Rattle.outcome.specs.Outcome.{Request, callOf}
-use Rattle.outcome.specs.SharedSegment.{AcceptedFor, netAfter}
+use Rattle.outcome.specs.SharedSegment.{Accepted, netAfter}
 use Rattle.outcome.specs.Coordinates.{CoordinatesStay}
 use Rattle.outcome.proofs.Accepted.{accepted-verdict, accepted-drawn, accepted-refinable, accepted-after}
 use Rattle.outcome.proofs.Tally.{accepted-for-fewer}
 
-stays : (a : Request) → AcceptedFor a (a .rounds) → (k : ℕ) → k ≤ a .rounds → Within 268435456 (netAfter a k .vertices)
+stays : (a : Request) → Accepted a → (k : ℕ) → k ≤ a .rounds → Within 268435456 (netAfter a k .vertices)
 stays a h k b =
     let c = callOf a in
     let e = accepted-verdict a (a .rounds) h in

@@ -13,17 +13,17 @@ use Rattle.seam.specs.Seam.{Admissible}
 use Rattle.seam.proofs.Seam.{seam}
 use Rattle.verdict.proofs.Accepted.{accepted-tension}
 use Rattle.outcome.specs.Outcome.{Request, callOf}
-use Rattle.outcome.specs.SharedSegment.{AcceptedFor, SharedSegments}
+use Rattle.outcome.specs.SharedSegment.{Accepted, SharedSegments}
 use Rattle.outcome.proofs.Accepted.{accepted-verdict, accepted-refinable, accepted-result, accepted-after}
 use Rattle.outcome.proofs.Tally.{accepted-for-fewer}
 
-admissible : (a : Request) → AcceptedFor a (a .rounds) → Admissible (startNet (a .net))
+admissible : (a : Request) → Accepted a → Admissible (startNet (a .net))
 admissible a h = refinable-manifold (startNet (a .net)) (accepted-refinable (callOf a) (accepted-verdict a (a .rounds) h))
 
 pub shared-segments : SharedSegments
 shared-segments = record {
-  shared = λ a b h g o v w c s t L r q k i j.
-      let m = seam (a .tension) (accepted-tension (callOf a) (accepted-verdict a (a .rounds) h)) (startNet (a .net)) (startNet (b .net)) (admissible a h) (admissible b g) v w c s t L r q k in
+  shared = λ a b h g o v w c s t L r k i j.
+      let m = seam (a .tension) (accepted-tension (callOf a) (accepted-verdict a (a .rounds) h)) (startNet (a .net)) (startNet (b .net)) (admissible a h) (admissible b g) v w c s t L (r .left) (r .right) k in
       let x = accepted-for-fewer a h k i in
       let y = accepted-for-fewer b g k j in
       record {

@@ -14,12 +14,12 @@ use Rattle.seam.specs.Reading.{Reads}
 use Rattle.seam.specs.Split.{halved, ReadsControl}
 use Rattle.seam.proofs.Split.{split-reads}
 use Rattle.outcome.specs.Outcome.{Request, callOf}
-use Rattle.outcome.specs.SharedSegment.{AcceptedFor}
+use Rattle.outcome.specs.SharedSegment.{Accepted}
 use Rattle.outcome.specs.SplitSegment.{SplitSegments}
 use Rattle.outcome.proofs.Accepted.{accepted-verdict}
 
 -- of one of them
-at-start : (a : Request) → AcceptedFor a (a .rounds) → 0 < length (a .net .sides) → (v : Way) (c : Kind) (s : ℕ) (L : List Point) → ReadsControl (a .net) v c s L
+at-start : (a : Request) → Accepted a → 0 < length (a .net .sides) → (v : Way) (c : Kind) (s : ℕ) (L : List Point) → ReadsControl (a .net) v c s L
     → (P : List Point) → Reads (startNet (a .net)) v c s P ↔ (P ≡ halved c L)
 at-start a h k v c s L r P =
     subst (λ (n : Net). Reads n v c s P ↔ (P ≡ halved c L)) (sym (start-split (a .net) k))
@@ -27,5 +27,5 @@ at-start a h k v c s L r P =
 
 pub split-segments : SplitSegments
 split-segments = record {
-  shared = λ a b h g i j v w c s t L r q. record { left = at-start a h i v c s L r; right = at-start b g j w c t L q };
+  shared = λ a b h g i j v w c s t L r. record { left = at-start a h i v c s L (r .left); right = at-start b g j w c t L (r .right) };
 }

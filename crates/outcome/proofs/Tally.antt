@@ -18,7 +18,7 @@ use Rattle.verdict.specs.Verdict.{Verdict, accepted, refused, orElse, verdict}
 use Rattle.verdict.proofs.Accepted.{never, or-accepted, accepted-limits, accepted-fewer}
 use Rattle.outcome.specs.Tally.{newPoints, tallyVerdict}
 use Rattle.outcome.specs.Outcome.{Request, forRounds, callOf, toAdd, requestVerdict}
-use Rattle.outcome.specs.SharedSegment.{AcceptedFor}
+use Rattle.outcome.specs.SharedSegment.{Accepted}
 use Rattle.outcome.proofs.Accepted.{accepted-verdict, accepted-tally}
 use Rattle.outcome.proofs.Counts.{more-vertices, few-vertices}
 
@@ -68,7 +68,7 @@ untallied a z = go (verdict (callOf a)) refl
     go (refused r p) e = refl
 
 -- ---- the same call for fewer rounds, from the same tally
-pub accepted-for-fewer : (a : Request) → AcceptedFor a (a .rounds) → (k : ℕ) → k ≤ a .rounds → requestVerdict (forRounds k a) ≡ accepted
+pub accepted-for-fewer : (a : Request) → Accepted a → (k : ℕ) → k ≤ a .rounds → requestVerdict (forRounds k a) ≡ accepted
 unfolding requestVerdict
 accepted-for-fewer a h k l =
     let n : ControlNet = a .net in

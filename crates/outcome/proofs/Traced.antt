@@ -16,12 +16,12 @@ use Rattle.origins.specs.Named.{MadeEarlier}
 use Rattle.origins.proofs.Named.{origin-is}
 use Rattle.origins.proofs.Letters.{length-letters, letter-at}
 use Rattle.outcome.specs.Outcome.{Request, outcome}
-use Rattle.outcome.specs.SharedSegment.{AcceptedFor, netAfter}
+use Rattle.outcome.specs.SharedSegment.{Accepted, netAfter}
 use Rattle.outcome.specs.Traced.{Traced, LettersName}
 use Rattle.outcome.proofs.Accepted.{given, accepted-after}
 use Rattle.outcome.proofs.Tally.{accepted-for-fewer}
 
-module _ (a : Request) (h : AcceptedFor a (a .rounds)) (asked : a .letters .asked ≡ true) where
+module _ (a : Request) (h : Accepted a) (asked : a .letters .asked ≡ true) where
   abbrev k : ℕ
   k = a .rounds
 

@@ -8,7 +8,7 @@ use Rattle.topology.specs.HalfEdge.{edge}
 use Rattle.nets.specs.Net.{Net, axis}
 use Rattle.splitting.specs.Splitting.{sideMidpoint}
 use Rattle.outcome.specs.Outcome.{Request}
-use Rattle.outcome.specs.SharedSegment.{AcceptedFor, netAfter}
+use Rattle.outcome.specs.SharedSegment.{Accepted, netAfter}
 
 -- of the net m, m′ has the new vertex on the edge of h, on axis x: the midpoint of its ends, rounded
 abbrev pub AtMidpoint : (m m′ : Net) (h x : ℕ) → Type 0
@@ -16,4 +16,4 @@ AtMidpoint m m′ h x = axis (m′ .vertices) x (length (m .marks) + edge quads 
 
 -- so after each round of an accepted call with tension 0
 pub record PlainMidpoints : Type 0 where
-  pub midpoints : (a : Request) → AcceptedFor a (a .rounds) → a .tension ≡ 0 → (k : ℕ) → k < a .rounds → (h x : ℕ) → h < length (netAfter a k .faces) → x < 3 → AtMidpoint (netAfter a k) (netAfter a (k + 1)) h x
+  pub midpoints : (a : Request) → Accepted a → a .tension ≡ 0 → (k : ℕ) → k < a .rounds → (h x : ℕ) → h < length (netAfter a k .faces) → x < 3 → AtMidpoint (netAfter a k) (netAfter a (k + 1)) h x

@@ -6,11 +6,13 @@ use Prim.Native.Nat.{ℕ, _*_, _≤_}
 use Rattle.curve.specs.Weights.{tension}
 use Rattle.curve.specs.Curve.{Kind, Point, curve}
 use Rattle.curve.specs.Near.{CloseToExact}
+use Rattle.topology.specs.Shape.{quads}
 use Rattle.topology.specs.Boundary.{Way}
 use Rattle.nets.specs.Net.{Net}
 use Rattle.nets.specs.Buffers.{front}
 use Rattle.splitting.specs.Splitting.{startNet}
 use Rattle.seam.specs.Reading.{Reads}
+use Rattle.seam.specs.Seam.{Shared}
 use Rattle.outcome.specs.Outcome.{Result, refinedTo, refusedWith, Request, forRounds, Outcome, outcome}
 
 -- "The net after round k of an accepted call is what the same call gives when asked for k rounds only."
@@ -22,6 +24,10 @@ pub record AcceptedFor (a : Request) (k : ℕ) : Type 0 where
   pub vertices : ℕ
   pub faces : ℕ
   pub result : resultAfter a k .result ≡ refinedTo vertices faces
+
+-- the call is accepted
+abbrev pub Accepted : Request → Type 0
+Accepted a = AcceptedFor a (a .rounds)
 
 -- the net at the front of the output tables, by the counts reported
 abbrev pub netBy : Result → Outcome → Net
@@ -44,5 +50,5 @@ pub record SharedAfter (a b : Request) (v w : Way) (c : Kind) (s t : ℕ) (L : L
 
 -- "The seam guarantee covers the stretch after this split": a segment is read in the net where refining begins
 pub record SharedSegments : Type 0 where
-  pub shared : (a b : Request) → AcceptedFor a (a .rounds) → AcceptedFor b (b .rounds) → a .tension ≡ b .tension → (v w : Way) (c : Kind) (s t : ℕ) (L : List Point)
-      → Reads (startNet (a .net)) v c s L → Reads (startNet (b .net)) w c t L → (k : ℕ) → k ≤ a .rounds → k ≤ b .rounds → SharedAfter a b v w c s t L k
+  pub shared : (a b : Request) → Accepted a → Accepted b → a .tension ≡ b .tension → (v w : Way) (c : Kind) (s t : ℕ) (L : List Point)
+      → Shared quads quads (startNet (a .net)) (startNet (b .net)) v w c s t L → (k : ℕ) → k ≤ a .rounds → k ≤ b .rounds → SharedAfter a b v w c s t L k

@@ -8,9 +8,9 @@ use Rattle.curve.specs.Curve.{Kind, Point}
 use Rattle.topology.specs.Boundary.{Way}
 use Rattle.splitting.specs.Splitting.{startNet}
 use Rattle.seam.specs.Reading.{Reads}
-use Rattle.seam.specs.Split.{halved, ReadsControl}
+use Rattle.seam.specs.Split.{halved, SharedControl}
 use Rattle.outcome.specs.Outcome.{Request}
-use Rattle.outcome.specs.SharedSegment.{AcceptedFor}
+use Rattle.outcome.specs.SharedSegment.{Accepted}
 
 -- two nets of accepted calls that share the list L as they are drawn, read from s and from t: where refining begins both are read from the same vertices the same
 -- ways, as L with a midpoint between each two neighbours
@@ -19,5 +19,5 @@ pub record SharedAtStart (a b : Request) (v w : Way) (c : Kind) (s t : ℕ) (L :
   pub right : (P : List Point) → Reads (startNet (b .net)) w c t P ↔ (P ≡ halved c L)
 
 pub record SplitSegments : Type 0 where
-  pub shared : (a b : Request) → AcceptedFor a (a .rounds) → AcceptedFor b (b .rounds) → 0 < length (a .net .sides) → 0 < length (b .net .sides)
-      → (v w : Way) (c : Kind) (s t : ℕ) (L : List Point) → ReadsControl (a .net) v c s L → ReadsControl (b .net) w c t L → SharedAtStart a b v w c s t L
+  pub shared : (a b : Request) → Accepted a → Accepted b → 0 < length (a .net .sides) → 0 < length (b .net .sides)
+      → (v w : Way) (c : Kind) (s t : ℕ) (L : List Point) → SharedControl (a .net) (b .net) v w c s t L → SharedAtStart a b v w c s t L

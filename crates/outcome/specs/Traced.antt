@@ -8,7 +8,7 @@ use Rattle.curve.specs.Weights.{tension}
 use Rattle.origins.specs.Origins.{Origin, letterOf}
 use Rattle.origins.specs.Named.{HasOrigin}
 use Rattle.outcome.specs.Outcome.{Request, outcome}
-use Rattle.outcome.specs.SharedSegment.{AcceptedFor, netAfter}
+use Rattle.outcome.specs.SharedSegment.{Accepted, netAfter}
 
 -- the letter at i names an origin, and vertex i is of that origin; the net before a round is what the same call gives when asked for fewer rounds
 pub record Traced (a : Request) (i : ℕ) : Type 0 where
@@ -17,4 +17,4 @@ pub record Traced (a : Request) (i : ℕ) : Type 0 where
   pub named : HasOrigin (tension (a .tension)) (a .net) (netAfter a) (a .rounds) i origin
 
 pub record LettersName : Type 0 where
-  pub traced : (a : Request) → AcceptedFor a (a .rounds) → a .letters .asked ≡ true → (i : ℕ) → i < length (netAfter a (a .rounds) .marks) → Traced a i
+  pub traced : (a : Request) → Accepted a → a .letters .asked ≡ true → (i : ℕ) → i < length (netAfter a (a .rounds) .marks) → Traced a i

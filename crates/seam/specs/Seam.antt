@@ -1,4 +1,4 @@
--- The seam: "Two nets share a stretch if a reading in one and a reading in the other are equal lists, both open or both round."
+-- The seam: a boundary segment that two nets share, before and after rounds.
 use mathlib.Core.Path.{_≡_}
 use mathlib.Core.Logic.{_↔_}
 use mathlib.Core.List.{List}
@@ -12,7 +12,13 @@ use Rattle.topology.specs.Shape.{Shape, quads}
 use Rattle.topology.specs.Boundary.{Way}
 use Rattle.topology.specs.Manifold.{Manifold}
 use Rattle.scheme.specs.Step.{steps}
-use Rattle.seam.specs.Reading.{Reads}
+use Rattle.seam.specs.Reading.{ReadsIn, Reads}
+
+-- "Two nets share a stretch if a reading in one and a reading in the other are equal lists, both open or both round.": a net a of shape S, read from s the way v,
+-- and a net b of shape T, read from s′ the way w, give the list L
+pub record Shared (S T : Shape) (a b : Net) (v w : Way) (c : Kind) (s s′ : ℕ) (L : List Point) : Type 0 where
+  pub left : ReadsIn S a v c s L
+  pub right : ReadsIn T b w c s′ L
 
 -- what the seam asks of a net of shape S: refusals 7 to 11 do not hold. Of coordinates and of the values of marks it asks nothing.
 abbrev pub AdmissibleIn : Shape → Net → Type 0

@@ -12,7 +12,7 @@ use Rattle.polygons.specs.Polygons.{shapeOf}
 use Rattle.nets.specs.Net.{ControlNet, drawnTables}
 use Rattle.splitting.specs.Splitting.{split}
 use Rattle.seam.specs.Reading.{ReadsIn, Reads}
-use Rattle.seam.specs.Seam.{AdmissibleIn}
+use Rattle.seam.specs.Seam.{Shared, AdmissibleIn}
 
 -- "each edge point the midpoint, rounded like any new point; drawn points stay": the same inside a segment and at its ends
 abbrev pub midpoints : Rules ℤ
@@ -31,6 +31,10 @@ halved c L = step (each midpoints) c L
 -- a segment read from a net before its split
 abbrev pub ReadsControl : ControlNet → Way → Kind → ℕ → List Point → Type 0
 ReadsControl m = ReadsIn (shapeOf (m .sides)) (drawnTables m)
+
+-- a segment that two nets share before their splits
+abbrev pub SharedControl : ControlNet → ControlNet → Way → Way → Kind → ℕ → ℕ → List Point → Type 0
+SharedControl a b = Shared (shapeOf (a .sides)) (shapeOf (b .sides)) (drawnTables a) (drawnTables b)
 
 -- what the seam asks of it: refusals 7 to 11 do not hold
 abbrev pub AdmissibleControl : ControlNet → Type 0
