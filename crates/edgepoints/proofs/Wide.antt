@@ -1,6 +1,6 @@
 -- Exact points over the common denominators: virtual points, inner edges, and any edge with its flag.
 use mathlib.Core.Path.{_≡_, refl, sym, ap, ap₂, _∙_, subst}
-use mathlib.Core.Bool.{true}
+use mathlib.Core.Bool.{true, false}
 use mathlib.Core.Logic.{inr}
 use mathlib.Core.List.{List, []}
 use Prim.Native.Nat.{ℕ, _*_, _≤_, _<_}
@@ -85,9 +85,9 @@ module _ (v : ℕ) (l : List ℕ) (ok : Manifold quads v l) (t : List ℤ) (room
     unfolding unitOf
     wide-edge flag f a z e = record { value = ap (λ (i : ℕ). pos (unitOf i) *ℤ z) f ∙ one-*ℤ z ∙ e; small = inner-in-range a h k m }
 
-    pub wide-point : (flag : ℕ) (x y z : ℤ) → (flag ≡ wideFlag) × OnAxes (λ (a : ℕ). edgeValueZ kobbelt l (axis t a) h innerRule) x y z
+    pub wide-point : (Ordinary l (from l h) → Ordinary l (to quads l h) → ⊥) → (flag : ℕ) (x y z : ℤ) → (flag ≡ wideFlag) × OnAxes (λ (a : ℕ). edgeValueZ kobbelt l (axis t a) h innerRule) x y z
         → Flagged l h flag × ExactPoint flag (λ (a : ℕ). edgeValueZ kobbelt l (axis t a) h innerRule) x y z
-    wide-point flag x y z (f, p) = (wide m f, record { on₀ = wide-edge flag f 0 x (p .on₀); on₁ = wide-edge flag f 1 y (p .on₁); on₂ = wide-edge flag f 2 z (p .on₂) })
+    wide-point n flag x y z (f, p) = (wide m n f, record { on₀ = wide-edge flag f 0 x (p .on₀); on₁ = wide-edge flag f 1 y (p .on₁); on₂ = wide-edge flag f 2 z (p .on₂) })
 
   -- an inner edge between ordinary vertices
   module _ (h : ℕ) (o : OrdinaryEnds l h) where
@@ -156,6 +156,11 @@ pub told-end : (v : ℕ) (l : List ℕ) → Manifold quads v l → (w : List ℕ
     → ordinaryBy w at initial (to quads l h) ≡ true → Ordinary l (to quads l h)
 unfolding to
 told-end v l ok w at initial t h k e = t .ordinary (quads .next h) (ok .oriented .shape .next-lt h k) e
+
+pub untold-end : (v : ℕ) (l : List ℕ) → Manifold quads v l → (w : List ℕ) (at initial : ℕ) → Told at initial l w → (h : ℕ) → h < length l
+    → ordinaryBy w at initial (to quads l h) ≡ false → Ordinary l (to quads l h) → ⊥
+unfolding to
+untold-end v l ok w at initial t h k e = t .irregular (quads .next h) (ok .oriented .shape .next-lt h k) e
 
 -- ---- the far points of each rule
 module _ (l : List ℕ) (h : ℕ) (e : ℕ → ℤ) where

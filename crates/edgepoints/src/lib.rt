@@ -19,7 +19,7 @@ ghost use Rattle.walks.specs.Ready.{Ready};
 ghost use Rattle.coordinates.specs.Points.{InTable, Points, Marks, OnAxes};
 ghost use Rattle.coordinates.specs.Entry.{wideFlag, boundaryFlag};
 ghost use Rattle.coordinates.specs.Stencil.{FarIn, stencilValue};
-ghost use Rattle.edgepoints.specs.Edge.{ruleOf, farOn, StraightFar, OrdinaryEnds, Told, Flagged, ExactPoint};
+ghost use Rattle.edgepoints.specs.Edge.{ruleOf, farOn, StraightFar, OrdinaryEnds, Told, EndsTold, Flagged, ExactPoint};
 use coordinates::Exact;
 use coordinates::Far;
 
@@ -251,6 +251,18 @@ fn wide_edge(
     }
 }
 
+// Whether both ends of h are ordinary.
+fn ordinary_ends(faces: &[u32], work: &[u32], at: usize, initial: usize, h: usize) -> bool
+    requires { ⌜ Ready (now faces) (now work) ⌝ }
+    requires { ⌜ Told at initial (now faces) (now work) × (h < length (now faces)) ⌝ }
+    ensures { λ r. ⌜ EndsTold (now (faces .entry)) h r ⌝ }
+{
+    if classes::is_ordinary(work, at, initial, halfedges::start_of(faces, h)) {
+        return classes::is_ordinary(work, at, initial, halfedges::end_of(faces, h));
+    }
+    false
+}
+
 // The point on the inner edge of h, whose mate is m.
 fn inner_edge(
     points: &[i32],
@@ -266,16 +278,14 @@ fn inner_edge(
     requires { ⌜ (h < length (now faces)) × (m ≡ mate quads (now faces) h) × (m < length (now faces)) ⌝ }
     ensures { λ e. ⌜ Flagged (now (faces .entry)) h (e .flag) × ExactPoint (e .flag) (λ (a : ℕ). edgeValueZ kobbelt (now (faces .entry)) (axis (now (points .entry)) a) h innerRule) (e .x) (e .y) (e .z) ⌝ }
 {
-    if classes::is_ordinary(work, at, initial, halfedges::start_of(faces, h)) {
-        if classes::is_ordinary(work, at, initial, halfedges::end_of(faces, h)) {
-            let e = plain_exact(points, faces, work, h, m);
-            return Edge {
-                x: e.x,
-                y: e.y,
-                z: e.z,
-                flag: 0,
-            };
-        }
+    if ordinary_ends(faces, work, at, initial, h) {
+        let e = plain_exact(points, faces, work, h, m);
+        return Edge {
+            x: e.x,
+            y: e.y,
+            z: e.z,
+            flag: 0,
+        };
     }
     wide_edge(points, faces, work, at, initial, h, m)
 }

@@ -49,18 +49,18 @@ module _ (l : List ℕ) (h flag : ℕ) where
   pub flag-unit : Flagged l h flag → (flag ≡ wideFlag → ⊥) → unitOf flag ≡ virtualScale kobbelt
   unfolding unitOf
   flag-unit (plain a b c e) n = ap unitOf e
-  flag-unit (wide a e) n = absurd (n e)
+  flag-unit (wide a o e) n = absurd (n e)
   flag-unit (boundary a e) n = ap unitOf e
 
   pub flag-fits : Flagged l h flag → flag ≤ boundaryFlag
   flag-fits (plain a b c e) = omega arith
-  flag-fits (wide a e) = omega arith
+  flag-fits (wide a o e) = omega arith
   flag-fits (boundary a e) = omega arith
 
   pub entry-unit : (e : ℕ) → e < wideFlag → Flagged l h flag → unitOf (e + flag) ≡ unitOf flag
   unfolding unitOf
   entry-unit e b (plain c d f g) = let x = lt-ltb (e + flag) wideFlag (omega arith) in let y = lt-ltb flag wideFlag (omega arith) in simp (x, y)
-  entry-unit e b (wide c g) =
+  entry-unit e b (wide c o g) =
       let x = le-ltb (e + flag) wideFlag (omega arith) in
       let y = le-ltb flag wideFlag (omega arith) in
       let u = lt-ltb (e + flag) boundaryFlag (omega arith) in
@@ -75,7 +75,7 @@ module _ (l : List ℕ) (h flag : ℕ) where
 
   pub entry-edge : (e : ℕ) → e < wideFlag → Flagged l h flag → edgeOf (e + flag) ≡ e
   entry-edge e b (plain c d f g) = omega arith
-  entry-edge e b (wide c g) = omega arith
+  entry-edge e b (wide c o g) = omega arith
   entry-edge e b (boundary c g) = omega arith
 
   pub entry-place : (n e : ℕ) → e < wideFlag → Flagged l h flag → placeOf n (e + flag) ≡ 2 * n + 6 * e
@@ -96,7 +96,7 @@ small-of l h flag E x y z f k =
 unit-cases : (l : List ℕ) (h flag : ℕ) → Flagged l h flag → (unitOf flag ≡ 1) ⊎ (unitOf flag ≡ virtualScale kobbelt)
 unfolding unitOf
 unit-cases l h flag (plain a b c e) = inr (ap unitOf e)
-unit-cases l h flag (wide a e) = inl (ap unitOf e)
+unit-cases l h flag (wide a o e) = inl (ap unitOf e)
 unit-cases l h flag (boundary a e) = inr (ap unitOf e)
 
 number-small : (l : List ℕ) (h flag : ℕ) (X x : ℤ) → Flagged l h flag → ExactEdge flag X x → natAbs x ≤ edgeRange kobbelt
@@ -119,7 +119,7 @@ exact-small l h flag E x y z f k =
 
 -- ---- classes of corners
 pub told-of : (l marks w : List ℕ) (at initial : ℕ) → Marks l marks → Classes (length marks) at initial l w → Told at initial l w
-told-of l marks w at initial m c = record { room = c .room; ordinary = λ h b e. c .ordinary (from l h) (m .room h b) e }
+told-of l marks w at initial m c = record { room = c .room; ordinary = λ h b e. c .ordinary (from l h) (m .room h b) e; irregular = λ h b e. c .irregular (from l h) (m .room h b) e }
 
 -- ---- what stays stored
 stored-kept : (n : ℕ) (w w′ : List ℕ) (a t : ℕ) (X : ℤ) → getD w′ (placeOf n t + 2 * a) 0 ≡ getD w (placeOf n t + 2 * a) 0 → getD w′ (placeOf n t + 2 * a + 1) 0 ≡ getD w (placeOf n t + 2 * a + 1) 0
@@ -131,7 +131,7 @@ flagged-mate : (l : List ℕ) (h flag : ℕ) → mate quads l h < length l → m
 flagged-mate l h flag m b k (plain a c d e) =
     let r = mate-is quads l h m in
     plain m (subst (Ordinary l) (r .end) d) (subst (Ordinary l) (r .start) c) e
-flagged-mate l h flag m b k (wide a e) = wide m e
+flagged-mate l h flag m b k (wide a o e) = let r = mate-is quads l h m in wide m (λ s t. o (subst (Ordinary l) (sym (r .start)) t) (subst (Ordinary l) (sym (r .end)) s)) e
 flagged-mate l h flag m b k (boundary a e) = let z : ⊥ = omega arith in absurd z
 
 module _ (l marks : List ℕ) (p₀ : List ℤ) (w₀ : List ℕ) (at initial : ℕ) (ok : Round l marks p₀ w₀ at initial) where

@@ -1,2 +1,3 @@
 pub mod Faces
 pub mod Reading
+pub mod Family

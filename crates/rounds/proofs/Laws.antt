@@ -2,7 +2,7 @@
 use mathlib.Core.Path.{_≡_, sym, ap, _∙_, subst}
 use mathlib.Core.Bool.{Bool}
 use mathlib.Core.List.{List}
-use Prim.Native.Nat.{ℕ, _+_, _-_, _*_, _/_, _≤_}
+use Prim.Native.Nat.{ℕ, _+_, _-_, _*_, _/_, _≤_, _<_}
 use native.Mathlib.Omega.{arith}
 use borrow.Author.Tests.{lt-ltb, le-ltb, ltb-true, ltb-false}
 use borrow.Rule.Slice.PartMut.{putMid}
@@ -25,14 +25,19 @@ use Rattle.halfedges.proofs.Tables.{mates-cong}
 use Rattle.schemelaws.proofs.Steps.{refinable-manifold, step-faces, step-marks, step-count}
 use Rattle.roundfaces.specs.Faces.{extended, FacesIn}
 use Rattle.roundfaces.proofs.Round.{vertices-refined, marks-refined, marks-cong}
-use Rattle.roundmates.specs.Mates.{MatesIn}
+use Rattle.roundmates.specs.Mates.{MatesIn, LaterIn}
 use Rattle.roundmates.proofs.Round.{mates-in, mated-refined, mates-rest}
 use Rattle.classes.specs.Classes.{Classes}
 use Rattle.coordinates.specs.Entry.{entryOf, edgeOf}
 use Rattle.facepoints.specs.Faces.{faceCoordinates, FaceTable}
+use Rattle.facepoints.specs.Family.{FamilyTable}
+use Rattle.families.specs.AfterRound.{AfterRound}
+use Rattle.families.specs.Made.{Facing}
+use Rattle.families.proofs.Later.{made-refined}
 use Rattle.letters.specs.Letters.{newLetter, Nameable, WrittenIf}
 use Rattle.edgetable.specs.EdgeTable.{Round, Edges}
 use Rattle.edgetable.proofs.Faces.{face-table, number-is, inner-is}
+use Rattle.edgetable.proofs.FamilyTable.{family-table}
 use Rattle.rounds.proofs.Points.{face-room, points-made}
 use Rattle.rounds.specs.Round.{Current, Refines}
 use Rattle.nets.specs.Buffers.{Buffers, buffers, front}
@@ -100,6 +105,13 @@ module _ (v n at initial : ℕ) (t : Buffers) (c : Current v n at initial t) whe
         let e = corners in
         let r = c .roomWork in
         subst (λ (j : ℕ). MatesIn j w′) e (mates-in l w′ sides (omega arith) g)
+
+    pub mates-later : AfterRound l → LaterIn n w′
+    mates-later a =
+        let at : LaterIn (length l) w′ = record {
+          facing = λ q k. subst (Facing (length l) q) (sym (g .mates q k)) (subst (λ (l : List ℕ). q < length l → Facing (length l) q (mate quads l q)) (sym (a .is)) (made-refined quads (a .vertices) (a .before) (a .net .oriented) .facing q) k);
+        } in
+        subst (λ (j : ℕ). LaterIn j w′) corners at
 
     module _ (w″ : List ℕ) (h : w″ ≡ filled (refinedMates quads (take n w′)) w′) where
       pub mates-next : MateTable (step kobbelt old .faces) w″
@@ -172,6 +184,9 @@ module _ (v n at initial : ℕ) (t : Buffers) (c : Current v n at initial t) whe
 
     pub face-ready : FaceTable n w₁
     face-ready = subst (λ (k : ℕ). FaceTable k w₁) corners (face-table l mk points w at initial ready p₁ w₁ done)
+
+    pub family-ready : AfterRound l → FamilyTable n w₁
+    family-ready a = subst (λ (k : ℕ). FamilyTable k w₁) corners (family-table l mk points w at initial ready p₁ w₁ done a)
 
     pub net-ready : (count : ℕ) → count ≡ edgeCount quads l → FacesIn n v count faces w₁
     net-ready count h =

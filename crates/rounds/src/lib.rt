@@ -1,9 +1,12 @@
 // Rounds in the caller's tables: the net at their front is refined in place.
 ghost use Rattle.rounds.specs.Round.{Current, Refines};
+ghost use mathlib.Core.Path.{_≡_};
+ghost use mathlib.Core.Bool.{true};
 ghost use Prim.Native.Nat.{_*_, _^_};
 ghost use Rattle.nets.specs.Net.{frontNet};
 ghost use Rattle.nets.specs.Buffers.{buffers};
 ghost use lib.ListN.{take};
+ghost use Rattle.families.specs.AfterRound.{AfterRound};
 ghost use Rattle.letters.specs.Letters.{newLetter, WrittenIf};
 ghost use Rattle.rounds.specs.Rounds.{Prepared, After, LettersFit, LettersAfter};
 
@@ -20,9 +23,11 @@ fn round(
     n: usize,
     at: usize,
     initial: usize,
+    later: bool,
 ) -> usize
     requires { ⌜ Current v n at initial (buffers (now points) (now faces) (now marks) (now work)) ⌝ }
     requires { ⌜ LettersFit «with_letters» (4 * n) (now letters) ⌝ }
+    requires { ⌜ (later ≡ true → AfterRound (take n (now faces))) ⌝ }
     ensures { λ r. ⌜ Refines v n r (buffers (now (points .entry)) (now (faces .entry)) (now (marks .entry)) (now (work .entry)))
         (buffers (now (points .exit)) (now (faces .exit)) (now (marks .exit)) (now (work .exit))) ⌝ }
     ensures { λ r. ⌜ WrittenIf «with_letters» v r (newLetter (take n (now (faces .entry))) (take v (now (marks .entry)))) (now (letters .entry)) (now (letters .exit)) ⌝ }
@@ -34,6 +39,7 @@ fn round(
         &mut *work,
         at,
         initial,
+        later,
     );
     letters::name_points(
         with_letters,
@@ -46,7 +52,15 @@ fn round(
     let count = v + edges + n / 4;
     roundfaces::extend_marks(&mut *marks, v, count);
     let first = 3 * (v + edges);
-    facepoints::face_points(&mut points[first..], &mut *faces, &*work, n, v, edges);
+    facepoints::face_points(
+        &mut points[first..],
+        &mut *faces,
+        &*work,
+        n,
+        v,
+        edges,
+        later,
+    );
     count
 }
 
@@ -90,12 +104,13 @@ pub fn rounds(
             corners,
             at,
             v,
+            i > 0,
         );
         i += 1;
         if i == k {
             return count;
         }
-        roundmates::refine_mates(&mut *work, corners);
+        roundmates::next_mates(&mut *work, corners, i > 1);
         corners *= 4;
     }
     count

@@ -3,7 +3,7 @@ use mathlib.Core.Path.{sym, subst}
 use Prim.Native.Nat.{ℕ, _+_, _-_, _*_, _/_, _≤_}
 use native.Mathlib.Omega.{arith}
 use Rattle.nets.specs.Buffers.{Buffers, buffers}
-use Rattle.rounds.proofs.Laws.{corners, marked, count-le, ready, nameable, letters-made, face-ready, net-ready, part-start, part-room, refines}
+use Rattle.rounds.proofs.Laws.{corners, marked, count-le, ready, nameable, letters-made, face-ready, family-ready, net-ready, part-start, part-room, refines}
 use borrow.Author.Needs.{needs}
 use Rattle.rounds.proofs.round.Statement.{statement}
 use Rattle.rounds.proofs.round.Tie as tie
@@ -34,7 +34,7 @@ slice-aggregate-edge-points-2 : tie.Need-slice-aggregate-edge-points-2
 slice-aggregate-edge-points-2 c = let s = c .before .before .before .before .before .before .before in sym (marked (s .args .v) (s .args .n) (s .args .at) (s .args .initial) (tables s) (s .pre .0))
 
 edge-points-requires : tie.Need-edge-points-requires
-edge-points-requires c κs = let s = c .before .before .before .before .before .before .before .before in ready (s .args .v) (s .args .n) (s .args .at) (s .args .initial) (tables s) (s .pre .0)
+edge-points-requires c κs = let s = c .before .before .before .before .before .before .before .before in (ready (s .args .v) (s .args .n) (s .args .at) (s .args .initial) (tables s) (s .pre .0), s .pre .1 .1)
 
 slice-reshare-prefix-name-points : tie.Need-slice-reshare-prefix-name-points
 slice-reshare-prefix-name-points c = let s = start (c .before .before .before .before) in omega (arith, s .pre .0 .roomFaces)
@@ -52,7 +52,7 @@ name-points-requires : tie.Need-name-points-requires
 name-points-requires c κs =
     let x = c .before .before .before .before .before .before .before in
     let s = start x in
-    λ a. (nameable (s .args .v) (s .args .n) (s .args .at) (s .args .initial) (tables s) (s .pre .0) _ _ (x .edge-points .ensures .1) (s .args .letters .now) (s .pre .1 a), x .edge-points .ensures .0)
+    λ a. (nameable (s .args .v) (s .args .n) (s .args .at) (s .args .initial) (tables s) (s .pre .0) _ _ (x .edge-points .ensures .1) (s .args .letters .now) (s .pre .1 .0 a), x .edge-points .ensures .0)
 
 -- after the letters
 abbrev edged : tie.After-name-points → tie.After-edge-points
@@ -96,9 +96,12 @@ face-points-requires c κs =
     let x = c .before .before .before .before .before .before .before .before .before .before .before .before .before .before .before .before .before in
     let s = start x in
     let d = x .edge-points .ensures .1 in (
-      face-ready (s .args .v) (s .args .n) (s .args .at) (s .args .initial) (tables s) (s .pre .0) _ _ d,
-      net-ready (s .args .v) (s .args .n) (s .args .at) (s .args .initial) (tables s) (s .pre .0) _ _ d _ (x .edge-points .ensures .0),
-      part-room (s .args .v) (s .args .n) (s .args .at) (s .args .initial) (tables s) (s .pre .0) _ _ d _ (x .edge-points .ensures .0),
+      (
+        face-ready (s .args .v) (s .args .n) (s .args .at) (s .args .initial) (tables s) (s .pre .0) _ _ d,
+        net-ready (s .args .v) (s .args .n) (s .args .at) (s .args .initial) (tables s) (s .pre .0) _ _ d _ (x .edge-points .ensures .0),
+        part-room (s .args .v) (s .args .n) (s .args .at) (s .args .initial) (tables s) (s .pre .0) _ _ d _ (x .edge-points .ensures .0),
+      ),
+      λ t. family-ready (s .args .v) (s .args .n) (s .args .at) (s .args .initial) (tables s) (s .pre .0) _ _ d (s .pre .1 .1 t),
     )
 
 same-length : tie.Need-same-length

@@ -1,0 +1,86 @@
+-- In a net that a round made, what the edges leave in the work table is what families of faces ask for.
+use mathlib.Core.Path.{_≡_, refl, sym, ap, _∙_, subst}
+use mathlib.Core.List.{List}
+use Prim.Native.Nat.{ℕ, _+_, _*_, _%_, _<_}
+use native.Mathlib.Omega.{arith}
+use lib.IntN.{ℤ}
+use lib.ListN.{length, getD}
+use Rattle.search.proofs.Quarters.{quarters}
+use Rattle.topology.specs.Shape.{quads}
+use Rattle.topology.specs.HalfEdge.{from, to, mate, edge, edgeCount}
+use Rattle.topology.proofs.Mates.{edge-mate}
+use Rattle.refinedfaces.specs.Refined.{refined}
+use Rattle.refinedfaces.proofs.Corners.{length-refined}
+use Rattle.refinedfaces.proofs.Mates.{mate₁, mate₂}
+use Rattle.families.specs.Made.{Facing}
+use Rattle.families.specs.AfterRound.{AfterRound}
+use Rattle.families.proofs.Later.{made-refined}
+use Rattle.families.proofs.Lines.{PlainEdge, spoke-plain, spoke-back}
+use Rattle.coordinates.specs.Entry.{wideFlag, entryOf}
+use Rattle.facepoints.specs.Family.{FamilyTable}
+use Rattle.edgepoints.specs.Edge.{Flagged, plain, wide, boundary}
+use Rattle.edgetable.specs.EdgeTable.{Round, Entry, Edges}
+use Rattle.edgetable.proofs.EdgeTable.{edge-few, ready-now}
+
+-- a plain edge has its number as its entry
+entry-number : (l : List ℕ) (h t : ℕ) → PlainEdge l h → Entry l h t → t ≡ edge quads l h
+entry-number l h t o x = go (x .flagged)
+  where
+    go : Flagged l h (x .flag) → t ≡ edge quads l h
+    go (plain m a b e) = let q = x .is in omega arith
+    go (wide m n e) = absurd (n (o .start) (o .end))
+    go (boundary m e) = let i = o .inner in let z : ⊥ = omega arith in absurd z
+
+module _ (l marks : List ℕ) (p₀ : List ℤ) (w₀ : List ℕ) (at initial : ℕ) (ok : Round l marks p₀ w₀ at initial) (p : List ℤ) (w : List ℕ) (done : Edges l marks p₀ w₀ p w (length l) (edgeCount quads l)) (made : AfterRound l) where
+  abbrev n : ℕ
+  n = length l
+
+  abbrev L : List ℕ
+  L = refined quads (made .vertices) (made .before)
+
+  four : length l ≡ 4 * length (made .before)
+  four = ap length (made .is) ∙ length-refined quads (made .vertices) (made .before)
+
+  mate-now : (h : ℕ) → h < n → getD w h 0 ≡ mate quads l h
+  mate-now h k = ready-now l marks p₀ w₀ at initial ok p w n (edgeCount quads l) done .table .mated .mates h k
+
+  at-refined : (P : List ℕ → Type 0) → P L → P l
+  at-refined P x = subst P (sym (made .is)) x
+
+  number-is : (h : ℕ) → h < n → PlainEdge l h → entryOf n w h ≡ edge quads l h
+  number-is h k o = entry-number l h (entryOf n w h) o (done .entries h k)
+
+  second-mate : (f : ℕ) → 4 * f < n → mate quads l (4 * f + 1) ≡ 4 * quads .next f + 2
+  second-mate f k = let d = four in at-refined (λ (l : List ℕ). mate quads l (4 * f + 1) ≡ 4 * quads .next f + 2) (mate₁ quads (made .vertices) (made .before) (made .net .oriented) f (omega arith))
+
+  third-mate : (f : ℕ) → 4 * f < n → mate quads l (4 * f + 2) ≡ 4 * quads .prev f + 1
+  third-mate f k = let d = four in at-refined (λ (l : List ℕ). mate quads l (4 * f + 2) ≡ 4 * quads .prev f + 1) (mate₂ quads (made .vertices) (made .before) (made .net .oriented) f (omega arith))
+
+  inside-plain : (g : ℕ) → g < n → 0 < g % 4 → g % 4 < 3 → PlainEdge l g
+  inside-plain g k a b =
+      let d = four in
+      at-refined (λ (l : List ℕ). PlainEdge l g) (quarters (length (made .before)) (λ (g : ℕ). 0 < g % 4 → g % 4 < 3 → PlainEdge L g)
+      (λ h c x y. let z : ⊥ = omega arith in absurd z)
+      (λ h c x y. spoke-plain (made .vertices) (made .before) (made .net) h c)
+      (λ h c x y. spoke-back (made .vertices) (made .before) (made .net) h c)
+      (λ h c x y. let z : ⊥ = omega arith in absurd z) g (omega arith) a b)
+
+  pub family-table : FamilyTable n w
+  unfolding quads
+  family-table =
+      let d = four in
+      let r = made .fours in
+      record {
+        whole = omega arith;
+        facing = λ g k. subst (Facing n g) (sym (mate-now g k)) (at-refined (λ (l : List ℕ). g < length l → Facing (length l) g (mate quads l g)) (made-refined quads (made .vertices) (made .before) (made .net .oriented) .facing g) k);
+        second = λ f k. mate-now (4 * f + 1) (omega arith) ∙ second-mate f k;
+        third = λ f k. mate-now (4 * f + 2) (omega arith) ∙ third-mate f k;
+        inside = λ g k a b. let e = number-is g k (inside-plain g k a b) in let f = edge-few l marks p₀ w₀ at initial ok g k in omega arith;
+        shared = λ f k.
+            let m = third-mate f k in
+            let j : 4 * quads .prev f + 1 < n = omega arith in
+            let a = number-is (4 * f + 2) (omega arith) (inside-plain (4 * f + 2) (omega arith) (omega arith) (omega arith)) in
+            let b = number-is (4 * quads .prev f + 1) j (inside-plain (4 * quads .prev f + 1) j (omega arith) (omega arith)) in
+            let c = edge-mate quads (length marks) l (ok .net .oriented) (4 * f + 2) (omega arith) (omega arith) in
+            a ∙ sym c ∙ ap (edge quads l) m ∙ sym b;
+      }

@@ -1,0 +1,3 @@
+pub mod Later
+pub mod Family
+pub mod Lines
