@@ -1,4 +1,5 @@
-// Compares the proved call with both forms of the straightforward one, without letters and with them: the nets of the benchmark and small nets of every kind.
+// Compares the proved call with both forms of the straightforward one, at every tension, without letters and with them: the nets of the benchmark and small
+// nets of every kind.
 // The exit status is 1 on the first difference.
 #include "implementations.hpp"
 #include "samples.hpp"
@@ -35,12 +36,32 @@ uint32_t agreed(Implementations &implementations, Straight &expected, const Net 
     return due.reason;
 }
 
+// The same at every tension, which is not to change the reason, and above them all, where it is to be 16.
+uint32_t agreed_throughout(Implementations &implementations, Straight &expected, Net net, uint32_t rounds, const std::string &name)
+{
+    auto at = [&](uint32_t tension) {
+        net.tension = tension;
+        return agreed(implementations, expected, net, rounds, name + ", tension " + std::to_string(tension));
+    };
+    auto demand = [&](uint32_t reason, uint32_t due) {
+        if (reason == due)
+            return;
+        std::fprintf(stderr, "%s, %u rounds, tension %u: reason %u in place of %u\n", name.c_str(), rounds, net.tension, reason, due);
+        std::exit(1);
+    };
+    demand(at(MOST_TENSION + 1), 16);
+    const uint32_t reason = at(0);
+    for (uint32_t t = 1; t <= MOST_TENSION; t++)
+        demand(at(t), reason);
+    return reason;
+}
+
 // All numbers of rounds that the limit on refined faces allows; ends the program if the net is refused.
 void compare(Implementations &implementations, Straight &expected, bench_kind kind)
 {
     BenchmarkNet made(kind);
     for (uint32_t k = 0; k <= MOST_ROUNDS && made.refined_faces(k) <= MOST_REFINED; k++)
-        if (agreed(implementations, expected, made.net, k, made.name) != 0) {
+        if (agreed_throughout(implementations, expected, made.net, k, made.name) != 0) {
             std::fprintf(stderr, "%s: refused\n", made.name);
             std::exit(1);
         }
@@ -96,11 +117,12 @@ int main()
     samples::Generator generator(1);
     for (int i = 0; i < SAMPLES; i++) {
         samples::Sample sample = generator.draw();
-        uint32_t reason = agreed(implementations, expected, sample.net, sample.rounds, "sample " + std::to_string(i));
+        uint32_t reason = agreed_throughout(implementations, expected, sample.net, sample.rounds, "sample " + std::to_string(i));
         coverage.add(sample.net, reason, expected.letters);
     }
     if (!coverage.is_whole())
         return std::fprintf(stderr, "the samples do not show every refusal, ring, fan, side count and letter\n"), 1;
-    std::printf("%d nets after every round, and %d small nets: %d refined (rings of 3 to 8, fans of 1 to 6, faces of 3 to 8 sides, every letter), %d refused (5 to 12)\n",
+    std::printf("%d nets after every round, and %d small nets: %d refined (rings of 3 to 8, fans of 1 to 6, faces of 3 to 8 sides, every letter), %d refused "
+                "(5 to 12); all at tensions 0 to 4, and refused at 5 (16)\n",
                 KIND_COUNT, SAMPLES, coverage.reasons[0], SAMPLES - coverage.reasons[0]);
 }

@@ -54,7 +54,7 @@ static void measure(uint32_t rounds)
     for (int run = 0; run <= RUNS; run++) {
         double taken = seconds();
         found = gedrovit_check(rounds, net.vertices, 3 * net.vertex_count, net.corners, net.corner_count, net.sides, net.side_count, net.marks,
-                               net.vertex_count, 12 * refined, 4 * refined, 4 * refined, true, 4 * refined, work, WORK);
+                               net.vertex_count, MOST_TENSION, 12 * refined, 4 * refined, 4 * refined, true, 4 * refined, work, WORK);
         taken = seconds() - taken;
         if (run > 0 && taken < best)
             best = taken;

@@ -32,9 +32,9 @@ public:
         const bool splits = !net.sides.empty();
         tally.points = 0;
         last = gedrovit_refine(&tally, rounds, &net.points.data()->x, 3 * net.points.size(), net.corners.data(), net.corners.size(),
-                               splits ? net.sides.data() : net.marks.data(), net.sides.size(), net.marks.data(), net.marks.size(), vertices.data(),
-                               vertices.size(), faces.data(), faces.size(), marks.data(), marks.size(), with_letters, letters.data(), letters.size(),
-                               work.data(), work.size());
+                               splits ? net.sides.data() : net.marks.data(), net.sides.size(), net.marks.data(), net.marks.size(), net.tension,
+                               vertices.data(), vertices.size(), faces.data(), faces.size(), marks.data(), marks.size(), with_letters, letters.data(),
+                               letters.size(), work.data(), work.size());
         return {last.reason, last.place};
     }
 

@@ -6,7 +6,7 @@
 #include <stdint.h>
 #include <string.h>
 
-enum { MOST_VERTICES = 8192, MOST_FACES = 4096, MOST_REFINED = 262144 };
+enum { MOST_VERTICES = 8192, MOST_FACES = 4096, MOST_REFINED = 262144, MOST_TENSION = 4 };
 
 /* With side counts, the corners of the faces follow each other; without them, each face has four. */
 struct bench_net {
@@ -127,18 +127,20 @@ static inline void make_net(struct bench_net *net, enum bench_kind kind)
 /* What is measured; with letters where that is 1. */
 struct bench_row {
     enum bench_kind kind;
-    uint32_t rounds;
+    uint32_t rounds, tension;
     int letters;
 };
 
-enum { ROW_COUNT = 21 };
+enum { ROW_COUNT = 27 };
 
 static inline struct bench_row row(int which)
 {
     static const struct bench_row rows[ROW_COUNT] = {
-        {GRID_8, 0, 0}, {GRID_8, 1, 0}, {GRID_8, 6, 0}, {GRID_8, 6, 1},    {GRID_64, 1, 0},   {GRID_64, 3, 0},   {GRID_64, 3, 1},
-        {CUBE, 0, 0},   {CUBE, 1, 0},   {CUBE, 6, 0},   {RINGS, 1, 0},     {RINGS, 3, 0},     {RINGS, 3, 1},     {STRIP, 1, 0},
-        {STRIP, 3, 0},  {FANS, 1, 0},   {FANS, 3, 0},   {TRIANGLES, 0, 0}, {TRIANGLES, 1, 0}, {TRIANGLES, 3, 0}, {TRIANGLES, 3, 1}};
+        {GRID_8, 0, 4, 0},    {GRID_8, 1, 4, 0},    {GRID_8, 6, 4, 0},    {GRID_8, 6, 4, 1},    {GRID_8, 6, 2, 0},    {GRID_64, 1, 4, 0},
+        {GRID_64, 3, 4, 0},   {GRID_64, 3, 4, 1},   {GRID_64, 3, 2, 0},   {CUBE, 0, 4, 0},      {CUBE, 1, 4, 0},      {CUBE, 6, 4, 0},
+        {CUBE, 6, 2, 0},      {RINGS, 1, 4, 0},     {RINGS, 3, 4, 0},     {RINGS, 3, 4, 1},     {RINGS, 3, 2, 0},     {STRIP, 1, 4, 0},
+        {STRIP, 3, 4, 0},     {FANS, 1, 4, 0},      {FANS, 3, 4, 0},      {TRIANGLES, 0, 4, 0}, {TRIANGLES, 1, 4, 0}, {TRIANGLES, 1, 2, 0},
+        {TRIANGLES, 3, 4, 0}, {TRIANGLES, 3, 4, 1}, {TRIANGLES, 3, 2, 0}};
     return rows[which];
 }
 

@@ -64,7 +64,7 @@ void interpolate(const Far::TopologyRefiner &refiner, const Input &input, std::v
 Calls prepare(bench_row row)
 {
     static std::vector<Position> positions;
-    if (row.rounds < 3 || row.kind == TRIANGLES || row.letters)
+    if (row.rounds < 3 || row.kind == TRIANGLES || row.letters || row.tension != MOST_TENSION)
         return {};
     auto input = std::make_shared<Input>(row.kind);
     std::shared_ptr<Far::TopologyRefiner> refiner = refine_topology(*input, row.rounds);

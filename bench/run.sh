@@ -104,10 +104,11 @@ agreement: all results are equal, count for count, in every build of C++:
            $agreement
 
 REFINEMENT
-Both sides check refusals 5 to 12, split faces with side counts, then make all rounds with exact arithmetic and one rounding for each coordinate, in one
-thread. Gedrovit also checks the table lengths, allocates nothing and clears the work table at the end; C++ keeps its vectors from call to call.
+Both sides check refusals 16 and 5 to 12, split faces with side counts, then make all rounds with exact arithmetic and one rounding for each coordinate, in
+one thread. Gedrovit also checks the table lengths, allocates nothing and clears the work table at the end; C++ keeps its vectors from call to call.
 Nets: rings of eight has 4,096 faces, every vertex in eight; strip is one row of 4,095 faces; fans of six has 4,080 faces, every vertex on the boundary and
 in six; triangles are 1,365 with side counts, which become 4,095 quadrilaterals. Rows with "letters" make a letter for each refined vertex too.
+The tension is 4 where the row names none. Both sides are given it in the call, and compute in the same way at every tension.
 C++: "anew" builds the adjacency anew in each round, "carried" carries it over from the round before.
 Tables: touched by a call before, not cleared between calls. Times: processor time, the best of 100 turns of all implementations in one process for each
 compiler; calls on small nets are timed many at once.

@@ -4,40 +4,46 @@ namespace straight {
 
 namespace {
 
-constexpr int64_t EXTRAPOLATED = 60;                  // divisible by 1 to 5, the inner edges of a fan
-constexpr int64_t VIRTUAL = EXTRAPOLATED * 9 * 840;   // 840 is divisible by 3 to 8, the sizes of a ring
-constexpr int64_t EDGE = 16 * VIRTUAL;
-constexpr int64_t FACE = 32 * EDGE;
+constexpr int64_t EXTRAPOLATED = 60;   // divisible by 1 to 5, the inner edges of a fan
+constexpr int64_t SIZES = 840;         // divisible by 3 to 8, the sizes of a ring
 
 Exact operator+(Exact a, Exact b) { return {a.x + b.x, a.y + b.y, a.z + b.z}; }
 Exact operator-(Exact a, Exact b) { return {a.x - b.x, a.y - b.y, a.z - b.z}; }
 Exact operator*(int64_t n, Exact a) { return {n * a.x, n * a.y, n * a.z}; }
 
-// The three rules of a curve, over 16.
-Exact interior(Exact p, Exact q, Exact r, Exact s) { return 9 * (q + r) - p - s; }
-Exact end_edge(Exact p, Exact q, Exact r) { return 7 * p + 10 * q - r; }
-Exact midpoint(Exact p, Exact q) { return 8 * (p + q); }
-
-// Halves upward. Lifted by 2^31 the quotient is not negative, so that division takes its floor without a branch.
-template <int64_t Denominator> int32_t rounded(int64_t n)
+// Halves upward. Lifted by 2^28 the quotient is not negative, so that division takes its floor without a branch. The sum is below 2^63.
+int32_t rounded(int64_t n, int64_t denominator)
 {
-    constexpr int64_t lift = int64_t(1) << 31;
-    const uint64_t lifted = static_cast<uint64_t>(n + Denominator / 2 + lift * Denominator);
-    return static_cast<int32_t>(static_cast<int64_t>(lifted / Denominator) - lift);
+    constexpr int64_t lift = int64_t(1) << 28;
+    const uint64_t lifted = static_cast<uint64_t>(n + denominator / 2 + lift * denominator);
+    return static_cast<int32_t>(static_cast<int64_t>(lifted / static_cast<uint64_t>(denominator)) - lift);
 }
 
-template <int64_t Denominator> Point rounded(Exact e)
-{
-    return {rounded<Denominator>(e.x), rounded<Denominator>(e.y), rounded<Denominator>(e.z)};
-}
+Point rounded(Exact e, int64_t denominator) { return {rounded(e.x, denominator), rounded(e.y, denominator), rounded(e.z, denominator)}; }
+
+// The three rules of a curve at a tension, over 64.
+class Curve {
+public:
+    explicit Curve(uint32_t tension) : far(tension), near(32 + far) {}
+
+    Exact interior(Exact p, Exact q, Exact r, Exact s) const { return near * (q + r) - far * (p + s); }
+    Exact end_edge(Exact p, Exact q, Exact r) const { return (32 - far) * p + (32 + 2 * far) * q - far * r; }
+    Exact midpoint(Exact p, Exact q) const { return 32 * (p + q); }
+
+    const int64_t far, near;
+};
 
 // The rules on one net.
 class Rules {
 public:
-    Rules(const Net &n, const QuadAdjacency &a) : net(n), adjacency(a) {}
+    Rules(const Net &n, const QuadAdjacency &a) : net(n), adjacency(a), curve(n.tension), virtual_scale(EXTRAPOLATED * SIZES * curve.near) {}
 
     Exact edge_point(uint32_t h) const;
     Exact face_point(const std::vector<Exact> &edge_points, uint32_t f) const;
+
+    // The denominators of edge points and of face points.
+    int64_t edge_scale() const { return 64 * virtual_scale; }
+    int64_t face_scale() const { return 128 * edge_scale(); }
 
 private:
     // Neighbours and opposite corners round a vertex, over 60.
@@ -64,17 +70,19 @@ private:
     Exact virtual_point(uint32_t h) const;
     Ring gather(uint32_t h) const;
     int close_fan(uint32_t v, Ring &ring) const;
-    static Exact weigh(const Ring &ring, int j);
+    Exact weigh(const Ring &ring, int j) const;
     Direction direction(const std::vector<Exact> &edge_points, uint32_t h) const;
     uint32_t beyond(uint32_t h) const;
 
     const Net &net;
     const QuadAdjacency &adjacency;
+    const Curve curve;
+    const int64_t virtual_scale;   // the denominator of virtual points
 };
 
 Exact Rules::edge_point(uint32_t h) const
 {
-    return adjacency.mate(h) == NONE ? VIRTUAL * boundary_point(h) : inner_point(h);
+    return adjacency.mate(h) == NONE ? virtual_scale * boundary_point(h) : inner_point(h);
 }
 
 Exact Rules::boundary_point(uint32_t h) const
@@ -89,8 +97,8 @@ Exact Rules::boundary_point(uint32_t h) const
     };
     auto after = [&] { return at(adjacency.end(adjacency.fan_start(w))); };
     if (net.marks[v])
-        return net.marks[w] ? midpoint(p, q) : end_edge(p, q, after());
-    return net.marks[w] ? end_edge(q, p, before()) : interior(before(), p, q, after());
+        return net.marks[w] ? curve.midpoint(p, q) : curve.end_edge(p, q, after());
+    return net.marks[w] ? curve.end_edge(q, p, before()) : curve.interior(before(), p, q, after());
 }
 
 Exact Rules::inner_point(uint32_t h) const
@@ -98,8 +106,8 @@ Exact Rules::inner_point(uint32_t h) const
     uint32_t g = adjacency.mate(h);
     uint32_t v = adjacency.start(h), w = adjacency.start(g);
     if (adjacency.is_regular(v) && adjacency.is_regular(w))
-        return VIRTUAL * interior(at(straight_across(h)), at(v), at(w), at(straight_across(g)));
-    return interior(virtual_point(h), VIRTUAL * at(v), VIRTUAL * at(w), virtual_point(g));
+        return virtual_scale * curve.interior(at(straight_across(h)), at(v), at(w), at(straight_across(g)));
+    return curve.interior(virtual_point(h), virtual_scale * at(v), virtual_scale * at(w), virtual_point(g));
 }
 
 // Over 60: twice the boundary vertex minus the mean of the far ends of its inner edges, or minus the opposite corner of its only face.
@@ -144,8 +152,8 @@ int Rules::close_fan(uint32_t v, Ring &ring) const
     return ring.size = m + 2;
 }
 
-// The virtual point, over 453,600, on edge j of a ring.
-Exact Rules::weigh(const Ring &ring, int j)
+// The virtual point on edge j of a ring.
+Exact Rules::weigh(const Ring &ring, int j) const
 {
     int n = ring.size;
     Exact sum = {0, 0, 0};
@@ -153,17 +161,17 @@ Exact Rules::weigh(const Ring &ring, int j)
         int d = (i - j + n) % n;
         int64_t near = d == 0 || d == 1 || d == n - 1;
         int64_t beside = (d == n - 2) + (d == n - 1) + (d == 0) + (d == 1);
-        sum = sum + (36 - 9 * n * near) * ring.neighbours[i] + (n * beside - 4) * ring.opposites[i];
+        sum = sum + curve.near * (4 - n * near) * ring.neighbours[i] + curve.far * (n * beside - 4) * ring.opposites[i];
     }
-    return 840 / n * sum;
+    return SIZES / n * sum;
 }
 
-// The virtual point, over 453,600, at the vertex that h leaves.
+// The virtual point at the vertex that h leaves.
 Exact Rules::virtual_point(uint32_t h) const
 {
     uint32_t v = adjacency.start(h);
     if (adjacency.is_regular(v))
-        return VIRTUAL * at(straight_across(h));
+        return virtual_scale * at(straight_across(h));
     if (!adjacency.is_boundary(v))
         return weigh(gather(h), 0);
     int j = 0;
@@ -181,7 +189,7 @@ uint32_t Rules::beyond(uint32_t h) const
     return g == NONE ? NONE : Quads::across(g);
 }
 
-// The direction of side h of a face, over 16 times the denominator of edge points.
+// The direction of side h of a face, over 64 times the denominator of edge points.
 Rules::Direction Rules::direction(const std::vector<Exact> &edge_points, uint32_t h) const
 {
     uint32_t g = Quads::across(h);
@@ -189,13 +197,13 @@ Rules::Direction Rules::direction(const std::vector<Exact> &edge_points, uint32_
     auto on = [&](uint32_t side) { return edge_points[adjacency.edge(side)]; };
     if (before != NONE && after != NONE) {
         bool inner = adjacency.mate(before) != NONE && adjacency.mate(after) != NONE;
-        return {interior(on(before), on(h), on(g), on(after)), inner};
+        return {curve.interior(on(before), on(h), on(g), on(after)), inner};
     }
     if (before != NONE)
-        return {end_edge(on(g), on(h), on(before)), false};
+        return {curve.end_edge(on(g), on(h), on(before)), false};
     if (after != NONE)
-        return {end_edge(on(h), on(g), on(after)), false};
-    return {midpoint(on(h), on(g)), false};
+        return {curve.end_edge(on(h), on(g), on(after)), false};
+    return {curve.midpoint(on(h), on(g)), false};
 }
 
 Exact Rules::face_point(const std::vector<Exact> &edge_points, uint32_t f) const
@@ -236,10 +244,10 @@ void Refiner::step(Net &net)
         if (adjacency.is_first(h)) {
             Exact e = rules.edge_point(h);
             edge_points[edge] = e;
-            net.points[vertices + edge++] = rounded<EDGE>(e);
+            net.points[vertices + edge++] = rounded(e, rules.edge_scale());
         }
     for (uint32_t f = 0; f < faces; f++)
-        net.points[vertices + edge + f] = rounded<FACE>(rules.face_point(edge_points, f));
+        net.points[vertices + edge + f] = rounded(rules.face_point(edge_points, f), rules.face_scale());
     split_faces(net.corners, adjacency, vertices);
     net.marks.resize(net.points.size());
 }
@@ -247,6 +255,8 @@ void Refiner::step(Net &net)
 // The check leaves the adjacency for the first round, unless the net is split.
 Verdict Refiner::refine(const Net &net, uint32_t rounds, Net &refined, std::vector<char> *letters)
 {
+    if (net.tension > MOST_TENSION)
+        return {16, 0};
     bool splits = !net.sides.empty();
     Verdict verdict = splits ? drawn.check(net) : adjacency.check(net);
     if (verdict.reason != 0)

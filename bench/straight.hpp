@@ -7,7 +7,7 @@
 
 namespace straight {
 
-constexpr uint32_t NONE = UINT32_MAX;
+constexpr uint32_t NONE = UINT32_MAX, MOST_TENSION = 4;
 
 struct Point {
     int32_t x, y, z;
@@ -23,6 +23,7 @@ struct Net {
     std::vector<Point> points;
     std::vector<uint32_t> corners;
     std::vector<uint8_t> sides, marks;
+    uint32_t tension = MOST_TENSION;
 };
 
 // Reason 0: accepted.
@@ -120,7 +121,7 @@ private:
 class Refiner {
 public:
     explicit Refiner(bool carry) : carries(carry) {}
-    // The refined net, with a letter for each of its vertices if a table for them is given, unless there is a refusal from 5 to 12.
+    // The refined net, with a letter for each of its vertices if a table for them is given, unless there is refusal 16 or one from 5 to 12.
     Verdict refine(const Net &net, uint32_t rounds, Net &refined, std::vector<char> *letters);
 
 private:

@@ -46,6 +46,7 @@ void Refiner::split(const Net &net, Net &split) const
     uint32_t count = drawn.size(), edge = static_cast<uint32_t>(net.points.size()), face = edge + drawn.edge_count();
     split.points = net.points;
     split.marks = net.marks;
+    split.tension = net.tension;
     split.points.resize(face + net.sides.size());
     split.marks.resize(split.points.size());
     split.corners.resize(4 * count);

@@ -37,12 +37,12 @@ def print_table(measure, calls, compilers, values, rows):
     """A line for each row; with the product among the calls, its ratio beside each other value."""
     others = [(compiler, call) for compiler in compilers for call in calls if call != PRODUCT]
     ratios = PRODUCT in calls
-    head = f"{MEASURES[measure]} for each refined face".ljust(49) + ("Gedrovit".rjust(11) if ratios else "")
+    head = f"{MEASURES[measure]} for each refined face".ljust(51) + ("Gedrovit".rjust(11) if ratios else "")
     for compiler, call in others:
         head += f"{compiler} {HEADS[call]}".rjust(16) + ("ratio".rjust(7) if ratios else "")
     print(head)
     for row, (faces, rounds, name) in sorted(rows.items()):
-        line = f"{name:<27}{rounds:>2} round{'s' if rounds != 1 else ' '}{faces:>12,}".ljust(49)
+        line = f"{name:<29}{rounds:>2} round{'s' if rounds != 1 else ' '}{faces:>12,}".ljust(51)
         if ratios:
             line += cell(values.get((measure, compilers[0], row, PRODUCT))).rjust(11)
         for compiler, call in others:

@@ -42,7 +42,7 @@ SHOWN = 4
 
 # ---- the definitions that facts unfold: the modules of each group, and what else it names of them
 TOPOLOGY = {"search.Search": "", "topology.Shape": "", "topology.HalfEdge": "", "topology.Boundary": ""}
-NAMED = {"nets.Net": "Net", "curve.Weights": "kobbelt"}
+NAMED = {"nets.Net": "Net", "curve.Weights": "tension"}
 DRAWN = {"nets.Net": "Net, ControlNet, plain", "polygons.Polygons": ""}
 GROUPS = {
     "Verdict": {
@@ -50,7 +50,7 @@ GROUPS = {
         **DRAWN,
         "topology.Vertex": "",
         "refusals.Refusals": "",
-        "verdict.Call": "Call, Room, room, lengths",
+        "verdict.Call": "Call, call, Room, room, lengths",
         "verdict.Verdict": "Verdict, accepted, refused",
     },
     "Round": {
@@ -78,7 +78,7 @@ GROUPS = {
         "refinedfaces.Refined": "",
         "splitting.Splitting": "",
     },
-    "Curve": {"rounding.Rounding": "", "curve.Weights": "kobbelt", "curve.Curve": "Kind, Open, Closed, Point"},
+    "Curve": {"rounding.Rounding": "", "curve.Weights": "tension", "curve.Curve": "Kind, Open, Closed, Point"},
     "Moved": {"lists.Tabulate": "", "curve.Curve": "Point", "nets.Net": "Net, ControlNet", "nets.Moved": "moved, movedControl"},
     "Reading": {**TOPOLOGY, "topology.Boundary": "withSides, againstSides", "lists.Tabulate": ""},
     "Seam": {
@@ -172,6 +172,11 @@ def drawn(label, case):
     return label if "sides" in case else f"(plain {label})"
 
 
+def weights(case):
+    """The weights at the tension of a call."""
+    return f"(tension {case['call']['tension']})"
+
+
 def truth(value):
     return "true" if value else "false"
 
@@ -187,7 +192,7 @@ def verdict_facts(label, case):
         yield "Verdict", "limits", f"limitsVerdict {call['rounds']} ({naturals(sides)}) (lengths {lengths} ({room}))", stated, 0.05 + 0.001 * len(sides)
         return
     cost = 0.3 + 0.0004 * len(case["net"][1]) ** 2
-    yield "Verdict", "call", f"verdict (record {{ rounds = {call['rounds']}; net = {drawn(label, case)}; room = ({room}) }})", stated, cost
+    yield "Verdict", "call", f"verdict (call {call['rounds']} {drawn(label, case)} {call['tension']} ({room}))", stated, cost
     if call.get("net_verdict", call["verdict"]) != call["verdict"]:
         yield "Verdict", "net", f"netVerdict {drawn(label, case)}", verdict_text(call["net_verdict"]), cost
 
@@ -202,7 +207,7 @@ def outcome_facts(label, case):
     size = len(case["net"][1]) // (1 if "sides" in case else 4)
     cost = 0.3 + (0.1 * size**2 if rounds else 0)
     letters = f"letterTable {truth(call['asked'])} ({naturals(call['lent_letters'])})"
-    asked = f"request {before} {rounds} {drawn(label, case)} (record {{ {lent_text(call['lent'])} }}) ({letters})"
+    asked = f"request {before} {rounds} {drawn(label, case)} {call['tension']} (record {{ {lent_text(call['lent'])} }}) ({letters})"
     left = f"buffers = record {{ {lent_text(call['left'])} }}; letters = {naturals(call['left_letters'])}"
     yield "Outcome", "outcome", f"outcome ({asked})", f"record {{ result = {result}; tally = {after}; {left} }}", cost
 
@@ -213,7 +218,7 @@ def letter_facts(label, case, seed):
     for rounds, letters in enumerate(case["letters"]):
         net, name = nets[max(rounds - 1, 0)], f"{label}-after{rounds - 1}" if rounds > 1 else label
         if rounds == 0 or size <= LETTER_FACES // rounds**2:
-            yield "Letters", f"letters{rounds}", f"letters kobbelt (plain {label}) {rounds}", naturals(letters), 0.1 + 0.02 * rounds * size**2
+            yield "Letters", f"letters{rounds}", f"letters {weights(case)} (plain {label}) {rounds}", naturals(letters), 0.1 + 0.02 * rounds * size**2
         if rounds > 0:
             old = len(net[2])
             rule = f"letterOf (madeBy (newRule ({name} .faces) ({name} .marks) ({old} + i)))"
@@ -221,7 +226,7 @@ def letter_facts(label, case, seed):
     if size <= WORD_FACES:
         axis = (seed + int(label[1:])) % 3
         for vertex, byte, *point in case["words"]:
-            named = f"ruleValue kobbelt ({label} .faces) ({label} .marks) (axis ({label} .vertices) {axis}) {vertex} {RULES[chr(byte)]}"
+            named = f"ruleValue {weights(case)} ({label} .faces) ({label} .marks) (axis ({label} .vertices) {axis}) {vertex} {RULES[chr(byte)]}"
             yield "Letters", f"word{vertex}-{chr(byte)}", f"toWhole ({named})", integer(point[axis]), 0.02 * size
 
 
@@ -230,7 +235,7 @@ def split_letter_facts(label, case):
     corners = len(case["net"][1])
     for rounds, letters in enumerate(case["letters"]):
         if rounds == 0 or corners <= ROUND_CORNERS:
-            yield "Letters", f"letters{rounds}", f"letters kobbelt {label} {rounds}", naturals(letters), 0.1 + 0.003 * (1 + rounds) * corners**2
+            yield "Letters", f"letters{rounds}", f"letters {weights(case)} {label} {rounds}", naturals(letters), 0.1 + 0.003 * (1 + rounds) * corners**2
 
 
 def moved_facts(label, case):
@@ -242,15 +247,15 @@ def moved_facts(label, case):
     yield "Moved", "moved", f"{definition} ({point(shift)}) {label}", net_record([vertices, faces, marks], sides), 0.05 + 0.00001 * len(vertices) ** 2
 
 
-def round_facts(label, name, nets, seed, whole_faces):
+def round_facts(label, name, nets, w, seed, whole_faces):
     """A round of the net of this name: as one equality of nets, or as faces, marks and one axis, its coordinates in one list or one by one."""
     (_, faces, marks), (vertices_1, faces_1, marks_1) = nets
     size, count = len(faces) // 4, len(marks)
     if size <= whole_faces:
-        yield "Round", "round", f"step kobbelt {name}", f"{label}-after1", 0.2 + 0.1 * size**2
+        yield "Round", "round", f"step {w} {name}", f"{label}-after1", 0.2 + 0.1 * size**2
         return
     axis = (seed + int(label[1:])) % 3
-    coordinate = f"refinedCoordinate kobbelt {count} ({name} .faces) ({name} .marks) (axis ({name} .vertices) {axis})"
+    coordinate = f"refinedCoordinate {w} {count} ({name} .faces) ({name} .marks) (axis ({name} .vertices) {axis})"
     yield "Round", "faces", f"refined quads {count} ({name} .faces)", naturals(faces_1), 0.1
     yield "Round", "marks", f"refinedMarks quads {count} ({name} .faces) ({name} .marks)", naturals(marks_1), 0.1
     if size > LISTED_FACES:
@@ -265,14 +270,14 @@ def split_facts(label, case, seed, whole_faces):
     corners = len(case["net"][1])
     yield "Split", "split", f"startNet {label}", f"{label}-after0", 0.2 + 0.005 * corners**2
     if corners <= ROUND_CORNERS:
-        yield from round_facts(label, f"{label}-after0", case["split"], seed, whole_faces)
+        yield from round_facts(label, f"{label}-after0", case["split"], weights(case), seed, whole_faces)
 
 
 def second_round_facts(label, case):
     """The second round of the net after the first, which `two-rounds` puts together."""
     size = len(case["steps"][0][1]) // 4
-    yield "Round", "second", f"step kobbelt {label}-after1", f"{label}-after2", 0.2 + 0.1 * size**2
-    yield "Round", "two-rounds", f"steps kobbelt 2 {label}", f"{label}-after2", 0.0
+    yield "Round", "second", f"step {weights(case)} {label}-after1", f"{label}-after2", 0.2 + 0.1 * size**2
+    yield "Round", "two-rounds", f"steps {weights(case)} 2 {label}", f"{label}-after2", 0.0
 
 
 def chosen_readings(readings, number):
@@ -284,12 +289,12 @@ def chosen_readings(readings, number):
     return [longest] if other is longest else [longest, other]
 
 
-def curve_facts(place, reading):
+def curve_facts(place, reading, w):
     kind = "Open" if reading["open"] else "Closed"
     given = points(reading["points"])
     for name, definition in (("rounded", "curve"), ("exact", "exactCurve")):
         for steps, stated in enumerate(reading[name], 1):
-            yield "Curve", f"{name}{place}-{steps}", f"{definition} kobbelt {kind} {steps} ({given})", points(stated), 0.1
+            yield "Curve", f"{name}{place}-{steps}", f"{definition} {w} {kind} {steps} ({given})", points(stated), 0.1
 
 
 def reading_facts(label, place, reading, case, with_seam):
@@ -320,12 +325,12 @@ def all_facts(label, number, case, options):
         yield from split_letter_facts(label, case)
     if "steps" not in case:
         return
-    yield from round_facts(label, label, [case["net"], case["steps"][0]], options.seed, options.whole)
+    yield from round_facts(label, label, [case["net"], case["steps"][0]], weights(case), options.seed, options.whole)
     if len(case["steps"]) > 1:
         yield from second_round_facts(label, case)
     yield from letter_facts(label, case, options.seed)
     for place, reading in enumerate(chosen_readings(case["readings"], number)):
-        yield from curve_facts(place, reading)
+        yield from curve_facts(place, reading, weights(case))
         yield from reading_facts(label, place, reading, case, options.seam)
 
 
@@ -335,7 +340,7 @@ def written_case(number, case, unfolding, options):
     for group, name, computed, stated, cost in all_facts(label, number, case, options):
         name = f"{label}-{name}"
         if name.endswith("two-rounds"):
-            text = f"{name} : {computed} ≡ {stated}\nunfolding steps\n{name} = ap (step kobbelt) {label}-round ∙ {label}-second\n"
+            text = f"{name} : {computed} ≡ {stated}\nunfolding steps\n{name} = ap (step {weights(case)}) {label}-round ∙ {label}-second\n"
         else:
             text = f"{name} : {computed} ≡ {stated}\nunfolding {unfolding[group]}\n{name} = refl\n"
         facts.append(Fact(group, name, text, stated, cost))
@@ -495,7 +500,7 @@ def print_detail(folder, case, fact, uses, crates):
     for vertex in range(len(net[2]), len(after[2])):
         for axis in range(3):
             name, value = f"{case.label}-vertex{vertex}-axis{axis}", integer(after[0][3 * vertex + axis])
-            computed = f"refinedCoordinate kobbelt {len(net[2])} ({label} .faces) ({label} .marks) (axis ({label} .vertices) {axis}) {vertex}"
+            computed = f"refinedCoordinate {weights(case.told)} {len(net[2])} ({label} .faces) ({label} .marks) (axis ({label} .vertices) {axis}) {vertex}"
             facts[name] = Fact("Round", name, f"{name} : {computed} ≡ {value}\n{unfolding}\n{name} = refl\n", value, 0)
     write_chunk(folder, "detail", [case._replace(facts=list(facts.values()))], uses, crates)
     result = kit_check(folder, ["detail"])
@@ -569,6 +574,32 @@ MUTATIONS = {
     "D without four inner edges taken as the mean": ("Letters", "ring", "origins/specs/Origins.antt", [("(meanOfBoth first second) second) first", "(meanOfBoth first second) second) (meanOfBoth first second)")]),
     "a letter table measured that is not asked for": ("Verdict", "polygons-stored-letters-not-asked", "verdict/specs/Verdict.antt", [("room .asked && ltb (room .letters)", "ltb (room .letters)")]),
     "letters filled that are not asked for": ("Outcome", "polygons-stored-letters-not-asked", "outcome/specs/Outcome.antt", [("cond (l .asked) (filled s (l .table)) (l .table)", "filled s (l .table)")]),
+    "31 + t for 32 + t": ("Round", "named-strip", "curve/specs/Weights.antt", [("near = 32 + t;", "near = 31 + t;")]),
+    "t + 1 for t": ("Curve", "single", "curve/specs/Weights.antt", [("far = t }", "far = t + 1 }")]),
+    "1/9 at every tension": ("Round", "ring", "rings/specs/Ring.antt", [("+ᶠ w .far ×ᶠ (k (j + (n - 2))", "+ᶠ 1 ×ᶠ (k (j + (n - 2))"), ("+ᶠ k (j + 1)) /ᶠ w .near", "+ᶠ k (j + 1)) /ᶠ 9")]),
+    "4/(9n) at every tension": ("Round", "ring", "rings/specs/Ring.antt", [("(4 * w .far) ×ᶠ sumᶠ n k /ᶠ (w .near * n)", "4 ×ᶠ sumᶠ n k /ᶠ (9 * n)")]),
+    "a tension of 5 accepted": ("Verdict", "polygons-stored-tension-5", "verdict/specs/Verdict.antt", [("(ltb 4 (c .tension))", "(ltb 5 (c .tension))")]),
+    "the tension tested before 4": (
+        "Verdict",
+        "polygons-stored-tension-5-and-short",
+        "verdict/specs/Verdict.antt",
+        [("callVerdict c = orElse (limitsVerdict (c .rounds) (c .net .sides) (lengthsOf (c .net) (c .room))) (refusedIf 16 (ltb 4 (c .tension)))",
+          "callVerdict c = orElse (refusedIf 16 (ltb 4 (c .tension))) (limitsVerdict (c .rounds) (c .net .sides) (lengthsOf (c .net) (c .room)))")],
+    ),
+    "the tension tested after 5": (
+        "Verdict",
+        "polygons-stored-tension-5-and-a-coordinate-beyond",
+        "verdict/specs/Verdict.antt",
+        [("verdict c = orElse (callVerdict c) (netVerdict (c .net))",
+          "verdict c = orElse (coordinatesVerdict (c .net .vertices)) (orElse (callVerdict c) (netVerdict (c .net)))")],
+    ),
+    "the work table cleared on 16": (
+        "Outcome",
+        "polygons-stored-tension-5",
+        "verdict/specs/Verdict.antt",
+        [("workAfter c w = afterCall (callVerdict c) w", "workAfter c w = afterCall (limitsVerdict (c .rounds) (c .net .sides) (lengthsOf (c .net) (c .room))) w")],
+    ),
+    "the old tension in a call": ("Outcome", "polygons-stored-tension-0", "outcome/specs/Outcome.antt", [("(steps (tension (a .tension)) (a .rounds)", "(steps (tension 4) (a .rounds)")]),
     "another end weight of the curve": ("Curve", "single", "curve/specs/Weights.antt", [("pos (w .near + w .far) *ℤ q", "pos (w .near) *ℤ q")]),
     "a loop followed backwards": ("Reading", "single", "topology/specs/Boundary.antt", [("step S l withSides h = along S l h", "step S l withSides h = back S l h")]),
 }
@@ -654,9 +685,11 @@ def print_coverage(cases, options):
     nets = [case for case in cases if "steps" in case]
     whole = sum(len(case["net"][1]) // 4 <= options.whole for case in nets)
     two = sum(len(case["steps"]) == 2 for case in nets)
+    tensions = collections.Counter(case["call"]["tension"] for case in cases if "steps" in case or "split" in case)
     readings = [reading for number, case in enumerate(cases, options.first) if "steps" in case for reading in chosen_readings(case["readings"], number)]
     ways = collections.Counter(f"{'open' if r['open'] else 'closed'} {'with' if r['with'] else 'against'} the sides" for r in readings)
     print(f"{len(nets)} accepted nets with 1 round: {whole} with all coordinates, {len(nets) - whole} with one axis of every point; {two} of them with 2 rounds")
+    print("accepted nets by tension: " + ", ".join(f"{tension}: {tensions[tension]}" for tension in sorted(tensions)))
     splits = [case for case in cases if "split" in case]
     told = sum(len(case["net"][1]) <= ROUND_CORNERS for case in splits)
     print(f"{len(splits)} accepted nets with side counts with their split, {told} of them with the round after it")

@@ -94,8 +94,10 @@ outputs() {
     diff "$root/tests/nets/cases/paper-raised-centre.out" <("$1/panel") \
         && diff "$root/tests/package/triangles.out" <("$1/triangles" && "$1/triangles" 1) \
         && diff "$root/tests/package/letters.out" <("$1/letters" && "$1/letters" 2 && "$1/letters" 1 24) \
+        && diff "$root/tests/package/tension.out" <("$1/tension" && "$1/tension" 2) \
         && diff "$root/tests/package/seam.out" <("$1/seam") \
-        && ! "$1/panel" 7 2>"$1/refused" && diff <(echo 'panel: refusal 1, place 0: more than 6 rounds') "$1/refused"
+        && ! "$1/panel" 7 2>"$1/refused" && diff <(echo 'panel: refusal 1, place 0: more than 6 rounds') "$1/refused" \
+        && ! "$1/tension" 5 2>"$1/refused" && diff <(echo 'tension: refusal 16, place 0: the tension is above 4') "$1/refused"
 }
 
 by_pkg_config() {
@@ -104,6 +106,7 @@ by_pkg_config() {
         && "${c[@]}" $(flags --cflags) "$root/package/examples/panel.c" $(flags --libs) -o "$to/panel" \
         && "${c[@]}" $(flags --cflags) "$root/package/examples/triangles.c" $(flags --libs) -o "$to/triangles" \
         && "${c[@]}" $(flags --cflags) "$root/package/examples/letters.c" $(flags --libs) -o "$to/letters" \
+        && "${c[@]}" $(flags --cflags) "$root/package/examples/tension.c" $(flags --libs) -o "$to/tension" \
         && "${cxx[@]}" $(flags --cflags) "$root/package/examples/seam.cpp" $(flags --libs) -o "$to/seam" \
         && outputs "$to"
 }
@@ -138,7 +141,7 @@ cmake_finds() {
         && cmake -S "$scratch/find" -B "$scratch/find/build" -DCMAKE_PREFIX_PATH="$prefix" "${@:2}"
 }
 
-# of version 0.5.1, say
+# of version 0.6.0, say
 cmake_versions() {
     local major minor patch
     IFS=. read -r major minor patch <<<"$version"
@@ -191,11 +194,12 @@ wrong_header() {
 
 wrong_constants() {
     for wrong in MAX_ROUNDS/5 MAX_ROUNDS/7 MAX_VERTICES/8190 MAX_VERTICES/8194 MAX_FACES/4095 MAX_FACES/5000 MAX_REFINED_FACES/262143 MAX_REFINED_FACES/266240 \
-        MAX_COORDINATE/1048575 MAX_COORDINATE/1048577 MAX_RING/7 MAX_RING/9 MAX_FAN/5 MAX_FAN/7 MIN_SIDES/2 MIN_SIDES/4 MAX_SIDES/7 MAX_SIDES/9 MAX_TALLY/3999999999 MAX_TALLY/4000000001; do
+        MAX_COORDINATE/1048575 MAX_COORDINATE/1048577 MAX_RING/7 MAX_RING/9 MAX_FAN/5 MAX_FAN/7 MIN_SIDES/2 MIN_SIDES/4 MAX_SIDES/7 MAX_SIDES/9 MAX_TALLY/3999999999 MAX_TALLY/4000000001 \
+        MAX_TENSION/3 MAX_TENSION/5 DEFAULT_TENSION/0 DEFAULT_TENSION/3; do
         wrong_header "s/(define GEDROVIT_${wrong%/*}) .*/\\1 ${wrong#*/}/" || return
     done
     local reason=1 next
-    for next in {2..12} 14 15; do
+    for next in {2..12} 14 15 16; do
         wrong_header "s/^(    GEDROVIT_.* = )$reason,/\\1@,/; s/^(    GEDROVIT_.* = )$next(,?)$/\\1$reason\\2/; s/@/$next/" || return
         reason=$next
     done
@@ -205,18 +209,22 @@ wrong_constants() {
     done
 }
 
-# not_linked FOLDER COMPILER ..: a program compiled with the headers in this folder does not link, by the symbol with the version
+# not_linked SYMBOL COMPILER ..: a program compiled with the headers in $scratch/other does not link, for want of this symbol
 not_linked() {
-    ! "${@:2}" -I "$1" "$root/tests/package/flat.c" -x none -L "$prefix/lib" -lgedrovit -o "$scratch/flat" 2>"$scratch/said" && grep -q 'gedrovit_version_[0-9_]*_999' "$scratch/said"
+    ! "${@:2}" -I "$scratch/other" "$root/tests/package/flat.c" -x none -L "$prefix/lib" -lgedrovit -o "$scratch/flat" 2>"$scratch/said" && grep -qw "$1" "$scratch/said"
 }
 
-# A header and an archive of different versions do not meet, whatever the compiler leaves out.
+# A header and an archive of different versions do not meet, whatever the compiler leaves out: another patch, and the version before the tension.
 version_guard() {
-    local small=(-O2 -ffunction-sections -fdata-sections -Wl,--gc-sections)
-    edited "$scratch/other" 's/^(#define GEDROVIT_VERSION_PATCH) .*/\1 999/' || return
-    for compiler in "${CC:-cc} -std=c11 -x c" "${CXX:-c++} -std=c++17 -x c++"; do
-        $compiler "${strict[@]}" "${small[@]}" -I "$prefix/include" "$root/tests/package/flat.c" -x none -L "$prefix/lib" -lgedrovit -o "$scratch/flat" && "$scratch/flat" \
-            && not_linked "$scratch/other" $compiler && not_linked "$scratch/other" $compiler "${small[@]}" && not_linked "$scratch/other" $compiler -O2 -flto || return
+    local small=(-O2 -ffunction-sections -fdata-sections -Wl,--gc-sections) other major minor patch symbol
+    for other in "${version%.*}.999" 0.5.1; do
+        IFS=. read -r major minor patch <<<"$other"
+        symbol=gedrovit_version_${other//./_}
+        edited "$scratch/other" "s/^(#define GEDROVIT_VERSION_MAJOR) .*/\\1 $major/; s/^(#define GEDROVIT_VERSION_MINOR) .*/\\1 $minor/; s/^(#define GEDROVIT_VERSION_PATCH) .*/\\1 $patch/" || return
+        for compiler in "${CC:-cc} -std=c11 -x c" "${CXX:-c++} -std=c++17 -x c++"; do
+            $compiler "${strict[@]}" "${small[@]}" -I "$prefix/include" "$root/tests/package/flat.c" -x none -L "$prefix/lib" -lgedrovit -o "$scratch/flat" && "$scratch/flat" \
+                && not_linked "$symbol" $compiler && not_linked "$symbol" $compiler "${small[@]}" && not_linked "$symbol" $compiler -O2 -flto || return
+        done
     done
 }
 
@@ -232,6 +240,27 @@ old_source() {
         'int main(void)' '    return t.letters != NULL || t.letters_length != 0;' >"$scratch/old.c"
     for compiler in "${CC:-cc} -std=c11 -x c" "${CXX:-c++} -std=c++17 -x c++"; do
         $compiler "${strict[@]}" -I "$prefix/include" "$scratch/old.c" -x none -L "$prefix/lib" -lgedrovit -o "$scratch/old" && "$scratch/old" || return
+    done
+}
+
+# Programs of version 0.5.1, which know of no tension, compile as they are and get the points that 0.5.1 gave.
+old_points() {
+    local maker=$scratch/maker
+    ! grep -i tension "$root"/tests/package/old_points.* && mkdir -p "$maker/src" && cp "$root/tests/package/old_points.rs" "$maker/src/main.rs" \
+        && printf '[package]\nname = "maker"\nversion = "1.0.0"\nedition = "2021"\n[dependencies]\ngedrovit.path = "%s"\n[workspace]\n' "$root/package/rust" >"$maker/Cargo.toml" \
+        && program old-points-c old_points.c "${c[@]}" && diff "$root/tests/package/old_points.out" <("$scratch/old-points-c") \
+        && program old-points-c++ old_points.cpp "${cxx[@]}" && diff "$root/tests/package/old_points.out" <("$scratch/old-points-c++") \
+        && diff "$root/tests/package/old_points.out" <(GEDROVIT_LIB_DIR="$prefix/lib" CARGO_TARGET_DIR="$maker/target" cargo run --quiet --offline --manifest-path "$maker/Cargo.toml")
+}
+
+# Calls of the archive's functions as version 0.5.1 had them do not compile, in C and in C++.
+no_tension() {
+    printf '#include <gedrovit.h>\nuint32_t f(gedrovit_tally *, int32_t *, uint32_t *, uint8_t *);\n%s\n{\n    return\n%s\n%s\n}\n' 'uint32_t f(gedrovit_tally *t, int32_t *p, uint32_t *n, uint8_t *b)' \
+        'gedrovit_refine(t, 1, p, 12, n, 4, b, 0, b, 4, TENSION p, 48, n, 16, b, 16, false, b, 0, n, 64).reason +' 'gedrovit_check(1, p, 12, n, 4, b, 0, b, 4, TENSION 48, 16, 16, false, 0, n, 64).reason;' >"$scratch/flat-call.c"
+    for compiler in "${CC:-cc} -std=c11 -x c" "${CXX:-c++} -std=c++17 -x c++"; do
+        $compiler "${strict[@]}" -fsyntax-only -I "$prefix/include" -DTENSION=4, "$scratch/flat-call.c" \
+            && ! $compiler -w -fsyntax-only -I "$prefix/include" -DTENSION= "$scratch/flat-call.c" 2>"$scratch/said" \
+            && grep -q 'flat-call.c:6:.*error' "$scratch/said" && grep -q 'flat-call.c:7:.*error' "$scratch/said" || return
     done
 }
 
@@ -315,6 +344,8 @@ check "wrong constants are seen" wrong_constants
 check "header and archive of different versions" version_guard
 check "types without an archive" types_only
 check "tables started by their function ask for no letters" old_source
+check "programs of 0.5.1 get their old points" old_points
+check "calls of the archive without a tension" no_tension
 check "a refining call without the record" no_record
 check "two plug-ins with archives" plugins
 check "archive in a shared object" shared_object

@@ -160,7 +160,7 @@ def boundary():
     for point, name, weight, y in (p, "p", "−1", -12), (q, "q", "9", -12), (r, "r", "9", -12), (s, "s", "−1", -12):
         picture.word(point, name, y=y)
         picture.word(point, weight, y=26)
-    picture.caption("inside a segment, over 16")
+    picture.caption("inside a segment, over 16 at t = 4")
     picture.move(1)
     p, q, r = (40, 150), (150, 72), (290, 108)
     picture.path("b", p, q, r)
@@ -170,7 +170,7 @@ def boundary():
     for point, name, weight in (p, "p0", "7"), (q, "p1", "10"), (r, "p2", "−1"):
         picture.word(point, name, y=-14)
         picture.word(point, weight, y=26)
-    picture.caption("on an end edge, over 16")
+    picture.caption("on an end edge, over 16 at t = 4")
     picture.move(2)
     p, q = (70, 140), (264, 84)
     picture.path("b", p, q)
@@ -231,7 +231,7 @@ def straight(picture):
         picture.word(point, word, 15, -10)
     for point, word in zip(rows[1][1:3], "PQ"):
         picture.word(point, word, 14, 22)
-    picture.caption("four faces at both ends, over 16")
+    picture.caption("rings of four, over 16 at t = 4")
 
 
 def ring(picture):
@@ -292,9 +292,9 @@ def strip(picture, xs, walls, rule, weights, caption):
 def face_points():
     """One direction of a face."""
     picture = Picture(270)
-    strip(picture, (20, 112, 210, 300), (), interior, ("−1", "9", "9", "−1"), "two neighbours, over 16")
+    strip(picture, (20, 112, 210, 300), (), interior, ("−1", "9", "9", "−1"), "two neighbours, over 16 at t = 4")
     picture.move(1)
-    strip(picture, (60, 160, 262), (0,), end, ("7", "10", "−1"), "one neighbour, over 16")
+    strip(picture, (60, 160, 262), (0,), end, ("7", "10", "−1"), "one neighbour, over 16 at t = 4")
     picture.move(2)
     strip(picture, (100, 226), (0, 1), middle, ("1", "1"), "no neighbour, over 2")
     return picture

@@ -19,7 +19,7 @@ topology/Shape topology/HalfEdge topology/Boundary topology/Vertex topology/Quad
 polygons/Polygons refusals/Refusals verdict/Call verdict/Verdict verdict/LargeRing
 rounding/Rounding curve/Weights curve/Curve curve/Near fractions/Fraction rings/Ring rules/Rules
 refinedfaces/Refined scheme/Rings scheme/Points scheme/Step splitting/Splitting origins/Origins origins/Named outcome/Tally outcome/Outcome outcome/Series outcome/AsBefore
-seam/Reading outcome/SharedSegment seam/Split outcome/SplitSegment integers/Within outcome/Coordinates nets/Moved outcome/Moved outcome/Traced schemelaws/Nets splitting/Drawn schemelaws/Agreement
+seam/Reading outcome/SharedSegment seam/Split outcome/SplitSegment integers/Within outcome/Coordinates nets/Moved outcome/Moved outcome/Traced outcome/OldPoints outcome/Midpoints schemelaws/Nets splitting/Drawn schemelaws/Agreement
 admission/Answer admission/Admission refine/Answer capi/Export capi/Version cases/Cases
 decimal/Decimal text/Bytes text/Form text/Text text/Written objform/Form objform/Text reading/Loaded printing/Tables printing/Lines
 program/Answer program/RoundTrip program/Forms

@@ -1,21 +1,23 @@
 /*
- * Gedrovit refines nets of quadrilateral faces by Kobbelt's interpolatory subdivision at weight 1.
- * Nets with faces of 3 to 8 sides are first split into quadrilaterals. Every new coordinate is worked
- * out exactly and rounded once, to the nearest whole number, halves upward: 2.5 to 3, -2.5 to -2. Two
- * nets that share a boundary segment where refining begins, after the split if there is one, share it
- * afterwards, point for point, whatever the rest of either net is. A net that is moved by whole
- * numbers gives its refined net moved by the same, if the coordinates of both are in range.
+ * Gedrovit refines nets of quadrilateral faces by Kobbelt's interpolatory subdivision, at a tension
+ * that the caller may choose. Nets with faces of 3 to 8 sides are first split into quadrilaterals.
+ * Every new coordinate is worked out exactly and rounded once, to the nearest whole number, halves
+ * upward: 2.5 to 3, -2.5 to -2. Two nets of equal tension that share a boundary segment where
+ * refining begins, after the split if there is one, share it afterwards, point for point, whatever the
+ * rest of either net is. A net that is moved by whole numbers gives its refined net moved by the
+ * same, if the coordinates of both are in range.
  *
  * C11 and C++17, x86-64 Linux (System V ABI). Link with libgedrovit.a; nothing but the C library is
  * needed beside it.
  *
  *
- * The net: three tables, and a fourth one for faces of other than four sides
+ * The net: three tables, a fourth one for faces of other than four sides, and the tension
  *
  *   vertices   int32_t    x, y, z of each vertex, from -1,048,576 to 1,048,576
  *   faces      uint32_t   the corners of each face, as vertex numbers from 0, in order round it
  *   marks      uint8_t    for each vertex 1 if the boundary has a corner there, 0 if not
  *   sides      uint8_t    the side counts: for each face how many sides it has, from 3 to 8
+ *   tension    uint32_t   a number from 0 to 4, said below
  *
  * Without side counts, that is with a table of length 0, every face has four sides. With side counts
  * the corners of the faces follow each other in the face table without gaps, and the counts add up to
@@ -28,7 +30,8 @@
  * Side s of a face runs from corner s to corner s + 1, the last side from the last corner to corner
  * 0. Two faces that share an edge run along it in opposite directions. An edge of one face is a
  * boundary edge. Marked vertices cut a boundary loop into segments, from one mark to the next; a loop
- * without marks is one closed segment. Each segment is refined as a curve of its own points alone.
+ * without marks is one closed segment. Each segment is refined as a curve of its own points alone, at
+ * the net's tension.
  *
  * An open segment is read from one end to the other, both included; with one mark on a loop both
  * ends are that vertex. A closed segment is read once round from any of its vertices, the first not
@@ -40,9 +43,24 @@
  * share as they are drawn is shared there if both have side counts or neither has. If only one has
  * them it need not be: one net has the midpoints of its edges, the other has not.
  *
- * Both nets must be refined by versions with the same rounding: this version rounds halves upward, as
+ * Both nets must have the same tension; at two tensions they need not share the segment afterwards.
+ * Both must be refined by versions with the same rounding: this version rounds halves upward, as
  * every version since 0.3.0; 0.1.x and 0.2.0 away from zero. Two nets of which only one is refined by
- * one of these need not share the segment afterwards.
+ * one of these need not share the segment afterwards. Versions before 0.6.0 refine at tension 4.
+ *
+ *
+ * The tension
+ *
+ * At tension t Kobbelt's weight is t/4 in every rule. On the boundary, inside a segment, the points
+ * p, q, r, s in order give the point ((32 + t) (q + r) - t (p + s)) / 64 between q and r, which stands
+ * off the midpoint in proportion to t. A net has tension 4, the weight 1, unless it is set otherwise:
+ * the roundest surface. A lower tension overshoots less. At 0 new points are the midpoints of edges
+ * and the means of the corners of faces, and nothing overshoots. This is a surface as the others are:
+ * 0 never means that no tension was set.
+ *
+ * The tension changes the coordinates of new points and nothing else: numbering, faces, marks,
+ * letters, new points in the record, table lengths and reasons 5 to 12 are the same at every tension.
+ * The points of the split do not depend on it.
  *
  *
  * The split
@@ -92,10 +110,10 @@
  *
  * A face has two directions; each takes two opposite sides of the face and, beyond each, the opposite
  * edge of the neighbour there, if there is one. The byte is that of the letter in ASCII. Faces, side
- * counts and marks decide it, coordinates never do. V stands for exactly the drawn vertices, which are
- * the first ones. A vertex keeps its letter in later steps. Only drawn vertices have marks, so a segment
- * of one edge gives one M, and in the next step two B. After the split no segment has one edge alone:
- * M and S do not meet in one answer.
+ * counts and marks decide it, coordinates and tension never do. V stands for exactly the drawn
+ * vertices, which are the first ones. A vertex keeps its letter in later steps. Only drawn vertices
+ * have marks, so a segment of one edge gives one M, and in the next step two B. After the split no
+ * segment has one edge alone: M and S do not meet in one answer.
  *
  *
  * The record of new points
@@ -126,8 +144,8 @@
  *   reason     output tables                                  work
  *   0          from the front, the refined vertices, faces    the first 16 G are 0
  *              and marks, and the letters if asked for
- *   1 to 4     as before                                      as before
- *   and 14
+ *   1 to 4,    as before                                      as before
+ *   14 and 16
  *   5 to 12    as before                                      the first 16 G are 0
  *   and 15
  *
@@ -204,10 +222,10 @@
 #include <stdint.h>
 
 /* The version of this header. */
-#define GEDROVIT_VERSION "0.5.1"
+#define GEDROVIT_VERSION "0.6.0"
 #define GEDROVIT_VERSION_MAJOR 0
-#define GEDROVIT_VERSION_MINOR 5
-#define GEDROVIT_VERSION_PATCH 1
+#define GEDROVIT_VERSION_MINOR 6
+#define GEDROVIT_VERSION_PATCH 0
 
 /* The same as a number, to be compared with gedrovit_version(), and at the end of a name. */
 #define GEDROVIT_VERSION_NUMBER \
@@ -227,7 +245,11 @@
 #define GEDROVIT_MAX_FAN 6
 #define GEDROVIT_MIN_SIDES 3
 #define GEDROVIT_MAX_SIDES 8
+#define GEDROVIT_MAX_TENSION 4
 #define GEDROVIT_MAX_TALLY 4000000000
+
+/* The tension of a net that sets none. */
+#define GEDROVIT_DEFAULT_TENSION 4
 
 /* What calls stay within, as said above. */
 #define GEDROVIT_MAX_REFINED_COORDINATE 268435456
@@ -250,7 +272,7 @@ extern "C" {
  * Why a call was refused. If several reasons hold, the first in this order is reported:
  *
  *   1; 2 by the vertex table; with side counts 14, without them 2 by the face table;
- *   2 by the marks; 3; 4; then 5 to 12, as they are numbered; 15.
+ *   2 by the marks; 3; 4; 16; then 5 to 12, as they are numbered; 15.
  *
  * The place is the lowest vertex or face number concerned. 5 to 12 speak of the net as it is drawn,
  * before its split.
@@ -295,7 +317,9 @@ enum gedrovit_reason {
     /* a side count outside 3 to 8, or counts that do not add up to faces_length */
     GEDROVIT_INVALID_SIDE_COUNTS = 14,
     /* the record of new points would be above 4,000,000,000 after the call, even if nothing is added */
-    GEDROVIT_TALLY_LIMIT = 15
+    GEDROVIT_TALLY_LIMIT = 15,
+    /* tension above 4 */
+    GEDROVIT_TENSION_OUT_OF_RANGE = 16
 };
 
 /* What a reason says, in English; the place is not in it. */
@@ -317,6 +341,7 @@ GEDROVIT_INLINE const char *gedrovit_reason_text(uint32_t reason) GEDROVIT_NOEXC
     case GEDROVIT_MARKED_INTERIOR_VERTEX: return "the vertex is marked and not on the boundary";
     case GEDROVIT_INVALID_SIDE_COUNTS: return "a side count is not from 3 to 8, or the counts do not add up to the corners";
     case GEDROVIT_TALLY_LIMIT: return "the record of new points would be above 4,000,000,000";
+    case GEDROVIT_TENSION_OUT_OF_RANGE: return "the tension is above 4";
     default: return "a reason that this version does not know";
     }
 }
@@ -379,8 +404,10 @@ typedef struct {
 
 /*
  * A net, only read. Start it by gedrovit_net_of, never by {0} or a list of its fields: a field that a
- * later version adds then has the value that keeps the old behaviour, and that need not be 0. It has
- * no side counts then; set `sides` and `sides_length` afterwards for a net with other faces.
+ * later version adds then has the value that keeps the old behaviour, and that need not be 0. The
+ * tension is such a field: {0} makes it 0, another surface, and no call can tell that from a wish. A
+ * started net has no side counts and tension 4; set `sides` and `sides_length` afterwards for a net
+ * with other faces, and `tension` for a softer surface.
  */
 typedef struct {
     const int32_t *vertices;
@@ -391,6 +418,7 @@ typedef struct {
     size_t marks_length;
     const uint8_t *sides;
     size_t sides_length; /* 0: every face has four sides */
+    uint32_t tension; /* from 0 to 4 */
 } gedrovit_net;
 
 GEDROVIT_INLINE gedrovit_net gedrovit_net_of(const int32_t *vertices, size_t vertices_length,
@@ -406,6 +434,7 @@ GEDROVIT_INLINE gedrovit_net gedrovit_net_of(const int32_t *vertices, size_t ver
     net.marks_length = marks_length;
     net.sides = NULL;
     net.sides_length = 0;
+    net.tension = GEDROVIT_DEFAULT_TENSION;
     return net;
 }
 
@@ -467,14 +496,16 @@ GEDROVIT_KEPT static uint32_t (*const gedrovit_same_version)(void) = GEDROVIT_VE
 #undef GEDROVIT_KEPT
 
 /*
- * Refines a net into the output tables and adds its new points to the record, or says why not.
- * `with_letters` asks for letters. Without it pass the address of any byte, and length 0, for them.
+ * Refines a net into the output tables and adds its new points to the record, or says why not. For
+ * the surface of versions before 0.6.0 pass GEDROVIT_DEFAULT_TENSION as `tension`. `with_letters` asks
+ * for letters. Without it pass the address of any byte, and length 0, for them.
  */
 GEDROVIT_API gedrovit_report gedrovit_refine(gedrovit_tally *tally, uint32_t rounds,
                                              const int32_t *vertices, size_t vertices_length,
                                              const uint32_t *faces, size_t faces_length,
                                              const uint8_t *sides, size_t sides_length,
                                              const uint8_t *marks, size_t marks_length,
+                                             uint32_t tension,
                                              int32_t *out_vertices, size_t out_vertices_length,
                                              uint32_t *out_faces, size_t out_faces_length,
                                              uint8_t *out_marks, size_t out_marks_length,
@@ -491,12 +522,13 @@ GEDROVIT_API gedrovit_finding gedrovit_check(uint32_t rounds,
                                              const uint32_t *faces, size_t faces_length,
                                              const uint8_t *sides, size_t sides_length,
                                              const uint8_t *marks, size_t marks_length,
+                                             uint32_t tension,
                                              size_t out_vertices_length, size_t out_faces_length,
                                              size_t out_marks_length,
                                              bool with_letters, size_t letters_length,
                                              uint32_t *work, size_t work_length) GEDROVIT_NOEXCEPT;
 
-/* The lengths of tables that serve a net of these lengths, with these side counts. */
+/* The lengths of tables that serve a net of these lengths, with these side counts, at any tension. */
 GEDROVIT_API gedrovit_sizes gedrovit_sizes_for(uint32_t rounds, size_t vertices_length, size_t faces_length,
                                                const uint8_t *sides, size_t sides_length,
                                                size_t marks_length) GEDROVIT_NOEXCEPT;
@@ -504,7 +536,7 @@ GEDROVIT_API gedrovit_sizes gedrovit_sizes_for(uint32_t rounds, size_t vertices_
 /*
  * The same over records. A pointer may be null where its length is 0; the other duties stay.
  * gedrovit_check_net looks at the work table, at the lengths of the others, and at whether `letters`
- * is null alone.
+ * is null alone. gedrovit_sizes_for_net does not look at the tension.
  */
 GEDROVIT_INLINE gedrovit_report gedrovit_refine_net(gedrovit_tally *tally, uint32_t rounds, const gedrovit_net *net,
                                                     const gedrovit_tables *tables) GEDROVIT_NOEXCEPT
@@ -519,6 +551,7 @@ GEDROVIT_INLINE gedrovit_report gedrovit_refine_net(gedrovit_tally *tally, uint3
                            net->faces_length == 0 ? &number : net->faces, net->faces_length,
                            net->sides_length == 0 ? &byte : net->sides, net->sides_length,
                            net->marks_length == 0 ? &byte : net->marks, net->marks_length,
+                           net->tension,
                            tables->vertices_length == 0 ? &coordinate : tables->vertices, tables->vertices_length,
                            tables->faces_length == 0 ? &number : tables->faces, tables->faces_length,
                            tables->marks_length == 0 ? &byte : tables->marks, tables->marks_length,
@@ -537,6 +570,7 @@ GEDROVIT_INLINE gedrovit_finding gedrovit_check_net(uint32_t rounds, const gedro
                           net->faces_length == 0 ? &number : net->faces, net->faces_length,
                           net->sides_length == 0 ? &byte : net->sides, net->sides_length,
                           net->marks_length == 0 ? &byte : net->marks, net->marks_length,
+                          net->tension,
                           tables->vertices_length, tables->faces_length, tables->marks_length,
                           tables->letters != NULL, tables->letters != NULL ? tables->letters_length : 0,
                           tables->work_length == 0 ? &number : tables->work, tables->work_length);

@@ -9,7 +9,7 @@
 #include <stdlib.h>
 #include <string.h>
 
-enum { VERTICES = 40000, FACES = 20000, REFINED = 300000 };
+enum { VERTICES = 40000, FACES = 20000, REFINED = 300000, FILL = 0xA5 };
 
 static int32_t vertices[3 * VERTICES], out_vertices[12 * REFINED];
 static uint32_t faces[4 * FACES], out_faces[4 * REFINED], work[16 * REFINED];
@@ -181,11 +181,49 @@ static void limit_of_record(void)
     answer_from("6 before 15", UINT64_MAX, 1, net(), tables(), GEDROVIT_INVALID_MARK, 3);
 }
 
+static int is_filled(const void *table, size_t bytes)
+{
+    const unsigned char *first = table;
+    for (size_t i = 0; i < bytes; i++)
+        if (first[i] != FILL)
+            return 0;
+    return 1;
+}
+
+/* Above the limit nothing is touched, in no table that is lent; the sizes do not look at the tension. */
+static void limit_of_tension(void)
+{
+    square();
+    gedrovit_net n = net();
+    for (n.tension = 0; n.tension <= GEDROVIT_MAX_TENSION; n.tension++)
+        answer_by("up to MAX_TENSION", 1, n, tables(), GEDROVIT_ACCEPTED, 0);
+    gedrovit_tables t = tables();
+    t.letters = memset(letters, FILL, sizeof letters);
+    t.letters_length = sizeof letters;
+    memset(out_vertices, FILL, sizeof out_vertices);
+    memset(out_faces, FILL, sizeof out_faces);
+    memset(out_marks, FILL, sizeof out_marks);
+    memset(work, FILL, sizeof work);
+    for (uint32_t rounds = 0; rounds <= GEDROVIT_MAX_ROUNDS; rounds++)
+        answer_by("MAX_TENSION + 1", rounds, n, t, GEDROVIT_TENSION_OUT_OF_RANGE, 0);
+    expect("MAX_TENSION + 1 in the sizes", gedrovit_sizes_for_net(1, &n).reason, GEDROVIT_ACCEPTED);
+    answer_from("16 before 15", UINT64_MAX, 1, n, t, GEDROVIT_TENSION_OUT_OF_RANGE, 0);
+    n.tension = UINT32_MAX;
+    answer_by("the largest tension", 1, n, t, GEDROVIT_TENSION_OUT_OF_RANGE, 0);
+    gedrovit_net none = gedrovit_net_of(NULL, 0, NULL, 0, NULL, 0);
+    none.tension = GEDROVIT_MAX_TENSION + 1;
+    answer_by("no faces and MAX_TENSION + 1", 1, none, t, GEDROVIT_TENSION_OUT_OF_RANGE, 0);
+    expect("a refused tension: outputs", is_filled(out_vertices, sizeof out_vertices) && is_filled(out_faces, sizeof out_faces)
+           && is_filled(out_marks, sizeof out_marks) && is_filled(letters, sizeof letters), 1);
+    expect("a refused tension: work", is_filled(work, sizeof work), 1);
+}
+
 /* The first in the order that the header states: each fault beside those that come later. */
 static void order(void)
 {
     const gedrovit_tables none = gedrovit_tables_of(NULL, 0, NULL, 0, NULL, 0, NULL, 0);
     gedrovit_net n = loose(GEDROVIT_MAX_SIDES + 1, 9000);
+    n.tension = GEDROVIT_MAX_TENSION + 1;
     n.marks_length = 7;
     n.vertices_length--;
     answer_by("1 before 2", GEDROVIT_MAX_ROUNDS + 1, n, none, GEDROVIT_TOO_MANY_ROUNDS, 0);
@@ -198,7 +236,12 @@ static void order(void)
     n.marks_length = 9000;
     answer_by("3 before 4", 1, n, none, GEDROVIT_NET_TOO_LARGE, 0);
     n = loose(5, 10);
+    n.tension = GEDROVIT_MAX_TENSION + 1;
     vertices[0] = GEDROVIT_MAX_COORDINATE + 1;
+    answer_by("4 before 16", 1, n, none, GEDROVIT_TABLE_TOO_SHORT, 0);
+    answer_by("16 before 5", 1, n, tables(), GEDROVIT_TENSION_OUT_OF_RANGE, 0);
+    n.tension = GEDROVIT_DEFAULT_TENSION;
+    answer_by("5 without 16", 1, n, tables(), GEDROVIT_COORDINATE_OUT_OF_RANGE, 0);
     answer_by("4 before 5", 1, n, none, GEDROVIT_TABLE_TOO_SHORT, 0);
     n.sides_length--;
     answer_by("counts below the corners", 1, n, none, GEDROVIT_INVALID_SIDE_COUNTS, 0);
@@ -296,6 +339,22 @@ static void grid(size_t columns, size_t rows)
     }
 }
 
+/* The first edge point of an unmarked square of side 16: its y is -t/2, halves upward, and a net has the default tension unless it is set. */
+static void points_of_tensions(void)
+{
+    static const int32_t due[] = {0, 0, -1, -1, -2};
+    gedrovit_tally tally = {0};
+    const gedrovit_tables t = tables();
+    grid(1, 1);
+    gedrovit_net n = net();
+    expect("refined at the tension of a started net", gedrovit_refine_net(&tally, 1, &n, &t).reason, GEDROVIT_ACCEPTED);
+    expect("a point at the tension of a started net", (uint64_t)out_vertices[13], (uint64_t)-2);
+    for (n.tension = 0; n.tension < sizeof due / sizeof *due; n.tension++) {
+        expect("refined at a tension", gedrovit_refine_net(&tally, 1, &n, &t).reason, GEDROVIT_ACCEPTED);
+        expect("a point at a tension", (uint64_t)out_vertices[13], (uint64_t)due[n.tension]);
+    }
+}
+
 /* How many of these letters the last call gave. */
 static size_t count(uint8_t letter)
 {
@@ -381,7 +440,7 @@ static void empty(void)
 static void texts(void)
 {
     const char *unknown = gedrovit_reason_text(UINT32_MAX);
-    for (uint32_t reason = 0; reason <= GEDROVIT_TALLY_LIMIT; reason++) {
+    for (uint32_t reason = 0; reason <= GEDROVIT_TENSION_OUT_OF_RANGE; reason++) {
         expect("reason without a text", strcmp(gedrovit_reason_text(reason), unknown) == 0, reason == 13);
         for (uint32_t other = 0; other < reason; other++)
             expect("two reasons with one text", strcmp(gedrovit_reason_text(reason), gedrovit_reason_text(other)) == 0, 0);
@@ -403,10 +462,12 @@ int main(void)
     limits_of_nets();
     limits_of_sides();
     limit_of_record();
+    limit_of_tension();
     order();
     lengths();
     lengths_of_letters();
     letters_of_points();
+    points_of_tensions();
     reasons_of_nets();
     empty();
     texts();

@@ -39,7 +39,7 @@ header = read(HEADER)
 C = {name: int(value) for name, value in re.findall(r"^#define GEDROVIT_(\w+) (\d+)$", header, re.M)}
 ROUNDS, V, F, G = C["MAX_ROUNDS"], C["MAX_VERTICES"], C["MAX_FACES"], C["MAX_REFINED_FACES"]
 COORDINATE, REFINED, RING, FAN = C["MAX_COORDINATE"], C["MAX_REFINED_COORDINATE"], C["MAX_RING"], C["MAX_FAN"]
-SIDES, TALLY = (C["MIN_SIDES"], C["MAX_SIDES"]), C["MAX_TALLY"]
+SIDES, TALLY, TENSION, DEFAULT_TENSION = (C["MIN_SIDES"], C["MAX_SIDES"]), C["MAX_TALLY"], C["MAX_TENSION"], C["DEFAULT_TENSION"]
 RING_LEAST = 3
 
 # ---- the definitions
@@ -52,6 +52,8 @@ hold("refusals", r"badValence .* \(ltb N \(valence l p\)\) \(ltb \(valence l p\)
 SPECS = "".join(path.read_text(encoding="utf-8") for path in sorted(ROOT.glob("crates/*/specs/*.antt")))
 hold("side counts", r"(?m)^badCount .* = ltb \w+ N \|\| ltb N ", SPECS, [SIDES])
 hold("record of new points", r"refusedIf 15 \(ltb N ", SPECS, [(TALLY,)])
+hold("tension", r"refusedIf 16 \(ltb N ", VERDICT, [(TENSION,)])
+hold("old points", r"\.tension ≡ N\b", read("crates/outcome/specs/OldPoints.antt"), [(DEFAULT_TENSION,)])
 hold("outcome", r"Within N ", read("crates/outcome/specs/Coordinates.antt"), [(REFINED,)])
 FACTORS = numbers(r"\bN \* g", "".join(re.findall(r"(?m)^needed g = .*", SPECS)))
 if len(FACTORS) != 5:
@@ -97,6 +99,9 @@ LIMITS = [
     (r"faces of N to N sides", [SIDES], 1),
     (r"sides? it has, from N to N", [SIDES], 1),
     (r"(?:would be|never) above N", [(TALLY,)], 3),
+    (r"[Tt]ension (?:is )?above N", [(TENSION,)], 2),
+    (r"[Tt]ension\b[^.;]{0,30}from 0 to N", [(TENSION,)], 1),
+    (r"(?:net|nets) ha(?:s|ve) (?:the )?tension N", [(DEFAULT_TENSION,)], 1),
     (r"N bytes for each refined face", [(132,), (136,)], 2),
     (r"more than N bytes", [(TEXT,)], 0),
 ]
@@ -106,8 +111,14 @@ for name, text in texts.items():
     for pattern, due, least in LIMITS:
         hold(name, pattern, text, due, least if name.endswith("gedrovit.h") else 0)
 
+# ---- the overshoot of the cushion, at 100 counts to a millimetre
+CUSHION = re.findall(r"^tension (\d): .*, (\d+) beyond .*, (\d+) above ", read("tests/package/tension.out"), re.M)
+for tension, outline, top in CUSHION:
+    if f"| {tension} | {int(top) / 100:.2f} mm | {int(outline) / 100:.2f} mm |" not in read("docs/MAKERS.md").splitlines():
+        faults.append(f"docs/MAKERS.md: no row with the overshoot at tension {tension}")
+
 # ---- the table of refusals: a table with rows 1 to 12. Rows have these numbers, and no other ones of four digits or more
-ROWS = {1: {ROUNDS}, 3: {V, F, G}, 5: {COORDINATE}, 11: {RING_LEAST, RING, FAN}, 13: {TEXT}, 14: set(SIDES), 15: {TALLY}}
+ROWS = {1: {ROUNDS}, 3: {V, F, G}, 5: {COORDINATE}, 11: {RING_LEAST, RING, FAN}, 13: {TEXT}, 14: set(SIDES), 15: {TALLY}, 16: {TENSION}}
 ALSO = {4: {PROGRAM_V}}
 documents = [ROOT / "README.md", *sorted(ROOT.glob("docs/*.md"))]
 tables = [table for path in documents for table in re.findall(r"(?:^\|.*\n)+", path.read_text(encoding="utf-8"), re.M)]

@@ -2,8 +2,8 @@
  * Measures the stack that calls use.
  *
  *   stack TEXT ..      refines the net of each text that can be read, without side counts and with counts of 4, without letters
- *                      and with them, on a painted stack and prints the deepest use; the exit status is 1 if it is not below
- *                      GEDROVIT_STACK_BYTES
+ *                      and with them, at the default tension and at a lower one, on a painted stack and prints the deepest use;
+ *                      the exit status is 1 if it is not below GEDROVIT_STACK_BYTES
  */
 #define _POSIX_C_SOURCE 200809L /* pthread_attr_setstack */
 
@@ -20,7 +20,7 @@ enum { STACK = 1 << 18, PAINT = 0xA5 };
 static int32_t vertices[3 * GEDROVIT_MAX_VERTICES], out_vertices[12 * GEDROVIT_MAX_REFINED_FACES];
 static uint32_t faces[4 * GEDROVIT_MAX_FACES], out_faces[4 * GEDROVIT_MAX_REFINED_FACES], work[16 * GEDROVIT_MAX_REFINED_FACES];
 static uint8_t marks[GEDROVIT_MAX_VERTICES], sides[GEDROVIT_MAX_FACES], out_marks[4 * GEDROVIT_MAX_REFINED_FACES], letters[4 * GEDROVIT_MAX_REFINED_FACES];
-static uint32_t rounds;
+static uint32_t rounds, tension;
 static size_t vertex_count, face_count, sides_length;
 static bool with_letters;
 
@@ -61,12 +61,12 @@ static void *calls(void *wanted)
 {
     if (wanted == NULL)
         return NULL;
-    gedrovit_check(rounds, vertices, 3 * vertex_count, faces, 4 * face_count, sides, sides_length, marks, vertex_count, sizeof out_vertices / 4,
-                   sizeof out_faces / 4, sizeof out_marks, with_letters, sizeof letters, work, sizeof work / 4);
+    gedrovit_check(rounds, vertices, 3 * vertex_count, faces, 4 * face_count, sides, sides_length, marks, vertex_count, tension,
+                   sizeof out_vertices / 4, sizeof out_faces / 4, sizeof out_marks, with_letters, sizeof letters, work, sizeof work / 4);
     gedrovit_tally tally = {0};
-    gedrovit_refine(&tally, rounds, vertices, 3 * vertex_count, faces, 4 * face_count, sides, sides_length, marks, vertex_count, out_vertices,
-                    sizeof out_vertices / 4, out_faces, sizeof out_faces / 4, out_marks, sizeof out_marks, with_letters, letters, sizeof letters,
-                    work, sizeof work / 4);
+    gedrovit_refine(&tally, rounds, vertices, 3 * vertex_count, faces, 4 * face_count, sides, sides_length, marks, vertex_count, tension,
+                    out_vertices, sizeof out_vertices / 4, out_faces, sizeof out_faces / 4, out_marks, sizeof out_marks, with_letters, letters,
+                    sizeof letters, work, sizeof work / 4);
     return NULL;
 }
 
@@ -95,9 +95,10 @@ int main(int count, char **words)
     memset(sides, 4, sizeof sides);
     for (int i = 1; i < count; i++)
         if (read_net(words[i])) {
-            for (int manner = 0; manner < 4; manner++) {
+            for (int manner = 0; manner < 8; manner++) {
                 sides_length = manner % 2 ? face_count : 0;
-                with_letters = manner / 2;
+                with_letters = manner / 2 % 2;
+                tension = manner / 4 ? 3 : GEDROVIT_DEFAULT_TENSION;
                 const size_t used = depth(&nets) - idle;
                 deepest = used > deepest ? used : deepest;
             }

@@ -34,9 +34,10 @@ void empty_tables()
     const gedrovit_sizes sizes = gedrovit_sizes_for(6, 0, 0, &byte, 0, 0);
     expect("empty: lengths", sizes.reason == 0 && sizes.out_vertices + sizes.out_faces + sizes.out_marks + sizes.work == 0);
     for (const bool with_letters : {false, true}) {
-        const gedrovit_finding finding = gedrovit_check(6, &coordinate, 0, &number, 0, &byte, 0, &byte, 0, 0, 0, 0, with_letters, 0, &number, 0);
-        const gedrovit_report report = gedrovit_refine(&tally, 6, &coordinate, 0, &number, 0, &byte, 0, &byte, 0, &coordinate, 0, &number, 0, &byte, 0,
-                                                       with_letters, &byte, 0, &number, 0);
+        const gedrovit_finding finding =
+            gedrovit_check(6, &coordinate, 0, &number, 0, &byte, 0, &byte, 0, GEDROVIT_DEFAULT_TENSION, 0, 0, 0, with_letters, 0, &number, 0);
+        const gedrovit_report report = gedrovit_refine(&tally, 6, &coordinate, 0, &number, 0, &byte, 0, &byte, 0, GEDROVIT_DEFAULT_TENSION, &coordinate, 0,
+                                                       &number, 0, &byte, 0, with_letters, &byte, 0, &number, 0);
         expect("empty: accepted", finding.reason == 0 && report.reason == 0 && report.vertices + report.faces == 0);
     }
     expect("empty: untouched", tally.points == 7 && coordinate == 7 && number == 7 && byte == 7);
@@ -79,6 +80,8 @@ void refusals()
     net = square;
     net.vertices[7] = GEDROVIT_MAX_COORDINATE + 1;
     refused(1, net, GEDROVIT_COORDINATE_OUT_OF_RANGE, 2);
+    net.tension = GEDROVIT_MAX_TENSION + 1;
+    refused(1, net, GEDROVIT_TENSION_OUT_OF_RANGE, 0);
     net.sides = {3};
     refused(1, net, GEDROVIT_INVALID_SIDE_COUNTS, 0);
 }
@@ -140,13 +143,50 @@ std::array<std::int32_t, 2> first_edge_point(const gedrovit::net &net)
     return {fine.vertices[3 * v], fine.vertices[3 * v + 1]};
 }
 
+// A net has the default tension, whichever way it is made, unless it is set; a refined net has the tension it was refined at.
+void tensions()
+{
+    gedrovit::net assigned;
+    assigned.vertices = square.vertices;
+    assigned.faces = square.faces;
+    assigned.marks = square.marks;
+    expect("tension: by default", square.tension == GEDROVIT_DEFAULT_TENSION && assigned.tension == GEDROVIT_DEFAULT_TENSION);
+    expect("tension: in the record", gedrovit::view(assigned).tension == GEDROVIT_DEFAULT_TENSION);
+    expect("tension: points by default", first_edge_point(assigned) == std::array<std::int32_t, 2>{8, -2});
+    const std::int32_t due[] = {0, 0, -1, -1, -2};
+    for (std::uint32_t tension = 0; tension <= GEDROVIT_MAX_TENSION; tension++) {
+        const gedrovit::net net{square.vertices, square.faces, square.marks, {}, tension};
+        expect("tension: point", first_edge_point(net) == std::array<std::int32_t, 2>{8, due[tension]});
+        letters_of("tension: letters", 1, net, "VVVVAAAAE");
+        gedrovit::tally bill{};
+        const auto once = std::get<gedrovit::net>(gedrovit::refine(bill, 1, net));
+        const auto twice = std::get<gedrovit::net>(gedrovit::refine(bill, 2, net));
+        expect("tension: of the refined net", once.tension == tension && twice.tension == tension);
+        expect("tension: step by step", std::get<gedrovit::net>(gedrovit::refine(bill, 1, once)).vertices == twice.vertices);
+    }
+}
+
+const gedrovit::net strip{{0, 0, 0, 16, 0, 0, 16, 16, 0, 0, 16, 0, 0, 0, 9, 16, 0, 9, 16, 16, 9, 0, 16, 9},
+                          {0, 1, 5, 4, 1, 2, 6, 5, 2, 3, 7, 6}, {1, 0, 0, 1, 0, 0, 0, 0}};
+
 // The same four points as a closed segment and as an open one, between two marks, are not shared.
 void closed_and_open()
 {
-    const gedrovit::net strip{{0, 0, 0, 16, 0, 0, 16, 16, 0, 0, 16, 0, 0, 0, 9, 16, 0, 9, 16, 16, 9, 0, 16, 9},
-                              {0, 1, 5, 4, 1, 2, 6, 5, 2, 3, 7, 6}, {1, 0, 0, 1, 0, 0, 0, 0}};
     expect("closed segment", first_edge_point(square) == std::array<std::int32_t, 2>{8, -2});
     expect("open segment", first_edge_point(strip) == std::array<std::int32_t, 2>{9, -1});
+}
+
+// An open segment of two nets is shared at equal tensions, and here at no others.
+void seams()
+{
+    gedrovit::net one = strip, other = strip;
+    for (std::size_t i = 0; i < one.vertices.size(); i++)
+        other.vertices[i] = one.vertices[i] *= 16;
+    for (std::size_t i = 12; i < other.vertices.size(); i++)
+        other.vertices[i] += static_cast<std::int32_t>(7 * i);
+    for (one.tension = 0; one.tension <= GEDROVIT_MAX_TENSION; one.tension++)
+        for (other.tension = 0; other.tension <= GEDROVIT_MAX_TENSION; other.tension++)
+            expect("seam", (first_edge_point(one) == first_edge_point(other)) == (one.tension == other.tension));
 }
 
 } // namespace
@@ -159,6 +199,8 @@ int main()
     other_faces();
     letters();
     bill_of_a_series();
+    tensions();
     closed_and_open();
+    seams();
     return faults == 0 ? 0 : 1;
 }

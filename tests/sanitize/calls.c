@@ -17,7 +17,7 @@ static const size_t entry[] = {4, 4, 1, 1, 4, 4, 1, 1, 4};
 typedef enum { AS_DUMPED, UNINITIALISED, SHORT_WORK } manner;
 typedef enum { CHECK, REFINE } function;
 
-typedef struct { uint64_t rounds, length[TABLES], with_letters, reason, place, vertices, faces, tally_before, tally_after; } head;
+typedef struct { uint64_t rounds, tension, length[TABLES], with_letters, reason, place, vertices, faces, tally_before, tally_after; } head;
 typedef struct { head head; void *before[TABLES], *after[TABLES]; } call;
 
 static void *block(size_t bytes)
@@ -74,7 +74,7 @@ static size_t known(const head *h, int table)
 {
     if (table < OUT_VERTICES)
         return bytes_of(h, table);
-    if ((h->reason >= 1 && h->reason <= 4) || h->reason == 14)
+    if ((h->reason >= 1 && h->reason <= 4) || h->reason == 14 || h->reason == 16)
         return 0;
     if (table == WORK)
         return 64 * refined_faces(h);
@@ -112,8 +112,8 @@ static gedrovit_report refine(const head *h, gedrovit_tally *tally, void **lent)
 {
     const uint64_t *n = h->length;
     return gedrovit_refine(tally, (uint32_t)h->rounds, lent[VERTICES], n[VERTICES], lent[FACES], n[FACES], lent[SIDES], n[SIDES], lent[MARKS], n[MARKS],
-                           lent[OUT_VERTICES], n[OUT_VERTICES], lent[OUT_FACES], n[OUT_FACES], lent[OUT_MARKS], n[OUT_MARKS], h->with_letters != 0,
-                           lent[LETTERS], n[LETTERS], lent[WORK], n[WORK]);
+                           (uint32_t)h->tension, lent[OUT_VERTICES], n[OUT_VERTICES], lent[OUT_FACES], n[OUT_FACES], lent[OUT_MARKS], n[OUT_MARKS],
+                           h->with_letters != 0, lent[LETTERS], n[LETTERS], lent[WORK], n[WORK]);
 }
 
 /* the check gives the same reason and place, but for 15 */
@@ -121,7 +121,8 @@ static int check_agrees(const head *h, void **lent)
 {
     const uint64_t *n = h->length;
     const gedrovit_finding f = gedrovit_check((uint32_t)h->rounds, lent[VERTICES], n[VERTICES], lent[FACES], n[FACES], lent[SIDES], n[SIDES], lent[MARKS],
-                                              n[MARKS], n[OUT_VERTICES], n[OUT_FACES], n[OUT_MARKS], h->with_letters != 0, n[LETTERS], lent[WORK], n[WORK]);
+                                              n[MARKS], (uint32_t)h->tension, n[OUT_VERTICES], n[OUT_FACES], n[OUT_MARKS], h->with_letters != 0, n[LETTERS],
+                                              lent[WORK], n[WORK]);
     return f.reason == (h->reason == 15 ? 0 : h->reason) && f.place == h->place;
 }
 

@@ -19,8 +19,8 @@ use Rattle.tables.specs.Tables.{cleared}
 use Rattle.tables.proofs.Laws.{cleared-over}
 use Rattle.lists.proofs.Parts.{drop-later}
 use Rattle.verdict.specs.Call.{Room, lengthsOf, Call, quadrilaterals, finalFaces}
-use Rattle.verdict.specs.Verdict.{Verdict, accepted, refused, limitsVerdict, callVerdict, vertexVerdict, adjacencyVerdict, facesVerdict, netVerdict, verdict, workAfter}
-use Rattle.verdict.proofs.Accepted.{never, or-both, WithinLimits, within-if, accepted-limits, at-hit, at-pass, last-pass}
+use Rattle.verdict.specs.Verdict.{Verdict, accepted, refused, callVerdict, vertexVerdict, adjacencyVerdict, facesVerdict, netVerdict, verdict, workAfter}
+use Rattle.verdict.proofs.Accepted.{call-both, never, or-both, WithinLimits, within-if, accepted-limits, at-hit, at-pass, last-pass}
 use Rattle.limits.specs.Answer.{limitsOf, FinalFaces}
 use Rattle.adjacency.specs.Chains.{CornersBelow, Tables}
 use Rattle.halfedges.specs.Tables.{MateTableOf}
@@ -83,19 +83,19 @@ corners-of : (s : List ℕ) (n : ℕ) → Sided s n → Corners s n
 corners-of [] n k = let e = k .fours refl in record { four = omega arith; seven = λ p. let z : ⊥ = omega arith in absurd z }
 corners-of (c ∷ s) n k = record { four = omega arith; seven = λ p. omega arith }
 
-module _ (k : ℕ) (m : ControlNet) (room : Room) (w : List ℕ) where
+module _ (k : ℕ) (m : ControlNet) (tension : ℕ) (room : Room) (w : List ℕ) where
   abbrev call : Call
-  call = record { rounds = k; net = m; room = room }
+  call = record { rounds = k; net = m; tension = tension; room = room }
 
   -- refused by the limits
-  pub refused-limits : (f : ℕ) → limitsVerdict k (m .sides) (lengthsOf m room) ≡ limitsOf f → (f ≡ 0 → ⊥) → RefusedCall call w f 0 w
+  pub refused-limits : (f : ℕ) → callVerdict call ≡ limitsOf f → (f ≡ 0 → ⊥) → RefusedCall call w f 0 w
   unfolding verdict
   refused-limits f e n = let z : callVerdict call ≡ refused f 0 = e ∙ rw (ne-eqb f 0 n) refl in record { refuses = rw z refl; work = rw z refl }
 
   -- past the limits
   module _ (past : callVerdict call ≡ accepted) where
     within : WithinLimits k (m .sides) (lengthsOf m room)
-    within = within-if k (m .sides) (lengthsOf m room) past
+    within = within-if k (m .sides) (lengthsOf m room) (call-both call past .0)
 
     corners : Corners (m .sides) (length (m .faces))
     corners = corners-of (m .sides) (length (m .faces)) (within .sided)

@@ -4,7 +4,9 @@ ghost use lib.ListN.{length};
 ghost use Rattle.polygons.specs.Polygons.{shapeOf};
 ghost use Rattle.nets.specs.Net.{controlNet};
 ghost use Rattle.verdict.specs.Call.{room, call};
-ghost use Rattle.verdict.specs.Verdict.{vertexVerdict, adjacencyVerdict, facesVerdict, shapeVerdict, netVerdict};
+ghost use lib.Dec.{ltb};
+ghost use Rattle.limits.specs.Answer.{limitsOf, lengthsIn};
+ghost use Rattle.verdict.specs.Verdict.{orElse, refusedIf, limitsVerdict, vertexVerdict, adjacencyVerdict, facesVerdict, shapeVerdict, netVerdict};
 ghost use Rattle.adjacency.specs.Chains.{Tables, Adjacency, CornersBelow};
 ghost use Rattle.admission.specs.Answer.{verdictOf, found, checked};
 ghost use Rattle.admission.specs.Examine.{CheckTables, Joined, Examined};
@@ -112,6 +114,20 @@ fn examine_net(
     examine_shape(faces, sides, marks, &mut *work)
 }
 
+// The first of refusals 1 to 4, 14 and 16 that holds, or 0.
+fn call_fault(rounds: u32, sides: &[u8], n: Lengths, tension: u32) -> u32
+    ensures { λ r. ⌜ orElse (limitsVerdict rounds (now (sides .entry)) (lengthsIn n)) (refusedIf 16 (ltb 4 tension)) ≡ limitsOf r ⌝ }
+{
+    let limit = limits::limits(rounds, sides, n);
+    if limit != 0 {
+        return limit;
+    }
+    if tension > 4 {
+        return 16;
+    }
+    0
+}
+
 // Admits the net of a call, given the lengths of its output tables, that of the letter table too where letters are asked for, and leaves its mates at the front of
 // the work table, and its shape where there are side counts; or refuses it.
 // Beside clearing the work table on a refusal the time is linear in the tables for nets of bounded valence; with d faces at a vertex, finding
@@ -122,6 +138,7 @@ pub fn admit(
     faces: &[u32],
     sides: &[u8],
     marks: &[u8],
+    tension: u32,
     out_vertices: usize,
     out_faces: usize,
     out_marks: usize,
@@ -129,10 +146,10 @@ pub fn admit(
     letters: usize,
     work: &mut [u32],
 ) -> Admission
-    ensures { λ r. ⌜ Admits (call rounds (controlNet (now (vertices .entry)) (now (faces .entry)) (now (sides .entry)) (now (marks .entry))) (room «out_vertices» «out_faces» «out_marks» «with_letters» letters (length (now (work .entry)))))
+    ensures { λ r. ⌜ Admits (call rounds (controlNet (now (vertices .entry)) (now (faces .entry)) (now (sides .entry)) (now (marks .entry))) tension (room «out_vertices» «out_faces» «out_marks» «with_letters» letters (length (now (work .entry)))))
         (now (work .entry)) r (now (work .exit)) ⌝ }
 {
-    let fault = limits::limits(
+    let fault = call_fault(
         rounds,
         sides,
         Lengths {
@@ -146,6 +163,7 @@ pub fn admit(
             letters,
             work: work.len(),
         },
+        tension,
     );
     if fault != 0 {
         return Admission::Refused(fault, 0);
@@ -168,6 +186,7 @@ pub fn check(
     faces: &[u32],
     sides: &[u8],
     marks: &[u8],
+    tension: u32,
     out_vertices: usize,
     out_faces: usize,
     out_marks: usize,
@@ -176,7 +195,7 @@ pub fn check(
     work: &mut [u32],
 ) -> Answer
     ensures { λ r. ⌜ found (verdictOf r) (now (work .exit)) ≡
-        checked (call rounds (controlNet (now (vertices .entry)) (now (faces .entry)) (now (sides .entry)) (now (marks .entry))) (room «out_vertices» «out_faces» «out_marks» «with_letters» letters (length (now (work .entry))))) (now (work .entry)) ⌝ }
+        checked (call rounds (controlNet (now (vertices .entry)) (now (faces .entry)) (now (sides .entry)) (now (marks .entry))) tension (room «out_vertices» «out_faces» «out_marks» «with_letters» letters (length (now (work .entry))))) (now (work .entry)) ⌝ }
 {
     match admit(
         rounds,
@@ -184,6 +203,7 @@ pub fn check(
         faces,
         sides,
         marks,
+        tension,
         out_vertices,
         out_faces,
         out_marks,

@@ -5,11 +5,11 @@ abbrev pub major : ℕ
 major = 0
 
 abbrev pub minor : ℕ
-minor = 5
+minor = 6
 
 abbrev pub patch : ℕ
-patch = 1
+patch = 0
 
--- as one number: 0.5.1 is 5001
+-- as one number: 0.6.0 is 6000
 abbrev pub version : ℕ
 version = 1000000 * major + 1000 * minor + patch

@@ -63,6 +63,7 @@ pub extern "C" fn gedrovit_check(
     faces: &[u32],
     sides: &[u8],
     marks: &[u8],
+    tension: u32,
     out_vertices: usize,
     out_faces: usize,
     out_marks: usize,
@@ -71,7 +72,7 @@ pub extern "C" fn gedrovit_check(
     work: &mut [u32],
 ) -> Finding
     ensures { λ r. ⌜ checkExportOf r (now (work .exit)) ≡
-        checkExport (checked (call rounds (controlNet (now (vertices .entry)) (now (faces .entry)) (now (sides .entry)) (now (marks .entry))) (room «out_vertices» «out_faces» «out_marks» «with_letters» letters (length (now (work .entry))))) (now (work .entry))) ⌝ }
+        checkExport (checked (call rounds (controlNet (now (vertices .entry)) (now (faces .entry)) (now (sides .entry)) (now (marks .entry))) tension (room «out_vertices» «out_faces» «out_marks» «with_letters» letters (length (now (work .entry))))) (now (work .entry))) ⌝ }
 {
     let answer = admission::check(
         rounds,
@@ -79,6 +80,7 @@ pub extern "C" fn gedrovit_check(
         faces,
         sides,
         marks,
+        tension,
         out_vertices,
         out_faces,
         out_marks,
@@ -116,6 +118,7 @@ fn refine_from(
     faces: &[u32],
     sides: &[u8],
     marks: &[u8],
+    tension: u32,
     out_vertices: &mut [i32],
     out_faces: &mut [u32],
     out_marks: &mut [u8],
@@ -124,7 +127,7 @@ fn refine_from(
     work: &mut [u32],
 ) -> Charged
     ensures { λ r. ⌜ chargedExportOf r (buffers (now («out_vertices» .exit)) (now («out_faces» .exit)) (now («out_marks» .exit)) (now (work .exit))) (now (letters .exit)) ≡
-        refineExport (outcome (request points rounds (controlNet (now (vertices .entry)) (now (faces .entry)) (now (sides .entry)) (now (marks .entry)))
+        refineExport (outcome (request points rounds (controlNet (now (vertices .entry)) (now (faces .entry)) (now (sides .entry)) (now (marks .entry))) tension
         (buffers (now («out_vertices» .entry)) (now («out_faces» .entry)) (now («out_marks» .entry)) (now (work .entry))) (letterTable «with_letters» (now (letters .entry))))) ⌝ }
 {
     let charged = refine::refine(
@@ -134,6 +137,7 @@ fn refine_from(
         faces,
         sides,
         marks,
+        tension,
         &mut *out_vertices,
         &mut *out_faces,
         &mut *out_marks,
@@ -158,6 +162,7 @@ pub extern "C" fn gedrovit_refine(
     faces: &[u32],
     sides: &[u8],
     marks: &[u8],
+    tension: u32,
     out_vertices: &mut [i32],
     out_faces: &mut [u32],
     out_marks: &mut [u8],
@@ -166,7 +171,7 @@ pub extern "C" fn gedrovit_refine(
     work: &mut [u32],
 ) -> Report
     ensures { λ r. ⌜ chargedExportOf (record { report = r; points = now (tally .exit) .points }) (buffers (now («out_vertices» .exit)) (now («out_faces» .exit)) (now («out_marks» .exit)) (now (work .exit))) (now (letters .exit)) ≡
-        refineExport (outcome (request (now (tally .entry) .points) rounds (controlNet (now (vertices .entry)) (now (faces .entry)) (now (sides .entry)) (now (marks .entry)))
+        refineExport (outcome (request (now (tally .entry) .points) rounds (controlNet (now (vertices .entry)) (now (faces .entry)) (now (sides .entry)) (now (marks .entry))) tension
         (buffers (now («out_vertices» .entry)) (now («out_faces» .entry)) (now («out_marks» .entry)) (now (work .entry))) (letterTable «with_letters» (now (letters .entry))))) ⌝ }
 {
     let charged = refine_from(
@@ -176,6 +181,7 @@ pub extern "C" fn gedrovit_refine(
         faces,
         sides,
         marks,
+        tension,
         out_vertices,
         out_faces,
         out_marks,
@@ -250,12 +256,12 @@ pub extern "C" fn gedrovit_sizes_for(
 pub extern "C" fn gedrovit_version() -> u32
     ensures { λ r. ⌜ r ≡ version ⌝ }
 {
-    5001
+    6000
 }
 
 // The same under a name that has the version in it: a program that was compiled with another version's header does not link.
 #[no_mangle]
-pub extern "C" fn gedrovit_version_0_5_1() -> u32
+pub extern "C" fn gedrovit_version_0_6_0() -> u32
     ensures { λ r. ⌜ r ≡ version ⌝ }
 {
     gedrovit_version()

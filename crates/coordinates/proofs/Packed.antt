@@ -1,5 +1,5 @@
 -- Laws of packed integers. Assumes nothing.
-use mathlib.Core.Path.{_≡_, ap, ap₂, _∙_}
+use mathlib.Core.Path.{_≡_, ap, ap₂, _∙_, subst⁻¹}
 use mathlib.Core.Logic.{_⊎_, inl, inr}
 use mathlib.Core.List.{List, [], _∷_}
 use Prim.Native.Nat.{ℕ, _+_, _*_, _/_, _%_, _^_, _≤_, _<_}
@@ -15,41 +15,54 @@ use Rattle.integers.proofs.Linear.{at, whole, _⊕_, _⊖_}
 use Rattle.integers.proofs.Order.{eq-by, le-by, abs-by, of-abs}
 use Rattle.integers.proofs.AbsoluteValue.{abs-add}
 use Rattle.integers.proofs.Range.{fits-abs}
-use Rattle.coordinates.specs.Packed.{biased, lowHalf, highHalf, joined, packedAt, put, putThree, Holds}
+use Rattle.coordinates.specs.Packed.{biased, lowHalf, highHalf, joined, biasedAt, packedAt, put, putThree, Holds}
 
--- ---- adding 2^62 + 2^31 and taking it away
-pub bias-natural : (z : ℤ) → natAbs z < 2 ^ 61 → T (nonNeg (z +ℤ pos 4611686020574871552))
+-- ---- adding 2^56 + 2^31 and taking it away
+pub bias-natural : (z : ℤ) → natAbs z < 2 ^ 55 → T (nonNeg (z +ℤ pos 72057596185411584))
 bias-natural z h =
     let a = of-abs z in
-    yes-nonNeg (le-by (whole (pos 0)) (at 0 ⊕ whole (pos 4611686020574871552)) (z ∷ []) (omega arith))
+    yes-nonNeg (le-by (whole (pos 0)) (at 0 ⊕ whole (pos 72057596185411584)) (z ∷ []) (omega arith))
 
-pub bias-fits : (z : ℤ) → natAbs z < 2 ^ 61 → SFits w64 (z +ℤ pos 4611686020574871552)
-bias-fits z h = let a = abs-add z (pos 4611686020574871552) in fits-abs w64 (z +ℤ pos 4611686020574871552) (omega arith)
+pub bias-fits : (z : ℤ) → natAbs z < 2 ^ 55 → SFits w64 (z +ℤ pos 72057596185411584)
+bias-fits z h = let a = abs-add z (pos 72057596185411584) in fits-abs w64 (z +ℤ pos 72057596185411584) (omega arith)
 
-pub biased-lt : (z : ℤ) → natAbs z < 2 ^ 61 → biased z < 2 ^ 63
+pub biased-lt : (z : ℤ) → natAbs z < 2 ^ 55 → biased z < 2 ^ 63
 unfolding biased
-biased-lt z h = let a = abs-add z (pos 4611686020574871552) in omega arith
+biased-lt z h = let a = abs-add z (pos 72057596185411584) in omega arith
 
-pub high-lt : (z : ℤ) → natAbs z < 2 ^ 61 → highHalf z < 2 ^ 31
+pub high-lt : (z : ℤ) → natAbs z < 2 ^ 55 → highHalf z < 2 ^ 31
 unfolding highHalf
 high-lt z h = let a = biased-lt z h in omega arith
 
-pub joined-fits : (lo hi : ℕ) → hi < 2 ^ 31 → lo < 2 ^ 32 → SFits w64 (pos (hi * 4294967296 + lo) -ℤ pos 4611686020574871552)
-joined-fits lo hi h l =
-    let a = abs-by (whole (pos (hi * 4294967296 + lo)) ⊖ whole (pos 4611686020574871552)) [] 4611686020574871552 (omega arith) (omega arith) in
-    fits-abs w64 (pos (hi * 4294967296 + lo) -ℤ pos 4611686020574871552) (omega arith)
+natural-fits : (b : ℕ) → b < 2 ^ 63 → SFits w64 (pos b -ℤ pos 72057596185411584)
+natural-fits b h = let a = abs-by (whole (pos b) ⊖ whole (pos 72057596185411584)) [] 9223372036854775807 (omega arith) (omega arith) in fits-abs w64 (pos b -ℤ pos 72057596185411584) (omega arith)
 
 -- packing and back
-pub joined-halves : (z : ℤ) → natAbs z < 2 ^ 61 → joined (lowHalf z) (highHalf z) ≡ z
+pub joined-halves : (z : ℤ) → natAbs z < 2 ^ 55 → joined (lowHalf z) (highHalf z) ≡ z
 unfolding joined lowHalf highHalf biased
 joined-halves z h =
-    let b : ℕ = natAbs (z +ℤ pos 4611686020574871552) in
+    let b : ℕ = natAbs (z +ℤ pos 72057596185411584) in
     let e : b / 4294967296 * 4294967296 + b % 4294967296 ≡ b = omega arith in
-    ap (λ (k : ℕ). pos k -ℤ pos 4611686020574871552) e
-    ∙ ap (λ (y : ℤ). y -ℤ pos 4611686020574871552) (pos-natAbs (z +ℤ pos 4611686020574871552) (bias-natural z h))
-    ∙ eq-by (at 0 ⊕ whole (pos 4611686020574871552) ⊖ whole (pos 4611686020574871552)) (at 0) (z ∷ []) (omega arith)
+    ap (λ (k : ℕ). pos k -ℤ pos 72057596185411584) e
+    ∙ ap (λ (y : ℤ). y -ℤ pos 72057596185411584) (pos-natAbs (z +ℤ pos 72057596185411584) (bias-natural z h))
+    ∙ eq-by (at 0 ⊕ whole (pos 72057596185411584) ⊖ whole (pos 72057596185411584)) (at 0) (z ∷ []) (omega arith)
 
 -- ---- numbers in a table
+pub unbiased-fits : (w : List ℕ) (i : ℕ) (z : ℤ) → z ≡ biasedAt w i → natAbs z < 2 ^ 63 → SFits w64 (z -ℤ pos 72057596185411584)
+unfolding biasedAt
+unbiased-fits w i z e h =
+    let k = ap natAbs e in
+    let b : getD w (i + 1) 0 * 4294967296 + getD w i 0 < 2 ^ 63 = omega arith in
+    subst⁻¹ (λ (y : ℤ). SFits w64 (y -ℤ pos 72057596185411584)) e (natural-fits (getD w (i + 1) 0 * 4294967296 + getD w i 0) b)
+
+pub unbiased-packed : (w : List ℕ) (i : ℕ) (z : ℤ) → z ≡ biasedAt w i → z -ℤ pos 72057596185411584 ≡ packedAt w i
+unfolding biasedAt packedAt joined
+unbiased-packed w i z e = ap (λ (y : ℤ). y -ℤ pos 72057596185411584) e
+
+pub biased-packed : (w : List ℕ) (i : ℕ) → biasedAt w i ≡ packedAt w i +ℤ pos 72057596185411584
+unfolding biasedAt packedAt joined
+biased-packed w i = let b = getD w (i + 1) 0 * 4294967296 + getD w i 0 in eq-by (at 0) (at 0 ⊖ whole (pos 72057596185411584) ⊕ whole (pos 72057596185411584)) (pos b ∷ []) (omega arith)
+
 pub holds-value : (w : List ℕ) (i : ℕ) (z : ℤ) → Holds w i z → packedAt w i ≡ z
 unfolding packedAt
 holds-value w i z k = ap₂ joined (k .low) (k .high) ∙ joined-halves z (k .small)
@@ -79,7 +92,7 @@ put-other w i j z a b =
     getD-set-other (set w i (lowHalf z)) (i + 1) j (highHalf z) 0 b
     ∙ getD-set-other w i j (lowHalf z) 0 a
 
-pub put-holds : (w : List ℕ) (i : ℕ) (z : ℤ) → i + 2 ≤ length w → natAbs z < 2 ^ 61 → Holds (put w i z) i z
+pub put-holds : (w : List ℕ) (i : ℕ) (z : ℤ) → i + 2 ≤ length w → natAbs z < 2 ^ 55 → Holds (put w i z) i z
 unfolding put
 put-holds w i z h s =
     let l = length-set w i (lowHalf z) in
@@ -115,17 +128,17 @@ module _ (w : List ℕ) (i : ℕ) (x y z : ℤ) where
   put-three-kept j u (inr h) = holds-kept w (putThree w i x y z) j u (put-three-other j (inr (omega arith))) (put-three-other (j + 1) (inr (omega arith)))
 
   module _ (room : i + 6 ≤ length w) where
-    pub put-three-first : natAbs x < 2 ^ 61 → Holds (putThree w i x y z) i x
+    pub put-three-first : natAbs x < 2 ^ 55 → Holds (putThree w i x y z) i x
     unfolding putThree
     put-three-first s = put-kept (put (put w i x) (i + 2) y) (i + 4) i x z (inl (omega arith)) (put-kept (put w i x) (i + 2) i x y (inl (omega arith)) (put-holds w i x (omega arith) s))
 
-    pub put-three-second : natAbs y < 2 ^ 61 → Holds (putThree w i x y z) (i + 2) y
+    pub put-three-second : natAbs y < 2 ^ 55 → Holds (putThree w i x y z) (i + 2) y
     unfolding putThree
     put-three-second s =
         let l = length-put w i x in
         put-kept (put (put w i x) (i + 2) y) (i + 4) (i + 2) y z (inl (omega arith)) (put-holds (put w i x) (i + 2) y (omega arith) s)
 
-    pub put-three-third : natAbs z < 2 ^ 61 → Holds (putThree w i x y z) (i + 4) z
+    pub put-three-third : natAbs z < 2 ^ 55 → Holds (putThree w i x y z) (i + 4) z
     unfolding putThree
     put-three-third s =
         let l = length-put w i x in

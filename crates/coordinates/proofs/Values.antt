@@ -9,7 +9,7 @@ use mir.Val.{SFits}
 use Rattle.integers.specs.Within.{Within}
 use Rattle.integers.proofs.Within.{within-any}
 use Rattle.integers.proofs.Range.{abs-fits, fits-abs}
-use Rattle.curve.specs.Weights.{kobbelt, interior}
+use Rattle.curve.specs.Weights.{Weights, interior}
 use Rattle.curve.proofs.Mirror.{mirror-size}
 use Rattle.rings.specs.Scales.{coordinateRange}
 use Rattle.nets.specs.Net.{axis}
@@ -34,10 +34,10 @@ unfolding farValue
 far-small t a (At o) x y r b h k e = let i = axis-bound t a o b in let d = ap natAbs e in omega arith
 far-small t a Nowhere x y r b h k e = let i = mirror-size x y coordinateRange h k in let d = ap natAbs e in omega arith
 
-pub stencil-read : (t : List ℤ) (a : ℕ) (o : Far) (p q : ℕ) (r : Far) (n u x y v : ℤ) → n ≡ interior kobbelt u x y v → x ≡ axis t a p → y ≡ axis t a q
-    → u ≡ farValue (axis t a) o x y → v ≡ farValue (axis t a) r y x → n ≡ stencilValue (axis t a) o p q r
+pub stencil-read : (w : Weights) (t : List ℤ) (a : ℕ) (o : Far) (p q : ℕ) (r : Far) (n u x y v : ℤ) → n ≡ interior w u x y v → x ≡ axis t a p → y ≡ axis t a q
+    → u ≡ farValue (axis t a) o x y → v ≡ farValue (axis t a) r y x → n ≡ stencilValue w (axis t a) o p q r
 unfolding stencilValue
-stencil-read t a o p q r n u x y v e ex ey eu ev = cc
+stencil-read w t a o p q r n u x y v e ex ey eu ev = cc
 
 -- a value on each axis
 pub on-axes : (f : ℕ → ℤ) (x y z : ℤ) → x ≡ f 0 → y ≡ f 1 → z ≡ f 2 → OnAxes f x y z

@@ -6,7 +6,7 @@ use Prim.Native.Nat.{ℕ, _+_, _*_, _%_}
 use lib.Dec.{ltb}
 use lib.IntN.{ℤ, pos, _*ℤ_}
 use lib.ListN.{getD}
-use Rattle.curve.specs.Weights.{kobbelt}
+use Rattle.curve.specs.Weights.{Weights}
 use Rattle.rings.specs.Scales.{virtualScale}
 use Rattle.coordinates.specs.Packed.{packedAt}
 
@@ -21,20 +21,20 @@ boundaryFlag = 1073741824
 unfoldable pub entryOf : (n : ℕ) (w : List ℕ) (h : ℕ) → ℕ
 entryOf n w h = getD w (n + h) 0
 
--- the number of an edge, and where its exact point stands, by the entry t
+-- the number of an edge, and where its exact point stands, by its entry
 abbrev pub edgeOf : ℕ → ℕ
-edgeOf t = t % wideFlag
+edgeOf entry = entry % wideFlag
 
-unfoldable pub placeOf : (n t : ℕ) → ℕ
-placeOf n t = 2 * n + 6 * edgeOf t
+unfoldable pub placeOf : (n entry : ℕ) → ℕ
+placeOf n entry = 2 * n + 6 * edgeOf entry
 
 -- what makes a stored numerator one over `edgeScale`: those of edges that are not wide are kept over `scale`
-unfoldable pub unitOf : ℕ → ℕ
-unitOf t = cond (ltb t wideFlag) (virtualScale kobbelt) (cond (ltb t boundaryFlag) 1 (virtualScale kobbelt))
+unfoldable pub unitOf : Weights → ℕ → ℕ
+unitOf weights entry = cond (ltb entry wideFlag) (virtualScale weights) (cond (ltb entry boundaryFlag) 1 (virtualScale weights))
 
 -- coordinate a of the exact point of an entry, over `edgeScale`; and of the edge of h
-unfoldable pub exactAt : (n : ℕ) (w : List ℕ) (a t : ℕ) → ℤ
-exactAt n w a t = pos (unitOf t) *ℤ packedAt w (placeOf n t + 2 * a)
+unfoldable pub exactAt : Weights → (n : ℕ) (w : List ℕ) (a entry : ℕ) → ℤ
+exactAt weights n w a entry = pos (unitOf weights entry) *ℤ packedAt w (placeOf n entry + 2 * a)
 
-unfoldable pub exactOf : (n : ℕ) (w : List ℕ) (a h : ℕ) → ℤ
-exactOf n w a h = exactAt n w a (entryOf n w h)
+unfoldable pub exactOf : Weights → (n : ℕ) (w : List ℕ) (a h : ℕ) → ℤ
+exactOf weights n w a h = exactAt weights n w a (entryOf n w h)

@@ -4,7 +4,7 @@ use mathlib.Core.Path.{_≡_}
 use mathlib.Core.List.{List}
 use Prim.Native.Nat.{ℕ}
 use lib.IntN.{ℤ}
-use Rattle.curve.specs.Weights.{kobbelt, interior, mirror}
+use Rattle.curve.specs.Weights.{Weights, interior, mirror}
 use Rattle.coordinates.specs.declared.Far.{Far}
 use Rattle.coordinates.specs.declared.Far.the-variants.{At, Nowhere}
 use Rattle.coordinates.specs.Points.{InTable}
@@ -14,12 +14,12 @@ unfoldable pub farValue : (ℕ → ℤ) → Far → (x y : ℤ) → ℤ
 farValue e (At o) x y = e o
 farValue e Nowhere x y = mirror x y
 
--- over 16 times the denominator of the values e
-unfoldable pub stencilValue : (ℕ → ℤ) → (o : Far) (p q : ℕ) (r : Far) → ℤ
-stencilValue e o p q r = interior kobbelt (farValue e o (e p) (e q)) (e p) (e q) (farValue e r (e q) (e p))
+-- over the scale times the denominator of the values e
+unfoldable pub stencilValue : Weights → (ℕ → ℤ) → (o : Far) (p q : ℕ) (r : Far) → ℤ
+stencilValue w e o p q r = interior w (farValue e o (e p) (e q)) (e p) (e q) (farValue e r (e q) (e p))
 
-abbrev pub interiorValue : (ℕ → ℤ) → (o p q r : ℕ) → ℤ
-interiorValue e o p q r = interior kobbelt (e o) (e p) (e q) (e r)
+abbrev pub interiorValue : Weights → (ℕ → ℤ) → (o p q r : ℕ) → ℤ
+interiorValue w e o p q r = interior w (e o) (e p) (e q) (e r)
 
 -- a far point is in the table
 pub record FarIn (t : List ℤ) (f : Far) : Type 0 where

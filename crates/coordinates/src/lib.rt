@@ -4,10 +4,11 @@ ghost use Prim.Native.Nat.{ℕ, _+_, _*_, _^_, _≤_, _<_};
 ghost use lib.IntN.{natAbs};
 ghost use lib.ListN.{length, getD};
 ghost use Rattle.integers.specs.Within.{Within};
+ghost use Rattle.curve.specs.Weights.{tension};
 ghost use Rattle.rings.specs.Scales.{coordinateRange};
 ghost use Rattle.nets.specs.Net.{axis};
 ghost use Rattle.coordinates.specs.Points.{InTable, OnAxes, putPoint};
-ghost use Rattle.coordinates.specs.Packed.{biased, packedAt, put, putThree};
+ghost use Rattle.coordinates.specs.Packed.{biased, biasedAt, packedAt, put, putThree};
 ghost use Rattle.coordinates.specs.Stencil.{FarIn, farValue, stencilValue, interiorValue};
 
 // An exact point: its numerators over one denominator.
@@ -42,12 +43,12 @@ pub fn put_point(table: &mut [i32], i: usize, x: i32, y: i32, z: i32)
     table[3 * i + 2] = z;
 }
 
-// z + 2^62 + 2^31. With this number the compiler makes one store of the two halves.
+// z + 2^56 + 2^31. With this number the compiler makes one store of the two halves.
 fn bias(z: i64) -> u64
-    requires { ⌜ natAbs z < 2 ^ 61 ⌝ }
+    requires { ⌜ natAbs z < 2 ^ 55 ⌝ }
     ensures { λ r. ⌜ r ≡ biased z ⌝ }
 {
-    (z + 4611686020574871552) as u64
+    (z + 72057596185411584) as u64
 }
 
 // x in 64 bits.
@@ -57,20 +58,28 @@ fn wide(x: u32) -> u64
     x as u64
 }
 
-// The number at the place `at`. The halves are joined where they are read, so that the compiler makes one read of both.
-pub fn load(table: &[u32], at: usize) -> i64
+// The number at the place `at` as it is packed: 2^56 + 2^31 more. The halves are joined where they are read, so that the compiler makes one read of both.
+pub fn load_biased(table: &[u32], at: usize) -> i64
     requires { ⌜ (at + 2 ≤ length (now table)) × (getD (now table) (at + 1) 0 < 2 ^ 31) ⌝ }
-    ensures { λ r. ⌜ r ≡ packedAt (now (table .entry)) at ⌝ }
+    ensures { λ r. ⌜ (r ≡ biasedAt (now (table .entry)) at) × (natAbs r < 2 ^ 63) ⌝ }
 {
     let lo = wide(table[at]);
     let hi = wide(table[at + 1]);
     let u = hi * 4294967296 + lo;
-    u as i64 - 4611686020574871552
+    u as i64
+}
+
+// The number at the place `at`.
+pub fn load(table: &[u32], at: usize) -> i64
+    requires { ⌜ (at + 2 ≤ length (now table)) × (getD (now table) (at + 1) 0 < 2 ^ 31) ⌝ }
+    ensures { λ r. ⌜ r ≡ packedAt (now (table .entry)) at ⌝ }
+{
+    load_biased(table, at) - 72057596185411584
 }
 
 // Writes z at the place `at`.
 fn store(table: &mut [u32], at: usize, z: i64)
-    requires { ⌜ (at + 2 ≤ length (now table)) × (natAbs z < 2 ^ 61) ⌝ }
+    requires { ⌜ (at + 2 ≤ length (now table)) × (natAbs z < 2 ^ 55) ⌝ }
     ensures { λ _. ⌜ now (table .exit) ≡ put (now (table .entry)) at z ⌝ }
 {
     let u = bias(z);
@@ -81,7 +90,7 @@ fn store(table: &mut [u32], at: usize, z: i64)
 // Writes an exact point from the place `at` on.
 pub fn store_exact(table: &mut [u32], at: usize, e: Exact)
     requires { ⌜ at + 6 ≤ length (now table) ⌝ }
-    requires { ⌜ (natAbs (e .x) < 2 ^ 61) × (natAbs (e .y) < 2 ^ 61) × (natAbs (e .z) < 2 ^ 61) ⌝ }
+    requires { ⌜ (natAbs (e .x) < 2 ^ 55) × (natAbs (e .y) < 2 ^ 55) × (natAbs (e .z) < 2 ^ 55) ⌝ }
     ensures { λ _. ⌜ now (table .exit) ≡ putThree (now (table .entry)) at (e .x) (e .y) (e .z) ⌝ }
 {
     store(&mut *table, at, e.x);
@@ -89,30 +98,31 @@ pub fn store_exact(table: &mut [u32], at: usize, e: Exact)
     store(&mut *table, at + 4, e.z);
 }
 
-// The four-point rule on axis a of the vertices o, p, q, r.
-fn interior_on(points: &[i32], o: usize, p: usize, q: usize, r: usize, a: usize) -> i64
+// The four-point rule at tension t on axis a of the vertices o, p, q, r.
+fn interior_on(points: &[i32], o: usize, p: usize, q: usize, r: usize, a: usize, t: u32) -> i64
     requires { ⌜ Within coordinateRange (now points) ⌝ }
-    requires { ⌜ (a < 3) × InTable (now points) o × InTable (now points) p × InTable (now points) q × InTable (now points) r ⌝ }
-    ensures { λ z. ⌜ z ≡ interiorValue (axis (now (points .entry)) a) o p q r ⌝ }
+    requires { ⌜ (a < 3) × InTable (now points) o × InTable (now points) p × InTable (now points) q × InTable (now points) r × (t ≤ 4) ⌝ }
+    ensures { λ z. ⌜ z ≡ interiorValue (tension t) (axis (now (points .entry)) a) o p q r ⌝ }
 {
     curve::four_point(
         coordinate(points, o, a),
         coordinate(points, p, a),
         coordinate(points, q, a),
         coordinate(points, r, a),
+        t,
     )
 }
 
 // The same on all axes.
-pub fn interior_exact(points: &[i32], o: usize, p: usize, q: usize, r: usize) -> Exact
+pub fn interior_exact(points: &[i32], o: usize, p: usize, q: usize, r: usize, t: u32) -> Exact
     requires { ⌜ Within coordinateRange (now points) ⌝ }
-    requires { ⌜ InTable (now points) o × InTable (now points) p × InTable (now points) q × InTable (now points) r ⌝ }
-    ensures { λ e. ⌜ OnAxes (λ (a : ℕ). interiorValue (axis (now (points .entry)) a) o p q r) (e .x) (e .y) (e .z) ⌝ }
+    requires { ⌜ InTable (now points) o × InTable (now points) p × InTable (now points) q × InTable (now points) r × (t ≤ 4) ⌝ }
+    ensures { λ e. ⌜ OnAxes (λ (a : ℕ). interiorValue (tension t) (axis (now (points .entry)) a) o p q r) (e .x) (e .y) (e .z) ⌝ }
 {
     Exact {
-        x: interior_on(points, o, p, q, r, 0),
-        y: interior_on(points, o, p, q, r, 1),
-        z: interior_on(points, o, p, q, r, 2),
+        x: interior_on(points, o, p, q, r, 0, t),
+        y: interior_on(points, o, p, q, r, 1, t),
+        z: interior_on(points, o, p, q, r, 2, t),
     }
 }
 
@@ -127,28 +137,28 @@ pub fn far_on(points: &[i32], o: Far, x: i64, y: i64, a: usize) -> i64
     }
 }
 
-// The four-point rule on axis a of the vertices p and q between far points.
-fn stencil_on(points: &[i32], o: Far, p: usize, q: usize, r: Far, a: usize) -> i64
+// The four-point rule at tension t on axis a of the vertices p and q between far points.
+fn stencil_on(points: &[i32], o: Far, p: usize, q: usize, r: Far, a: usize, t: u32) -> i64
     requires { ⌜ Within coordinateRange (now points) ⌝ }
-    requires { ⌜ (a < 3) × FarIn (now points) o × InTable (now points) p × InTable (now points) q × FarIn (now points) r ⌝ }
-    ensures { λ z. ⌜ z ≡ stencilValue (axis (now (points .entry)) a) o p q r ⌝ }
+    requires { ⌜ (a < 3) × FarIn (now points) o × InTable (now points) p × InTable (now points) q × FarIn (now points) r × (t ≤ 4) ⌝ }
+    ensures { λ z. ⌜ z ≡ stencilValue (tension t) (axis (now (points .entry)) a) o p q r ⌝ }
 {
     let x = coordinate(points, p, a);
     let y = coordinate(points, q, a);
     let u = far_on(points, o, x, y, a);
     let v = far_on(points, r, y, x, a);
-    curve::four_point(u, x, y, v)
+    curve::four_point(u, x, y, v, t)
 }
 
 // The same on all axes.
-pub fn stencil_exact(points: &[i32], o: Far, p: usize, q: usize, r: Far) -> Exact
+pub fn stencil_exact(points: &[i32], o: Far, p: usize, q: usize, r: Far, t: u32) -> Exact
     requires { ⌜ Within coordinateRange (now points) ⌝ }
-    requires { ⌜ FarIn (now points) o × InTable (now points) p × InTable (now points) q × FarIn (now points) r ⌝ }
-    ensures { λ e. ⌜ OnAxes (λ (a : ℕ). stencilValue (axis (now (points .entry)) a) o p q r) (e .x) (e .y) (e .z) ⌝ }
+    requires { ⌜ FarIn (now points) o × InTable (now points) p × InTable (now points) q × FarIn (now points) r × (t ≤ 4) ⌝ }
+    ensures { λ e. ⌜ OnAxes (λ (a : ℕ). stencilValue (tension t) (axis (now (points .entry)) a) o p q r) (e .x) (e .y) (e .z) ⌝ }
 {
     Exact {
-        x: stencil_on(points, o, p, q, r, 0),
-        y: stencil_on(points, o, p, q, r, 1),
-        z: stencil_on(points, o, p, q, r, 2),
+        x: stencil_on(points, o, p, q, r, 0, t),
+        y: stencil_on(points, o, p, q, r, 1, t),
+        z: stencil_on(points, o, p, q, r, 2, t),
     }
 }

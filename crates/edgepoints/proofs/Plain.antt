@@ -1,24 +1,23 @@
 -- Exact points over the scale: on boundary edges, by the far points of their rule, and on inner edges between ordinary vertices.
-use mathlib.Core.Path.{_≡_, refl, sym, ap, ap₂, _∙_, subst}
+use mathlib.Core.Path.{_≡_, sym, ap, ap₂, _∙_, subst}
 use mathlib.Core.Bool.{Bool, true, false, cond}
 use mathlib.Core.List.{List}
 use Prim.Native.Nat.{ℕ, _+_, _≤_, _<_}
-use native.Mathlib.Decide.{decLt}
 use native.Mathlib.Omega.{arith}
 use lib.Dec.{ltb}
 use borrow.Author.Tests.{lt-ltb, le-ltb}
 use lib.IntN.{ℤ}
 use lib.ListN.{length}
-use Rattle.curve.specs.Weights.{kobbelt, mirror}
+use Rattle.curve.specs.Weights.{Weights, mirror}
 use Rattle.topology.specs.Shape.{quads}
 use Rattle.topology.specs.HalfEdge.{from, to, mate}
 use Rattle.topology.specs.Boundary.{OnBoundary, along, back}
 use Rattle.topology.specs.Vertex.{turn}
 use Rattle.topology.specs.Manifold.{Manifold}
-use Rattle.topology.proofs.Mates.{mate-le, mate-is, mate-back}
+use Rattle.topology.proofs.Mates.{mate-is, mate-back}
 use Rattle.topology.proofs.Boundary.{along-on, back-on}
 use Rattle.nets.specs.Net.{marked}
-use Rattle.scheme.specs.Points.{EdgeRule, insideSegment, startOfSegment, endOfSegment, wholeSegment, innerRule, edgeRule}
+use Rattle.scheme.specs.Points.{insideSegment, startOfSegment, endOfSegment, wholeSegment, innerRule, edgeRule}
 use Rattle.schemelaws.specs.Ordinary.{Ordinary, straight, ordinaryValue}
 use Rattle.schemelaws.proofs.Made.{straight-read}
 use Rattle.coordinates.specs.declared.Far.{Far}
@@ -65,11 +64,15 @@ apart : (u : ℕ) → Nowhere ≡ At u → ⊥
 unfolding index
 apart u e = let z : _≡_ {A = ℕ} u (u + 1) = sym (ap (λ (f : Far). index f u) e) ∙ ap (λ (f : Far). index f (u + 1)) (sym e) in omega arith
 
-pub far-at : (t : List ℤ) (o : ℕ) → InTable t o → FarIn t (At o)
+far-at : (t : List ℤ) (o : ℕ) → InTable t o → FarIn t (At o)
 far-at t o k = record { room = λ u e. subst (InTable t) (at-one o u e) k }
 
-pub far-none : (t : List ℤ) → FarIn t Nowhere
+far-none : (t : List ℤ) → FarIn t Nowhere
 far-none t = record { room = λ u e. let z : ⊥ = apart u e in absurd z }
+
+pub far-by : (t : List ℤ) (b : Bool) (o : ℕ) → InTable t o → FarIn t (cond b Nowhere (At o))
+far-by t true o k = far-none t
+far-by t false o k = far-at t o k
 
 -- ---- straight across
 module _ (v : ℕ) (l : List ℕ) (ok : Manifold quads v l) (h : ℕ) (k : h < length l) (m : mate quads l h < length l) (o : Ordinary l (from l h)) (g : ℕ) (eg : g ≡ turn quads l h) where
@@ -113,9 +116,9 @@ ends-mate v l ok h m o e =
 
 -- ---- the point between ordinary vertices
 module _ (v : ℕ) (l : List ℕ) (ok : Manifold quads v l) (h m : ℕ) (o : OrdinaryEnds l h) (em : m ≡ mate quads l h) (p q : ℕ) (ep : p ≡ from l h) (eq : q ≡ to quads l h) where
-  pub sided-made : (f g : Far) → StraightFar l h f → StraightFar l m g → (e : ℕ → ℤ) → stencilValue e f p q g ≡ ordinaryValue kobbelt l e h innerRule
+  pub sided-made : (weights : Weights) (f g : Far) → StraightFar l h f → StraightFar l m g → (e : ℕ → ℤ) → stencilValue weights e f p q g ≡ ordinaryValue weights l e h innerRule
   unfolding stencilValue ordinaryValue
-  sided-made f g sf sg e =
+  sided-made weights f g sf sg e =
       let r = mate-is quads l h (o .inner) in
       let a : farValue e f (e p) (e q) ≡ straight l e h = ap₂ (λ (x y : ℕ). farValue e f (e x) (e y)) ep eq ∙ sf .value e in
       let s₁ : from l m ≡ q = ap (from l) em ∙ r .start ∙ sym eq in
@@ -123,10 +126,10 @@ module _ (v : ℕ) (l : List ℕ) (ok : Manifold quads v l) (h m : ℕ) (o : Ord
       let b : farValue e g (e q) (e p) ≡ straight l e (mate quads l h) = sym (ap₂ (λ (x y : ℕ). farValue e g (e x) (e y)) s₁ s₂) ∙ sg .value e ∙ ap (straight l e) em in
       cc
 
-  pub plain-made : (g k : ℕ) → g ≡ turn quads l h → g < length l → k ≡ turn quads l m → k < length l → (u w : ℕ) → u ≡ from l (quads .prev g) → w ≡ from l (quads .prev k)
-      → (e : ℕ → ℤ) → interiorValue e u p q w ≡ ordinaryValue kobbelt l e h innerRule
+  pub plain-made : (weights : Weights) (g k : ℕ) → g ≡ turn quads l h → g < length l → k ≡ turn quads l m → k < length l → (u w : ℕ) → u ≡ from l (quads .prev g) → w ≡ from l (quads .prev k)
+      → (e : ℕ → ℤ) → interiorValue weights e u p q w ≡ ordinaryValue weights l e h innerRule
   unfolding ordinaryValue
-  plain-made g k eg bg ek bk u w eu ew e =
+  plain-made weights g k eg bg ek bk u w eu ew e =
       let c = ends-mate v l ok h m o em in
       let a : e u ≡ straight l e h = ap e eu ∙ sym (straight-vertex v l ok h (o .lt) (o .inner) (o .start) g eg bg e) in
       let b : e w ≡ straight l e (mate quads l h) = ap e ew ∙ sym (straight-vertex v l ok m (c .lt) (c .inner) (c .start) k ek bk e) ∙ ap (straight l e) em in
@@ -144,36 +147,3 @@ module _ (l marks : List ℕ) (h : ℕ) where
       → edgeRule l marks h ≡ cond b (cond c wholeSegment startOfSegment) (cond c endOfSegment insideSegment)
   unfolding edgeRule
   rule-boundary b c n mp mq = let k = le-ltb (mate quads l h) (length l) n in simp (k, mp, mq)
-
-  -- and back: the inner rule is that of an inner edge alone
-  rule-is-inner : EdgeRule → Bool
-  rule-is-inner innerRule = true
-  rule-is-inner insideSegment = false
-  rule-is-inner startOfSegment = false
-  rule-is-inner endOfSegment = false
-  rule-is-inner wholeSegment = false
-
-  pub rule-inner-only : edgeRule l marks h ≡ innerRule → mate quads l h < length l
-  unfolding rule-is-inner
-  rule-inner-only e = go (decLt (mate quads l h) (length l))
-    where
-      outer : (b c : Bool) → rule-is-inner (cond b (cond c wholeSegment startOfSegment) (cond c endOfSegment insideSegment)) ≡ false
-      outer true true = refl
-      outer true false = refl
-      outer false true = refl
-      outer false false = refl
-
-      go : Dec (mate quads l h < length l) → mate quads l h < length l
-      go (yes m) = m
-      go (no m) =
-          let q = rule-boundary (marked marks (from l h)) (marked marks (to quads l h)) (omega arith) refl refl in
-          let z : _≡_ {A = Bool} true false = sym (ap rule-is-inner e) ∙ ap rule-is-inner q ∙ outer (marked marks (from l h)) (marked marks (to quads l h)) in
-          let y : _≡_ {A = ℕ} 0 1 = ap (λ (b : Bool). cond b 0 1) z in
-          absurd (omega arith)
-
-  pub rule-boundary-only : h < length l → (edgeRule l marks h ≡ innerRule → ⊥) → OnBoundary quads l h
-  rule-boundary-only k n = go (decLt (mate quads l h) (length l))
-    where
-      go : Dec (mate quads l h < length l) → OnBoundary quads l h
-      go (yes m) = absurd (n (rule-inner m))
-      go (no m) = let c = mate-le quads l h in record { lt = k; none = omega arith }

@@ -5,7 +5,7 @@ use Prim.Native.Nat.{ℕ, _+_, _-_, _*_, _<_}
 use native.Mathlib.Omega.{arith}
 use lib.IntN.{ℤ}
 use lib.ListN.{length}
-use Rattle.curve.specs.Weights.{kobbelt, interior}
+use Rattle.curve.specs.Weights.{Weights}
 use Rattle.curve.proofs.Mirror.{interior-turned}
 use Rattle.topology.specs.Shape.{quads}
 use Rattle.topology.specs.HalfEdge.{from, to, mate}
@@ -27,9 +27,9 @@ ends-of : (l : List ℕ) (g : ℕ) → PlainEdge l g → OrdinaryEnds l g
 ends-of l g p = record { lt = p .lt; inner = p .inner; start = p .start; end = p .end }
 
 -- seen from its mate, an edge has the same point
-value-mate : (l : List ℕ) (e : ℕ → ℤ) (g x : ℕ) → mate quads l g ≡ x → mate quads l x ≡ g → x < length l → ordinaryValue kobbelt l e x innerRule ≡ ordinaryValue kobbelt l e g innerRule
+value-mate : (w : Weights) (l : List ℕ) (e : ℕ → ℤ) (g x : ℕ) → mate quads l g ≡ x → mate quads l x ≡ g → x < length l → ordinaryValue w l e x innerRule ≡ ordinaryValue w l e g innerRule
 unfolding ordinaryValue
-value-mate l e g x m b k =
+value-mate w l e g x m b k =
     let r = mate-is quads l g (subst (λ (i : ℕ). i < length l) (sym m) k) in
     let s : from l x ≡ to quads l g = ap (from l) (sym m) ∙ r .start in
     let t : to quads l x ≡ from l g = ap (to quads l) (sym m) ∙ r .end in
@@ -37,7 +37,7 @@ value-mate l e g x m b k =
     let c = ap e t in
     let y = ap (straight l e) m in
     let z = ap (straight l e) b in
-    interior-turned kobbelt (straight l e x) (e (from l x)) (e (to quads l x)) (straight l e (mate quads l x)) ∙ cc
+    interior-turned w (straight l e x) (e (from l x)) (e (to quads l x)) (straight l e (mate quads l x)) ∙ cc
 
 module _ (v : ℕ) (l : List ℕ) (ok : Manifold quads v l) (h : ℕ) (k : h < length l) (m : mate quads l h < length l) where
   abbrev L : List ℕ
@@ -58,7 +58,7 @@ module _ (v : ℕ) (l : List ℕ) (ok : Manifold quads v l) (h : ℕ) (k : h < l
       record {
         new = new;
         ends = ends-of L (4 * h) (first-plain v l ok h k m o);
-        value = λ e. sym (first-value v l ok kobbelt e h k m mp o);
+        value = λ w e. sym (first-value v l ok w e h k m mp o);
         in₀ = corner-at L (mate quads L (4 * h + 3) + 3) (omega arith);
         in₁ = corner-at L (4 * h) (omega arith);
         in₂ = corner-at L (4 * h + 1) (omega arith);
@@ -75,14 +75,14 @@ module _ (v : ℕ) (l : List ℕ) (ok : Manifold quads v l) (h : ℕ) (k : h < l
       record {
         new = new;
         ends = ends-of L (4 * quads .next h + 3) (last-plain v l ok h k m o);
-        value = λ e. sym (last-value v l ok kobbelt e h k m mn o);
+        value = λ w e. sym (last-value v l ok w e h k m mn o);
         in₀ = corner-at L (4 * h) (omega arith);
         in₁ = corner-at L (4 * h + 1) (omega arith);
         in₂ = corner-at L (4 * quads .next h) (omega arith);
         in₃ = corner-at L (mate quads L (4 * quads .next h) - 2) (omega arith);
       }
 
-  spoke-corners : (g : ℕ) → OrdinaryEnds L g → g < mate quads L g → ((e : ℕ → ℤ) → ordinaryValue kobbelt L e (4 * h + 1) innerRule ≡ ordinaryValue kobbelt L e g innerRule)
+  spoke-corners : (g : ℕ) → OrdinaryEnds L g → g < mate quads L g → ((w : Weights) (e : ℕ → ℤ) → ordinaryValue w L e (4 * h + 1) innerRule ≡ ordinaryValue w L e g innerRule)
       → Line L g (from L (mate quads L (4 * h) - 1)) (from L (4 * h + 1)) (from L (4 * h + 2)) (from L (4 * quads .next (quads .next h) + 1))
   spoke-corners g ends new same =
       let d = n in
@@ -92,7 +92,7 @@ module _ (v : ℕ) (l : List ℕ) (ok : Manifold quads v l) (h : ℕ) (k : h < l
       record {
         new = new;
         ends = ends;
-        value = λ e. sym (spoke-value v l ok kobbelt e h k m) ∙ same e;
+        value = λ w e. sym (spoke-value v l ok w e h k m) ∙ same w e;
         in₀ = corner-at L (mate quads L (4 * h) - 1) (omega arith);
         in₁ = corner-at L (4 * h + 1) (omega arith);
         in₂ = corner-at L (4 * h + 2) (omega arith);
@@ -101,7 +101,7 @@ module _ (v : ℕ) (l : List ℕ) (ok : Manifold quads v l) (h : ℕ) (k : h < l
 
   -- from the point of the side to that of the face, or back: h is then the side before that of the half-edge
   pub spoke-line : 4 * h + 1 < mate quads L (4 * h + 1) → Line L (4 * h + 1) (from L (mate quads L (4 * h) - 1)) (from L (4 * h + 1)) (from L (4 * h + 2)) (from L (4 * quads .next (quads .next h) + 1))
-  spoke-line new = spoke-corners (4 * h + 1) (ends-of L (4 * h + 1) (spoke-plain v l ok h k)) new (λ e. refl)
+  spoke-line new = spoke-corners (4 * h + 1) (ends-of L (4 * h + 1) (spoke-plain v l ok h k)) new (λ w e. refl)
 
   pub back-line : 4 * quads .next h + 2 < mate quads L (4 * quads .next h + 2)
       → Line L (4 * quads .next h + 2) (from L (mate quads L (4 * h) - 1)) (from L (4 * h + 1)) (from L (4 * h + 2)) (from L (4 * quads .next (quads .next h) + 1))
@@ -109,4 +109,4 @@ module _ (v : ℕ) (l : List ℕ) (ok : Manifold quads v l) (h : ℕ) (k : h < l
       let d = n in
       let a : mate quads L (4 * h + 1) ≡ 4 * quads .next h + 2 = mate₁ quads v l (ok .oriented) h k in
       let b : mate quads L (4 * quads .next h + 2) ≡ 4 * h + 1 = mate₂ quads v l (ok .oriented) (quads .next h) next-lt ∙ ap (λ (x : ℕ). 4 * x + 1) (ok .oriented .shape .prev-next h) in
-      spoke-corners (4 * quads .next h + 2) (ends-of L (4 * quads .next h + 2) (spoke-back v l ok (quads .next h) next-lt)) new (λ e. value-mate L e (4 * quads .next h + 2) (4 * h + 1) b a (omega arith))
+      spoke-corners (4 * quads .next h + 2) (ends-of L (4 * quads .next h + 2) (spoke-back v l ok (quads .next h) next-lt)) new (λ w e. value-mate w L e (4 * quads .next h + 2) (4 * h + 1) b a (omega arith))

@@ -23,15 +23,15 @@ use Rattle.edgetable.specs.EdgeTable.{Round, Entry, Edges}
 use Rattle.edgetable.proofs.EdgeTable.{edge-few, ready-now}
 
 -- a plain edge has its number as its entry
-entry-number : (l : List ℕ) (h t : ℕ) → PlainEdge l h → Entry l h t → t ≡ edge quads l h
-entry-number l h t o x = go (x .flagged)
+entry-number : (l : List ℕ) (h entry : ℕ) → PlainEdge l h → Entry l h entry → entry ≡ edge quads l h
+entry-number l h entry o x = go (x .flagged)
   where
-    go : Flagged l h (x .flag) → t ≡ edge quads l h
+    go : Flagged l h (x .flag) → entry ≡ edge quads l h
     go (plain m a b e) = let q = x .is in omega arith
     go (wide m n e) = absurd (n (o .start) (o .end))
     go (boundary m e) = let i = o .inner in let z : ⊥ = omega arith in absurd z
 
-module _ (l marks : List ℕ) (p₀ : List ℤ) (w₀ : List ℕ) (at initial : ℕ) (ok : Round l marks p₀ w₀ at initial) (p : List ℤ) (w : List ℕ) (done : Edges l marks p₀ w₀ p w (length l) (edgeCount quads l)) (made : AfterRound l) where
+module _ (t : ℕ) (l marks : List ℕ) (p₀ : List ℤ) (w₀ : List ℕ) (at initial : ℕ) (ok : Round t l marks p₀ w₀ at initial) (p : List ℤ) (w : List ℕ) (done : Edges t l marks p₀ w₀ p w (length l) (edgeCount quads l)) (made : AfterRound l) where
   abbrev n : ℕ
   n = length l
 
@@ -42,7 +42,7 @@ module _ (l marks : List ℕ) (p₀ : List ℤ) (w₀ : List ℕ) (at initial : 
   four = ap length (made .is) ∙ length-refined quads (made .vertices) (made .before)
 
   mate-now : (h : ℕ) → h < n → getD w h 0 ≡ mate quads l h
-  mate-now h k = ready-now l marks p₀ w₀ at initial ok p w n (edgeCount quads l) done .table .mated .mates h k
+  mate-now h k = ready-now t l marks p₀ w₀ at initial ok p w n (edgeCount quads l) done .table .mated .mates h k
 
   at-refined : (P : List ℕ → Type 0) → P L → P l
   at-refined P x = subst P (sym (made .is)) x
@@ -75,7 +75,7 @@ module _ (l marks : List ℕ) (p₀ : List ℤ) (w₀ : List ℕ) (at initial : 
         facing = λ g k. subst (Facing n g) (sym (mate-now g k)) (at-refined (λ (l : List ℕ). g < length l → Facing (length l) g (mate quads l g)) (made-refined quads (made .vertices) (made .before) (made .net .oriented) .facing g) k);
         second = λ f k. mate-now (4 * f + 1) (omega arith) ∙ second-mate f k;
         third = λ f k. mate-now (4 * f + 2) (omega arith) ∙ third-mate f k;
-        inside = λ g k a b. let e = number-is g k (inside-plain g k a b) in let f = edge-few l marks p₀ w₀ at initial ok g k in omega arith;
+        inside = λ g k a b. let e = number-is g k (inside-plain g k a b) in let f = edge-few t l marks p₀ w₀ at initial ok g k in omega arith;
         shared = λ f k.
             let m = third-mate f k in
             let j : 4 * quads .prev f + 1 < n = omega arith in

@@ -7,50 +7,51 @@ use lib.IntN.{ℤ, pos, natAbs, _*ℤ_}
 use lib.ListN.{length, getD, take, set}
 use Rattle.integers.specs.Within.{Within}
 use Rattle.rounding.specs.Rounding.{round}
-use Rattle.curve.specs.Weights.{kobbelt}
+use Rattle.curve.specs.Weights.{Weights, tension}
 use Rattle.rings.specs.Scales.{virtualScale, edgeScale, coordinateRange, edgeRange}
-use Rattle.topology.specs.Shape.{quads}
 use Rattle.search.specs.Search.{count}
+use Rattle.topology.specs.Shape.{quads}
 use Rattle.topology.specs.HalfEdge.{from, mate, firstMet, edge}
 use Rattle.topology.specs.Manifold.{Manifold}
 use Rattle.refinedfaces.specs.Refined.{refinedVertices}
 use Rattle.nets.specs.Net.{axis}
+use Rattle.scheme.specs.Points.{innerRule}
 use Rattle.scheme.specs.Step.{refinedCoordinate}
+use Rattle.schemelaws.specs.Ordinary.{ordinaryValue}
 use Rattle.schemelaws.specs.Numerators.{edgeZ}
 use Rattle.halfedges.specs.Tables.{Connectivity}
 use Rattle.walks.specs.Ready.{Ready}
 use Rattle.classes.specs.Classes.{Classes}
 use Rattle.coordinates.specs.Points.{Points, Marks, putPoint, Written}
 use Rattle.coordinates.specs.Packed.{putThree, Holds}
+use Rattle.coordinates.specs.Stencil.{interiorValue}
 use Rattle.coordinates.specs.Entry.{wideFlag, entryOf, placeOf, unitOf}
 use Rattle.edgepoints.specs.Edge.{CornerOf, OrdinaryEnds, Flagged, ExactPoint}
-use Rattle.coordinates.specs.Stencil.{interiorValue}
-use Rattle.scheme.specs.Points.{innerRule}
-use Rattle.schemelaws.specs.Ordinary.{ordinaryValue}
 
 -- a stored numerator of an edge with this flag, rounded
-unfoldable pub roundedBy : ℕ → ℤ → ℤ
-roundedBy flag z = round (pos (unitOf flag) *ℤ z) (edgeScale kobbelt)
+unfoldable pub roundedBy : Weights → ℕ → ℤ → ℤ
+roundedBy weights flag z = round (pos (unitOf weights flag) *ℤ z) (edgeScale weights)
 
 -- an exact point in the range of edges, with a flag that tells its denominator
-pub record Small (flag : ℕ) (x y z : ℤ) : Type 0 where
-  pub plain : (flag ≡ wideFlag → ⊥) → unitOf flag ≡ virtualScale kobbelt
-  pub on₀ : natAbs (pos (unitOf flag) *ℤ x) ≤ edgeRange kobbelt
-  pub on₁ : natAbs (pos (unitOf flag) *ℤ y) ≤ edgeRange kobbelt
-  pub on₂ : natAbs (pos (unitOf flag) *ℤ z) ≤ edgeRange kobbelt
+pub record Small (weights : Weights) (flag : ℕ) (x y z : ℤ) : Type 0 where
+  pub plain : (flag ≡ wideFlag → ⊥) → unitOf weights flag ≡ virtualScale weights
+  pub on₀ : natAbs (pos (unitOf weights flag) *ℤ x) ≤ edgeRange weights
+  pub on₁ : natAbs (pos (unitOf weights flag) *ℤ y) ≤ edgeRange weights
+  pub on₂ : natAbs (pos (unitOf weights flag) *ℤ z) ≤ edgeRange weights
 
 -- coordinate a of the old vertices, of the refined ones, and of the exact points of edges
 unfoldable pub oldAxis : List ℕ → List ℤ → ℕ → ℕ → ℤ
 oldAxis marks p a = axis (take (3 * length marks) p) a
 
-unfoldable pub refinedAxis : List ℕ → List ℕ → List ℤ → ℕ → ℕ → ℤ
-refinedAxis l marks p a i = refinedCoordinate kobbelt (length marks) l marks (oldAxis marks p a) i
+unfoldable pub refinedAxis : Weights → List ℕ → List ℕ → List ℤ → ℕ → ℕ → ℤ
+refinedAxis weights l marks p a i = refinedCoordinate weights (length marks) l marks (oldAxis marks p a) i
 
-unfoldable pub edgeAxis : List ℕ → List ℕ → List ℤ → ℕ → ℕ → ℤ
-edgeAxis l marks p a h = edgeZ kobbelt l marks (oldAxis marks p a) h
+unfoldable pub edgeAxis : Weights → List ℕ → List ℕ → List ℤ → ℕ → ℕ → ℤ
+edgeAxis weights l marks p a h = edgeZ weights l marks (oldAxis marks p a) h
 
 -- what the pass assumes of the tables: mates in front of w, classes of the vertices from `at` on, and room
-pub record Round (l marks : List ℕ) (p : List ℤ) (w : List ℕ) (at initial : ℕ) : Type 0 where
+pub record Round (t : ℕ) (l marks : List ℕ) (p : List ℤ) (w : List ℕ) (at initial : ℕ) : Type 0 where
+  pub low : t ≤ 4
   pub net : Manifold quads (length marks) l
   pub table : Connectivity l w
   pub classes : Classes (length marks) at initial l w
@@ -60,7 +61,8 @@ pub record Round (l marks : List ℕ) (p : List ℤ) (w : List ℕ) (at initial 
   pub bounded : Within coordinateRange (take (3 * length marks) p)
 
 -- before half-edge h, with e edges met, the tables have room for the point of its edge
-pub record Turn (l marks : List ℕ) (p : List ℤ) (w : List ℕ) (at initial h e : ℕ) : Type 0 where
+pub record Turn (t : ℕ) (l marks : List ℕ) (p : List ℤ) (w : List ℕ) (at initial h e : ℕ) : Type 0 where
+  pub low : t ≤ 4
   pub ready : Ready l w
   pub points : Points l (take (3 * length marks) p)
   pub marked : Marks l marks
@@ -75,7 +77,8 @@ pub record Turn (l marks : List ℕ) (p : List ℤ) (w : List ℕ) (at initial h
   pub exact : h < mate quads l h → 2 * length l + 6 * e + 6 ≤ length w
 
 -- the edge of h is met first there, number e, and the tables have room for its point
-pub record Place (l marks : List ℕ) (p : List ℤ) (w : List ℕ) (h e : ℕ) : Type 0 where
+pub record Place (t : ℕ) (l marks : List ℕ) (p : List ℤ) (w : List ℕ) (h e : ℕ) : Type 0 where
+  pub low : t ≤ 4
   pub ready : Ready l w
   pub points : Points l (take (3 * length marks) p)
   pub lt : h < length l
@@ -90,56 +93,56 @@ pub record Place (l marks : List ℕ) (p : List ℤ) (w : List ℕ) (h e : ℕ) 
 pub record Line (l : List ℕ) (h o p q r : ℕ) : Type 0 where
   pub new : h < mate quads l h
   pub ends : OrdinaryEnds l h
-  pub value : (e : ℕ → ℤ) → interiorValue e o p q r ≡ ordinaryValue kobbelt l e h innerRule
+  pub value : (weights : Weights) (e : ℕ → ℤ) → interiorValue weights e o p q r ≡ ordinaryValue weights l e h innerRule
   pub in₀ : CornerOf l o
   pub in₁ : CornerOf l p
   pub in₂ : CornerOf l q
   pub in₃ : CornerOf l r
 
 -- after it, with r edges met: the point of its edge went, rounded and exact, to the tables, and its entry; or the edge was met before, and has the entry of its mate
-pub data Turned (l marks : List ℕ) (h e r : ℕ) (p : List ℤ) (w : List ℕ) (p′ : List ℤ) (w′ : List ℕ) : Type 0 where
-  met : (flag : ℕ) (x y z : ℤ) → h < mate quads l h → r ≡ e + 1 → Flagged l h flag → ExactPoint flag (λ (a : ℕ). edgeZ kobbelt l marks (axis (take (3 * length marks) p) a) h) x y z
-      → p′ ≡ putPoint p (length marks + e) (roundedBy flag x) (roundedBy flag y) (roundedBy flag z) → w′ ≡ set (putThree w (2 * length l + 6 * e) x y z) (length l + h) (e + flag)
-      → Turned l marks h e r p w p′ w′
-  passed : mate quads l h < h → r ≡ e → p′ ≡ p → w′ ≡ set w (length l + h) (getD w (length l + mate quads l h) 0) → Turned l marks h e r p w p′ w′
+pub data Turned (t : ℕ) (l marks : List ℕ) (h e r : ℕ) (p : List ℤ) (w : List ℕ) (p′ : List ℤ) (w′ : List ℕ) : Type 0 where
+  met : (flag : ℕ) (x y z : ℤ) → h < mate quads l h → r ≡ e + 1 → Flagged l h flag → ExactPoint (tension t) flag (λ (a : ℕ). edgeZ (tension t) l marks (axis (take (3 * length marks) p) a) h) x y z
+      → p′ ≡ putPoint p (length marks + e) (roundedBy (tension t) flag x) (roundedBy (tension t) flag y) (roundedBy (tension t) flag z) → w′ ≡ set (putThree w (2 * length l + 6 * e) x y z) (length l + h) (e + flag)
+      → Turned t l marks h e r p w p′ w′
+  passed : mate quads l h < h → r ≡ e → p′ ≡ p → w′ ≡ set w (length l + h) (getD w (length l + mate quads l h) 0) → Turned t l marks h e r p w p′ w′
 
--- the entry t of the edge of h: its number and its flag
-pub record Entry (l : List ℕ) (h t : ℕ) : Type 0 where
+-- the entry of the edge of h: its number and its flag
+pub record Entry (l : List ℕ) (h entry : ℕ) : Type 0 where
   pub flag : ℕ
   pub flagged : Flagged l h flag
-  pub is : t ≡ edge quads l h + flag
+  pub is : entry ≡ edge quads l h + flag
 
--- w has coordinate a of an exact point for the entry t: over `edgeScale` it is X
-pub record StoredAt (n : ℕ) (w : List ℕ) (a t : ℕ) (X : ℤ) : Type 0 where
+-- w has coordinate a of an exact point for an entry: over `edgeScale` it is X
+pub record StoredAt (weights : Weights) (n : ℕ) (w : List ℕ) (a entry : ℕ) (X : ℤ) : Type 0 where
   pub number : ℤ
-  pub holds : Holds w (placeOf n t + 2 * a) number
-  pub value : pos (unitOf t) *ℤ number ≡ X
+  pub holds : Holds w (placeOf n entry + 2 * a) number
+  pub value : pos (unitOf weights entry) *ℤ number ≡ X
 
 -- of the tables p₀ and w₀, p and w have the points of the edges of the half-edges below h, of which there are e: rounded behind the old ones, and exact
-pub record Edges (l marks : List ℕ) (p₀ : List ℤ) (w₀ : List ℕ) (p : List ℤ) (w : List ℕ) (h e : ℕ) : Type 0 where
+pub record Edges (t : ℕ) (l marks : List ℕ) (p₀ : List ℤ) (w₀ : List ℕ) (p : List ℤ) (w : List ℕ) (h e : ℕ) : Type 0 where
   pub old : take (3 * length marks) p ≡ take (3 * length marks) p₀
-  pub points : Written (refinedAxis l marks p₀) p₀ p (length marks + e)
+  pub points : Written (refinedAxis (tension t) l marks p₀) p₀ p (length marks + e)
   pub kept : length w ≡ length w₀
   pub mates : (k : ℕ) → k < length l → getD w k 0 ≡ getD w₀ k 0
   pub behind : (k : ℕ) → 8 * length l ≤ k → getD w k 0 ≡ getD w₀ k 0
   pub entries : (g : ℕ) → g < h → Entry l g (entryOf (length l) w g)
-  pub stored : (a g : ℕ) → a < 3 → g < h → StoredAt (length l) w a (entryOf (length l) w g) (edgeAxis l marks p₀ a g)
+  pub stored : (a g : ℕ) → a < 3 → g < h → StoredAt (tension t) (length l) w a (entryOf (length l) w g) (edgeAxis (tension t) l marks p₀ a g)
 
 -- ---- families
 -- the pass has gone on to h, with e edges met, whatever tables it began with
-pub record Going (l marks : List ℕ) (p : List ℤ) (w : List ℕ) (h e : ℕ) : Type 0 where
+pub record Going (t : ℕ) (l marks : List ℕ) (p : List ℤ) (w : List ℕ) (h e : ℕ) : Type 0 where
   pub at : ℕ
   pub initial : ℕ
   pub p₀ : List ℤ
   pub w₀ : List ℕ
-  pub round : Round l marks p₀ w₀ at initial
-  pub done : Edges l marks p₀ w₀ p w h e
+  pub round : Round t l marks p₀ w₀ at initial
+  pub done : Edges t l marks p₀ w₀ p w h e
   pub counted : e ≡ count (firstMet quads l) h
 
 -- it goes on from h with e edges to h′ with e′
-pub record Carries (l marks : List ℕ) (h e h′ e′ : ℕ) (p : List ℤ) (w : List ℕ) (p′ : List ℤ) (w′ : List ℕ) : Type 0 where
-  pub edges : (at initial : ℕ) (p₀ : List ℤ) (w₀ : List ℕ) → Round l marks p₀ w₀ at initial → Edges l marks p₀ w₀ p w h e → e ≡ count (firstMet quads l) h
-      → Edges l marks p₀ w₀ p′ w′ h′ e′ × (e′ ≡ count (firstMet quads l) h′)
+pub record Carries (t : ℕ) (l marks : List ℕ) (h e h′ e′ : ℕ) (p : List ℤ) (w : List ℕ) (p′ : List ℤ) (w′ : List ℕ) : Type 0 where
+  pub edges : (at initial : ℕ) (p₀ : List ℤ) (w₀ : List ℕ) → Round t l marks p₀ w₀ at initial → Edges t l marks p₀ w₀ p w h e → e ≡ count (firstMet quads l) h
+      → Edges t l marks p₀ w₀ p′ w′ h′ e′ × (e′ ≡ count (firstMet quads l) h′)
 
 -- h is the first half of a side in the family from f on, between the vertices c and e, with d at the other end of the side
 pub record FirstHalf (l : List ℕ) (f h c e d : ℕ) : Type 0 where

@@ -1,52 +1,58 @@
 // The pass over the edges of a round: each edge is numbered as it is met, its exact point goes to the work table, its rounded point behind the old ones.
 ghost use mathlib.Core.Path.{_≡_};
-ghost use Prim.Native.Nat.{_+_, _*_, _≤_, _<_};
-ghost use lib.IntN.{pos, natAbs, _*ℤ_};
+ghost use mathlib.Core.Bool.{true};
+ghost use Prim.Native.Nat.{_+_, _*_, _^_, _≤_, _<_};
+ghost use lib.IntN.{natAbs};
 ghost use lib.ListN.{length};
 ghost use Rattle.rounding.specs.Rounding.{round};
-ghost use Rattle.curve.specs.Weights.{kobbelt};
-ghost use Rattle.rings.specs.Scales.{virtualScale, edgeScale, edgeRange};
+ghost use Rattle.curve.specs.Weights.{tension};
+ghost use Rattle.rings.specs.Scales.{edgeScale, edgeRange};
 ghost use Rattle.topology.specs.Shape.{quads};
 ghost use Rattle.topology.specs.HalfEdge.{mate, edgeCount};
-ghost use Rattle.coordinates.specs.Points.{putPoint};
-ghost use Rattle.edgetable.specs.PlainFamily.{FamilyTest, PlainFamily, FamilyOf};
-ghost use Rattle.halfedges.specs.Tables.{Connectivity};
 ghost use Rattle.families.specs.AfterRound.{AfterRound};
-ghost use Rattle.edgepoints.specs.Edge.{Told};
-ghost use mathlib.Core.Bool.{true};
+ghost use Rattle.halfedges.specs.Tables.{Connectivity};
+ghost use Rattle.coordinates.specs.Points.{putPoint};
+ghost use Rattle.edgepoints.specs.Edge.{ClassedCorners};
 ghost use Rattle.edgetable.specs.EdgeTable.{roundedBy, Small, Turn, Turned, Place, Line, Going, Carries, FirstHalf, LastHalf, Round, Edges};
+ghost use Rattle.edgetable.specs.PlainFamily.{FamilyTest, PlainFamily, FamilyOf};
 use coordinates::Exact;
 use edgepoints::Edge;
 
 const WIDE: u32 = 536870912;
 
-const HALF_EDGE_SCALE: u64 = 3628800;
-
-// A coordinate over 16, rounded.
+// A coordinate over 64, rounded.
 fn rounded_plain(z: i64) -> i32
-    requires { ⌜ natAbs (pos (virtualScale kobbelt) *ℤ z) ≤ edgeRange kobbelt ⌝ }
-    ensures { λ r. ⌜ r ≡ round (pos (virtualScale kobbelt) *ℤ z) (edgeScale kobbelt) ⌝ }
+    requires { ⌜ natAbs z ≤ 2 ^ 33 ⌝ }
+    ensures { λ r. ⌜ r ≡ round z 64 ⌝ }
 {
-    rounding::round_shift(z, 8, 4) as i32
+    rounding::round_shift(z, 32, 6) as i32
+}
+
+// Half the denominator of wide edges.
+fn half_edge_scale(t: u32) -> u64
+    requires { ⌜ t ≤ 4 ⌝ }
+    ensures { λ r. ⌜ (2 * r ≡ edgeScale (tension t)) × (r ≡ 1612800 * (32 + t)) ⌝ }
+{
+    1612800 * (32 + t as u64)
 }
 
 // A coordinate over the wide denominator, rounded.
-fn rounded_wide(z: i64) -> i32
-    requires { ⌜ natAbs z ≤ edgeRange kobbelt ⌝ }
-    ensures { λ r. ⌜ r ≡ round z (edgeScale kobbelt) ⌝ }
+fn rounded_wide(z: i64, t: u32) -> i32
+    requires { ⌜ (natAbs z ≤ edgeRange (tension t)) × (t ≤ 4) ⌝ }
+    ensures { λ r. ⌜ r ≡ round z (edgeScale (tension t)) ⌝ }
 {
-    rounding::round_div(z, HALF_EDGE_SCALE) as i32
+    rounding::round_div(z, half_edge_scale(t)) as i32
 }
 
 // Writes the rounded coordinates of vertex i, from its exact point.
-fn put_rounded(points: &mut [i32], i: usize, e: Edge)
-    requires { ⌜ (3 * i + 3 ≤ length (now points)) × Small (e .flag) (e .x) (e .y) (e .z) ⌝ }
-    ensures { λ _. ⌜ now (points .exit) ≡ putPoint (now (points .entry)) i (roundedBy (e .flag) (e .x)) (roundedBy (e .flag) (e .y)) (roundedBy (e .flag) (e .z)) ⌝ }
+fn put_rounded(points: &mut [i32], i: usize, e: Edge, t: u32)
+    requires { ⌜ (3 * i + 3 ≤ length (now points)) × Small (tension t) (e .flag) (e .x) (e .y) (e .z) × (t ≤ 4) ⌝ }
+    ensures { λ _. ⌜ now (points .exit) ≡ putPoint (now (points .entry)) i (roundedBy (tension t) (e .flag) (e .x)) (roundedBy (tension t) (e .flag) (e .y)) (roundedBy (tension t) (e .flag) (e .z)) ⌝ }
 {
     if e.flag == WIDE {
-        let x = rounded_wide(e.x);
-        let y = rounded_wide(e.y);
-        let z = rounded_wide(e.z);
+        let x = rounded_wide(e.x, t);
+        let y = rounded_wide(e.y, t);
+        let z = rounded_wide(e.z, t);
         coordinates::put_point(&mut *points, i, x, y, z);
         return;
     }
@@ -66,21 +72,22 @@ fn edge_side(
     initial: usize,
     h: usize,
     edges: usize,
+    t: u32,
 ) -> usize
-    requires { ⌜ Turn (now faces) (now marks) (now points) (now work) at initial h edges ⌝ }
-    ensures { λ r. ⌜ Turned (now (faces .entry)) (now (marks .entry)) h edges r (now (points .entry)) (now (work .entry)) (now (points .exit)) (now (work .exit)) ⌝ }
+    requires { ⌜ Turn t (now faces) (now marks) (now points) (now work) at initial h edges ⌝ }
+    ensures { λ r. ⌜ Turned t (now (faces .entry)) (now (marks .entry)) h edges r (now (points .entry)) (now (work .entry)) (now (points .exit)) (now (work .exit)) ⌝ }
 {
     let n = faces.len();
     let v = marks.len();
     let m = halfedges::mate_side(faces, &*work, h);
     if m < h {
-        let t = work[n + m];
-        work[n + h] = t;
+        let entry = work[n + m];
+        work[n + h] = entry;
         return edges;
     }
     let end = 3 * v;
-    let e = edgepoints::edge_exact(&points[..end], faces, marks, &*work, at, initial, h, m);
-    put_rounded(&mut *points, v + edges, e);
+    let e = edgepoints::edge_exact(&points[..end], faces, marks, &*work, at, initial, h, m, t);
+    put_rounded(&mut *points, v + edges, e, t);
     let x = Exact {
         x: e.x,
         y: e.y,
@@ -103,14 +110,15 @@ fn line_edge(
     p: usize,
     q: usize,
     r: usize,
+    t: u32,
 ) -> usize
-    requires { ⌜ Place (now faces) (now marks) (now points) (now work) h edges × Line (now faces) h o p q r ⌝ }
-    ensures { λ k. ⌜ Turned (now (faces .entry)) (now (marks .entry)) h edges k (now (points .entry)) (now (work .entry)) (now (points .exit)) (now (work .exit)) ⌝ }
+    requires { ⌜ Place t (now faces) (now marks) (now points) (now work) h edges × Line (now faces) h o p q r ⌝ }
+    ensures { λ k. ⌜ Turned t (now (faces .entry)) (now (marks .entry)) h edges k (now (points .entry)) (now (work .entry)) (now (points .exit)) (now (work .exit)) ⌝ }
 {
     let n = faces.len();
     let v = marks.len();
     let end = 3 * v;
-    let e = coordinates::interior_exact(&points[..end], o, p, q, r);
+    let e = coordinates::interior_exact(&points[..end], o, p, q, r, t);
     let x = rounded_plain(e.x);
     let y = rounded_plain(e.y);
     let z = rounded_plain(e.z);
@@ -132,20 +140,33 @@ fn first_half(
     c: usize,
     e: usize,
     d: usize,
+    t: u32,
 ) -> usize
-    requires { ⌜ Going (now faces) (now marks) (now points) (now work) h edges × FirstHalf (now faces) f h c e d ⌝ }
-    ensures { λ r. ⌜ Carries (now (faces .entry)) (now (marks .entry)) h edges (h + 1) r (now (points .entry)) (now (work .entry)) (now (points .exit)) (now (work .exit)) ⌝ }
+    requires { ⌜ Going t (now faces) (now marks) (now points) (now work) h edges × FirstHalf (now faces) f h c e d ⌝ }
+    ensures { λ r. ⌜ Carries t (now (faces .entry)) (now (marks .entry)) h edges (h + 1) r (now (points .entry)) (now (work .entry)) (now (points .exit)) (now (work .exit)) ⌝ }
 {
     let n = faces.len();
     let m = halfedges::mate_side(faces, &*work, h);
     if m < f {
-        let t = work[n + m];
-        work[n + h] = t;
+        let entry = work[n + m];
+        work[n + h] = entry;
         return edges;
     }
     let y = halfedges::mate_side(faces, &*work, h + 3);
     let o = halfedges::start_of(faces, y + 3);
-    line_edge(&mut *points, faces, marks, &mut *work, h, edges, o, c, e, d)
+    line_edge(
+        &mut *points,
+        faces,
+        marks,
+        &mut *work,
+        h,
+        edges,
+        o,
+        c,
+        e,
+        d,
+        t,
+    )
 }
 
 // The second half h of a side from c by e to d.
@@ -160,20 +181,33 @@ fn last_half(
     c: usize,
     e: usize,
     d: usize,
+    t: u32,
 ) -> usize
-    requires { ⌜ Going (now faces) (now marks) (now points) (now work) h edges × LastHalf (now faces) f h c e d ⌝ }
-    ensures { λ r. ⌜ Carries (now (faces .entry)) (now (marks .entry)) h edges (h + 1) r (now (points .entry)) (now (work .entry)) (now (points .exit)) (now (work .exit)) ⌝ }
+    requires { ⌜ Going t (now faces) (now marks) (now points) (now work) h edges × LastHalf (now faces) f h c e d ⌝ }
+    ensures { λ r. ⌜ Carries t (now (faces .entry)) (now (marks .entry)) h edges (h + 1) r (now (points .entry)) (now (work .entry)) (now (points .exit)) (now (work .exit)) ⌝ }
 {
     let n = faces.len();
     let m = halfedges::mate_side(faces, &*work, h);
     if m < f {
-        let t = work[n + m];
-        work[n + h] = t;
+        let entry = work[n + m];
+        work[n + h] = entry;
         return edges;
     }
     let x = halfedges::mate_side(faces, &*work, h - 3);
     let r = halfedges::start_of(faces, x - 2);
-    line_edge(&mut *points, faces, marks, &mut *work, h, edges, c, e, d, r)
+    line_edge(
+        &mut *points,
+        faces,
+        marks,
+        &mut *work,
+        h,
+        edges,
+        c,
+        e,
+        d,
+        r,
+        t,
+    )
 }
 
 // The edge of h is new: its point by the vertices o, p, q, r in line.
@@ -188,11 +222,24 @@ fn make_edge(
     p: usize,
     q: usize,
     r: usize,
+    t: u32,
 ) -> usize
-    requires { ⌜ Going (now faces) (now marks) (now points) (now work) h edges × Line (now faces) h o p q r ⌝ }
-    ensures { λ k. ⌜ Carries (now (faces .entry)) (now (marks .entry)) h edges (h + 1) k (now (points .entry)) (now (work .entry)) (now (points .exit)) (now (work .exit)) ⌝ }
+    requires { ⌜ Going t (now faces) (now marks) (now points) (now work) h edges × Line (now faces) h o p q r ⌝ }
+    ensures { λ k. ⌜ Carries t (now (faces .entry)) (now (marks .entry)) h edges (h + 1) k (now (points .entry)) (now (work .entry)) (now (points .exit)) (now (work .exit)) ⌝ }
 {
-    line_edge(&mut *points, faces, marks, &mut *work, h, edges, o, p, q, r)
+    line_edge(
+        &mut *points,
+        faces,
+        marks,
+        &mut *work,
+        h,
+        edges,
+        o,
+        p,
+        q,
+        r,
+        t,
+    )
 }
 
 // The edge of h was met before, at its mate m.
@@ -204,13 +251,14 @@ fn pass_edge(
     h: usize,
     edges: usize,
     m: usize,
+    t: u32,
 ) -> usize
-    requires { ⌜ Going (now faces) (now marks) (now points) (now work) h edges × (m ≡ mate quads (now faces) h) × (m < h) × (h < length (now faces)) ⌝ }
-    ensures { λ k. ⌜ Carries (now (faces .entry)) (now (marks .entry)) h edges (h + 1) k (now (points .entry)) (now (work .entry)) (now (points .exit)) (now (work .exit)) ⌝ }
+    requires { ⌜ Going t (now faces) (now marks) (now points) (now work) h edges × (m ≡ mate quads (now faces) h) × (m < h) × (h < length (now faces)) ⌝ }
+    ensures { λ k. ⌜ Carries t (now (faces .entry)) (now (marks .entry)) h edges (h + 1) k (now (points .entry)) (now (work .entry)) (now (points .exit)) (now (work .exit)) ⌝ }
 {
     let n = faces.len();
-    let t = work[n + m];
-    work[n + h] = t;
+    let entry = work[n + m];
+    work[n + h] = entry;
     edges
 }
 
@@ -235,9 +283,10 @@ fn family_edges(
     f1: usize,
     f2: usize,
     f3: usize,
+    t: u32,
 ) -> usize
-    requires { ⌜ Going (now faces) (now marks) (now points) (now work) h edges × FamilyOf (now faces) h f c0 c1 c2 c3 e0 e1 e2 e3 f0 f1 f2 f3 ⌝ }
-    ensures { λ k. ⌜ Carries (now (faces .entry)) (now (marks .entry)) h edges (h + 16) k (now (points .entry)) (now (work .entry)) (now (points .exit)) (now (work .exit)) ⌝ }
+    requires { ⌜ Going t (now faces) (now marks) (now points) (now work) h edges × FamilyOf (now faces) h f c0 c1 c2 c3 e0 e1 e2 e3 f0 f1 f2 f3 ⌝ }
+    ensures { λ k. ⌜ Carries t (now (faces .entry)) (now (marks .entry)) h edges (h + 16) k (now (points .entry)) (now (work .entry)) (now (points .exit)) (now (work .exit)) ⌝ }
 {
     let h1 = h + 1;
     let h2 = h + 2;
@@ -265,6 +314,7 @@ fn family_edges(
         c0,
         e0,
         c1,
+        t,
     );
     let k1 = make_edge(
         &mut *points,
@@ -277,6 +327,7 @@ fn family_edges(
         e0,
         f,
         e2,
+        t,
     );
     let k2 = make_edge(
         &mut *points,
@@ -289,6 +340,7 @@ fn family_edges(
         e3,
         f,
         e1,
+        t,
     );
     let k3 = last_half(
         &mut *points,
@@ -301,6 +353,7 @@ fn family_edges(
         c3,
         e3,
         c0,
+        t,
     );
     let k4 = first_half(
         &mut *points,
@@ -313,6 +366,7 @@ fn family_edges(
         c1,
         e1,
         c2,
+        t,
     );
     let k5 = make_edge(
         &mut *points,
@@ -325,8 +379,9 @@ fn family_edges(
         e1,
         f,
         e3,
+        t,
     );
-    let k6 = pass_edge(&mut *points, faces, marks, &mut *work, h6, k5, h1);
+    let k6 = pass_edge(&mut *points, faces, marks, &mut *work, h6, k5, h1, t);
     let k7 = last_half(
         &mut *points,
         faces,
@@ -338,6 +393,7 @@ fn family_edges(
         c0,
         e0,
         c1,
+        t,
     );
     let k8 = first_half(
         &mut *points,
@@ -350,6 +406,7 @@ fn family_edges(
         c2,
         e2,
         c3,
+        t,
     );
     let k9 = make_edge(
         &mut *points,
@@ -362,8 +419,9 @@ fn family_edges(
         e2,
         f,
         e0,
+        t,
     );
-    let k10 = pass_edge(&mut *points, faces, marks, &mut *work, h10, k9, h5);
+    let k10 = pass_edge(&mut *points, faces, marks, &mut *work, h10, k9, h5, t);
     let k11 = last_half(
         &mut *points,
         faces,
@@ -375,6 +433,7 @@ fn family_edges(
         c1,
         e1,
         c2,
+        t,
     );
     let k12 = first_half(
         &mut *points,
@@ -387,9 +446,10 @@ fn family_edges(
         c3,
         e3,
         c0,
+        t,
     );
-    let k13 = pass_edge(&mut *points, faces, marks, &mut *work, h13, k12, h2);
-    let k14 = pass_edge(&mut *points, faces, marks, &mut *work, h14, k13, h9);
+    let k13 = pass_edge(&mut *points, faces, marks, &mut *work, h13, k12, h2, t);
+    let k14 = pass_edge(&mut *points, faces, marks, &mut *work, h14, k13, h9, t);
     last_half(
         &mut *points,
         faces,
@@ -401,6 +461,7 @@ fn family_edges(
         c2,
         e2,
         c3,
+        t,
     )
 }
 
@@ -412,9 +473,10 @@ fn family(
     work: &mut [u32],
     h: usize,
     edges: usize,
+    t: u32,
 ) -> usize
-    requires { ⌜ Going (now faces) (now marks) (now points) (now work) h edges × PlainFamily (now faces) h ⌝ }
-    ensures { λ k. ⌜ Carries (now (faces .entry)) (now (marks .entry)) h edges (h + 16) k (now (points .entry)) (now (work .entry)) (now (points .exit)) (now (work .exit)) ⌝ }
+    requires { ⌜ Going t (now faces) (now marks) (now points) (now work) h edges × PlainFamily (now faces) h ⌝ }
+    ensures { λ k. ⌜ Carries t (now (faces .entry)) (now (marks .entry)) h edges (h + 16) k (now (points .entry)) (now (work .entry)) (now (points .exit)) (now (work .exit)) ⌝ }
 {
     let f = halfedges::start_of(faces, h + 2);
     let c0 = halfedges::start_of(faces, h);
@@ -453,12 +515,13 @@ fn family(
         f1,
         f2,
         f3,
+        t,
     )
 }
 
 // Whether the sides of the face that was split have mates and its corners are ordinary, where its family starts at h.
 fn plain_family(faces: &[u32], work: &[u32], at: usize, initial: usize, h: usize) -> bool
-    requires { ⌜ Connectivity (now faces) (now work) × Told at initial (now faces) (now work) × (h + 15 < length (now faces)) ⌝ }
+    requires { ⌜ Connectivity (now faces) (now work) × ClassedCorners at initial (now faces) (now work) × (h + 15 < length (now faces)) ⌝ }
     ensures { λ r. ⌜ (r ≡ true → FamilyTest (now (faces .entry)) h) ⌝ }
 {
     let n = faces.len();
@@ -503,12 +566,13 @@ pub fn edge_points(
     work: &mut [u32],
     at: usize,
     initial: usize,
+    t: u32,
     later: bool,
 ) -> usize
-    requires { ⌜ Round (now faces) (now marks) (now points) (now work) at initial ⌝ }
+    requires { ⌜ Round t (now faces) (now marks) (now points) (now work) at initial ⌝ }
     requires { ⌜ (later ≡ true → AfterRound (now faces)) ⌝ }
     ensures { λ r. ⌜ r ≡ edgeCount quads (now (faces .entry)) ⌝ }
-    ensures { λ r. ⌜ Edges (now (faces .entry)) (now (marks .entry)) (now (points .entry)) (now (work .entry)) (now (points .exit)) (now (work .exit)) (length (now (faces .entry))) (edgeCount quads (now (faces .entry))) ⌝ }
+    ensures { λ r. ⌜ Edges t (now (faces .entry)) (now (marks .entry)) (now (points .entry)) (now (work .entry)) (now (points .exit)) (now (work .exit)) (length (now (faces .entry))) (edgeCount quads (now (faces .entry))) ⌝ }
 {
     let n = faces.len();
     let mut edges = 0;
@@ -517,7 +581,7 @@ pub fn edge_points(
         let mut end = n;
         if later {
             if plain_family(faces, &*work, at, initial, h) {
-                edges = family(&mut *points, faces, marks, &mut *work, h, edges);
+                edges = family(&mut *points, faces, marks, &mut *work, h, edges, t);
                 h += 16;
                 continue;
             }
@@ -533,6 +597,7 @@ pub fn edge_points(
                 initial,
                 h,
                 edges,
+                t,
             );
             h += 1;
         }

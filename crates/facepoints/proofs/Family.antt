@@ -15,7 +15,7 @@ use Rattle.tables.proofs.Written.{Refining, refining-to}
 use Rattle.roundfaces.specs.Faces.{refinedBy, FaceIn, FacesIn}
 use Rattle.roundfaces.proofs.Faces.{corners-then, corners-from}
 use Rattle.families.specs.Made.{Facing}
-use Rattle.facepoints.specs.Faces.{FaceTable, PlainTwice, AllPlain, beyondOf}
+use Rattle.facepoints.specs.Faces.{EntryTable, PlainTwice, AllPlain, beyondOf}
 use Rattle.facepoints.proofs.Reading.{across-lt}
 use Rattle.facepoints.specs.Family.{FamilyTable, PlainSides, PlainFace, putFamily}
 
@@ -27,7 +27,7 @@ across-side m j e (inr c) = (omega arith, omega arith)
 moved : (n : ℕ) (w : List ℕ) (r g h : ℕ) → r ≡ entryOf n w g → g ≡ h → r ≡ entryOf n w h
 moved n w r g h e q = e ∙ ap (entryOf n w) q
 
-module _ (n : ℕ) (w : List ℕ) (ok : FaceTable n w) (made : FamilyTable n w) where
+module _ (n : ℕ) (w : List ℕ) (ok : EntryTable n w) (made : FamilyTable n w) where
   near-mated : (g : ℕ) → g < n → entryOf n w g < wideFlag → getD w g 0 < n
   near-mated g k b = ok .boundary g k (omega arith)
 

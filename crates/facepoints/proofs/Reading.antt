@@ -8,7 +8,8 @@ use lib.IntN.{ℤ, pos, natAbs, _*ℤ_}
 use mir.Syntax.{w64}
 use mir.Val.{SFits}
 use Rattle.integers.proofs.Range.{fits-abs}
-use Rattle.curve.specs.Weights.{kobbelt}
+use Rattle.curve.specs.Weights.{tension}
+use Rattle.rings.proofs.Tension.{edge-range-le}
 use Rattle.rings.specs.Scales.{virtualScale, edgeRange}
 use Rattle.topology.specs.Shape.{quads}
 use Rattle.topology.specs.Quads.{across}
@@ -16,19 +17,6 @@ use Rattle.coordinates.specs.Packed.{packedAt}
 use Rattle.coordinates.specs.Entry.{wideFlag, boundaryFlag, entryOf, placeOf, unitOf, exactAt, exactOf}
 use Rattle.facepoints.specs.Faces.{FaceTable}
 use Rattle.facepoints.specs.Reading.{Readable}
-
--- ---- units
-pub unit-plain : (t : ℕ) → t < wideFlag → unitOf t ≡ virtualScale kobbelt
-unfolding unitOf
-unit-plain t h = let a = lt-ltb t wideFlag h in rw a refl
-
-pub unit-wide : (t : ℕ) → wideFlag ≤ t → t < boundaryFlag → unitOf t ≡ 1
-unfolding unitOf
-unit-wide t h k = let a = le-ltb t wideFlag h in let b = lt-ltb t boundaryFlag k in rw (a, b) refl
-
-pub unit-boundary : (t : ℕ) → wideFlag ≤ t → boundaryFlag ≤ t → unitOf t ≡ virtualScale kobbelt
-unfolding unitOf
-unit-boundary t h k = let a = le-ltb t wideFlag h in let b = le-ltb t boundaryFlag k in rw (a, b) refl
 
 -- ---- opposite sides
 pub across-lt : (n h : ℕ) → n % 4 ≡ 0 → h < n → across h < n
@@ -43,30 +31,45 @@ pub across-second : (f : ℕ) → across (4 * f + 1) ≡ 4 * f + 3
 unfolding across quads
 across-second f = omega arith
 
--- ---- exact points
-module _ (n : ℕ) (w : List ℕ) where
-  pub readable : (a h t : ℕ) → FaceTable n w → a < 3 → h < n → t ≡ entryOf n w h → Readable n w a t
-  unfolding exactOf
-  readable a h t ok on lt e = rw e (record {
-    on = on;
-    few = ok .few;
-    room = ok .room;
-    number = ok .numbers h lt;
-    high = ok .high a h on lt;
-    small = ok .small a h on lt;
-  })
+module _ (t : ℕ) where
+  -- ---- units
+  pub unit-plain : (entry : ℕ) → entry < wideFlag → unitOf (tension t) entry ≡ virtualScale (tension t)
+  unfolding unitOf
+  unit-plain entry h = let a = lt-ltb entry wideFlag h in rw a refl
 
-  pub exact-fits : (a t : ℕ) → Readable n w a t → SFits w64 (exactAt n w a t)
-  exact-fits a t k = let s = k .small in fits-abs w64 (exactAt n w a t) (omega arith)
+  pub unit-wide : (entry : ℕ) → wideFlag ≤ entry → entry < boundaryFlag → unitOf (tension t) entry ≡ 1
+  unfolding unitOf
+  unit-wide entry h k = let a = le-ltb entry wideFlag h in let b = lt-ltb entry boundaryFlag k in rw (a, b) refl
 
-  pub exact-read : (a t : ℕ) (u z : ℤ) → u ≡ pos (unitOf t) → z ≡ packedAt w (2 * n + 6 * (t % wideFlag) + 2 * a) → u *ℤ z ≡ exactAt n w a t
-  unfolding exactAt placeOf
-  exact-read a t u z e k = ap₂ (λ (x y : ℤ). x *ℤ y) e k
+  pub unit-boundary : (entry : ℕ) → wideFlag ≤ entry → boundaryFlag ≤ entry → unitOf (tension t) entry ≡ virtualScale (tension t)
+  unfolding unitOf
+  unit-boundary entry h k = let a = le-ltb entry wideFlag h in let b = le-ltb entry boundaryFlag k in rw (a, b) refl
 
-  -- what was read by the entry of h
-  pub exact-of : (a h t : ℕ) (x : ℤ) → t ≡ entryOf n w h → x ≡ exactAt n w a t → x ≡ exactOf n w a h
-  unfolding exactOf
-  exact-of a h t x e k = k ∙ ap (exactAt n w a) e
+  -- ---- exact points
+  module _ (n : ℕ) (w : List ℕ) where
+    pub readable : (a h entry : ℕ) → FaceTable t n w → a < 3 → h < n → entry ≡ entryOf n w h → Readable t n w a entry
+    unfolding exactOf
+    readable a h entry ok on lt e = rw e (record {
+      on = on;
+      low = ok .low;
+      few = ok .entries .few;
+      room = ok .entries .room;
+      number = ok .entries .numbers h lt;
+      high = ok .entries .high a h on lt;
+      small = ok .small a h on lt;
+    })
 
-  pub exact-small : (a h : ℕ) (x : ℤ) → FaceTable n w → a < 3 → h < n → x ≡ exactOf n w a h → natAbs x ≤ edgeRange kobbelt
-  exact-small a h x ok on lt e = rw e (ok .small a h on lt)
+    pub exact-fits : (a entry : ℕ) → Readable t n w a entry → SFits w64 (exactAt (tension t) n w a entry)
+    exact-fits a entry k = let s = k .small in let b = edge-range-le t (k .low) in fits-abs w64 (exactAt (tension t) n w a entry) (omega arith)
+
+    pub exact-read : (a entry : ℕ) (u z : ℤ) → u ≡ pos (unitOf (tension t) entry) → z ≡ packedAt w (2 * n + 6 * (entry % wideFlag) + 2 * a) → u *ℤ z ≡ exactAt (tension t) n w a entry
+    unfolding exactAt placeOf
+    exact-read a entry u z e k = ap₂ (λ (x y : ℤ). x *ℤ y) e k
+
+    -- what was read by the entry of h
+    pub exact-of : (a h entry : ℕ) (x : ℤ) → entry ≡ entryOf n w h → x ≡ exactAt (tension t) n w a entry → x ≡ exactOf (tension t) n w a h
+    unfolding exactOf
+    exact-of a h entry x e k = k ∙ ap (exactAt (tension t) n w a) e
+
+    pub exact-small : (a h : ℕ) (x : ℤ) → FaceTable t n w → a < 3 → h < n → x ≡ exactOf (tension t) n w a h → natAbs x ≤ edgeRange (tension t)
+    exact-small a h x ok on lt e = rw e (ok .small a h on lt)

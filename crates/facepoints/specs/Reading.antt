@@ -4,38 +4,39 @@ use mathlib.Core.List.{List}
 use lib.IntN.{ℤ, natAbs}
 use lib.ListN.{length, getD}
 use Rattle.rounding.specs.Rounding.{round}
-use Rattle.curve.specs.Weights.{kobbelt, scale, interior}
+use Rattle.curve.specs.Weights.{Weights, tension, scale, interior}
 use Rattle.rings.specs.Scales.{edgeRange}
 use Rattle.coordinates.specs.Packed.{packedAt}
 use Rattle.coordinates.specs.Entry.{edgeOf, placeOf, exactAt}
 
--- coordinate a of the exact point of the entry t can be read
-pub record Readable (n : ℕ) (w : List ℕ) (a t : ℕ) : Type 0 where
+-- coordinate a of the exact point of an entry can be read
+pub record Readable (t n : ℕ) (w : List ℕ) (a entry : ℕ) : Type 0 where
   pub on : a < 3
+  pub low : t ≤ 4
   pub few : n ≤ 262144
   pub room : 8 * n ≤ length w
-  pub number : edgeOf t < n
-  pub high : getD w (placeOf n t + 2 * a + 1) 0 < 2 ^ 31
-  pub small : natAbs (exactAt n w a t) ≤ edgeRange kobbelt
+  pub number : edgeOf entry < n
+  pub high : getD w (placeOf n entry + 2 * a + 1) 0 < 2 ^ 31
+  pub small : natAbs (exactAt (tension t) n w a entry) ≤ edgeRange (tension t)
 
 -- a number over `scale` at place i can be read
 pub record PlainAt (w : List ℕ) (i : ℕ) : Type 0 where
   pub room : i + 2 ≤ length w
   pub high : getD w (i + 1) 0 < 2 ^ 31
-  pub small : natAbs (packedAt w i) < 2 ^ 31
+  pub small : natAbs (packedAt w i) < 2 ^ 33
 
--- the numbers of the point of edge t can be read, on each axis
-pub record PlainEdge (n : ℕ) (w : List ℕ) (t : ℕ) : Type 0 where
+-- the numbers of the point of an edge can be read, on each axis
+pub record PlainEdge (n : ℕ) (w : List ℕ) (entry : ℕ) : Type 0 where
   pub few : n ≤ 262144
-  pub number : t < n
-  pub on₀ : PlainAt w (2 * n + 6 * t)
-  pub on₁ : PlainAt w (2 * n + 6 * t + 2)
-  pub on₂ : PlainAt w (2 * n + 6 * t + 4)
+  pub number : entry < n
+  pub on₀ : PlainAt w (2 * n + 6 * entry)
+  pub on₁ : PlainAt w (2 * n + 6 * entry + 2)
+  pub on₂ : PlainAt w (2 * n + 6 * entry + 4)
 
 -- one direction by numbers over `scale` at the places p, q, r, s, rounded
-unfoldable pub plainDirection : List ℕ → (p q r s : ℕ) → ℤ
-plainDirection w p q r s = round (interior kobbelt (packedAt w p) (packedAt w q) (packedAt w r) (packedAt w s)) (scale kobbelt * scale kobbelt)
+unfoldable pub plainDirection : Weights → List ℕ → (p q r s : ℕ) → ℤ
+plainDirection weights w p q r s = round (interior weights (packedAt w p) (packedAt w q) (packedAt w r) (packedAt w s)) (scale weights * scale weights)
 
 -- the same on axis a of the edges p, q, r, s
-unfoldable pub plainCoordinate : (n : ℕ) → List ℕ → (a p q r s : ℕ) → ℤ
-plainCoordinate n w a p q r s = plainDirection w (2 * n + 6 * p + 2 * a) (2 * n + 6 * q + 2 * a) (2 * n + 6 * r + 2 * a) (2 * n + 6 * s + 2 * a)
+unfoldable pub plainCoordinate : Weights → (n : ℕ) → List ℕ → (a p q r s : ℕ) → ℤ
+plainCoordinate weights n w a p q r s = plainDirection weights w (2 * n + 6 * p + 2 * a) (2 * n + 6 * q + 2 * a) (2 * n + 6 * r + 2 * a) (2 * n + 6 * s + 2 * a)

@@ -5,7 +5,7 @@ ghost use Prim.Native.Nat.{_+_, _*_, _/_, _%_, _^_, _≤_, _<_};
 ghost use lib.IntN.{pos, natAbs, _+ℤ_};
 ghost use lib.ListN.{length, getD, take};
 ghost use Rattle.rounding.specs.Rounding.{round};
-ghost use Rattle.curve.specs.Weights.{kobbelt};
+ghost use Rattle.curve.specs.Weights.{tension};
 ghost use Rattle.rings.specs.Scales.{faceScale, edgeRange};
 ghost use Rattle.topology.specs.Shape.{quads};
 ghost use Rattle.refinedfaces.specs.Refined.{refined};
@@ -13,21 +13,15 @@ ghost use Rattle.tables.specs.Tables.{filled, Written};
 ghost use Rattle.coordinates.specs.Points.{putPoint};
 ghost use Rattle.coordinates.specs.Entry.{entryOf, unitOf, exactAt};
 ghost use Rattle.roundfaces.specs.Faces.{refinedBy, FaceIn, FacesIn};
-ghost use Rattle.facepoints.specs.Faces.{FaceTable, beyondOf, farOf, directionOf, innerTwiceOf, fourInnerOf, faceRuleOf, faceValueOf, faceCoordinate, faceCoordinates};
+ghost use Rattle.facepoints.specs.Faces.{EntryTable, FaceTable, beyondOf, farOf, directionOf, innerTwiceOf, fourInnerOf, faceRuleOf, faceValueOf, faceCoordinate, faceCoordinates};
 ghost use Rattle.facepoints.specs.Reading.{Readable, PlainAt, PlainEdge, plainDirection, plainCoordinate};
 ghost use Rattle.facepoints.specs.Family.{FamilyTable, PlainSides, PlainFace, putFamily};
 
-// The entries of plain edges are smaller: inner edges whose points are kept over 16. So is every edge number.
+// The entries of plain edges are smaller: inner edges whose points are kept over 64. So is every edge number.
 const WIDE: usize = 536870912;
 
 // The entries of inner edges are smaller.
 const BOUNDARY: usize = 1073741824;
-
-// What makes a numerator over 16 one over 7,257,600.
-const VIRTUAL_SCALE: i64 = 453600;
-
-// Half the denominator of a face point.
-const HALF_FACE_SCALE: u64 = 116121600;
 
 // Which directions of a face have four inner edges.
 pub enum FaceRule {
@@ -39,7 +33,7 @@ pub enum FaceRule {
 
 // The entry of the edge of h.
 fn entry(work: &[u32], n: usize, h: usize) -> usize
-    requires { ⌜ FaceTable n (now work) × (h < n) ⌝ }
+    requires { ⌜ EntryTable n (now work) × (h < n) ⌝ }
     ensures { λ r. ⌜ (r ≡ entryOf n (now (work .entry)) h) × (r < 2 ^ 32) ⌝ }
 {
     work[n + h] as usize
@@ -47,7 +41,7 @@ fn entry(work: &[u32], n: usize, h: usize) -> usize
 
 // The mate of h, or n for none.
 fn mate(work: &[u32], n: usize, h: usize) -> usize
-    requires { ⌜ FaceTable n (now work) × (h < n) ⌝ }
+    requires { ⌜ EntryTable n (now work) × (h < n) ⌝ }
     ensures { λ r. ⌜ r ≡ getD (now (work .entry)) h 0 ⌝ }
 {
     work[h] as usize
@@ -55,61 +49,62 @@ fn mate(work: &[u32], n: usize, h: usize) -> usize
 
 // The entry of the edge beyond the side h.
 fn beyond(work: &[u32], n: usize, h: usize) -> usize
-    requires { ⌜ FaceTable n (now work) × (h < n) × (getD (now work) h 0 < n) ⌝ }
+    requires { ⌜ EntryTable n (now work) × (h < n) × (getD (now work) h 0 < n) ⌝ }
     ensures { λ r. ⌜ (r ≡ entryOf n (now (work .entry)) (beyondOf (now (work .entry)) h)) × (r < 2 ^ 32) ⌝ }
 {
     entry(work, n, halfedges::across_side(mate(work, n, h)))
 }
 
-// What makes a stored numerator of the entry t one over 7,257,600.
-fn unit(t: usize) -> i64
-    ensures { λ r. ⌜ r ≡ pos (unitOf t) ⌝ }
+// What makes a stored numerator of the entry e one over `edgeScale`.
+fn unit(e: usize, t: u32) -> i64
+    requires { ⌜ t ≤ 4 ⌝ }
+    ensures { λ r. ⌜ r ≡ pos (unitOf (tension t) e) ⌝ }
 {
-    if t < WIDE {
-        return VIRTUAL_SCALE;
+    if e < WIDE {
+        return rings::virtual_scale(t);
     }
-    if t < BOUNDARY {
+    if e < BOUNDARY {
         return 1;
     }
-    VIRTUAL_SCALE
+    rings::virtual_scale(t)
 }
 
-// Coordinate a of the exact point of the entry t, over 7,257,600.
-fn exact_on(work: &[u32], n: usize, t: usize, a: usize) -> i64
-    requires { ⌜ Readable n (now work) a t ⌝ }
-    ensures { λ r. ⌜ r ≡ exactAt n (now (work .entry)) a t ⌝ }
+// Coordinate a of the exact point of the entry e, over `edgeScale`.
+fn exact_on(work: &[u32], n: usize, e: usize, a: usize, t: u32) -> i64
+    requires { ⌜ Readable t n (now work) a e ⌝ }
+    ensures { λ r. ⌜ r ≡ exactAt (tension t) n (now (work .entry)) a e ⌝ }
 {
-    let z = coordinates::load(work, 2 * n + 6 * (t % WIDE) + 2 * a);
-    unit(t) * z
+    let z = coordinates::load(work, 2 * n + 6 * (e % WIDE) + 2 * a);
+    unit(e, t) * z
 }
 
 // Coordinate a beyond the side h: x is that of h, y that of the opposite side.
-fn far_on(work: &[u32], n: usize, h: usize, x: i64, y: i64, a: usize) -> i64
-    requires { ⌜ FaceTable n (now work) × (h < n) × (a < 3) × (natAbs x ≤ edgeRange kobbelt) × (natAbs y ≤ edgeRange kobbelt) ⌝ }
-    ensures { λ r. ⌜ r ≡ farOf n (now (work .entry)) a h x y ⌝ }
+fn far_on(work: &[u32], n: usize, h: usize, x: i64, y: i64, a: usize, t: u32) -> i64
+    requires { ⌜ FaceTable t n (now work) × (h < n) × (a < 3) × (natAbs x ≤ edgeRange (tension t)) × (natAbs y ≤ edgeRange (tension t)) ⌝ }
+    ensures { λ r. ⌜ r ≡ farOf (tension t) n (now (work .entry)) a h x y ⌝ }
 {
     if mate(work, n, h) < n {
-        return exact_on(work, n, beyond(work, n, h), a);
+        return exact_on(work, n, beyond(work, n, h), a, t);
     }
     curve::mirrored(x, y)
 }
 
 // Coordinate a of the direction of the side h.
-fn direction_on(work: &[u32], n: usize, h: usize, a: usize) -> i64
-    requires { ⌜ FaceTable n (now work) × (h < n) × (a < 3) ⌝ }
-    ensures { λ r. ⌜ r ≡ directionOf n (now (work .entry)) a h ⌝ }
+fn direction_on(work: &[u32], n: usize, h: usize, a: usize, t: u32) -> i64
+    requires { ⌜ FaceTable t n (now work) × (h < n) × (a < 3) ⌝ }
+    ensures { λ r. ⌜ r ≡ directionOf (tension t) n (now (work .entry)) a h ⌝ }
 {
     let g = halfedges::across_side(h);
-    let x = exact_on(work, n, entry(work, n, h), a);
-    let y = exact_on(work, n, entry(work, n, g), a);
-    let u = far_on(work, n, h, x, y, a);
-    let v = far_on(work, n, g, y, x, a);
-    curve::four_point(u, x, y, v)
+    let x = exact_on(work, n, entry(work, n, h), a, t);
+    let y = exact_on(work, n, entry(work, n, g), a, t);
+    let u = far_on(work, n, h, x, y, a, t);
+    let v = far_on(work, n, g, y, x, a, t);
+    curve::four_point(u, x, y, v, t)
 }
 
 // Whether h has a mate and the edge beyond it is an inner edge.
 fn inner_twice(work: &[u32], n: usize, h: usize) -> bool
-    requires { ⌜ FaceTable n (now work) × (h < n) ⌝ }
+    requires { ⌜ EntryTable n (now work) × (h < n) ⌝ }
     ensures { λ r. ⌜ r ≡ innerTwiceOf n (now (work .entry)) h ⌝ }
 {
     if mate(work, n, h) < n {
@@ -120,7 +115,7 @@ fn inner_twice(work: &[u32], n: usize, h: usize) -> bool
 
 // Whether the direction of the side h has four inner edges.
 fn four_inner(work: &[u32], n: usize, h: usize) -> bool
-    requires { ⌜ FaceTable n (now work) × (h < n) ⌝ }
+    requires { ⌜ EntryTable n (now work) × (h < n) ⌝ }
     ensures { λ r. ⌜ r ≡ fourInnerOf n (now (work .entry)) h ⌝ }
 {
     if inner_twice(work, n, h) {
@@ -131,7 +126,7 @@ fn four_inner(work: &[u32], n: usize, h: usize) -> bool
 
 // The rule of face f.
 fn face_rule(work: &[u32], n: usize, f: usize) -> FaceRule
-    requires { ⌜ FaceTable n (now work) × (4 * f < n) ⌝ }
+    requires { ⌜ EntryTable n (now work) × (4 * f < n) ⌝ }
     ensures { λ r. ⌜ r ≡ faceRuleOf n (now (work .entry)) f ⌝ }
 {
     let h = 4 * f;
@@ -148,55 +143,65 @@ fn face_rule(work: &[u32], n: usize, f: usize) -> FaceRule
     FaceRule::NeitherInner
 }
 
-// Coordinate a of the mean of the directions of the sides g and h, rounded.
-fn mean_on(work: &[u32], n: usize, g: usize, h: usize, a: usize) -> i32
-    requires { ⌜ FaceTable n (now work) × (g < n) × (h < n) × (a < 3) ⌝ }
-    ensures { λ r. ⌜ r ≡ round (directionOf n (now (work .entry)) a g +ℤ directionOf n (now (work .entry)) a h) (faceScale kobbelt) ⌝ }
+// Half the denominator of a face point.
+fn half_face_scale(t: u32) -> u64
+    requires { ⌜ t ≤ 4 ⌝ }
+    ensures { λ r. ⌜ (2 * r ≡ faceScale (tension t)) × (r ≡ 206438400 * (32 + t)) ⌝ }
 {
-    let u = direction_on(work, n, g, a);
-    let v = direction_on(work, n, h, a);
-    rounding::round_div(u + v, HALF_FACE_SCALE) as i32
+    206438400 * (32 + t as u64)
+}
+
+// Coordinate a of the mean of the directions of the sides g and h, rounded.
+fn mean_on(work: &[u32], n: usize, g: usize, h: usize, a: usize, t: u32) -> i32
+    requires { ⌜ FaceTable t n (now work) × (g < n) × (h < n) × (a < 3) ⌝ }
+    ensures { λ r. ⌜ r ≡ round (directionOf (tension t) n (now (work .entry)) a g +ℤ directionOf (tension t) n (now (work .entry)) a h) (faceScale (tension t)) ⌝ }
+{
+    let u = direction_on(work, n, g, a, t);
+    let v = direction_on(work, n, h, a, t);
+    rounding::round_div(u + v, half_face_scale(t)) as i32
 }
 
 // Coordinate a of the point of face f by a rule: a direction that counts alone is its mean with itself.
-fn face_on(work: &[u32], n: usize, f: usize, rule: FaceRule, a: usize) -> i32
-    requires { ⌜ FaceTable n (now work) × (4 * f < n) × (a < 3) ⌝ }
-    ensures { λ r. ⌜ r ≡ round (faceValueOf n (now (work .entry)) a f rule) (faceScale kobbelt) ⌝ }
+fn face_on(work: &[u32], n: usize, f: usize, rule: FaceRule, a: usize, t: u32) -> i32
+    requires { ⌜ FaceTable t n (now work) × (4 * f < n) × (a < 3) ⌝ }
+    ensures { λ r. ⌜ r ≡ round (faceValueOf (tension t) n (now (work .entry)) a f rule) (faceScale (tension t)) ⌝ }
 {
     let g = 4 * f;
     let h = g + 1;
     match rule {
-        FaceRule::FirstAlone => mean_on(work, n, g, g, a),
-        FaceRule::SecondAlone => mean_on(work, n, h, h, a),
-        FaceRule::BothInner => mean_on(work, n, g, h, a),
-        FaceRule::NeitherInner => mean_on(work, n, g, h, a),
+        FaceRule::FirstAlone => mean_on(work, n, g, g, a, t),
+        FaceRule::SecondAlone => mean_on(work, n, h, h, a, t),
+        FaceRule::BothInner => mean_on(work, n, g, h, a, t),
+        FaceRule::NeitherInner => mean_on(work, n, g, h, a, t),
     }
 }
 
 // Writes the point of face f by its rule.
-fn general_face(out: &mut [i32], work: &[u32], n: usize, f: usize)
-    requires { ⌜ FaceTable n (now work) × (4 * f < n) × (3 * f + 3 ≤ length (now out)) ⌝ }
-    ensures { λ _. ⌜ now (out .exit) ≡ putPoint (now (out .entry)) f (faceCoordinate n (now (work .entry)) 0 f) (faceCoordinate n (now (work .entry)) 1 f) (faceCoordinate n (now (work .entry)) 2 f) ⌝ }
+fn general_face(out: &mut [i32], work: &[u32], n: usize, f: usize, t: u32)
+    requires { ⌜ FaceTable t n (now work) × (4 * f < n) × (3 * f + 3 ≤ length (now out)) ⌝ }
+    ensures { λ _. ⌜ now (out .exit) ≡ putPoint (now (out .entry)) f (faceCoordinate (tension t) n (now (work .entry)) 0 f) (faceCoordinate (tension t) n (now (work .entry)) 1 f) (faceCoordinate (tension t) n (now (work .entry)) 2 f) ⌝ }
 {
     let rule = face_rule(work, n, f);
-    let x = face_on(work, n, f, rule, 0);
-    let y = face_on(work, n, f, rule, 1);
-    let z = face_on(work, n, f, rule, 2);
+    let x = face_on(work, n, f, rule, 0, t);
+    let y = face_on(work, n, f, rule, 1, t);
+    let z = face_on(work, n, f, rule, 2, t);
     coordinates::put_point(&mut *out, f, x, y, z);
 }
 
-// One direction by the numerators over 16 at the places p, q, r, s, rounded.
-fn plain_on(work: &[u32], p: usize, q: usize, r: usize, s: usize) -> i32
-    requires { ⌜ PlainAt (now work) p × PlainAt (now work) q × PlainAt (now work) r × PlainAt (now work) s ⌝ }
-    ensures { λ z. ⌜ z ≡ plainDirection (now (work .entry)) p q r s ⌝ }
+// One direction by the numerators over 64 at the places p, q, r, s, rounded: on the numbers as they are packed, with 2^56 + 2^31 more each. The weights add up to 64 at
+// every tension, so 64 times that is too much.
+fn plain_on(work: &[u32], p: usize, q: usize, r: usize, s: usize, t: u32) -> i32
+    requires { ⌜ PlainAt (now work) p × PlainAt (now work) q × PlainAt (now work) r × PlainAt (now work) s × (t ≤ 4) ⌝ }
+    ensures { λ z. ⌜ z ≡ plainDirection (tension t) (now (work .entry)) p q r s ⌝ }
 {
     let z = curve::four_point(
-        coordinates::load(work, p),
-        coordinates::load(work, q),
-        coordinates::load(work, r),
-        coordinates::load(work, s),
+        coordinates::load_biased(work, p),
+        coordinates::load_biased(work, q),
+        coordinates::load_biased(work, r),
+        coordinates::load_biased(work, s),
+        t,
     );
-    rounding::round_shift(z, 128, 8) as i32
+    rounding::round_shift(z - 4611686155866341376, 2048, 12) as i32
 }
 
 // Writes the point of face f by one direction alone, that of the plain edges p, q, r, s.
@@ -209,19 +214,21 @@ fn plain_face(
     r: usize,
     s: usize,
     f: usize,
+    t: u32,
 )
     requires { ⌜ PlainEdge n (now work) p × PlainEdge n (now work) q × PlainEdge n (now work) r × PlainEdge n (now work) s ⌝ }
-    requires { ⌜ 3 * f + 3 ≤ length (now out) ⌝ }
-    ensures { λ _. ⌜ now (out .exit) ≡ putPoint (now (out .entry)) f (plainCoordinate n (now (work .entry)) 0 p q r s) (plainCoordinate n (now (work .entry)) 1 p q r s) (plainCoordinate n (now (work .entry)) 2 p q r s) ⌝ }
+    requires { ⌜ (3 * f + 3 ≤ length (now out)) × (t ≤ 4) ⌝ }
+    ensures { λ _. ⌜ now (out .exit) ≡ putPoint (now (out .entry)) f (plainCoordinate (tension t) n (now (work .entry)) 0 p q r s) (plainCoordinate (tension t) n (now (work .entry)) 1 p q r s) (plainCoordinate (tension t) n (now (work .entry)) 2 p q r s) ⌝ }
 {
     let b = 2 * n;
-    let x = plain_on(work, b + 6 * p, b + 6 * q, b + 6 * r, b + 6 * s);
+    let x = plain_on(work, b + 6 * p, b + 6 * q, b + 6 * r, b + 6 * s, t);
     let y = plain_on(
         work,
         b + 6 * p + 2,
         b + 6 * q + 2,
         b + 6 * r + 2,
         b + 6 * s + 2,
+        t,
     );
     let z = plain_on(
         work,
@@ -229,14 +236,15 @@ fn plain_face(
         b + 6 * q + 4,
         b + 6 * r + 4,
         b + 6 * s + 4,
+        t,
     );
     coordinates::put_point(&mut *out, f, x, y, z);
 }
 
 // Writes the point of face f. Where all eight edges of both directions are plain, as the sums tell, one direction is enough.
-fn put_face(out: &mut [i32], work: &[u32], n: usize, f: usize)
-    requires { ⌜ FaceTable n (now work) × (4 * f < n) × (3 * f + 3 ≤ length (now out)) ⌝ }
-    ensures { λ _. ⌜ now (out .exit) ≡ putPoint (now (out .entry)) f (faceCoordinate n (now (work .entry)) 0 f) (faceCoordinate n (now (work .entry)) 1 f) (faceCoordinate n (now (work .entry)) 2 f) ⌝ }
+fn put_face(out: &mut [i32], work: &[u32], n: usize, f: usize, t: u32)
+    requires { ⌜ FaceTable t n (now work) × (4 * f < n) × (3 * f + 3 ≤ length (now out)) ⌝ }
+    ensures { λ _. ⌜ now (out .exit) ≡ putPoint (now (out .entry)) f (faceCoordinate (tension t) n (now (work .entry)) 0 f) (faceCoordinate (tension t) n (now (work .entry)) 1 f) (faceCoordinate (tension t) n (now (work .entry)) 2 f) ⌝ }
 {
     let h = 4 * f;
     let p = entry(work, n, h);
@@ -244,25 +252,34 @@ fn put_face(out: &mut [i32], work: &[u32], n: usize, f: usize)
     let r = entry(work, n, h + 2);
     let s = entry(work, n, h + 3);
     if p + q + r + s < WIDE {
-        let t = beyond(work, n, h);
+        let o = beyond(work, n, h);
         let u = beyond(work, n, h + 1);
         let v = beyond(work, n, h + 2);
         let w = beyond(work, n, h + 3);
-        if t + u + v + w < WIDE {
-            plain_face(&mut *out, work, n, t, p, r, v, f);
+        if o + u + v + w < WIDE {
+            plain_face(&mut *out, work, n, o, p, r, v, f, t);
             return;
         }
     }
-    general_face(&mut *out, work, n, f);
+    general_face(&mut *out, work, n, f, t);
 }
 
 // Writes the point of face f, whose eight edges are plain, by the edges of its sides 0 and 2 and that beyond side 2.
-fn inner_face(out: &mut [i32], work: &[u32], n: usize, p: usize, r: usize, v: usize, f: usize)
-    requires { ⌜ FaceTable n (now work) × PlainFace n (now work) f p r v × (3 * f + 3 ≤ length (now out)) ⌝ }
-    ensures { λ _. ⌜ now (out .exit) ≡ putPoint (now (out .entry)) f (faceCoordinate n (now (work .entry)) 0 f) (faceCoordinate n (now (work .entry)) 1 f) (faceCoordinate n (now (work .entry)) 2 f) ⌝ }
+fn inner_face(
+    out: &mut [i32],
+    work: &[u32],
+    n: usize,
+    p: usize,
+    r: usize,
+    v: usize,
+    f: usize,
+    t: u32,
+)
+    requires { ⌜ FaceTable t n (now work) × PlainFace n (now work) f p r v × (3 * f + 3 ≤ length (now out)) ⌝ }
+    ensures { λ _. ⌜ now (out .exit) ≡ putPoint (now (out .entry)) f (faceCoordinate (tension t) n (now (work .entry)) 0 f) (faceCoordinate (tension t) n (now (work .entry)) 1 f) (faceCoordinate (tension t) n (now (work .entry)) 2 f) ⌝ }
 {
-    let t = beyond(work, n, 4 * f);
-    plain_face(&mut *out, work, n, t, p, r, v, f);
+    let o = beyond(work, n, 4 * f);
+    plain_face(&mut *out, work, n, o, p, r, v, f, t);
 }
 
 // Writes the points of the four faces of a plain family, the last first.
@@ -283,15 +300,16 @@ fn family_points(
     b1: usize,
     b2: usize,
     b3: usize,
+    t: u32,
 )
-    requires { ⌜ FaceTable n (now work) × (3 * f + 12 ≤ length (now out)) ⌝ }
+    requires { ⌜ FaceTable t n (now work) × (3 * f + 12 ≤ length (now out)) ⌝ }
     requires { ⌜ PlainFace n (now work) f a0 s3 b2 × PlainFace n (now work) (f + 1) a1 s0 b3 × PlainFace n (now work) (f + 2) a2 s1 b0 × PlainFace n (now work) (f + 3) a3 s2 b1 ⌝ }
-    ensures { λ _. ⌜ now (out .exit) ≡ putFamily (faceCoordinate n (now (work .entry))) (now (out .entry)) f ⌝ }
+    ensures { λ _. ⌜ now (out .exit) ≡ putFamily (faceCoordinate (tension t) n (now (work .entry))) (now (out .entry)) f ⌝ }
 {
-    inner_face(&mut *out, work, n, a3, s2, b1, f + 3);
-    inner_face(&mut *out, work, n, a2, s1, b0, f + 2);
-    inner_face(&mut *out, work, n, a1, s0, b3, f + 1);
-    inner_face(&mut *out, work, n, a0, s3, b2, f);
+    inner_face(&mut *out, work, n, a3, s2, b1, f + 3, t);
+    inner_face(&mut *out, work, n, a2, s1, b0, f + 2, t);
+    inner_face(&mut *out, work, n, a1, s0, b3, f + 1, t);
+    inner_face(&mut *out, work, n, a0, s3, b2, f, t);
 }
 
 // Writes the points and the refined corners of the four faces of a plain family, the last first: the faces from f on.
@@ -303,10 +321,11 @@ fn refine_family(
     v: usize,
     edges: usize,
     f: usize,
+    t: u32,
 )
-    requires { ⌜ FaceTable n (now work) × FamilyTable n (now work) × PlainSides n (now work) (f / 4) × (f % 4 ≡ 0) ⌝ }
+    requires { ⌜ FaceTable t n (now work) × FamilyTable n (now work) × PlainSides n (now work) (f / 4) × (f % 4 ≡ 0) ⌝ }
     requires { ⌜ FaceIn n v edges f (now faces) (now work) × (4 * f + 16 ≤ n) × (3 * f + 12 ≤ length (now out)) ⌝ }
-    ensures { λ _. ⌜ now (out .exit) ≡ putFamily (faceCoordinate n (now (work .entry))) (now (out .entry)) f ⌝ }
+    ensures { λ _. ⌜ now (out .exit) ≡ putFamily (faceCoordinate (tension t) n (now (work .entry))) (now (out .entry)) f ⌝ }
     ensures { λ _. ⌜ Written (16 * f) (16 * f + 64) (refinedBy n v edges (now (faces .entry)) (now (work .entry))) (now (faces .entry)) (now (faces .exit)) ⌝ }
 {
     let h = 4 * f;
@@ -339,6 +358,7 @@ fn refine_family(
         b1,
         b2,
         b3,
+        t,
     );
     roundfaces::refine_face(&mut *faces, work, n, v, edges, f + 3);
     roundfaces::refine_face(&mut *faces, work, n, v, edges, f + 2);
@@ -348,7 +368,7 @@ fn refine_family(
 
 // Whether the eight halves of the sides of the face that was split are plain, as their sum tells.
 fn plain_family(work: &[u32], n: usize, f: usize) -> bool
-    requires { ⌜ FaceTable n (now work) × (4 * f + 16 ≤ n) × (f % 4 ≡ 0) ⌝ }
+    requires { ⌜ EntryTable n (now work) × (4 * f + 16 ≤ n) × (f % 4 ≡ 0) ⌝ }
     ensures { λ r. ⌜ (r ≡ true → PlainSides n (now (work .entry)) (f / 4)) ⌝ }
 {
     let h = 4 * f;
@@ -356,11 +376,11 @@ fn plain_family(work: &[u32], n: usize, f: usize) -> bool
         + entry(work, n, h + 3)
         + entry(work, n, h + 4)
         + entry(work, n, h + 7);
-    let t = entry(work, n, h + 8)
+    let u = entry(work, n, h + 8)
         + entry(work, n, h + 11)
         + entry(work, n, h + 12)
         + entry(work, n, h + 15);
-    s + t < WIDE
+    s + u < WIDE
 }
 
 // Writes the points of all faces to `out`, and the refined corners over the corners, from the last face to the first; in a later round by families.
@@ -371,11 +391,12 @@ pub fn face_points(
     n: usize,
     v: usize,
     edges: usize,
+    t: u32,
     later: bool,
 )
-    requires { ⌜ FaceTable n (now work) × FacesIn n v edges (now faces) (now work) × (3 * (n / 4) ≤ length (now out)) ⌝ }
+    requires { ⌜ FaceTable t n (now work) × FacesIn n v edges (now faces) (now work) × (3 * (n / 4) ≤ length (now out)) ⌝ }
     requires { ⌜ (later ≡ true → FamilyTable n (now work)) ⌝ }
-    ensures { λ _. ⌜ now (out .exit) ≡ filled (faceCoordinates n (now (work .entry))) (now (out .entry)) ⌝ }
+    ensures { λ _. ⌜ now (out .exit) ≡ filled (faceCoordinates (tension t) n (now (work .entry))) (now (out .entry)) ⌝ }
     ensures { λ _. ⌜ now (faces .exit) ≡ filled (refined quads v (take n (now (faces .entry)))) (now (faces .entry)) ⌝ }
 {
     let mut f = n / 4;
@@ -385,13 +406,13 @@ pub fn face_points(
             end = f - 4;
             if plain_family(work, n, end) {
                 f = end;
-                refine_family(&mut *out, &mut *faces, work, n, v, edges, f);
+                refine_family(&mut *out, &mut *faces, work, n, v, edges, f, t);
                 continue;
             }
         }
         while f > end {
             f -= 1;
-            put_face(&mut *out, work, n, f);
+            put_face(&mut *out, work, n, f, t);
             roundfaces::refine_face(&mut *faces, work, n, v, edges, f);
         }
     }

@@ -5,7 +5,7 @@ use Prim.Native.Nat.{ℕ, zero, suc, _+_, _/_, _<_}
 use native.Mathlib.Nat.{not-suc-le-zero}
 use native.Mathlib.Omega.{arith}
 use lib.ListN.{length}
-use Rattle.curve.specs.Weights.{Weights, kobbelt}
+use Rattle.curve.specs.Weights.{Weights}
 use Rattle.topology.specs.Shape.{Shape, quads}
 use Rattle.topology.specs.Manifold.{Oriented}
 use Rattle.polygons.specs.Polygons.{shapeOf}
@@ -64,14 +64,14 @@ controlCounts m = countsOf (shapeOf (m .sides)) (length (m .marks)) (m .faces)
 split-counts : (m : ControlNet) → Drawn m → countsOf quads (length (split m .marks)) (split m .faces) ≡ grown (controlCounts m)
 split-counts m ok = ap₂ (countsOf quads) (split-count m) (split-faces m) ∙ counts-refined (shapeOf (m .sides)) (length (m .marks)) (m .faces) (drawn-manifold m ok .oriented)
 
-pub vertices-after : (m : ControlNet) → Drawn m → (k : ℕ) → length (steps kobbelt k (startNet m) .marks) ≡ grownBy (k + splits (m .sides)) (controlCounts m) .vertices
+pub vertices-after : (w : Weights) (m : ControlNet) → Drawn m → (k : ℕ) → length (steps w k (startNet m) .marks) ≡ grownBy (k + splits (m .sides)) (controlCounts m) .vertices
 unfolding countsOf
-vertices-after m ok k = start-cases (λ u. length (steps kobbelt k u .marks) ≡ grownBy (k + splits (m .sides)) (controlCounts m) .vertices) m
+vertices-after w m ok k = start-cases (λ u. length (steps w k u .marks) ≡ grownBy (k + splits (m .sides)) (controlCounts m) .vertices) m
     (λ e.
     let s : k + splits (m .sides) ≡ k = let z = splits-none (m .sides) e in omega arith in
     rw (s, shape-none (m .sides) e) (vertices-steps (drawnTables m) (plain-refinable m ok e)))
     (λ b. vertices-steps (split m) (split-refinable m ok) ∙ ap (λ (c : Counts). grownBy k c .vertices) (split-counts m ok)
     ∙ ap (λ (c : Counts). c .vertices) (grown-first k (controlCounts m)) ∙ ap (λ (j : ℕ). grownBy (k + j) (controlCounts m) .vertices) (sym (splits-some (m .sides) b)))
   where
-    vertices-steps : (u : Net) → Refinable u → length (steps kobbelt k u .marks) ≡ grownBy k (countsOf quads (length (u .marks)) (u .faces)) .vertices
-    vertices-steps u r = ap (λ (c : Counts). c .vertices) (counts-steps kobbelt u r k)
+    vertices-steps : (u : Net) → Refinable u → length (steps w k u .marks) ≡ grownBy k (countsOf quads (length (u .marks)) (u .faces)) .vertices
+    vertices-steps u r = ap (λ (c : Counts). c .vertices) (counts-steps w u r k)

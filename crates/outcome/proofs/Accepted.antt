@@ -4,7 +4,7 @@ use mathlib.Core.List.{List}
 use Prim.Native.Nat.{ℕ, _*_, _/_}
 use native.Mathlib.Omega.{arith}
 use lib.ListN.{length}
-use Rattle.curve.specs.Weights.{kobbelt}
+use Rattle.curve.specs.Weights.{tension}
 use Rattle.nets.specs.Net.{Net}
 use Rattle.tables.proofs.Laws.{take-filled}
 use Rattle.nets.proofs.Laws.{same-net}
@@ -35,16 +35,16 @@ module _ (a : Request) (k : ℕ) (h : AcceptedFor a k) where
   accepted-request : requestVerdict (forRounds k a) ≡ accepted
   unfolding outcome
   accepted-request =
-      by-result (requestVerdict (forRounds k a)) (a .tally) (newPoints k (a .net)) (steps kobbelt k (startNet (a .net))) (letters kobbelt (a .net) k) (a .buffers) (a .letters) (workAfter c (a .buffers .work)) (h .vertices) (h .faces) (h .result)
+      by-result (requestVerdict (forRounds k a)) (a .tally) (newPoints (a .tension) k (a .net)) (steps (tension (a .tension)) k (startNet (a .net))) (letters (tension (a .tension)) (a .net) k) (a .buffers) (a .letters) (workAfter c (a .buffers .work)) (h .vertices) (h .faces) (h .result)
 
-  both : (verdict c ≡ accepted) × (tallyVerdict (a .tally) (newPoints k (a .net)) ≡ accepted)
+  both : (verdict c ≡ accepted) × (tallyVerdict (a .tally) (newPoints (a .tension) k (a .net)) ≡ accepted)
   unfolding requestVerdict
-  both = or-both (verdict c) (tallyVerdict (a .tally) (newPoints k (a .net))) accepted-request
+  both = or-both (verdict c) (tallyVerdict (a .tally) (newPoints (a .tension) k (a .net))) accepted-request
 
   pub accepted-verdict : verdict (callOf (forRounds k a)) ≡ accepted
   accepted-verdict = both .0
 
-  pub accepted-tally : tallyVerdict (a .tally) (newPoints k (a .net)) ≡ accepted
+  pub accepted-tally : tallyVerdict (a .tally) (newPoints (a .tension) k (a .net)) ≡ accepted
   accepted-tally = both .1
 
 -- ---- what an accepted net has
@@ -69,28 +69,28 @@ accepted-refinable c e = start-refinable (c .net) (accepted-drawn c e)
 -- ---- the net at the front of the outputs
 -- the outcome of the request for k rounds, were v the verdict and n the refined net
 abbrev pub given : Request → ℕ → Verdict → Net → Outcome
-given a k v n = outcomeBy v (a .tally) (newPoints k (a .net)) n (letters kobbelt (a .net) k) (a .buffers) (a .letters) (workAfter (callOf (forRounds k a)) (a .buffers .work))
+given a k v n = outcomeBy v (a .tally) (newPoints (a .tension) k (a .net)) n (letters (tension (a .tension)) (a .net) k) (a .buffers) (a .letters) (workAfter (callOf (forRounds k a)) (a .buffers .work))
 
 module _ (a : Request) (k : ℕ) (e : requestVerdict (forRounds k a) ≡ accepted) where
   abbrev call : Call
   call = callOf (forRounds k a)
 
-  after : Refinable (steps kobbelt k (startNet (a .net)))
+  after : Refinable (steps (tension (a .tension)) k (startNet (a .net)))
   unfolding requestVerdict
-  after = refinable-steps kobbelt (startNet (a .net)) (accepted-refinable call (or-both (verdict call) (tallyVerdict (a .tally) (newPoints k (a .net))) e .0)) k
+  after = refinable-steps (tension (a .tension)) (startNet (a .net)) (accepted-refinable call (or-both (verdict call) (tallyVerdict (a .tally) (newPoints (a .tension) k (a .net))) e .0)) k
 
   pub accepted-result : AcceptedFor a k
   unfolding outcome
   accepted-result = record {
-    vertices = length (steps kobbelt k (startNet (a .net)) .marks);
-    faces = length (steps kobbelt k (startNet (a .net)) .faces) / 4;
-    result = ap (λ (v : Verdict). given a k v (steps kobbelt k (startNet (a .net))) .result) e;
+    vertices = length (steps (tension (a .tension)) k (startNet (a .net)) .marks);
+    faces = length (steps (tension (a .tension)) k (startNet (a .net)) .faces) / 4;
+    result = ap (λ (v : Verdict). given a k v (steps (tension (a .tension)) k (startNet (a .net))) .result) e;
   }
 
-  pub accepted-after : netAfter a k ≡ steps kobbelt k (startNet (a .net))
+  pub accepted-after : netAfter a k ≡ steps (tension (a .tension)) k (startNet (a .net))
   unfolding outcome
   accepted-after =
-      let n : Net = steps kobbelt k (startNet (a .net)) in
+      let n : Net = steps (tension (a .tension)) k (startNet (a .net)) in
       let o = a .buffers in
       let t = after .threes in
       let f = after .fours in

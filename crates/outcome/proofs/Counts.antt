@@ -5,7 +5,7 @@ use native.Mathlib.Nat.{mul-assoc, pow-suc}
 use native.Mathlib.Decide.{ℕ-discrete}
 use native.Mathlib.Omega.{arith}
 use lib.ListN.{length}
-use Rattle.curve.specs.Weights.{kobbelt}
+use Rattle.curve.specs.Weights.{tension}
 use Rattle.nets.specs.Net.{Net, ControlNet}
 use Rattle.topology.specs.Shape.{quads}
 use Rattle.polygons.specs.Polygons.{Sided}
@@ -20,30 +20,30 @@ use Rattle.verdict.specs.Verdict.{accepted, verdict}
 use Rattle.verdict.proofs.Accepted.{by-fours, by-sides, accepted-limits}
 use Rattle.outcome.proofs.Accepted.{accepted-refinable}
 
-pub zero-steps : (m : Net) → length (steps kobbelt 0 m .marks) ≡ length (m .marks)
+pub zero-steps : (t : ℕ) (m : Net) → length (steps (tension t) 0 m .marks) ≡ length (m .marks)
 unfolding steps
-zero-steps m = refl
+zero-steps t m = refl
 
 -- vertices never grow fewer
-pub more-vertices : (m : Net) (j k : ℕ) → j ≤ k → length (steps kobbelt j m .marks) ≤ length (steps kobbelt k m .marks)
+pub more-vertices : (t : ℕ) (m : Net) (j k : ℕ) → j ≤ k → length (steps (tension t) j m .marks) ≤ length (steps (tension t) k m .marks)
 unfolding steps
-more-vertices m j zero h = let e : j ≡ zero = omega arith in rw e (omega arith)
-more-vertices m j (suc k) h = go (ℕ-discrete j (suc k)) (λ l. more-vertices m j k l)
+more-vertices t m j zero h = let e : j ≡ zero = omega arith in rw e (omega arith)
+more-vertices t m j (suc k) h = go (ℕ-discrete j (suc k)) (λ l. more-vertices t m j k l)
   where
-    go : Dec (j ≡ suc k) → (j ≤ k → length (steps kobbelt j m .marks) ≤ length (steps kobbelt k m .marks)) → length (steps kobbelt j m .marks) ≤ length (steps kobbelt (suc k) m .marks)
+    go : Dec (j ≡ suc k) → (j ≤ k → length (steps (tension t) j m .marks) ≤ length (steps (tension t) k m .marks)) → length (steps (tension t) j m .marks) ≤ length (steps (tension t) (suc k) m .marks)
     go (yes e) f = rw e (omega arith)
-    go (no e) f = let a = f (omega arith) in let b = step-count kobbelt (steps kobbelt k m) in omega arith
+    go (no e) f = let a = f (omega arith) in let b = step-count (tension t) (steps (tension t) k m) in omega arith
 
 -- the vertices of the control net are among them
-pub control-among : (m : ControlNet) (k : ℕ) → length (m .marks) ≤ length (steps kobbelt k (startNet m) .marks)
-control-among m k = omega (arith, start-grows m, more-vertices (startNet m) 0 k (omega arith), zero-steps (startNet m))
+pub control-among : (t : ℕ) (m : ControlNet) (k : ℕ) → length (m .marks) ≤ length (steps (tension t) k (startNet m) .marks)
+control-among t m k = omega (arith, start-grows m, more-vertices t (startNet m) 0 k (omega arith), zero-steps t (startNet m))
 
-pub corners-grown : (m : Net) (k : ℕ) → length (steps kobbelt k m .faces) ≡ length (m .faces) * 4 ^ k
+pub corners-grown : (t : ℕ) (m : Net) (k : ℕ) → length (steps (tension t) k m .faces) ≡ length (m .faces) * 4 ^ k
 unfolding steps
-corners-grown m zero = omega arith
-corners-grown m (suc k) =
-    let a = corners-grown m k in
-    let b : length (steps kobbelt (suc k) m .faces) ≡ 4 * length (steps kobbelt k m .faces) = ap length (step-faces kobbelt (steps kobbelt k m)) ∙ length-refined quads _ _ in
+corners-grown t m zero = omega arith
+corners-grown t m (suc k) =
+    let a = corners-grown t m k in
+    let b : length (steps (tension t) (suc k) m .faces) ≡ 4 * length (steps (tension t) k m .faces) = ap length (step-faces (tension t) (steps (tension t) k m)) ∙ length-refined quads _ _ in
     let c : length (m .faces) * 4 ^ suc k ≡ length (m .faces) * 4 ^ k * 4 = ap (λ (x : ℕ). length (m .faces) * x) (pow-suc 4 k) ∙ sym (mul-assoc (length (m .faces)) (4 ^ k) 4) in
     omega arith
 
@@ -71,8 +71,8 @@ module _ (c : Call) (e : verdict c ≡ accepted) where
       ap (λ (x : ℕ). x * p) (start-four (c .net) (accepted-limits c e .sided)) ∙ mul-assoc 4 q p
 
   -- refined vertices are at most as many as refined corners, 4G
-  pub few-vertices : length (steps kobbelt (c .rounds) (startNet (c .net)) .marks) ≤ 4 * finalFaces c
+  pub few-vertices : length (steps (tension (c .tension)) (c .rounds) (startNet (c .net)) .marks) ≤ 4 * finalFaces c
   few-vertices =
       let m : Net = startNet (c .net) in
-      let n = corners-grown m (c .rounds) ∙ start-corners (4 ^ c .rounds) in
-      omega (arith, refinable-vertices-le (steps kobbelt (c .rounds) m) (refinable-steps kobbelt m (accepted-refinable c e) (c .rounds)))
+      let n = corners-grown (c .tension) m (c .rounds) ∙ start-corners (4 ^ c .rounds) in
+      omega (arith, refinable-vertices-le (steps (tension (c .tension)) (c .rounds) m) (refinable-steps (tension (c .tension)) m (accepted-refinable c e) (c .rounds)))

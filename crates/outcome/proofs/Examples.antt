@@ -48,7 +48,7 @@ abbrev none : ControlNet
 none = controlNet [] [] [] []
 
 -- zero rounds add nothing, but for the points of the split
-points : newPoints 0 square ∷ newPoints 1 square ∷ newPoints 2 square ∷ newPoints 0 triangle ∷ newPoints 1 triangle ∷ newPoints 6 none ∷ [] ≡ 0 ∷ 5 ∷ 21 ∷ 4 ∷ 16 ∷ 0 ∷ []
+points : newPoints 4 0 square ∷ newPoints 4 1 square ∷ newPoints 4 2 square ∷ newPoints 4 0 triangle ∷ newPoints 4 1 triangle ∷ newPoints 4 6 none ∷ [] ≡ 0 ∷ 5 ∷ 21 ∷ 4 ∷ 16 ∷ 0 ∷ []
 unfolding newPoints steps step startNet split tabulate firstFrom first count quads from to opposed mate firstMet edgeCount edge corner refined refinedMarks sideAfter sideBefore faceThen noFace polygons shapeOf
 points = refl
 
@@ -60,37 +60,45 @@ tables g = buffers (zeros (12 * g)) (copies 7 (4 * g)) (copies 7 (4 * g)) (copie
 abbrev unasked : Letters
 unasked = letterTable false []
 
--- the square refined once: five new points fit or do not, the sum beyond 64 bits too; nothing to add, at the limit and above; 1, 4 and 12 go first
+-- the square refined once: five new points fit or do not, the sum beyond 64 bits too; nothing to add, at the limit and above; 1, 4 and 12 go first, and 16 before 12 and after 4; tension 0 passes
 abbrev verdicts : List Verdict
 verdicts =
-    requestVerdict (request 3999999995 1 square (tables 4) unasked)
-    ∷ requestVerdict (request 3999999996 1 square (tables 4) unasked)
-    ∷ requestVerdict (request 18446744073709551615 1 square (tables 4) unasked)
-    ∷ requestVerdict (request 4000000000 0 square (tables 4) unasked)
-    ∷ requestVerdict (request 4000000001 0 square (tables 4) unasked)
-    ∷ requestVerdict (request 4000000000 6 none (tables 0) unasked)
-    ∷ requestVerdict (request 18446744073709551615 0 none (tables 0) unasked)
-    ∷ requestVerdict (request 18446744073709551615 7 none (tables 0) unasked)
-    ∷ requestVerdict (request 18446744073709551615 2 square (tables 4) unasked)
-    ∷ requestVerdict (request 18446744073709551615 0 cube (tables 6) unasked)
+    requestVerdict (request 3999999995 1 square 4 (tables 4) unasked)
+    ∷ requestVerdict (request 3999999996 1 square 4 (tables 4) unasked)
+    ∷ requestVerdict (request 18446744073709551615 1 square 4 (tables 4) unasked)
+    ∷ requestVerdict (request 4000000000 0 square 4 (tables 4) unasked)
+    ∷ requestVerdict (request 4000000001 0 square 4 (tables 4) unasked)
+    ∷ requestVerdict (request 4000000000 6 none 4 (tables 0) unasked)
+    ∷ requestVerdict (request 18446744073709551615 0 none 4 (tables 0) unasked)
+    ∷ requestVerdict (request 18446744073709551615 7 none 4 (tables 0) unasked)
+    ∷ requestVerdict (request 18446744073709551615 2 square 4 (tables 4) unasked)
+    ∷ requestVerdict (request 18446744073709551615 0 cube 4 (tables 6) unasked)
+    ∷ requestVerdict (request 18446744073709551615 0 cube 5 (tables 6) unasked)
+    ∷ requestVerdict (request 0 2 square 4294967295 (tables 4) unasked)
+    ∷ requestVerdict (request 0 1 square 0 (tables 4) unasked)
     ∷ []
 
-judged : verdicts ≡ accepted ∷ refused 15 0 ∷ refused 15 0 ∷ accepted ∷ refused 15 0 ∷ accepted ∷ refused 15 0 ∷ refused 1 0 ∷ refused 4 0 ∷ refused 12 0 ∷ []
+judged : verdicts ≡ accepted ∷ refused 15 0 ∷ refused 15 0 ∷ accepted ∷ refused 15 0 ∷ accepted ∷ refused 15 0 ∷ refused 1 0 ∷ refused 4 0 ∷ refused 12 0 ∷ refused 16 0 ∷ refused 4 0 ∷ accepted ∷ []
 unfolding requestVerdict tallyVerdict newPoints steps step startNet split tabulate firstFrom first any count iterate quads from to opposed mate firstMet edgeCount edge corner refined refinedMarks shapeOf verdict limitsVerdict tablesVerdict sizeVerdict roomVerdict netVerdict coordinatesVerdict shapeVerdict facesVerdict adjacencyVerdict vertexVerdict badCoordinate badMark badCorner isolated repeatedSide nonManifold badValence markedRing isBoundaryFrom boundaryFrom leaves valence turn start stops facesMet
 judged = refl
 
 -- on 15 the outputs and the tally are as found, and the first 16G work numbers are zero; on 4 all is as found
-fifteen : outcome (request 3999999996 1 square (tables 4) unasked) ≡ refusedOutcome 15 0 3999999996 (tables 4) unasked (copies 0 64 ++ copies 7 2)
+fifteen : outcome (request 3999999996 1 square 4 (tables 4) unasked) ≡ refusedOutcome 15 0 3999999996 (tables 4) unasked (copies 0 64 ++ copies 7 2)
 unfolding outcome requestVerdict tallyVerdict newPoints steps step startNet split tabulate firstFrom first any count iterate quads from to opposed mate firstMet edgeCount edge corner refined refinedMarks shapeOf verdict limitsVerdict tablesVerdict sizeVerdict roomVerdict netVerdict coordinatesVerdict shapeVerdict facesVerdict adjacencyVerdict vertexVerdict badCoordinate badMark badCorner isolated repeatedSide nonManifold badValence markedRing isBoundaryFrom boundaryFrom leaves valence turn start stops facesMet cleared filled
 fifteen = refl
 
-four : outcome (request 3999999996 2 square (tables 4) unasked) ≡ refusedOutcome 4 0 3999999996 (tables 4) unasked (copies 7 66)
+four : outcome (request 3999999996 2 square 4 (tables 4) unasked) ≡ refusedOutcome 4 0 3999999996 (tables 4) unasked (copies 7 66)
 unfolding outcome requestVerdict tallyVerdict newPoints steps step startNet split tabulate firstFrom first any count iterate quads from to opposed mate firstMet edgeCount edge corner refined refinedMarks shapeOf verdict limitsVerdict tablesVerdict sizeVerdict roomVerdict netVerdict coordinatesVerdict shapeVerdict facesVerdict adjacencyVerdict vertexVerdict badCoordinate badMark badCorner isolated repeatedSide nonManifold badValence markedRing isBoundaryFrom boundaryFrom leaves valence turn start stops facesMet cleared filled
 four = refl
 
+-- so on 16
+sixteen : outcome (request 3999999996 1 square 5 (tables 4) unasked) ≡ refusedOutcome 16 0 3999999996 (tables 4) unasked (copies 7 66)
+unfolding outcome requestVerdict tallyVerdict newPoints steps step startNet split tabulate firstFrom first any count iterate quads from to opposed mate firstMet edgeCount edge corner refined refinedMarks shapeOf verdict limitsVerdict tablesVerdict sizeVerdict roomVerdict netVerdict coordinatesVerdict shapeVerdict facesVerdict adjacencyVerdict vertexVerdict badCoordinate badMark badCorner isolated repeatedSide nonManifold badValence markedRing isBoundaryFrom boundaryFrom leaves valence turn start stops facesMet cleared filled
+sixteen = refl
+
 -- the square twice, then for too many rounds, then once more
 abbrev calls : List Request
-calls = request 0 1 square (tables 4) unasked ∷ request 0 1 square (tables 4) unasked ∷ request 0 7 square (tables 4) unasked ∷ request 0 1 square (tables 4) unasked ∷ []
+calls = request 0 1 square 4 (tables 4) unasked ∷ request 0 1 square 4 (tables 4) unasked ∷ request 0 7 square 4 (tables 4) unasked ∷ request 0 1 square 4 (tables 4) unasked ∷ []
 
 series : tallyAfter 0 calls ∷ tallyAfter 3999999988 calls ∷ [] ≡ 15 ∷ 3999999998 ∷ []
 unfolding tallyAfter outcome requestVerdict tallyVerdict newPoints steps step startNet split tabulate firstFrom first any count iterate quads from to opposed mate firstMet edgeCount edge corner refined refinedMarks shapeOf verdict limitsVerdict tablesVerdict sizeVerdict roomVerdict netVerdict coordinatesVerdict shapeVerdict facesVerdict adjacencyVerdict vertexVerdict badCoordinate badMark badCorner isolated repeatedSide nonManifold badValence markedRing isBoundaryFrom boundaryFrom leaves valence turn start stops facesMet
@@ -99,12 +107,12 @@ series = refl
 -- the letter table as the square refined once leaves it: asked for, not asked for, one byte too short, on 15 and on 12; and with no net
 abbrev letterTables : List (List ℕ)
 letterTables =
-    outcome (request 0 1 square (tables 4) (letterTable true (copies 7 18))) .letters
-    ∷ outcome (request 0 1 square (tables 4) (letterTable false (copies 7 18))) .letters
-    ∷ outcome (request 0 1 square (tables 4) (letterTable true (copies 7 15))) .letters
-    ∷ outcome (request 3999999996 1 square (tables 4) (letterTable true (copies 7 16))) .letters
-    ∷ outcome (request 0 0 cube (tables 6) (letterTable true (copies 7 24))) .letters
-    ∷ outcome (request 0 6 none (tables 0) (letterTable true (copies 7 1))) .letters
+    outcome (request 0 1 square 4 (tables 4) (letterTable true (copies 7 18))) .letters
+    ∷ outcome (request 0 1 square 4 (tables 4) (letterTable false (copies 7 18))) .letters
+    ∷ outcome (request 0 1 square 4 (tables 4) (letterTable true (copies 7 15))) .letters
+    ∷ outcome (request 3999999996 1 square 4 (tables 4) (letterTable true (copies 7 16))) .letters
+    ∷ outcome (request 0 0 cube 4 (tables 6) (letterTable true (copies 7 24))) .letters
+    ∷ outcome (request 0 6 none 4 (tables 0) (letterTable true (copies 7 1))) .letters
     ∷ []
 
 letters-left : letterTables ≡ (86 ∷ 86 ∷ 86 ∷ 86 ∷ 65 ∷ 65 ∷ 65 ∷ 65 ∷ 69 ∷ copies 7 9) ∷ copies 7 18 ∷ copies 7 15 ∷ copies 7 16 ∷ copies 7 24 ∷ copies 7 1 ∷ []

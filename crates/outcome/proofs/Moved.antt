@@ -6,8 +6,8 @@ use lib.IntN.{ℤ}
 use Rattle.lists.specs.Tabulate.{tabulate}
 use Rattle.integers.specs.Within.{Within}
 use Rattle.curve.specs.Curve.{Point}
-use Rattle.curve.specs.Weights.{kobbelt}
-use Rattle.curve.proofs.Kobbelt.{tame}
+use Rattle.curve.specs.Weights.{tension}
+use Rattle.curve.proofs.Tension.{tame}
 use Rattle.tables.specs.Tables.{filled}
 use Rattle.nets.specs.Net.{Net, net}
 use Rattle.nets.specs.Moved.{movedVertices, moved, movedControl}
@@ -20,7 +20,7 @@ use Rattle.origins.specs.Origins.{letters}
 use Rattle.origins.proofs.Letters.{same-letters}
 use Rattle.verdict.specs.Call.{Call}
 use Rattle.verdict.specs.Verdict.{Verdict, accepted, refused, orElse, verdict, workAfter}
-use Rattle.verdict.proofs.Accepted.{or-both}
+use Rattle.verdict.proofs.Accepted.{accepted-tension, or-both}
 use Rattle.verdict.proofs.Coordinates.{same-verdict, same-work}
 use Rattle.outcome.specs.Tally.{newPoints, tallyVerdict}
 use Rattle.outcome.specs.Outcome.{Request, forRounds, Outcome, callOf, requestVerdict, outcomeBy, outcome}
@@ -44,26 +44,26 @@ module _ (s : Point) (a : Request) (here : Within 1048576 (a .net .vertices)) (t
   c = callOf (forRounds k a)
 
   abbrev n : Net
-  n = steps kobbelt k (startNet (a .net))
+  n = steps (tension (a .tension)) k (startNet (a .net))
 
   abbrev n′ : Net
-  n′ = steps kobbelt k (startNet (movedControl s (a .net)))
+  n′ = steps (tension (a .tension)) k (startNet (movedControl s (a .net)))
 
   one-check : verdict (callOf (forRounds k (movedBy s a))) ≡ verdict c
-  one-check = same-verdict k (a .net .vertices) (movedVertices s (a .net .vertices)) (a .net .faces) (a .net .sides) (a .net .marks) (c .room) (moved-length s (a .net .vertices)) here there
+  one-check = same-verdict k (a .net .vertices) (movedVertices s (a .net .vertices)) (a .net .faces) (a .net .sides) (a .net .marks) (a .tension) (c .room) (moved-length s (a .net .vertices)) here there
 
-  one-figure : newPoints k (movedControl s (a .net)) ≡ newPoints k (a .net)
-  one-figure = same-points k (movedVertices s (a .net .vertices)) (a .net .vertices) (a .net .faces) (a .net .sides) (a .net .marks)
+  one-figure : newPoints (a .tension) k (movedControl s (a .net)) ≡ newPoints (a .tension) k (a .net)
+  one-figure = same-points (a .tension) k (movedVertices s (a .net .vertices)) (a .net .vertices) (a .net .faces) (a .net .sides) (a .net .marks)
 
-  one-letters : letters kobbelt (movedControl s (a .net)) k ≡ letters kobbelt (a .net) k
-  one-letters = same-letters kobbelt k (movedVertices s (a .net .vertices)) (a .net .vertices) (a .net .faces) (a .net .sides) (a .net .marks)
+  one-letters : letters (tension (a .tension)) (movedControl s (a .net)) k ≡ letters (tension (a .tension)) (a .net) k
+  one-letters = same-letters (tension (a .tension)) k (movedVertices s (a .net .vertices)) (a .net .vertices) (a .net .faces) (a .net .sides) (a .net .marks)
 
   one-verdict : requestVerdict (forRounds k (movedBy s a)) ≡ requestVerdict (forRounds k a)
   unfolding requestVerdict
   one-verdict = ap₂ (λ (v : Verdict) (d : ℕ). orElse v (tallyVerdict (a .tally) d)) one-check one-figure
 
   one-work : workAfter (callOf (forRounds k (movedBy s a))) (a .buffers .work) ≡ workAfter c (a .buffers .work)
-  one-work = same-work k (a .net .vertices) (movedVertices s (a .net .vertices)) (a .net .faces) (a .net .sides) (a .net .marks) (c .room) (moved-length s (a .net .vertices)) (a .buffers .work)
+  one-work = same-work k (a .net .vertices) (movedVertices s (a .net .vertices)) (a .net .faces) (a .net .sides) (a .net .marks) (a .tension) (c .room) (moved-length s (a .net .vertices)) (a .buffers .work)
 
   moved-given : (v : Verdict) → requestVerdict (forRounds k a) ≡ v → resultAfter (movedBy s a) k ≡ given a k v n′
   unfolding outcome
@@ -76,8 +76,8 @@ module _ (s : Point) (a : Request) (here : Within 1048576 (a .net .vertices)) (t
   nets-moved : requestVerdict (forRounds k a) ≡ accepted → n′ ≡ moved s n
   unfolding requestVerdict
   nets-moved r =
-      let e = or-both (verdict c) (tallyVerdict (a .tally) (newPoints k (a .net))) r .0 in
-      ap (steps kobbelt k) (start-moved s (a .net) (accepted-drawn c e)) ∙ steps-moved kobbelt tame s (startNet (a .net)) (accepted-refinable c e) k
+      let e = or-both (verdict c) (tallyVerdict (a .tally) (newPoints (a .tension) k (a .net))) r .0 in
+      ap (steps (tension (a .tension)) k) (start-moved s (a .net) (accepted-drawn c e)) ∙ steps-moved (tension (a .tension)) (tame (a .tension) (accepted-tension c e)) s (startNet (a .net)) (accepted-refinable c e) k
 
   by : (v : Verdict) → requestVerdict (forRounds k a) ≡ v → MovedAfter s a k
   by accepted e =

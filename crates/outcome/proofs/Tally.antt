@@ -7,7 +7,7 @@ use native.Mathlib.Omega.{arith}
 use lib.IntN.{ℤ}
 use lib.ListN.{length}
 use borrow.Author.Tests.{le-ltb, lt-ltb}
-use Rattle.curve.specs.Weights.{kobbelt}
+use Rattle.curve.specs.Weights.{tension}
 use Rattle.nets.specs.Net.{ControlNet, controlNet}
 use Rattle.refinedfaces.specs.Refined.{verticesAfter}
 use Rattle.schemelaws.proofs.Steps.{steps-count}
@@ -23,38 +23,38 @@ use Rattle.outcome.proofs.Accepted.{accepted-verdict, accepted-tally}
 use Rattle.outcome.proofs.Counts.{more-vertices, few-vertices}
 
 -- ---- 15
-pub tally-if : (t n : ℕ) → t + n ≤ 4000000000 → tallyVerdict t n ≡ accepted
+pub tally-if : (tally n : ℕ) → tally + n ≤ 4000000000 → tallyVerdict tally n ≡ accepted
 unfolding tallyVerdict
-tally-if t n h = rw (le-ltb 4000000000 (t + n) h)
+tally-if tally n h = rw (le-ltb 4000000000 (tally + n) h)
 
-pub tally-refused : (t n : ℕ) → 4000000000 < t + n → tallyVerdict t n ≡ refused 15 0
+pub tally-refused : (tally n : ℕ) → 4000000000 < tally + n → tallyVerdict tally n ≡ refused 15 0
 unfolding tallyVerdict
-tally-refused t n h = rw (lt-ltb 4000000000 (t + n) h)
+tally-refused tally n h = rw (lt-ltb 4000000000 (tally + n) h)
 
-pub tally-le : (t n : ℕ) → tallyVerdict t n ≡ accepted → t + n ≤ 4000000000
-tally-le t n e = go (decLt 4000000000 (t + n))
+pub tally-le : (tally n : ℕ) → tallyVerdict tally n ≡ accepted → tally + n ≤ 4000000000
+tally-le tally n e = go (decLt 4000000000 (tally + n))
   where
-    go : Dec (4000000000 < t + n) → t + n ≤ 4000000000
-    go (yes h) = never 15 0 (sym (tally-refused t n h) ∙ e)
+    go : Dec (4000000000 < tally + n) → tally + n ≤ 4000000000
+    go (yes h) = never 15 0 (sym (tally-refused tally n h) ∙ e)
     go (no h) = omega arith
 
 -- ---- new points
 -- fewer rounds, fewer points
-pub fewer-points : (m : ControlNet) (j k : ℕ) → j ≤ k → newPoints j m ≤ newPoints k m
+pub fewer-points : (t : ℕ) (m : ControlNet) (j k : ℕ) → j ≤ k → newPoints t j m ≤ newPoints t k m
 unfolding newPoints
-fewer-points m j k h = let a = more-vertices (startNet m) j k h in omega arith
+fewer-points t m j k h = let a = more-vertices t (startNet m) j k h in omega arith
 
 -- coordinates do not matter
-pub same-points : (k : ℕ) (v v′ : List ℤ) (l s marks : List ℕ) → newPoints k (controlNet v l s marks) ≡ newPoints k (controlNet v′ l s marks)
+pub same-points : (t k : ℕ) (v v′ : List ℤ) (l s marks : List ℕ) → newPoints t k (controlNet v l s marks) ≡ newPoints t k (controlNet v′ l s marks)
 unfolding newPoints
-same-points k v v′ l s marks =
-    let a = steps-count kobbelt (startNet (controlNet v l s marks)) k in
-    let b = steps-count kobbelt (startNet (controlNet v′ l s marks)) k in
+same-points t k v v′ l s marks =
+    let a = steps-count (tension t) (startNet (controlNet v l s marks)) k in
+    let b = steps-count (tension t) (startNet (controlNet v′ l s marks)) k in
     let c = ap₂ (λ (ms fs : List ℕ). verticesAfter k (length ms) fs) (start-marks v v′ l s marks) (start-faces v v′ l s marks) in
     omega arith
 
 -- at most 4G
-pub few-points : (c : Call) → verdict c ≡ accepted → newPoints (c .rounds) (c .net) ≤ 1048576
+pub few-points : (c : Call) → verdict c ≡ accepted → newPoints (c .tension) (c .rounds) (c .net) ≤ 1048576
 unfolding newPoints
 few-points c e = let a = few-vertices c e in let b = accepted-limits c e .final in omega arith
 
@@ -73,6 +73,6 @@ unfolding requestVerdict
 accepted-for-fewer a h k l =
     let n : ControlNet = a .net in
     let e = accepted-fewer (callOf a) k l (accepted-verdict a (a .rounds) h) in
-    let t = tally-le (a .tally) (newPoints (a .rounds) n) (accepted-tally a (a .rounds) h) in
-    let f = fewer-points n k (a .rounds) l in
-    or-accepted e (tally-if (a .tally) (newPoints k n) (omega arith))
+    let s = tally-le (a .tally) (newPoints (a .tension) (a .rounds) n) (accepted-tally a (a .rounds) h) in
+    let f = fewer-points (a .tension) n k (a .rounds) l in
+    or-accepted e (tally-if (a .tally) (newPoints (a .tension) k n) (omega arith))

@@ -7,3 +7,5 @@ pub mod AsBefore
 pub mod SplitSegment
 pub mod Moved
 pub mod Traced
+pub mod OldPoints
+pub mod Midpoints

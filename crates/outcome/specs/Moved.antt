@@ -10,7 +10,7 @@ use Rattle.outcome.specs.SharedSegment.{resultAfter, netAfter}
 
 -- the same request, its net moved by s. Paper 02: "P2 compares calls from equal tallies."
 abbrev pub movedBy : Point → Request → Request
-movedBy s a = request (a .tally) (a .rounds) (movedControl s (a .net)) (a .buffers) (a .letters)
+movedBy s a = request (a .tally) (a .rounds) (movedControl s (a .net)) (a .tension) (a .buffers) (a .letters)
 
 -- what the call on the moved net gives, after k rounds
 pub record MovedAfter (s : Point) (a : Request) (k : ℕ) : Type 0 where

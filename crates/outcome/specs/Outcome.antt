@@ -3,7 +3,7 @@ use mathlib.Core.Bool.{cond}
 use mathlib.Core.List.{List}
 use Prim.Native.Nat.{ℕ, _+_}
 use lib.ListN.{length}
-use Rattle.curve.specs.Weights.{kobbelt}
+use Rattle.curve.specs.Weights.{tension}
 use Rattle.nets.specs.Net.{Net, ControlNet}
 use Rattle.nets.specs.Buffers.{Buffers, buffers, Letters}
 use Rattle.tables.specs.Tables.{filled}
@@ -24,19 +24,20 @@ pub record Request : Type 0 where
   pub tally : ℕ
   pub rounds : ℕ
   pub net : ControlNet
+  pub tension : ℕ
   pub buffers : Buffers
   pub letters : Letters
 
-abbrev pub request : (tally rounds : ℕ) → ControlNet → Buffers → Letters → Request
-request tally rounds net buffers letters = record { tally = tally; rounds = rounds; net = net; buffers = buffers; letters = letters }
+abbrev pub request : (tally rounds : ℕ) → ControlNet → (tension : ℕ) → Buffers → Letters → Request
+request tally rounds net tension buffers letters = record { tally = tally; rounds = rounds; net = net; tension = tension; buffers = buffers; letters = letters }
 
 -- the same, asked for k rounds
 abbrev pub forRounds : ℕ → Request → Request
-forRounds k a = request (a .tally) k (a .net) (a .buffers) (a .letters)
+forRounds k a = request (a .tally) k (a .net) (a .tension) (a .buffers) (a .letters)
 
 -- the same, made when the tally is t
 abbrev pub fromTally : ℕ → Request → Request
-fromTally t a = request t (a .rounds) (a .net) (a .buffers) (a .letters)
+fromTally t a = request t (a .rounds) (a .net) (a .tension) (a .buffers) (a .letters)
 
 -- the result, and the caller's tally and tables as the call returns
 pub record Outcome : Type 0 where
@@ -51,11 +52,11 @@ roomOf o l = room (length (o .vertices)) (length (o .faces)) (length (o .marks))
 
 -- what decides the verdict of the check
 abbrev pub callOf : Request → Call
-callOf a = call (a .rounds) (a .net) (roomOf (a .buffers) (a .letters))
+callOf a = call (a .rounds) (a .net) (a .tension) (roomOf (a .buffers) (a .letters))
 
 -- what the call adds to the tally if it is accepted
 abbrev pub toAdd : Request → ℕ
-toAdd a = newPoints (a .rounds) (a .net)
+toAdd a = newPoints (a .tension) (a .rounds) (a .net)
 
 -- the verdict on a refining call: that of the check, then 15, "tested last of all"
 unfoldable pub requestVerdict : Request → Verdict
@@ -87,5 +88,5 @@ outcomeBy (refused r p) t new n s o l w = refusedOutcome r p t o l w
 -- the rounds of paper 01 start from the net that the split gives, or from the drawn net itself; on 15 "tables left as after 5"
 unfoldable pub outcome : Request → Outcome
 outcome a =
-    outcomeBy (requestVerdict a) (a .tally) (toAdd a) (steps kobbelt (a .rounds) (startNet (a .net))) (letters kobbelt (a .net) (a .rounds)) (a .buffers) (a .letters)
+    outcomeBy (requestVerdict a) (a .tally) (toAdd a) (steps (tension (a .tension)) (a .rounds) (startNet (a .net))) (letters (tension (a .tension)) (a .net) (a .rounds)) (a .buffers) (a .letters)
     (workAfter (callOf a) (a .buffers .work))

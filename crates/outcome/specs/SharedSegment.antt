@@ -3,7 +3,7 @@ use mathlib.Core.Path.{_≡_}
 use mathlib.Core.Logic.{_↔_}
 use mathlib.Core.List.{List, []}
 use Prim.Native.Nat.{ℕ, _*_, _≤_}
-use Rattle.curve.specs.Weights.{kobbelt}
+use Rattle.curve.specs.Weights.{tension}
 use Rattle.curve.specs.Curve.{Kind, Point, curve}
 use Rattle.curve.specs.Near.{CloseToExact}
 use Rattle.topology.specs.Boundary.{Way}
@@ -36,13 +36,13 @@ pub record SharedAfter (a b : Request) (v w : Way) (c : Kind) (s t : ℕ) (L : L
   -- the same calls asked for k rounds only are accepted too
   pub accepted-left : AcceptedFor a k
   pub accepted-right : AcceptedFor b k
-  -- "the stretch is read there from the same vertex and the same way", and is the rounded curve worked out from L alone
-  pub left : (P : List Point) → Reads (netAfter a k) v c s P ↔ (P ≡ curve kobbelt c k L)
-  pub right : (P : List Point) → Reads (netAfter b k) w c t P ↔ (P ≡ curve kobbelt c k L)
+  -- "the stretch is read there from the same vertex and the same way", and is the rounded curve worked out from L and the tension alone: "both curves are then fed t as well"
+  pub left : (P : List Point) → Reads (netAfter a k) v c s P ↔ (P ≡ curve (tension (a .tension)) c k L)
+  pub right : (P : List Point) → Reads (netAfter b k) w c t P ↔ (P ≡ curve (tension (a .tension)) c k L)
   -- each coordinate lies within the seam distance of the exact curve
-  pub close : CloseToExact c k L
+  pub close : CloseToExact (a .tension) c k L
 
 -- "The seam guarantee covers the stretch after this split": a segment is read in the net where refining begins
 pub record SharedSegments : Type 0 where
-  pub shared : (a b : Request) → AcceptedFor a (a .rounds) → AcceptedFor b (b .rounds) → (v w : Way) (c : Kind) (s t : ℕ) (L : List Point)
+  pub shared : (a b : Request) → AcceptedFor a (a .rounds) → AcceptedFor b (b .rounds) → a .tension ≡ b .tension → (v w : Way) (c : Kind) (s t : ℕ) (L : List Point)
       → Reads (startNet (a .net)) v c s L → Reads (startNet (b .net)) w c t L → (k : ℕ) → k ≤ a .rounds → k ≤ b .rounds → SharedAfter a b v w c s t L k

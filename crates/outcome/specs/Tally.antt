@@ -2,7 +2,7 @@
 use Prim.Native.Nat.{ℕ, _+_, _-_}
 use lib.Dec.{ltb}
 use lib.ListN.{length}
-use Rattle.curve.specs.Weights.{kobbelt}
+use Rattle.curve.specs.Weights.{tension}
 use Rattle.nets.specs.Net.{ControlNet}
 use Rattle.verdict.specs.Call.{vertexCount}
 use Rattle.verdict.specs.Verdict.{Verdict, refusedIf}
@@ -10,9 +10,9 @@ use Rattle.scheme.specs.Step.{steps}
 use Rattle.splitting.specs.Splitting.{startNet}
 
 -- "refined vertices minus drawn vertices", of the net m after k rounds
-unfoldable pub newPoints : ℕ → ControlNet → ℕ
-newPoints k m = vertexCount (steps kobbelt k (startNet m)) - length (m .marks)
+unfoldable pub newPoints : (t k : ℕ) → ControlNet → ℕ
+newPoints t k m = vertexCount (steps (tension t) k (startNet m)) - length (m .marks)
 
--- 15: "the tally after the call would be above 4,000,000,000, even if nothing is added": the record holds t, and the call would add n
-unfoldable pub tallyVerdict : (t n : ℕ) → Verdict
-tallyVerdict t n = refusedIf 15 (ltb 4000000000 (t + n))
+-- 15: "the tally after the call would be above 4,000,000,000, even if nothing is added": the record holds tally, and the call would add n
+unfoldable pub tallyVerdict : (tally n : ℕ) → Verdict
+tallyVerdict tally n = refusedIf 15 (ltb 4000000000 (tally + n))

@@ -4,7 +4,7 @@ use mathlib.Core.Path.{_≡_}
 use mathlib.Core.Bool.{true}
 use Prim.Native.Nat.{ℕ, _<_}
 use lib.ListN.{length, getD}
-use Rattle.curve.specs.Weights.{kobbelt}
+use Rattle.curve.specs.Weights.{tension}
 use Rattle.origins.specs.Origins.{Origin, letterOf}
 use Rattle.origins.specs.Named.{HasOrigin}
 use Rattle.outcome.specs.Outcome.{Request, outcome}
@@ -14,7 +14,7 @@ use Rattle.outcome.specs.SharedSegment.{AcceptedFor, netAfter}
 pub record Traced (a : Request) (i : ℕ) : Type 0 where
   pub origin : Origin
   pub letter : getD (outcome a .letters) i 0 ≡ letterOf origin
-  pub named : HasOrigin kobbelt (a .net) (netAfter a) (a .rounds) i origin
+  pub named : HasOrigin (tension (a .tension)) (a .net) (netAfter a) (a .rounds) i origin
 
 pub record LettersName : Type 0 where
   pub traced : (a : Request) → AcceptedFor a (a .rounds) → a .letters .asked ≡ true → (i : ℕ) → i < length (netAfter a (a .rounds) .marks) → Traced a i

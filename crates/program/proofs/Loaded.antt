@@ -7,7 +7,7 @@ use native.Mathlib.Omega.{arith}
 use lib.Dec.{ltb}
 use lib.IntN.{ℤ}
 use lib.ListN.{length, take}
-use Rattle.curve.specs.Weights.{kobbelt}
+use Rattle.curve.specs.Weights.{tension}
 use Rattle.nets.specs.Net as nets
 use Rattle.nets.specs.Net.{frontNet}
 use Rattle.tables.proofs.Laws.{take-filled}
@@ -101,7 +101,7 @@ module _ (zv : List ℤ) (zf zm : List ℕ) where
     same-text : (s q : ℕ) → loaded (refusedWith r p) vs fs ms ≡ untouched zv zf zm (refusedWith s q) → refusalText r p ≡ refusalText s q
     same-text s q e = ap₂ refusalText (ap (λ (x : Loaded). firstNumber (x .answer)) e) (ap (λ (x : Loaded). secondNumber (x .answer)) e)
 
-    of-counts : (d : Verdict) (n : Net) → loaded (refusedWith r p) vs fs ms ≡ judged zv zf zm d n → refusalText r p ≡ answerBy (orElse d (netVerdict (nets.plain (tablesOf n)))) (n .rule) (steps kobbelt (n .counts .rounds) (tablesOf n)) (letters kobbelt (nets.plain (tablesOf n)) (n .counts .rounds))
+    of-counts : (d : Verdict) (n : Net) → loaded (refusedWith r p) vs fs ms ≡ judged zv zf zm d n → refusalText r p ≡ answerBy (orElse d (netVerdict (nets.plain (tablesOf n)))) (n .rule) (steps (tension 4) (n .counts .rounds) (tablesOf n)) (letters (tension 4) (nets.plain (tablesOf n)) (n .counts .rounds))
     of-counts accepted n e = let a : refusedWith r p ≡ netRead (n .counts .rounds) (n .rule) (n .counts .vertices) (n .counts .faces) = ap (λ (x : Loaded). x .answer) e in let z : _≡_ {A = ℕ} 0 1 = cc in absurd (omega arith)
     of-counts (refused s q) n e = same-text s q e
 

@@ -6,7 +6,7 @@ use Prim.Native.Nat.{ℕ, _+_, _*_, _/_, _^_, _≤_, _<_}
 use native.Mathlib.Omega.{arith}
 use lib.IntN.{ℤ, pos}
 use lib.ListN.{length, getD}
-use Rattle.curve.specs.Weights.{kobbelt}
+use Rattle.curve.specs.Weights.{tension}
 use Rattle.nets.specs.Net.{Net, plain}
 use Rattle.tables.specs.Tables.{filled}
 use Rattle.verdict.specs.Call.{lengthsOf, Call}
@@ -71,7 +71,7 @@ module _ (k : ℕ) (rule : Bool) (m : Net) (o : Buffers) (l : List ℕ) (lv : le
     (h : limitsVerdict k [] (lengthsOf (plain m) programRoom) ≡ accepted) where
   -- the call with a tally of its own, from zero
   abbrev asked : Request
-  asked = request 0 k (plain m) o (letterTable rule l)
+  asked = request 0 k (plain m) 4 o (letterTable rule l)
 
   abbrev called : Call
   called = callOf asked
@@ -81,14 +81,14 @@ module _ (k : ℕ) (rule : Bool) (m : Net) (o : Buffers) (l : List ℕ) (lv : le
   by-net = rw (lv, lf, lm, ll, lw, limits-either rule k (length (m .vertices)) (length (m .faces)) (length (m .marks)), h)
 
   abbrev given : Verdict → Outcome
-  given v = outcomeBy v 0 (toAdd asked) (steps kobbelt k m) (letters kobbelt (plain m) k) o (letterTable rule l) (workAfter (called) (o .work))
+  given v = outcomeBy v 0 (toAdd asked) (steps (tension 4) k m) (letters (tension 4) (plain m) k) o (letterTable rule l) (workAfter (called) (o .work))
 
   outcome-is : outcome asked ≡ given (netVerdict (plain m))
   unfolding outcome startNet
   outcome-is = ap given (untallied asked refl ∙ by-net)
 
   -- a refusal
-  by-refused : (v : Verdict) (r p : ℕ) → refusedWith r p ≡ given v .result → refusalText r p ≡ answerBy v rule (steps kobbelt k m) (letters kobbelt (plain m) k)
+  by-refused : (v : Verdict) (r p : ℕ) → refusedWith r p ≡ given v .result → refusalText r p ≡ answerBy v rule (steps (tension 4) k m) (letters (tension 4) (plain m) k)
   by-refused accepted r p e = let z : _≡_ {A = ℕ} 0 1 = cc in absurd (omega arith)
   by-refused (refused s q) r p e = ap₂ refusalText (ap vertexNumber e) (ap faceNumber e)
 
@@ -99,15 +99,15 @@ module _ (k : ℕ) (rule : Bool) (m : Net) (o : Buffers) (l : List ℕ) (lv : le
     -- a refined net
     module _ (v f : ℕ) (e : answered (record { answer = Refined v f; points = points }) t t₂ ≡ outcome asked) where
       accepts : netVerdict (plain m) ≡ accepted
-      accepts = by-result (netVerdict (plain m)) 0 (toAdd asked) (steps kobbelt k m) (letters kobbelt (plain m) k) o (letterTable rule l) (workAfter (called) (o .work)) v f (sym (ap (λ (x : Outcome). x .result) (e ∙ outcome-is)))
+      accepts = by-result (netVerdict (plain m)) 0 (toAdd asked) (steps (tension 4) k m) (letters (tension 4) (plain m) k) o (letterTable rule l) (workAfter (called) (o .work)) v f (sym (ap (λ (x : Outcome). x .result) (e ∙ outcome-is)))
 
       is : answered (record { answer = Refined v f; points = points }) t t₂ ≡ given accepted
       is = e ∙ outcome-is ∙ ap given accepts
 
-      vertex-count : v ≡ length (steps kobbelt k m .marks)
+      vertex-count : v ≡ length (steps (tension 4) k m .marks)
       vertex-count = ap (λ (x : Outcome). vertexNumber (x .result)) is
 
-      face-count : f ≡ length (steps kobbelt k m .faces) / 4
+      face-count : f ≡ length (steps (tension 4) k m .faces) / 4
       face-count = ap (λ (x : Outcome). faceNumber (x .result)) is
 
       refinable : Refinable m
@@ -121,22 +121,22 @@ module _ (k : ℕ) (rule : Bool) (m : Net) (o : Buffers) (l : List ℕ) (lv : le
           let w = within-if k [] (lengthsOf (plain m) programRoom) h in
           let c = w .roomFaces in
           let q = w .sided .fours refl in
-          let g = corners-grown m k in
-          let l = refinable-vertices-le (steps kobbelt k m) (refinable-steps kobbelt m refinable k) in
+          let g = corners-grown 4 m k in
+          let l = refinable-vertices-le (steps (tension 4) k m) (refinable-steps (tension 4) m refinable k) in
           let s = by-faces (length (m .faces)) (4 ^ k) q in
           (omega arith, omega arith)
 
       pub refined-text : tablesText rule v f (t .vertices) (t .faces) (t .marks) t₂ ≡ refinedText k rule m
       unfolding startNet
       refined-text =
-          let n = steps kobbelt k m in
-          let s = refinable-steps kobbelt m refinable k .threes in
-          let c : length (letters kobbelt (plain m) k) ≡ length (n .marks) = length-letters kobbelt (plain m) k in
+          let n = steps (tension 4) k m in
+          let s = refinable-steps (tension 4) m refinable k .threes in
+          let c : length (letters (tension 4) (plain m) k) ≡ length (n .marks) = length-letters (tension 4) (plain m) k in
           (λ i. tablesText rule (vertex-count i) (face-count i) (is i .buffers .vertices) (is i .buffers .faces) (is i .buffers .marks) (is i .letters))
           ∙ tables-same rule (length (n .marks)) (length (n .faces) / 4) (filled (n .vertices) (o .vertices)) (n .vertices) (filled (n .faces) (o .faces)) (n .faces) (filled (n .marks) (o .marks)) (n .marks)
-          (lettered (letters kobbelt (plain m) k) (letterTable rule l)) (letters kobbelt (plain m) k) (vertex-same n (o .vertices) (o .faces) (o .marks) s) (face-same n (o .vertices) (o .faces) (o .marks) s)
-          (λ e i h. letter-same rule (letters kobbelt (plain m) k) l e i (omega arith))
-          ∙ ap (λ (x : Verdict). answerBy x rule n (letters kobbelt (plain m) k)) (sym accepts)
+          (lettered (letters (tension 4) (plain m) k) (letterTable rule l)) (letters (tension 4) (plain m) k) (vertex-same n (o .vertices) (o .faces) (o .marks) s) (face-same n (o .vertices) (o .faces) (o .marks) s)
+          (λ e i h. letter-same rule (letters (tension 4) (plain m) k) l e i (omega arith))
+          ∙ ap (λ (x : Verdict). answerBy x rule n (letters (tension 4) (plain m) k)) (sym accepts)
 
 -- the same text, and a larger bound
 pub wider : (d o : List ℕ) (r : ℕ) (s t : List ℕ) (most : ℕ) → Written d o r s most → s ≡ t → most ≤ 54355 → Written d o r t 54355

@@ -12,15 +12,15 @@ use borrow.Author.Tests.{ltb-false}
 use Rattle.lists.specs.Tabulate.{tabulate}
 use Rattle.lists.proofs.Tabulate.{length-tabulate, tabulate-cong, tabulate-getD}
 use Rattle.search.proofs.First.{first-before}
-use Rattle.curve.specs.Weights.{kobbelt}
-use Rattle.curve.proofs.Kobbelt.{tame}
+use Rattle.curve.specs.Weights.{tension}
+use Rattle.curve.proofs.Tension.{tame}
 use Rattle.nets.specs.Net as nets
 use Rattle.tables.specs.Tables.{filled}
 use Rattle.topology.specs.HalfEdge.{from}
 use Rattle.refusals.specs.Refusals.{badMark}
 use Rattle.verdict.specs.Call.{Call, vertexCount, faceCount, quadrilaterals}
 use Rattle.verdict.specs.Verdict.{accepted, verdict}
-use Rattle.verdict.proofs.Accepted.{accepted-limits, accepted-coordinate}
+use Rattle.verdict.proofs.Accepted.{accepted-limits, accepted-tension, accepted-coordinate}
 use Rattle.scheme.specs.Step.{steps}
 use Rattle.schemelaws.specs.Nets.{Refinable}
 use Rattle.integers.specs.Within.{Within}
@@ -155,24 +155,24 @@ module _ (c : Call) (e : verdict c ≡ accepted) (j : ℕ) (h : j ≤ c .rounds)
   abbrev m : nets.Net
   m = startNet (c .net)
 
-  corners-few : length (steps kobbelt j m .faces) ≤ 1048576
+  corners-few : length (steps (tension (c .tension)) j m .faces) ≤ 1048576
   corners-few =
       let w = accepted-limits c e in
       let p : 4 ^ j ≤ 4 ^ c .rounds = pow-le-pow-right {n = 4} (omega arith) h in
       let q = quadrilaterals (c .net .sides) (length (c .net .faces)) in
       let g : q * 4 ^ j ≤ q * 4 ^ c .rounds = mul-le-mul-left q p in
-      let a = corners-grown m j ∙ start-corners c e (4 ^ j) in
+      let a = corners-grown (c .tension) m j ∙ start-corners c e (4 ^ j) in
       let f = w .final in
       omega arith
 
-  pub accepted-back : (k : ℕ) → k ≤ 2147483647 → (rule : Bool) → ReadsBack k rule (steps kobbelt j m)
+  pub accepted-back : (k : ℕ) → k ≤ 2147483647 → (rule : Bool) → ReadsBack k rule (steps (tension (c .tension)) j m)
   accepted-back k few rule =
       let d = accepted-drawn c e in
       let ok = accepted-refinable c e in
-      let near = steps-within kobbelt tame m ok (start-within (c .net) d 1048576 (record { at = accepted-coordinate c e })) j (let w = accepted-limits c e .few in omega arith) in
-      let l = refinable-vertices-le (steps kobbelt j m) (refinable-steps kobbelt m ok j) in
+      let near = steps-within (tension (c .tension)) (tame (c .tension) (accepted-tension c e)) m ok (start-within (c .net) d 1048576 (record { at = accepted-coordinate c e })) j (let w = accepted-limits c e .few in omega arith) in
+      let l = refinable-vertices-le (steps (tension (c .tension)) j m) (refinable-steps (tension (c .tension)) m ok j) in
       let n = corners-few in
-      reads-back k few rule (steps kobbelt j m) (refinable-steps kobbelt m ok j) near (omega arith) (omega arith)
+      reads-back k few rule (steps (tension (c .tension)) j m) (refinable-steps (tension (c .tension)) m ok j) near (omega arith) (omega arith)
 
 pub round-trip : RoundTrip
 round-trip = record { back = λ c e j h k few rule. accepted-back c e j h k few rule }

@@ -4,7 +4,7 @@ use mathlib.Core.List.{List}
 use Prim.Native.Nat.{ℕ}
 use lib.Dec.{ltb}
 use lib.ListN.{length}
-use Rattle.curve.specs.Weights.{kobbelt}
+use Rattle.curve.specs.Weights.{tension}
 use Rattle.nets.specs.Net as nets
 use Rattle.verdict.specs.Call.{vertexCount, faceCount}
 use Rattle.verdict.specs.Verdict.{Verdict, accepted, refused, orElse, netVerdict}
@@ -22,15 +22,15 @@ abbrev pub answerBy : Verdict → (rule : Bool) → nets.Net → (s : List ℕ) 
 answerBy accepted rule m s = tablesText rule (vertexCount m) (faceCount m) (m .vertices) (m .faces) (m .marks) s
 answerBy (refused r p) rule m s = refusalText r p
 
--- the net n after k rounds, or refusal 5 to 12; the text form has no side counts
+-- the net n after k rounds, or refusal 5 to 12; the text form has no side counts, and no word for a tension: it is 4
 abbrev pub refinedText : ℕ → (rule : Bool) → nets.Net → List ℕ
-refinedText k rule n = answerBy (netVerdict (nets.plain n)) rule (steps kobbelt k n) (letters kobbelt (nets.plain n) k)
+refinedText k rule n = answerBy (netVerdict (nets.plain n)) rule (steps (tension 4) k n) (letters (tension 4) (nets.plain n) k)
 
 -- Paper 01: 13 "is tested before 1"; then 1, 3 and 4 from the counts, then 5 to 12 from the net
 abbrev pub answerTo : Parsed Net → List ℕ
 answerTo (parsed n l) =
-    answerBy (orElse (countsVerdict (n .counts)) (netVerdict (nets.plain (tablesOf n)))) (n .rule) (steps kobbelt (n .counts .rounds) (tablesOf n))
-    (letters kobbelt (nets.plain (tablesOf n)) (n .counts .rounds))
+    answerBy (orElse (countsVerdict (n .counts)) (netVerdict (nets.plain (tablesOf n)))) (n .rule) (steps (tension 4) (n .counts .rounds) (tablesOf n))
+    (letters (tension 4) (nets.plain (tablesOf n)) (n .counts .rounds))
 answerTo (badLine n) = refusalText 13 n
 
 -- Paper 02: "The program takes a text whose first byte is `#` as OBJ"

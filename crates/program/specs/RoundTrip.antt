@@ -5,7 +5,7 @@ use mathlib.Core.List.{List, []}
 use Prim.Native.Nat.{ℕ, _≤_}
 use lib.IntN.{ℤ}
 use lib.ListN.{length}
-use Rattle.curve.specs.Weights.{kobbelt}
+use Rattle.curve.specs.Weights.{tension}
 use Rattle.nets.specs.Net as nets
 use Rattle.tables.specs.Tables.{filled}
 use Rattle.verdict.specs.Call.{Call, vertexCount, faceCount}
@@ -38,4 +38,4 @@ pub record ReadsBack (k : ℕ) (rule : Bool) (m : nets.Net) : Type 0 where
 
 -- of the net after any round of a call that the check accepts, the net where refining begins among them
 pub record RoundTrip : Type 0 where
-  pub back : (c : Call) → verdict c ≡ accepted → (j : ℕ) → j ≤ c .rounds → (k : ℕ) → k ≤ 2147483647 → (rule : Bool) → ReadsBack k rule (steps kobbelt j (startNet (c .net)))
+  pub back : (c : Call) → verdict c ≡ accepted → (j : ℕ) → j ≤ c .rounds → (k : ℕ) → k ≤ 2147483647 → (rule : Bool) → ReadsBack k rule (steps (tension (c .tension)) j (startNet (c .net)))

@@ -38,6 +38,7 @@ fn refine_net(
         faces,
         &none,
         marks,
+        4,
         &mut out_vertices,
         &mut out_faces,
         &mut out_marks,

@@ -9,7 +9,7 @@ use lib.Dec.{lit≤}
 use lib.IntN.{ℤ}
 use lib.ListN.{length, take}
 use Rattle.lists.proofs.Parts.{drop-later}
-use Rattle.curve.specs.Weights.{kobbelt}
+use Rattle.curve.specs.Weights.{tension}
 use Rattle.integers.specs.Within.{Within}
 use Rattle.nets.specs.Net.{Net, ControlNet}
 use Rattle.tables.specs.Tables.{filled}
@@ -17,7 +17,7 @@ use Rattle.tables.proofs.Laws.{length-filled, take-filled, filled-over, cleared
 use Rattle.nets.proofs.Laws.{same-net}
 use Rattle.polygons.specs.Polygons.{Sided}
 use Rattle.verdict.specs.Call.{lengthsOf, Call, call, quadrilaterals}
-use Rattle.verdict.proofs.Accepted.{by-sides, WithinLimits, accepted-limits, accepted-coordinate}
+use Rattle.verdict.proofs.Accepted.{by-sides, WithinLimits, accepted-limits, accepted-tension, accepted-coordinate}
 use Rattle.scheme.specs.Step.{steps}
 use Rattle.schemelaws.specs.Nets.{Refinable}
 use Rattle.schemelaws.proofs.Steps.{refinable-steps}
@@ -48,9 +48,9 @@ corners-le [] n k = let f = k .fours refl in omega arith
 corners-le (c ∷ s) n k = omega arith
 
 -- ---- k rounds on the control net, from the tables o
-module _ (k : ℕ) (control : ControlNet) (o : Buffers) (letters : Letters) (last : ℕ) (ok : AdmittedCall (call k control (roomOf o letters)) last (o .work)) where
+module _ (k : ℕ) (control : ControlNet) (t : ℕ) (o : Buffers) (letters : Letters) (last : ℕ) (ok : AdmittedCall (call k control t (roomOf o letters)) last (o .work)) where
   abbrev asked : Call
-  asked = call k control (roomOf o letters)
+  asked = call k control t (roomOf o letters)
 
   abbrev m : Net
   m = startNet control
@@ -67,8 +67,8 @@ module _ (k : ℕ) (control : ControlNet) (o : Buffers) (letters : Letters) (las
   size : length (m .faces) * 4 ^ k ≡ 4 * last
   size = let e = ok .final in start-corners asked (ok .accepts) (4 ^ k) ∙ ap (λ (x : ℕ). 4 * x) (sym e)
 
-  pub corners-steps : length (steps kobbelt k m .faces) ≡ 4 * last
-  corners-steps = corners-grown m k ∙ size
+  pub corners-steps : length (steps (tension t) k m .faces) ≡ 4 * last
+  corners-steps = corners-grown t m k ∙ size
 
   once : length (m .faces) ≤ length (m .faces) * 4 ^ k
   once = let p : 1 ≤ 4 ^ k = one-le-pow k 4 (lit≤ tt) in let g : length (m .faces) * 1 ≤ length (m .faces) * 4 ^ k = mul-le-mul-left (length (m .faces)) p in omega arith
@@ -76,8 +76,8 @@ module _ (k : ℕ) (control : ControlNet) (o : Buffers) (letters : Letters) (las
   vertices-le : length (m .marks) ≤ length (m .faces)
   vertices-le = start-vertices-le control drawn
 
-  start-fewer : length (m .marks) ≤ length (steps kobbelt k m .marks)
-  start-fewer = omega (arith, more-vertices m 0 k (omega arith), zero-steps m)
+  start-fewer : length (m .marks) ≤ length (steps (tension t) k m .marks)
+  start-fewer = omega (arith, more-vertices t m 0 k (omega arith), zero-steps t m)
 
   within : Within 1048576 (control .vertices)
   within = record { at = accepted-coordinate asked (ok .accepts) }
@@ -146,8 +146,8 @@ module _ (k : ℕ) (control : ControlNet) (o : Buffers) (letters : Letters) (las
   pub start-fits : letters .asked ≡ true → (length (control .marks) ≤ length (m .marks)) × (length (m .marks) ≤ length (letters .table))
   start-fits a = (start-grows control, omega (arith, letters-fit _ refl a, once, vertices-le))
 
-  module _ (t : Buffers) (r n : ℕ) (x : Loaded control o t r) (long : length (t .work) ≡ length (o .work)) (corners-are : n ≡ length (m .faces)) where
-    front-is : front r n t ≡ m
+  module _ (B : Buffers) (r n : ℕ) (x : Loaded control o B r) (long : length (B .work) ≡ length (o .work)) (corners-are : n ≡ length (m .faces)) where
+    front-is : front r n B ≡ m
     front-is =
         let t₃ = refinable .threes in
         let c = x .count in
@@ -156,7 +156,7 @@ module _ (k : ℕ) (control : ControlNet) (o : Buffers) (letters : Letters) (las
         (ap (take n) (x .faces) ∙ take-filled (m .faces) (o .faces) n d)
         (ap (take r) (x .marks) ∙ take-filled (m .marks) (o .marks) r c)
 
-    prepared : Prepared k r n last t
+    prepared : Prepared t k r n last B
     prepared =
         let w = limits in
         let b = w .roomVertices in
@@ -172,10 +172,11 @@ module _ (k : ℕ) (control : ControlNet) (o : Buffers) (letters : Letters) (las
         let i = corners-are in
         let h = refinable .threes in
         let grown : n * 4 ^ k ≡ length (m .faces) * 4 ^ k = ap (λ (j : ℕ). j * 4 ^ k) i in
-        let lv : length (t .vertices) ≡ length (o .vertices) = ap length (x .vertices) ∙ length-filled _ _ (omega arith) in
-        let lf : length (t .faces) ≡ length (o .faces) = ap length (x .faces) ∙ length-filled _ _ (omega arith) in
-        let lm : length (t .marks) ≡ length (o .marks) = ap length (x .marks) ∙ length-filled _ _ (omega arith) in
+        let lv : length (B .vertices) ≡ length (o .vertices) = ap length (x .vertices) ∙ length-filled _ _ (omega arith) in
+        let lf : length (B .faces) ≡ length (o .faces) = ap length (x .faces) ∙ length-filled _ _ (omega arith) in
+        let lm : length (B .marks) ≡ length (o .marks) = ap length (x .marks) ∙ length-filled _ _ (omega arith) in
         record {
+          low = accepted-tension asked (ok .accepts);
           refinable = rw front-is refinable;
           within = rw (ap (λ (j : Net). j .vertices) front-is) (start-within control drawn 1048576 within);
           few = w .few;
@@ -189,25 +190,25 @@ module _ (k : ℕ) (control : ControlNet) (o : Buffers) (letters : Letters) (las
           mated = rw (ap (λ (j : Net). j .faces) front-is) (x .mated);
         }
 
-    pub finishing : Finishing k r n last t
+    pub finishing : Finishing t k r n last B
     finishing = record { prepared = prepared; few = last-le; room = (let a = room-work in omega arith) }
 
-    module _ (v : ℕ) (u : Buffers) (x₂ : Finished k r n last v t u) where
+    module _ (v : ℕ) (u : Buffers) (x₂ : Finished t k r n last v B u) where
       -- the letters of the vertices where refining begins, then those of the rounds
       pub letters-ran : (s₁ s₂ : List ℕ) → length s₂ ≡ length (letters .table) → WrittenIf (letters .asked) 0 r (startLetter (length (control .marks))) (letters .table) s₁
-          → LettersAfter (letters .asked) k r v (front r n t) s₁ s₂ → s₂ ≡ lettered (origins.letters kobbelt control k) letters
+          → LettersAfter (letters .asked) t k r v (front r n B) s₁ s₂ → s₂ ≡ lettered (origins.letters (tension t) control k) letters
       letters-ran s₁ s₂ e y z =
           let b = x₂ .after in
-          let c : v ≡ length (steps kobbelt k m .marks) = b .count ∙ ap (λ (y : Net). length (steps kobbelt k y .marks)) front-is in
+          let c : v ≡ length (steps (tension t) k m .marks) = b .count ∙ ap (λ (y : Net). length (steps (tension t) k y .marks)) front-is in
           let f = b .fewer in
-          lettered-all k control r v (x .count) c (letters .table) s₁ s₂ e (letters .asked) (λ a. omega (arith, letters-fit n corners-are a)) y (subst (λ (q : Net). LettersAfter (letters .asked) k r v q s₁ s₂) front-is z)
+          lettered-all t k control r v (x .count) c (letters .table) s₁ s₂ e (letters .asked) (λ a. omega (arith, letters-fit n corners-are a)) y (subst (λ (q : Net). LettersAfter (letters .asked) t k r v q s₁ s₂) front-is z)
 
-      pub ran : Ran k control o u last v
+      pub ran : Ran t k control o u last v
       ran =
           let b = x₂ .after in
           let z = x₂ .work in
           let q = refinable .threes in
-          let j = refinable-steps kobbelt m refinable k .threes in
+          let j = refinable-steps (tension t) m refinable k .threes in
           let i = start-fewer in
           let c = corners-steps in
           let g = once in
@@ -215,10 +216,10 @@ module _ (k : ℕ) (control : ControlNet) (o : Buffers) (letters : Letters) (las
           let d = corners-are in
           let grown : n * 4 ^ k ≡ length (m .faces) * 4 ^ k = ap (λ (j : ℕ). j * 4 ^ k) d in
           record {
-            count = b .count ∙ ap (λ (y : Net). length (steps kobbelt k y .marks)) front-is;
-            vertices = b .newPoints ∙ ap₂ (λ (y : Net) (l : List ℤ). filled (steps kobbelt k y .vertices) l) front-is (x .vertices) ∙ filled-over _ _ (o .vertices) (omega arith);
-            faces = b .newFaces ∙ ap₂ (λ (y : Net) (l : List ℕ). filled (steps kobbelt k y .faces) l) front-is (x .faces) ∙ filled-over _ _ (o .faces) (omega arith);
-            marks = b .newMarks ∙ ap₂ (λ (y : Net) (l : List ℕ). filled (steps kobbelt k y .marks) l) front-is (x .marks) ∙ filled-over _ _ (o .marks) i;
+            count = b .count ∙ ap (λ (y : Net). length (steps (tension t) k y .marks)) front-is;
+            vertices = b .newPoints ∙ ap₂ (λ (y : Net) (l : List ℤ). filled (steps (tension t) k y .vertices) l) front-is (x .vertices) ∙ filled-over _ _ (o .vertices) (omega arith);
+            faces = b .newFaces ∙ ap₂ (λ (y : Net) (l : List ℕ). filled (steps (tension t) k y .faces) l) front-is (x .faces) ∙ filled-over _ _ (o .faces) (omega arith);
+            marks = b .newMarks ∙ ap₂ (λ (y : Net) (l : List ℕ). filled (steps (tension t) k y .marks) l) front-is (x .marks) ∙ filled-over _ _ (o .marks) i;
             work = z ∙ cleared-over (16 * last) (o .work) (x₂ .before)
-                (drop-later (3 * (n * 4 ^ k)) (16 * last) (x₂ .before) (t .work) (omega arith) (b .rest) ∙ drop-later (4 * length (m .faces)) (16 * last) (t .work) (o .work) (omega arith) (x .rest));
+                (drop-later (3 * (n * 4 ^ k)) (16 * last) (x₂ .before) (B .work) (omega arith) (b .rest) ∙ drop-later (4 * length (m .faces)) (16 * last) (B .work) (o .work) (omega arith) (x .rest));
           }

@@ -4,7 +4,7 @@ use mathlib.Core.List.{List}
 use Prim.Native.Nat.{ℕ, _+_, _-_, _*_, _/_, _≤_, _<_}
 use native.Mathlib.Omega.{arith}
 use lib.ListN.{length, drop}
-use Rattle.curve.specs.Weights.{kobbelt}
+use Rattle.curve.specs.Weights.{tension}
 use Rattle.polygons.specs.Polygons.{shapeOf}
 use Rattle.tables.specs.Tables.{cleared}
 use Rattle.nets.specs.Net.{Net}
@@ -33,7 +33,7 @@ use Rattle.refine.proofs.Laws.{corners-limit, corners-room, corners-ste
 
 -- the request with another work table
 abbrev pub withWork : Request → List ℕ → Request
-withWork a u = request (a .tally) (a .rounds) (a .net) (buffers (a .buffers .vertices) (a .buffers .faces) (a .buffers .marks) u) (a .letters)
+withWork a u = request (a .tally) (a .rounds) (a .net) (a .tension) (buffers (a .buffers .vertices) (a .buffers .faces) (a .buffers .marks) u) (a .letters)
 
 module _ (a : Request) where
   -- ---- refused at the admission
@@ -43,7 +43,7 @@ module _ (a : Request) where
 
   -- the work table as it is found does not matter
   abbrev given : Buffers → List ℕ → Verdict → Outcome
-  given o w v = outcomeBy v (a .tally) (toAdd a) (steps kobbelt (a .rounds) (startNet (a .net))) (letters kobbelt (a .net) (a .rounds)) o (a .letters) w
+  given o w v = outcomeBy v (a .tally) (toAdd a) (steps (tension (a .tension)) (a .rounds) (startNet (a .net))) (letters (tension (a .tension)) (a .net) (a .rounds)) o (a .letters) w
 
   same-given : (u w : List ℕ) (v : Verdict) → given (withWork a u .buffers) w v ≡ given (a .buffers) w v
   same-given u w accepted = refl
@@ -54,7 +54,7 @@ module _ (a : Request) where
     pub admitted-work : AdmittedCall (callOf (withWork a u)) last u
     admitted-work =
         let o = a .buffers in
-        subst (λ (n : ℕ). AdmittedCall (call (a .rounds) (a .net) (room (length (o .vertices)) (length (o .faces)) (length (o .marks)) (a .letters .asked) (length (a .letters .table)) n)) last u) (sym s) x
+        subst (λ (n : ℕ). AdmittedCall (call (a .rounds) (a .net) (a .tension) (room (length (o .vertices)) (length (o .faces)) (length (o .marks)) (a .letters .asked) (length (a .letters .table)) n)) last u) (sym s) x
 
     pub same-outcome : drop (16 * last) u ≡ drop (16 * last) (a .buffers .work) → outcome (withWork a u) ≡ outcome a
     unfolding outcome requestVerdict
@@ -64,13 +64,13 @@ module _ (a : Request) where
         let p : Buffers = withWork a u .buffers in
         let w : workAfter c u ≡ workAfter c (o .work) = sym (admitted-cleared c last u x u (cleared (16 * last) u) refl refl) ∙ admitted-cleared c last u x (o .work) (cleared (16 * last) u) d refl in
         let t = tallyVerdict (a .tally) (toAdd a) in
-        (λ i. let e = call (a .rounds) (a .net) (room (length (o .vertices)) (length (o .faces)) (length (o .marks)) (a .letters .asked) (length (a .letters .table)) (s i)) in given p (workAfter e u) (orElse (verdict e) t))
+        (λ i. let e = call (a .rounds) (a .net) (a .tension) (room (length (o .vertices)) (length (o .faces)) (length (o .marks)) (a .letters .asked) (length (a .letters .table)) (s i)) in given p (workAfter e u) (orElse (verdict e) t))
         ∙ ap (λ (l : List ℕ). given p l (orElse (verdict c) t)) w
         ∙ same-given u (workAfter c (o .work)) (orElse (verdict c) t)
 
   module _ (last : ℕ) (ok : AdmittedCall (callOf a) last (a .buffers .work)) where
     abbrev n : Net
-    n = steps kobbelt (a .rounds) (startNet (a .net))
+    n = steps (tension (a .tension)) (a .rounds) (startNet (a .net))
 
     drawn : Drawn (a .net)
     drawn = accepted-drawn (callOf a) (ok .accepts)
@@ -82,9 +82,9 @@ module _ (a : Request) where
         record {
           rounds = w .few;
           sided = w .sided;
-          few = corners-limit (a .rounds) (a .net) (a .buffers) (a .letters) last ok;
+          few = corners-limit (a .rounds) (a .net) (a .tension) (a .buffers) (a .letters) last ok;
           vertices = drawn-vertices-le (a .net) drawn;
-          room = corners-room (a .rounds) (a .net) (a .buffers) (a .letters) last ok;
+          room = corners-room (a .rounds) (a .net) (a .tension) (a .buffers) (a .letters) last ok;
           mated = ok .mated;
         }
 
@@ -92,8 +92,8 @@ module _ (a : Request) where
         → (length (a .net .marks) ≤ v) × (v - length (a .net .marks) ≡ toAdd a)
     unfolding newPoints
     new-points v e =
-        let c = vertices-after (a .net) drawn (a .rounds) in
-        let m = control-among (a .net) (a .rounds) in
+        let c = vertices-after (tension (a .tension)) (a .net) drawn (a .rounds) in
+        let m = control-among (a .tension) (a .net) (a .rounds) in
         (omega arith, omega arith)
 
     pub few-new : toAdd a ≤ 1048576
@@ -107,11 +107,11 @@ module _ (a : Request) where
         rw (ok .accepts, tally-refused (a .tally) (toAdd a) h) (λ i. refusedOutcome 15 0 (a .tally) (a .buffers) (a .letters) (e i))
 
     -- ---- the rounds
-    pub refined-outcome : a .tally + toAdd a ≤ 4000000000 → (r : ℕ) (o : Buffers) → Ran (a .rounds) (a .net) (a .buffers) o last r
-        → (l : List ℕ) → l ≡ lettered (letters kobbelt (a .net) (a .rounds)) (a .letters) → answered (record { answer = Refined r last; points = a .tally + toAdd a }) o l ≡ outcome a
+    pub refined-outcome : a .tally + toAdd a ≤ 4000000000 → (r : ℕ) (o : Buffers) → Ran (a .tension) (a .rounds) (a .net) (a .buffers) o last r
+        → (l : List ℕ) → l ≡ lettered (letters (tension (a .tension)) (a .net) (a .rounds)) (a .letters) → answered (record { answer = Refined r last; points = a .tally + toAdd a }) o l ≡ outcome a
     unfolding outcome requestVerdict
     refined-outcome h r o b l q =
-        let f : last ≡ length (n .faces) / 4 = (let c = corners-steps (a .rounds) (a .net) (a .buffers) (a .letters) last ok in omega arith) in
+        let f : last ≡ length (n .faces) / 4 = (let c = corners-steps (a .rounds) (a .net) (a .tension) (a .buffers) (a .letters) last ok in omega arith) in
         let e = admitted-cleared (callOf a) last (a .buffers .work) ok (a .buffers .work) (o .work) refl (b .work) in
         rw (ok .accepts, tally-if (a .tally) (toAdd a) h)
         (λ i. record { result = refinedTo (b .count i) (f i); tally = a .tally + toAdd a; buffers = buffers (b .vertices i) (b .faces i) (b .marks i) (e i); letters = q i })

@@ -2,7 +2,7 @@
 use admission::Admission;
 ghost use mathlib.Core.Path.{_≡_};
 ghost use Prim.Native.Nat.{_*_, _^_};
-ghost use Rattle.curve.specs.Weights.{kobbelt};
+ghost use Rattle.curve.specs.Weights.{tension};
 ghost use Rattle.nets.specs.Net.{frontNet, controlNet};
 ghost use Rattle.admission.specs.Admission.{AdmittedCall};
 ghost use Rattle.verdict.specs.Call.{call};
@@ -40,12 +40,13 @@ fn finish(
     n: usize,
     rounds: u32,
     last: usize,
+    t: u32,
 ) -> usize
-    requires { ⌜ Finishing rounds v n last (buffers (now vertices) (now faces) (now marks) (now work)) ⌝ }
+    requires { ⌜ Finishing t rounds v n last (buffers (now vertices) (now faces) (now marks) (now work)) ⌝ }
     requires { ⌜ LettersFit «with_letters» (n * 4 ^ rounds) (now letters) ⌝ }
-    ensures { λ r. ⌜ Finished rounds v n last r (buffers (now (vertices .entry)) (now (faces .entry)) (now (marks .entry)) (now (work .entry)))
+    ensures { λ r. ⌜ Finished t rounds v n last r (buffers (now (vertices .entry)) (now (faces .entry)) (now (marks .entry)) (now (work .entry)))
         (buffers (now (vertices .exit)) (now (faces .exit)) (now (marks .exit)) (now (work .exit))) ⌝ }
-    ensures { λ r. ⌜ LettersAfter «with_letters» rounds v r (frontNet v n (now (vertices .entry)) (now (faces .entry)) (now (marks .entry))) (now (letters .entry)) (now (letters .exit)) ⌝ }
+    ensures { λ r. ⌜ LettersAfter «with_letters» t rounds v r (frontNet v n (now (vertices .entry)) (now (faces .entry)) (now (marks .entry))) (now (letters .entry)) (now (letters .exit)) ⌝ }
 {
     let count = rounds::rounds(
         &mut *vertices,
@@ -58,6 +59,7 @@ fn finish(
         n,
         rounds,
         last,
+        t,
     );
     tables::clear(&mut *work, 16 * last);
     count
@@ -70,6 +72,7 @@ fn run(
     faces: &[u32],
     sides: &[u8],
     marks: &[u8],
+    t: u32,
     out_vertices: &mut [i32],
     out_faces: &mut [u32],
     out_marks: &mut [u8],
@@ -78,11 +81,11 @@ fn run(
     work: &mut [u32],
     last: usize,
 ) -> usize
-    requires { ⌜ AdmittedCall (call rounds (controlNet (now vertices) (now faces) (now sides) (now marks)) (roomOf (buffers (now «out_vertices») (now «out_faces») (now «out_marks») (now work)) (letterTable «with_letters» (now letters)))) last (now work) ⌝ }
-    ensures { λ r. ⌜ Ran rounds (controlNet (now (vertices .entry)) (now (faces .entry)) (now (sides .entry)) (now (marks .entry)))
+    requires { ⌜ AdmittedCall (call rounds (controlNet (now vertices) (now faces) (now sides) (now marks)) t (roomOf (buffers (now «out_vertices») (now «out_faces») (now «out_marks») (now work)) (letterTable «with_letters» (now letters)))) last (now work) ⌝ }
+    ensures { λ r. ⌜ Ran t rounds (controlNet (now (vertices .entry)) (now (faces .entry)) (now (sides .entry)) (now (marks .entry)))
         (buffers (now («out_vertices» .entry)) (now («out_faces» .entry)) (now («out_marks» .entry)) (now (work .entry)))
         (buffers (now («out_vertices» .exit)) (now («out_faces» .exit)) (now («out_marks» .exit)) (now (work .exit))) last r ⌝ }
-    ensures { λ _. ⌜ now (letters .exit) ≡ lettered (origins.letters kobbelt (controlNet (now (vertices .entry)) (now (faces .entry)) (now (sides .entry)) (now (marks .entry))) rounds) (letterTable «with_letters» (now (letters .entry))) ⌝ }
+    ensures { λ _. ⌜ now (letters .exit) ≡ lettered (origins.letters (tension t) (controlNet (now (vertices .entry)) (now (faces .entry)) (now (sides .entry)) (now (marks .entry))) rounds) (letterTable «with_letters» (now (letters .entry))) ⌝ }
 {
     let start = loading::load(
         vertices,
@@ -107,6 +110,7 @@ fn run(
             faces.len(),
             rounds,
             last,
+            t,
         );
     }
     finish(
@@ -120,6 +124,7 @@ fn run(
         4 * faces.len(),
         rounds,
         last,
+        t,
     )
 }
 
@@ -131,6 +136,7 @@ fn refine_admitted(
     faces: &[u32],
     sides: &[u8],
     marks: &[u8],
+    tension: u32,
     out_vertices: &mut [i32],
     out_faces: &mut [u32],
     out_marks: &mut [u8],
@@ -139,9 +145,9 @@ fn refine_admitted(
     work: &mut [u32],
     last: usize,
 ) -> Charged
-    requires { ⌜ AdmittedCall (call rounds (controlNet (now vertices) (now faces) (now sides) (now marks)) (roomOf (buffers (now «out_vertices») (now «out_faces») (now «out_marks») (now work)) (letterTable «with_letters» (now letters)))) last (now work) ⌝ }
+    requires { ⌜ AdmittedCall (call rounds (controlNet (now vertices) (now faces) (now sides) (now marks)) tension (roomOf (buffers (now «out_vertices») (now «out_faces») (now «out_marks») (now work)) (letterTable «with_letters» (now letters)))) last (now work) ⌝ }
     ensures { λ r. ⌜ answered r (buffers (now («out_vertices» .exit)) (now («out_faces» .exit)) (now («out_marks» .exit)) (now (work .exit))) (now (letters .exit)) ≡
-        outcome (request points rounds (controlNet (now (vertices .entry)) (now (faces .entry)) (now (sides .entry)) (now (marks .entry)))
+        outcome (request points rounds (controlNet (now (vertices .entry)) (now (faces .entry)) (now (sides .entry)) (now (marks .entry))) tension
         (buffers (now («out_vertices» .entry)) (now («out_faces» .entry)) (now («out_marks» .entry)) (now (work .entry))) (letterTable «with_letters» (now (letters .entry)))) ⌝ }
 {
     let v = marks.len();
@@ -159,6 +165,7 @@ fn refine_admitted(
         faces,
         sides,
         marks,
+        tension,
         &mut *out_vertices,
         &mut *out_faces,
         &mut *out_marks,
@@ -182,6 +189,7 @@ pub fn refine(
     faces: &[u32],
     sides: &[u8],
     marks: &[u8],
+    tension: u32,
     out_vertices: &mut [i32],
     out_faces: &mut [u32],
     out_marks: &mut [u8],
@@ -190,7 +198,7 @@ pub fn refine(
     work: &mut [u32],
 ) -> Charged
     ensures { λ r. ⌜ answered r (buffers (now («out_vertices» .exit)) (now («out_faces» .exit)) (now («out_marks» .exit)) (now (work .exit))) (now (letters .exit)) ≡
-        outcome (request points rounds (controlNet (now (vertices .entry)) (now (faces .entry)) (now (sides .entry)) (now (marks .entry)))
+        outcome (request points rounds (controlNet (now (vertices .entry)) (now (faces .entry)) (now (sides .entry)) (now (marks .entry))) tension
         (buffers (now («out_vertices» .entry)) (now («out_faces» .entry)) (now («out_marks» .entry)) (now (work .entry))) (letterTable «with_letters» (now (letters .entry)))) ⌝ }
 {
     match admission::admit(
@@ -199,6 +207,7 @@ pub fn refine(
         faces,
         sides,
         marks,
+        tension,
         out_vertices.len(),
         out_faces.len(),
         out_marks.len(),
@@ -213,6 +222,7 @@ pub fn refine(
             faces,
             sides,
             marks,
+            tension,
             &mut *out_vertices,
             &mut *out_faces,
             &mut *out_marks,

@@ -5,3 +5,4 @@ pub mod Ties
 pub mod Norm
 pub mod Table
 pub mod Scales
+pub mod Tension

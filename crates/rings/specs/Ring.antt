@@ -15,6 +15,7 @@ wrap n f i = f (i % n)
 -- Paper 01: "The virtual point v at an end with neighbours l_i and face-opposite corners k_i (k_i between l_i and l_(i+1), indices modulo n, edge j towards the
 -- other end) is 4/n × sum l - (l_(j-1) + l_j + l_(j+1)) + 1/9 × (k_(j-2) + k_(j-1) + k_j + k_(j+1)) - 4/(9n) × sum k."
 -- "In equations (3) and (4) of document 000 the letter w is half of the ω of (1) and (5); so the factor is 1/9": it is far / near, as on the boundary.
+-- Paper 02: "ω/(8+ω) for the 1/9, in the term 4/(9n) as well"
 unfoldable pub virtual : Weights → (n : ℕ) (l k : ℕ → Fraction) (j : ℕ) → Fraction
 virtual w n l k j =
     4 ×ᶠ sumᶠ n l /ᶠ n

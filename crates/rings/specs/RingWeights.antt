@@ -31,10 +31,18 @@ weightL w n d = pos (w .near) *ℤ (pos 4 -ℤ pos n *ℤ (oneAt (n - 1) d +ℤ 
 abbrev pub weightK : Weights → ℕ → ℕ → ℤ
 weightK w n d = pos (w .far) *ℤ (pos n *ℤ (oneAt (n - 2) d +ℤ oneAt (n - 1) d +ℤ oneAt 0 d +ℤ oneAt 1 d) -ℤ pos 4)
 
--- Paper 01: "The weights for n = 3 to 8 are a constant table over 9n". Its row for n has eight places for neighbours, then eight for opposite corners, 0 where
--- there is none.
+-- Paper 01: "The weights for n = 3 to 8 are a constant table over 9n". The table is that of these weights, over n: near times its numbers for the neighbours, and far times
+-- those for the opposite corners, are the weights over near · n at any near and far (`weightOf`)
+abbrev pub unitWeights : Weights
+unitWeights = record { near = 1; far = 1 }
+
+-- a row for n: eight places for neighbours, then eight for opposite corners, 0 where there is none
 abbrev pub entry : Weights → ℕ → ℕ → ℤ
 entry w n o = cond (ltb o 8) (cond (ltb o n) (weightL w n o) (pos 0)) (cond (ltb (o - 8) n) (weightK w n (o - 8)) (pos 0))
 
 abbrev pub row : Weights → ℕ → List ℤ
 row w n = tabulate 16 (entry w n)
+
+-- the number x at place o of a row of `unitWeights`, times near or far
+abbrev pub weightOf : Weights → ℕ → ℤ → ℤ
+weightOf w o x = cond (ltb o 8) (pos (w .near) *ℤ x) (pos (w .far) *ℤ x)

@@ -1,5 +1,4 @@
--- The common denominators of the exact points of a round, over the weights, and the ranges of their numerators. The numbers in brackets are those of paper 01's
--- weights.
+-- The common denominators of the exact points of a round, over the weights, and the ranges of their numerators. The numbers in brackets are those at a tension t.
 use Prim.Native.Nat.{ℕ, _*_, _/_}
 use Rattle.curve.specs.Weights.{Weights, scale}
 
@@ -12,15 +11,15 @@ extrapolatedScale = 60
 abbrev pub valenceScale : ℕ
 valenceScale = 840
 
--- of virtual points (453,600)
+-- of virtual points (50,400 (32 + t) at tension t)
 abbrev pub virtualScale : Weights → ℕ
 virtualScale w = w .near * (valenceScale * extrapolatedScale)
 
--- of edge points (7,257,600); points on boundary edges, and on inner edges between ordinary vertices, are exact over `scale` (16)
+-- of edge points (3,225,600 (32 + t)); points on boundary edges, and on inner edges between ordinary vertices, are exact over `scale` (64)
 abbrev pub edgeScale : Weights → ℕ
 edgeScale w = scale w * virtualScale w
 
--- of a direction of a face (116,121,600), and of a face point (232,243,200)
+-- of a direction of a face (206,438,400 (32 + t)), and of a face point (twice that)
 abbrev pub directionScale : Weights → ℕ
 directionScale w = scale w * edgeScale w
 

@@ -3,7 +3,7 @@
 use mathlib.Core.Path.{_≡_, refl, sym, ap, ap₂, _∙_}
 use mathlib.Core.List.{[], _∷_}
 use Prim.Native.Nat.{ℕ, zero, suc, _+_, _-_, _*_, _/_, _%_, _≤_, _<_}
-use native.Mathlib.Nat.{div-add-mod, mod-lt, mul-comm, mul-add, mul-left-comm, mul-le-mul-left}
+use native.Mathlib.Nat.{div-add-mod, mod-lt, mul-comm, mul-add, mul-left-comm, mul-le-mul-left, le-of-mul-le-mul-left}
 use native.Mathlib.Decide.{decLt}
 use native.Mathlib.Omega.{arith}
 use lib.IntN.{ℤ, pos, negsuc, negℤ, natAbs, _+ℤ_, _-ℤ_, _*ℤ_}
@@ -90,6 +90,16 @@ round-size z d h =
     let b = abs-add (pos d *ℤ r -ℤ z) z in
     let c = abs-mul (pos d) r in
     let g = round-near z d h in
+    omega arith
+
+-- and what is within d times a whole number is rounded to within that number
+pub round-within : (z : ℤ) (d B : ℕ) → 0 < d → natAbs z ≤ d * B → natAbs (round z d) ≤ B
+round-within z d B h k =
+    let a = round-size z d h in
+    let e = mul-left-comm d 2 (natAbs (round z d)) in
+    let f = mul-left-comm d 2 B in
+    let g = mul-add d (2 * B) 1 in
+    let i : 2 * natAbs (round z d) ≤ 2 * B + 1 = le-of-mul-le-mul-left {k = d} (omega arith) h in
     omega arith
 
 -- ---- the value alone: k z / k d is z / d

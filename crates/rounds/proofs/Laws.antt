@@ -10,7 +10,7 @@ use lib.IntN.{ℤ}
 use lib.ListN.{length, getD, take, drop, length-drop}
 use lib.Seq.{take-all, length-take-le, getD-take, getD-drop, ext-getD}
 use Rattle.lists.proofs.Parts.{drop-later}
-use Rattle.curve.specs.Weights.{kobbelt}
+use Rattle.curve.specs.Weights.{tension}
 use Rattle.nets.specs.Net.{Net, frontNet}
 use Rattle.tables.specs.Tables.{filled}
 use Rattle.nets.proofs.Laws.{same-net}
@@ -46,22 +46,22 @@ use Rattle.nets.specs.Buffers.{Buffers, buffers, front}
 drop-same : (k : ℕ) (u w : List ℕ) → length u ≡ length w → ((i : ℕ) → k ≤ i → getD u i 0 ≡ getD w i 0) → drop k u ≡ drop k w
 drop-same k u w e h = ext-getD 0 (drop k u) (drop k w) (length-drop k u ∙ ap (λ (x : ℕ). x - k) e ∙ sym (length-drop k w)) (λ i b. getD-drop k u i 0 ∙ h (k + i) (omega arith) ∙ sym (getD-drop k w i 0))
 
-module _ (v n at initial : ℕ) (t : Buffers) (c : Current v n at initial t) where
+module _ (t v n at initial : ℕ) (B : Buffers) (c : Current t v n at initial B) where
   abbrev points : List ℤ
-  points = t .vertices
+  points = B .vertices
 
   abbrev faces : List ℕ
-  faces = t .faces
+  faces = B .faces
 
   abbrev marks : List ℕ
-  marks = t .marks
+  marks = B .marks
 
   abbrev w : List ℕ
-  w = t .work
+  w = B .work
 
   -- the net before the round, its corners and its marks
   abbrev old : Net
-  old = front v n t
+  old = front v n B
 
   abbrev l : List ℕ
   l = take n faces
@@ -89,14 +89,14 @@ module _ (v n at initial : ℕ) (t : Buffers) (c : Current v n at initial t) whe
   unfolding quads
   count-le = let e = corners in let q = c .vertices in let k = vertices-refined v l (omega arith) in omega arith
 
-  pub count-is : v + edgeCount quads l + n / 4 ≡ length (step kobbelt old .marks)
+  pub count-is : v + edgeCount quads l + n / 4 ≡ length (step (tension t) old .marks)
   unfolding quads
   count-is =
       let e = corners in
-      sym (step-count kobbelt old ∙ ap (λ (k : ℕ). refinedVertices quads k l) marked ∙ ap (λ (k : ℕ). v + edgeCount quads l + k / 4) e)
+      sym (step-count (tension t) old ∙ ap (λ (k : ℕ). refinedVertices quads k l) marked ∙ ap (λ (k : ℕ). v + edgeCount quads l + k / 4) e)
 
-  faces-are : step kobbelt old .faces ≡ refined quads v l
-  faces-are = step-faces kobbelt old ∙ ap (λ (j : ℕ). refined quads j l) marked
+  faces-are : step (tension t) old .faces ≡ refined quads v l
+  faces-are = step-faces (tension t) old ∙ ap (λ (j : ℕ). refined quads j l) marked
 
   -- the mates for the next round
   module _ (w′ : List ℕ) (k : length w′ ≡ length w) (g : MateTable l w′) where
@@ -114,7 +114,7 @@ module _ (v n at initial : ℕ) (t : Buffers) (c : Current v n at initial t) whe
         subst (λ (j : ℕ). LaterIn j w′) corners at
 
     module _ (w″ : List ℕ) (h : w″ ≡ filled (refinedMates quads (take n w′)) w′) where
-      pub mates-next : MateTable (step kobbelt old .faces) w″
+      pub mates-next : MateTable (step (tension t) old .faces) w″
       mates-next =
           let e = corners in
           let r = c .roomWork in
@@ -124,7 +124,7 @@ module _ (v n at initial : ℕ) (t : Buffers) (c : Current v n at initial t) whe
       pub mates-past : drop (8 * n) w″ ≡ drop (8 * n) w′
       mates-past = let r = c .roomWork in ap (drop (8 * n)) h ∙ drop-later (4 * n) (8 * n) _ _ (omega arith) (mates-rest n w′ (omega arith))
 
-  pub ready : Round l mk points w at initial
+  pub ready : Round t l mk points w at initial
   ready =
       let e = corners in
       let r = c .roomWork in
@@ -134,6 +134,7 @@ module _ (v n at initial : ℕ) (t : Buffers) (c : Current v n at initial t) whe
       let b = c .behind in
       let d = vertices-refined (length mk) l (omega arith) in
       record {
+        low = c .low;
         net = refinable-manifold old (c .refinable);
         table = record { sides = sides; room = omega arith; mated = c .mated };
         classes = subst (λ (k : ℕ). Classes k at initial l w) (sym m) (c .classes);
@@ -148,7 +149,7 @@ module _ (v n at initial : ℕ) (t : Buffers) (c : Current v n at initial t) whe
   made = same-net (ap (λ (k : ℕ). take (3 * k) points) marked) (take-all (length l) l (omega arith)) (take-all (length mk) mk (omega arith))
 
   -- ---- after the pass over the edges
-  module _ (p₁ : List ℤ) (w₁ : List ℕ) (done : Edges l mk points w p₁ w₁ (length l) (edgeCount quads l)) where
+  module _ (p₁ : List ℤ) (w₁ : List ℕ) (done : Edges t l mk points w p₁ w₁ (length l) (edgeCount quads l)) where
     mated₁ : MateTable l w₁
     mated₁ = mates-cong l w w₁ (λ i h. done .mates i h) (c .mated)
 
@@ -168,9 +169,9 @@ module _ (v n at initial : ℕ) (t : Buffers) (c : Current v n at initial t) whe
           net = ready .net .oriented;
           table = record { sides = sides; room = omega arith; mated = mated₁ };
           entries = omega arith;
-          numbered = number-is l mk points w at initial ready p₁ w₁ done;
-          inner = λ g b h. ltb-true _ _ (inner-is l mk points w at initial ready p₁ w₁ done g b ∙ lt-ltb (mate quads l g) (length l) h);
-          boundary = λ g b h. ltb-false _ _ (inner-is l mk points w at initial ready p₁ w₁ done g b ∙ le-ltb (mate quads l g) (length l) (omega arith));
+          numbered = number-is t l mk points w at initial ready p₁ w₁ done;
+          inner = λ g b h. ltb-true _ _ (inner-is t l mk points w at initial ready p₁ w₁ done g b ∙ lt-ltb (mate quads l g) (length l) h);
+          boundary = λ g b h. ltb-false _ _ (inner-is t l mk points w at initial ready p₁ w₁ done g b ∙ le-ltb (mate quads l g) (length l) (omega arith));
           room = omega arith;
         }
 
@@ -182,11 +183,11 @@ module _ (v n at initial : ℕ) (t : Buffers) (c : Current v n at initial t) whe
         let r : refinedVertices quads (length mk) l ≡ v + edge + n / 4 = omega (arith, marked, corners) in
         subst (λ (j : ℕ). WrittenIf asked j (v + edge + n / 4) (newLetter l mk) s s′) marked (subst (λ (j : ℕ). WrittenIf asked (length mk) j (newLetter l mk) s s′) r x)
 
-    pub face-ready : FaceTable n w₁
-    face-ready = subst (λ (k : ℕ). FaceTable k w₁) corners (face-table l mk points w at initial ready p₁ w₁ done)
+    pub face-ready : FaceTable t n w₁
+    face-ready = subst (λ (k : ℕ). FaceTable t k w₁) corners (face-table t l mk points w at initial ready p₁ w₁ done)
 
     pub family-ready : AfterRound l → FamilyTable n w₁
-    family-ready a = subst (λ (k : ℕ). FamilyTable k w₁) corners (family-table l mk points w at initial ready p₁ w₁ done a)
+    family-ready a = subst (λ (k : ℕ). FamilyTable k w₁) corners (family-table t l mk points w at initial ready p₁ w₁ done a)
 
     pub net-ready : (count : ℕ) → count ≡ edgeCount quads l → FacesIn n v count faces w₁
     net-ready count h =
@@ -198,7 +199,7 @@ module _ (v n at initial : ℕ) (t : Buffers) (c : Current v n at initial t) whe
           vertices = c .vertices;
           room = c .roomFaces;
           behind = omega arith;
-          numbered = λ g b. ap (λ (j : ℕ). edgeOf (entryOf j w₁ g)) (sym e) ∙ number-is l mk points w at initial ready p₁ w₁ done g (omega arith);
+          numbered = λ g b. ap (λ (j : ℕ). edgeOf (entryOf j w₁ g)) (sym e) ∙ number-is t l mk points w at initial ready p₁ w₁ done g (omega arith);
           counted = h;
         }
 
@@ -214,19 +215,19 @@ module _ (v n at initial : ℕ) (t : Buffers) (c : Current v n at initial t) whe
       part-room =
           let e = corners in
           let m = marked in
-          let r = face-room l mk points w at initial ready p₁ w₁ done edge he in
+          let r = face-room t l mk points w at initial ready p₁ w₁ done edge he in
           subst (λ (j : ℕ). 3 * (n / 4) ≤ length (take (length p₁ - 3 * (j + edge)) (drop (3 * (j + edge)) p₁))) m (subst (λ (j : ℕ). 3 * (j / 4) ≤ length (take (length p₁ - 3 * (length mk + edge)) (drop (3 * (length mk + edge)) p₁))) e r)
 
-      part-made : (y : List ℤ) → y ≡ filled (faceCoordinates n w₁) (take (length p₁ - first) (drop first p₁)) → putMid first (length p₁ - first) p₁ y ≡ filled (step kobbelt old .vertices) points
+      part-made : (y : List ℤ) → y ≡ filled (faceCoordinates (tension t) n w₁) (take (length p₁ - first) (drop first p₁)) → putMid first (length p₁ - first) p₁ y ≡ filled (step (tension t) old .vertices) points
       part-made y ey =
           let m = marked in
-          let x : y ≡ filled (faceCoordinates (length l) w₁) (take (length p₁ - 3 * (length mk + edge)) (drop (3 * (length mk + edge)) p₁)) =
+          let x : y ≡ filled (faceCoordinates (tension t) (length l) w₁) (take (length p₁ - 3 * (length mk + edge)) (drop (3 * (length mk + edge)) p₁)) =
           ey
-          ∙ ap (λ (j : ℕ). filled (faceCoordinates j w₁) (take (length p₁ - first) (drop first p₁))) (sym corners)
-          ∙ ap (λ (j : ℕ). filled (faceCoordinates (length l) w₁) (take (length p₁ - 3 * (j + edge)) (drop (3 * (j + edge)) p₁))) (sym m) in
+          ∙ ap (λ (j : ℕ). filled (faceCoordinates (tension t) j w₁) (take (length p₁ - first) (drop first p₁))) (sym corners)
+          ∙ ap (λ (j : ℕ). filled (faceCoordinates (tension t) (length l) w₁) (take (length p₁ - 3 * (j + edge)) (drop (3 * (j + edge)) p₁))) (sym m) in
           ap (λ (j : ℕ). putMid (3 * (j + edge)) (length p₁ - 3 * (j + edge)) p₁ y) (sym m)
-          ∙ points-made l mk points w at initial ready p₁ w₁ done edge he y x
-          ∙ ap (λ (x : Net). filled (step kobbelt x .vertices) points) made
+          ∙ points-made t l mk points w at initial ready p₁ w₁ done edge he y x
+          ∙ ap (λ (x : Net). filled (step (tension t) x .vertices) points) made
 
       count : v + edge + n / 4 ≡ v + edgeCount quads l + n / 4
       count = ap (λ (j : ℕ). v + j + n / 4) he
@@ -234,14 +235,14 @@ module _ (v n at initial : ℕ) (t : Buffers) (c : Current v n at initial t) whe
       same-marks : refinedMarks quads v l mk ≡ refinedMarks quads v l marks
       same-marks = marks-cong quads v l mk marks (λ p h. getD-take v marks p 0 h)
 
-      new-marks : extended v (v + edge + n / 4) marks ≡ step kobbelt old .marks
+      new-marks : extended v (v + edge + n / 4) marks ≡ step (tension t) old .marks
       unfolding quads
       new-marks =
           ap (λ (j : ℕ). extended v j marks) (count ∙ ap (λ (j : ℕ). v + edgeCount quads l + j / 4) (sym corners)) ∙ marks-refined quads v l marks ∙ sym same-marks
-          ∙ sym (step-marks kobbelt old ∙ ap (λ (j : ℕ). refinedMarks quads j l mk) marked)
+          ∙ sym (step-marks (tension t) old ∙ ap (λ (j : ℕ). refinedMarks quads j l mk) marked)
 
-      pub refines : (y : List ℤ) (faces′ marks′ : List ℕ) → y ≡ filled (faceCoordinates n w₁) (take (length p₁ - first) (drop first p₁)) → faces′ ≡ filled (refined quads v l) faces
-          → marks′ ≡ filled (extended v (v + edge + n / 4) marks) marks → Refines v n (v + edge + n / 4) t (buffers (putMid first (length p₁ - first) p₁ y) faces′ marks′ w₁)
+      pub refines : (y : List ℤ) (faces′ marks′ : List ℕ) → y ≡ filled (faceCoordinates (tension t) n w₁) (take (length p₁ - first) (drop first p₁)) → faces′ ≡ filled (refined quads v l) faces
+          → marks′ ≡ filled (extended v (v + edge + n / 4) marks) marks → Refines t v n (v + edge + n / 4) B (buffers (putMid first (length p₁ - first) p₁ y) faces′ marks′ w₁)
       refines y faces′ marks′ hy hf hm = record {
         count = count ∙ count-is;
         newPoints = part-made y hy;

@@ -1,7 +1,7 @@
 // Rounds in the caller's tables: the net at their front is refined in place.
-ghost use Rattle.rounds.specs.Round.{Current, Refines};
 ghost use mathlib.Core.Path.{_≡_};
 ghost use mathlib.Core.Bool.{true};
+ghost use Rattle.rounds.specs.Round.{Current, Refines};
 ghost use Prim.Native.Nat.{_*_, _^_};
 ghost use Rattle.nets.specs.Net.{frontNet};
 ghost use Rattle.nets.specs.Buffers.{buffers};
@@ -23,12 +23,13 @@ fn round(
     n: usize,
     at: usize,
     initial: usize,
+    t: u32,
     later: bool,
 ) -> usize
-    requires { ⌜ Current v n at initial (buffers (now points) (now faces) (now marks) (now work)) ⌝ }
+    requires { ⌜ Current t v n at initial (buffers (now points) (now faces) (now marks) (now work)) ⌝ }
     requires { ⌜ LettersFit «with_letters» (4 * n) (now letters) ⌝ }
     requires { ⌜ (later ≡ true → AfterRound (take n (now faces))) ⌝ }
-    ensures { λ r. ⌜ Refines v n r (buffers (now (points .entry)) (now (faces .entry)) (now (marks .entry)) (now (work .entry)))
+    ensures { λ r. ⌜ Refines t v n r (buffers (now (points .entry)) (now (faces .entry)) (now (marks .entry)) (now (work .entry)))
         (buffers (now (points .exit)) (now (faces .exit)) (now (marks .exit)) (now (work .exit))) ⌝ }
     ensures { λ r. ⌜ WrittenIf «with_letters» v r (newLetter (take n (now (faces .entry))) (take v (now (marks .entry)))) (now (letters .entry)) (now (letters .exit)) ⌝ }
 {
@@ -39,6 +40,7 @@ fn round(
         &mut *work,
         at,
         initial,
+        t,
         later,
     );
     letters::name_points(
@@ -59,6 +61,7 @@ fn round(
         n,
         v,
         edges,
+        t,
         later,
     );
     count
@@ -77,12 +80,13 @@ pub fn rounds(
     n: usize,
     k: u32,
     last: usize,
+    t: u32,
 ) -> usize
-    requires { ⌜ Prepared k v n last (buffers (now points) (now faces) (now marks) (now work)) ⌝ }
+    requires { ⌜ Prepared t k v n last (buffers (now points) (now faces) (now marks) (now work)) ⌝ }
     requires { ⌜ LettersFit «with_letters» (n * 4 ^ k) (now letters) ⌝ }
-    ensures { λ r. ⌜ After k v n r (buffers (now (points .entry)) (now (faces .entry)) (now (marks .entry)) (now (work .entry)))
+    ensures { λ r. ⌜ After t k v n r (buffers (now (points .entry)) (now (faces .entry)) (now (marks .entry)) (now (work .entry)))
         (buffers (now (points .exit)) (now (faces .exit)) (now (marks .exit)) (now (work .exit))) ⌝ }
-    ensures { λ r. ⌜ LettersAfter «with_letters» k v r (frontNet v n (now (points .entry)) (now (faces .entry)) (now (marks .entry))) (now (letters .entry)) (now (letters .exit)) ⌝ }
+    ensures { λ r. ⌜ LettersAfter «with_letters» t k v r (frontNet v n (now (points .entry)) (now (faces .entry)) (now (marks .entry))) (now (letters .entry)) (now (letters .exit)) ⌝ }
 {
     if k == 0 {
         return v;
@@ -104,6 +108,7 @@ pub fn rounds(
             corners,
             at,
             v,
+            t,
             i > 0,
         );
         i += 1;

@@ -9,7 +9,7 @@ use Rattle.fractions.specs.Fraction.{Fraction, _+ᶠ_, _-ᶠ_, _×ᶠ_, _/ᶠ_,
 unfoldable pub interiorPoint : Weights → (p q r s : Fraction) → Fraction
 interiorPoint w p q r s = (w .near ×ᶠ (q +ᶠ r) -ᶠ w .far ×ᶠ (p +ᶠ s)) /ᶠ scale w
 
--- "On an end edge p0 p1 followed by p2: (7 p0 + 10 p1 - p2)/16"
+-- "On an end edge p0 p1 followed by p2: (7 p0 + 10 p1 - p2)/16"; paper 02: "end edge (8-ω)/16, (8+2ω)/16, -ω/16"
 unfoldable pub endPoint : Weights → (p q r : Fraction) → Fraction
 endPoint w p q r = ((w .near - 2 * w .far) ×ᶠ p +ᶠ (w .near + w .far) ×ᶠ q -ᶠ w .far ×ᶠ r) /ᶠ scale w
 

@@ -8,7 +8,7 @@ use lib.IntN.{ℤ}
 use lib.ListN.{length}
 use Rattle.search.specs.Search.{iterate}
 use Rattle.search.proofs.Quarters.{below-four}
-use Rattle.curve.specs.Weights.{Weights, scale}
+use Rattle.curve.specs.Weights.{Weights, scale, tension}
 use Rattle.fractions.specs.Fraction.{Same}
 use Rattle.topology.specs.Shape.{quads}
 use Rattle.topology.specs.HalfEdge.{from, to, mate}
@@ -166,3 +166,8 @@ module _ (w : Weights) (near : 0 < w .near) (apart : 0 < scale w) (v : ℕ) (l m
   -- in the numerators over `directionScale`
   pub directions-same : directionZ w l (edgeZ w l marks p) (4 * f) ≡ directionZ w l (edgeZ w l marks p) (4 * f + 1)
   directions-same = directions-beyond w near apart v l marks ok p f (regular-beyond v l ok f reg) k
+
+-- Paper 02: "State the rules once for all t, and keep the agreement of both directions."
+pub both-directions-at : (t v : ℕ) (l marks : List ℕ) → Manifold quads v l → (p : ℕ → ℤ) (f : ℕ) → f < quads .faces (length l) → Regular l f
+    → Same (direction (tension t) l (edgePoint (tension t) l marks p) (4 * f)) (direction (tension t) l (edgePoint (tension t) l marks p) (4 * f + 1))
+both-directions-at t v l marks ok p f k reg = both-directions (tension t) (omega arith) (omega arith) v l marks ok p f k reg

@@ -166,11 +166,11 @@ module _ (w : Weights) (l marks : List ℕ) (p : ℕ → ℤ) (h : ℕ) (m : mat
     after-ring : straight l p (mate quads l h) ≡ after
     after-ring = straight-ring l p (mate quads l h) (ap (boundaryFrom quads l) end-at ∙ ring)
 
-    -- ring and ring: (9(P + Q) - o - r)/16
+    -- ring and ring
     pub stencil-ring-ring : boundaryFrom quads l (from l h) ≡ length l → ordinaryEdge w l marks p h ≡ interior w before P Q after
     stencil-ring-ring b = ordinary-inner w l marks p h m ∙ ap₂ (λ (x y : ℤ). interior w x P Q y) (straight-ring l p h b) after-ring
 
-    -- fan and ring: (7P + 10Q - r)/16
+    -- fan and ring
     pub stencil-fan-ring : 2 * w .far ≤ w .near → boundaryFrom quads l (from l h) < length l → ordinaryEdge w l marks p h ≡ endEdge w P Q after
     stencil-fan-ring i b = ordinary-inner w l marks p h m ∙ ap₂ (λ (x y : ℤ). interior w x P Q y) (straight-fan l p h b) after-ring ∙ sym (end-mirrored w i P Q after)
 
@@ -180,10 +180,10 @@ module _ (w : Weights) (l marks : List ℕ) (p : ℕ → ℤ) (h : ℕ) (m : mat
         straight-fan l p (mate quads l h) (subst (λ (q : ℕ). boundaryFrom quads l q < length l) (sym end-at) fan)
         ∙ ap₂ (λ (a b : ℕ). mirror (p a) (p b)) end-at (mate-is quads l h m .end)
 
-    -- ring and fan: (7Q + 10P - o)/16
+    -- ring and fan
     pub stencil-ring-fan : 2 * w .far ≤ w .near → boundaryFrom quads l (from l h) ≡ length l → ordinaryEdge w l marks p h ≡ endEdge w Q P before
     stencil-ring-fan i b = ordinary-inner w l marks p h m ∙ ap₂ (λ (x y : ℤ). interior w x P Q y) (straight-ring l p h b) after-fan ∙ interior-turned w before P Q (mirror Q P) ∙ sym (end-mirrored w i Q P before)
 
-    -- fan and fan: (8P + 8Q)/16
+    -- fan and fan
     pub stencil-fan-fan : w .far ≤ w .near → boundaryFrom quads l (from l h) < length l → ordinaryEdge w l marks p h ≡ singleEdge w P Q
     stencil-fan-fan i b = ordinary-inner w l marks p h m ∙ ap₂ (λ (x y : ℤ). interior w x P Q y) (straight-fan l p h b) after-fan ∙ sym (single-mirrored w i P Q)

@@ -17,3 +17,5 @@ pub mod OneDirection
 pub mod Directions
 pub mod OrdinarySizes
 pub mod OrdinaryFaces
+pub mod OldPoints
+pub mod Midpoints

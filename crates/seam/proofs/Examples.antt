@@ -2,7 +2,7 @@
 use mathlib.Core.Path.{_≡_, refl, sym}
 use mathlib.Core.Bool.{true, false}
 use mathlib.Core.List.{List, [], _∷_}
-use Prim.Native.Nat.{ℕ, zero, suc, _<_}
+use Prim.Native.Nat.{ℕ, zero, suc, _<_, _≤_}
 use native.Mathlib.Omega.{arith}
 use lib.IntN.{ℤ, pos, negsuc}
 use lib.ListN.{length}
@@ -142,8 +142,8 @@ admissible : Admissible (square (1 ∷ 1 ∷ 1 ∷ 1 ∷ []))
 unfolding firstFrom first count any iterate quads from to opposed mate isBoundaryFrom boundaryFrom leaves valence turn start stops facesMet badCorner isolated repeatedSide nonManifold badValence
 admissible = manifold-if quads 4 (0 ∷ 1 ∷ 2 ∷ 3 ∷ []) (quads-lawful 4 refl) (record { no7 = refl; no8 = refl; no9 = refl; no10 = refl; no11 = refl })
 
-shared : (k : ℕ) → Seam (square (1 ∷ 1 ∷ 1 ∷ 1 ∷ [])) (below (1 ∷ 1 ∷ 1 ∷ 1 ∷ [])) withSides againstSides Open 0 0 (c₀ ∷ c₁ ∷ []) k
-shared = seam (square (1 ∷ 1 ∷ 1 ∷ 1 ∷ [])) (below (1 ∷ 1 ∷ 1 ∷ 1 ∷ [])) admissible admissible withSides againstSides Open 0 0 (c₀ ∷ c₁ ∷ []) four-marks four-marks-below
+shared : (t : ℕ) → t ≤ 4 → (k : ℕ) → Seam t (square (1 ∷ 1 ∷ 1 ∷ 1 ∷ [])) (below (1 ∷ 1 ∷ 1 ∷ 1 ∷ [])) withSides againstSides Open 0 0 (c₀ ∷ c₁ ∷ []) k
+shared t low = seam t low (square (1 ∷ 1 ∷ 1 ∷ 1 ∷ [])) (below (1 ∷ 1 ∷ 1 ∷ 1 ∷ [])) admissible admissible withSides againstSides Open 0 0 (c₀ ∷ c₁ ∷ []) four-marks four-marks-below
 
 -- ---- a triangle without marks, with its side count, and the same one turned over
 abbrev d₀ : Point

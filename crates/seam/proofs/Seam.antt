@@ -2,13 +2,13 @@
 use mathlib.Core.Path.{_≡_}
 use mathlib.Core.Logic.{_↔_}
 use mathlib.Core.List.{List}
-use Prim.Native.Nat.{ℕ, zero, suc, _<_}
+use Prim.Native.Nat.{ℕ, zero, suc, _<_, _≤_}
 use native.Mathlib.Omega.{arith}
 use Rattle.nets.specs.Net.{Net}
-use Rattle.curve.specs.Weights.{Weights, kobbelt, scale}
+use Rattle.curve.specs.Weights.{Weights, tension, scale}
 use Rattle.curve.specs.Curve.{Kind, rounded, Point, each, step as curveStep, steps as curveSteps, curve}
 use Rattle.curve.proofs.Symmetry.{rounded-symmetric, each-symmetric}
-use Rattle.curve.proofs.Kobbelt.{distance}
+use Rattle.curve.proofs.Tension.{distance}
 use Rattle.topology.specs.Shape.{quads}
 use Rattle.topology.specs.Boundary.{Way}
 use Rattle.scheme.specs.Step.{step, steps}
@@ -40,10 +40,10 @@ module _ (w : Weights) where
     reads-exactly k = reads-only quads (steps w k m) way c u (curve w c k L) (reads-steps k)
 
 -- demand 3, of the nets themselves
-pub seam : (a b : Net) → Admissible a → Admissible b → (v w : Way) (c : Kind) (s t : ℕ) (L : List Point) → Reads a v c s L → Reads b w c t L
-    → (k : ℕ) → Seam a b v w c s t L k
-seam a b p q v w c s t L x y k = record {
-  left = reads-exactly kobbelt (omega arith) a p v c s L x k;
-  right = reads-exactly kobbelt (omega arith) b q w c t L y k;
-  close = distance c k L;
+pub seam : (t : ℕ) → t ≤ 4 → (a b : Net) → Admissible a → Admissible b → (v w : Way) (c : Kind) (s s′ : ℕ) (L : List Point) → Reads a v c s L → Reads b w c s′ L
+    → (k : ℕ) → Seam t a b v w c s s′ L k
+seam t low a b p q v w c s s′ L x y k = record {
+  left = reads-exactly (tension t) (omega arith) a p v c s L x k;
+  right = reads-exactly (tension t) (omega arith) b q w c s′ L y k;
+  close = distance t low c k L;
 }

@@ -5,7 +5,7 @@ use mathlib.Core.List.{List}
 use Prim.Native.Nat.{ℕ}
 use lib.ListN.{length}
 use Rattle.nets.specs.Net.{Net}
-use Rattle.curve.specs.Weights.{kobbelt}
+use Rattle.curve.specs.Weights.{tension}
 use Rattle.curve.specs.Curve.{Kind, Point, curve}
 use Rattle.curve.specs.Near.{CloseToExact}
 use Rattle.topology.specs.Shape.{Shape, quads}
@@ -22,10 +22,10 @@ AdmissibleIn S m = Manifold S (length (m .marks)) (m .faces)
 abbrev pub Admissible : Net → Type 0
 Admissible = AdmissibleIn quads
 
--- Of two nets a and b that share the list L, read from s and from t: after k rounds "the stretch is read there from the same vertex and the same way", and
+-- Of two nets a and b that share the list L, read from s and from s′: after k rounds "the stretch is read there from the same vertex and the same way", and
 -- both readings are "the curve after k rounds", which "is fed that list as it was before the first round, and whether it is open or round"; and that curve
 -- lies within the seam distance of the exact one.
-pub record Seam (a b : Net) (v w : Way) (c : Kind) (s t : ℕ) (L : List Point) (k : ℕ) : Type 0 where
-  pub left : (P : List Point) → Reads (steps kobbelt k a) v c s P ↔ (P ≡ curve kobbelt c k L)
-  pub right : (P : List Point) → Reads (steps kobbelt k b) w c t P ↔ (P ≡ curve kobbelt c k L)
-  pub close : CloseToExact c k L
+pub record Seam (t : ℕ) (a b : Net) (v w : Way) (c : Kind) (s s′ : ℕ) (L : List Point) (k : ℕ) : Type 0 where
+  pub left : (P : List Point) → Reads (steps (tension t) k a) v c s P ↔ (P ≡ curve (tension t) c k L)
+  pub right : (P : List Point) → Reads (steps (tension t) k b) w c s′ P ↔ (P ≡ curve (tension t) c k L)
+  pub close : CloseToExact t c k L

@@ -1,7 +1,6 @@
 -- No coordinate grows in the split: midpoints and means of numbers within a bound, rounded, lie within it.
 use mathlib.Core.List.{List}
 use Prim.Native.Nat.{ℕ, _+_, _*_, _/_, _%_, _≤_, _<_}
-use native.Mathlib.Nat.{mul-left-comm, mul-add, le-of-mul-le-mul-left}
 use native.Mathlib.Omega.{arith}
 use lib.IntN.{ℤ, natAbs, _+ℤ_}
 use lib.ListN.{length}
@@ -10,8 +9,7 @@ use Rattle.integers.specs.Within.{Within}
 use Rattle.integers.proofs.AbsoluteValue.{abs-add}
 use Rattle.integers.proofs.Sum.{abs-sum}
 use Rattle.search.specs.Search.{iterate}
-use Rattle.rounding.specs.Rounding.{round}
-use Rattle.rounding.proofs.Laws.{round-size}
+use Rattle.rounding.proofs.Laws.{round-within}
 use Rattle.topology.specs.Shape.{Shape}
 use Rattle.topology.specs.HalfEdge.{from, to, edgeCount, edge}
 use Rattle.topology.specs.Manifold.{Oriented}
@@ -24,16 +22,6 @@ use Rattle.splitting.specs.Splitting.{firstSide, splitCoordinate, split,
 use Rattle.splitting.specs.Drawn.{Drawn}
 use Rattle.splitting.proofs.Coordinates.{split-old, split-edge, first-side, split-face}
 use Rattle.splitting.proofs.Split.{split-length, split-coordinate, drawn-manifold, start-cases}
-
--- a mean of d numbers within B
-round-within : (z : ℤ) (d B : ℕ) → 0 < d → natAbs z ≤ d * B → natAbs (round z d) ≤ B
-round-within z d B h k =
-    let a = round-size z d h in
-    let e = mul-left-comm d 2 (natAbs (round z d)) in
-    let f = mul-left-comm d 2 B in
-    let g = mul-add d (2 * B) 1 in
-    let i : 2 * natAbs (round z d) ≤ 2 * B + 1 = le-of-mul-le-mul-left {k = d} (omega arith) h in
-    omega arith
 
 module _ (S : Shape) (v : ℕ) (l : List ℕ) (ok : Oriented S v l) (p : ℕ → ℤ) (B : ℕ) (small : (x : ℕ) → x < v → natAbs (p x) ≤ B) where
   midpoint-size : (h : ℕ) → h < length l → natAbs (splitCoordinate S v l p (v + edge S l h)) ≤ B

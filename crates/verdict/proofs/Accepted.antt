@@ -18,7 +18,7 @@ use Rattle.polygons.proofs.Counts.{shape-lawful}
 use Rattle.refusals.proofs.Manifold.{manifold-if}
 use Rattle.refusals.specs.Refusals.{badValence, markedRing}
 use Rattle.nets.specs.Net.{ControlNet}
-use Rattle.verdict.specs.Call.{Lengths, lengthsOf, Call, quadrilaterals}
+use Rattle.verdict.specs.Call.{Lengths, lengthsOf, Call, call, quadrilaterals}
 use Rattle.verdict.specs.Verdict.{Verdict, accepted, refused, orElse, refusedIf, refusedAt, cornersVerdict, tablesVerdict, sizeVerdict, roomVerdict, limitsVerdict, callVerdict, badCoordinate, coordinatesVerdict, vertexVerdict, adjacencyVerdict, facesVerdict, shapeVerdict, netVerdict, verdict}
 use Rattle.verdict.specs.LargeRing.{NoneOf5To10}
 use Rattle.verdict.proofs.Examples
@@ -206,9 +206,17 @@ none-if m e₀ =
     }
 
 -- ---- an accepted call
+pub call-both : (c : Call) → callVerdict c ≡ accepted → (limitsVerdict (c .rounds) (c .net .sides) (lengthsOf (c .net) (c .room)) ≡ accepted) × (refusedIf 16 (ltb 4 (c .tension)) ≡ accepted)
+call-both c e = or-both (limitsVerdict (c .rounds) (c .net .sides) (lengthsOf (c .net) (c .room))) (refusedIf 16 (ltb 4 (c .tension))) e
+
 pub accepted-limits : (c : Call) → verdict c ≡ accepted → WithinLimits (c .rounds) (c .net .sides) (lengthsOf (c .net) (c .room))
 unfolding verdict
-accepted-limits c e = within-if _ _ _ (or-both _ _ e .0)
+accepted-limits c e = within-if _ _ _ (call-both c (or-both _ _ e .0) .0)
+
+-- 16 does not hold
+pub accepted-tension : (c : Call) → verdict c ≡ accepted → c .tension ≤ 4
+unfolding verdict
+accepted-tension c e = ltb-false 4 (c .tension) (if-false 16 _ (call-both c (or-both (callVerdict c) (netVerdict (c .net)) e .0) .1))
 
 pub accepted-net : (c : Call) → verdict c ≡ accepted → NoRefusal (c .net)
 unfolding verdict
@@ -224,11 +232,11 @@ accepted-manifold c e =
     (record { no7 = n .before .no7; no8 = n .before .no8; no9 = n .before .no9; no10 = n .before .no10; no11 = n .no11 })
 
 -- "Checked are adjacency and limits": a call for fewer rounds with the same tables is accepted too
-pub accepted-fewer : (c : Call) (j : ℕ) → j ≤ c .rounds → verdict c ≡ accepted → verdict (record { rounds = j; net = c .net; room = c .room }) ≡ accepted
+pub accepted-fewer : (c : Call) (j : ℕ) → j ≤ c .rounds → verdict c ≡ accepted → verdict (call j (c .net) (c .tension) (c .room)) ≡ accepted
 unfolding verdict
 accepted-fewer c j h e =
     let n = lengthsOf (c .net) (c .room) in
-    or-accepted (if-within j (c .net .sides) n (within-fewer (c .rounds) (c .net .sides) n j h (accepted-limits c e))) (or-both (callVerdict c) (netVerdict (c .net)) e .1)
+    or-accepted (or-accepted (if-within j (c .net .sides) n (within-fewer (c .rounds) (c .net .sides) n j h (accepted-limits c e))) (call-both c (or-both (callVerdict c) (netVerdict (c .net)) e .0) .1)) (or-both (callVerdict c) (netVerdict (c .net)) e .1)
 
 -- what 5 and 6 rule out is not there
 pub accepted-coordinate : (c : Call) → verdict c ≡ accepted → (i : ℕ) → i < length (c .net .vertices) → natAbs (getD (c .net .vertices) i (pos 0)) ≤ 1048576

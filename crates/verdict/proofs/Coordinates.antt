@@ -4,6 +4,7 @@ use mathlib.Core.List.{List}
 use Prim.Native.Nat.{ℕ, _*_, _/_}
 use native.Mathlib.Nat.{le-refl}
 use native.Mathlib.Omega.{arith}
+use lib.Dec.{ltb}
 use lib.IntN.{ℤ, pos, natAbs}
 use lib.ListN.{length, getD}
 use borrow.Author.Tests.{ltb-true}
@@ -13,7 +14,7 @@ use Rattle.search.proofs.First.{first-none}
 use Rattle.polygons.specs.Polygons.{shapeOf}
 use Rattle.nets.specs.Net.{controlNet}
 use Rattle.verdict.specs.Call.{Room, Call, call, lengths, finalFaces}
-use Rattle.verdict.specs.Verdict.{Verdict, orElse, afterCall, limitsVerdict, badCoordinate, coordinatesVerdict, shapeVerdict, netVerdict, verdict, workAfter}
+use Rattle.verdict.specs.Verdict.{Verdict, orElse, refusedIf, afterCall, limitsVerdict, badCoordinate, coordinatesVerdict, shapeVerdict, netVerdict, verdict, workAfter}
 use Rattle.verdict.proofs.Accepted.{at-pass}
 
 -- 5 does not hold
@@ -24,17 +25,17 @@ within-accepted vs t v =
     let e = first-none (badCoordinate vs) n (λ i b h. let k = ltb-true 1048576 (natAbs (getD vs i (pos 0))) h in let l = t .at i b in omega arith) in
     sym (at-pass 5 (badCoordinate vs) n (λ i. i / 3) v v n (sym e) (le-refl n) refl)
 
-module _ (rounds : ℕ) (vs ws : List ℤ) (faces sides marks : List ℕ) (room : Room) (same : length ws ≡ length vs) where
+module _ (rounds : ℕ) (vs ws : List ℤ) (faces sides marks : List ℕ) (tension : ℕ) (room : Room) (same : length ws ≡ length vs) where
   -- the two calls
   abbrev one : Call
-  one = call rounds (controlNet vs faces sides marks) room
+  one = call rounds (controlNet vs faces sides marks) tension room
 
   abbrev other : Call
-  other = call rounds (controlNet ws faces sides marks) room
+  other = call rounds (controlNet ws faces sides marks) tension room
 
-  -- rounds, side counts and lengths decide refusals 1 to 4 and 14
+  -- rounds, side counts, lengths and the tension decide refusals 1 to 4, 14 and 16
   abbrev limits : ℕ → Verdict
-  limits n = limitsVerdict rounds sides (lengths n (length faces) (length marks) room)
+  limits n = orElse (limitsVerdict rounds sides (lengths n (length faces) (length marks) room)) (refusedIf 16 (ltb 4 tension))
 
   pub same-verdict : Within 1048576 vs → Within 1048576 ws → verdict other ≡ verdict one
   unfolding verdict netVerdict

@@ -12,8 +12,8 @@ use Rattle.topology.specs.Vertex.{leaves, valence, turn, start, stops, facesMet
 use Rattle.refusals.specs.Refusals.{badMark, badCorner, isolated, repeatedSide, nonManifold, badValence, markedRing}
 use Rattle.nets.specs.Net.{ControlNet, controlNet}
 use Rattle.polygons.specs.Polygons.{sideAfter, sideBefore, faceThen, noFace, polygons, shapeOf, total, badCount, badSides}
-use Rattle.verdict.specs.Call.{Room, room, lengths}
-use Rattle.verdict.specs.Verdict.{Verdict, accepted, refused, tablesVerdict, sizeVerdict, roomVerdict, limitsVerdict, badCoordinate, coordinatesVerdict, vertexVerdict, adjacencyVerdict, facesVerdict, shapeVerdict, netVerdict}
+use Rattle.verdict.specs.Call.{Room, room, lengths, call}
+use Rattle.verdict.specs.Verdict.{Verdict, accepted, refused, tablesVerdict, sizeVerdict, roomVerdict, limitsVerdict, badCoordinate, coordinatesVerdict, vertexVerdict, adjacencyVerdict, facesVerdict, shapeVerdict, netVerdict, verdict, workAfter}
 
 abbrev ample : Room
 ample = room 4000000 4000000 4000000 false 0 5000000
@@ -127,3 +127,26 @@ stated = accepted ∷ accepted ∷ refused 5 0 ∷ refused 8 4 ∷ refused 8 4 �
 nets : computed ≡ stated
 unfolding netVerdict coordinatesVerdict shapeVerdict facesVerdict adjacencyVerdict vertexVerdict badCoordinate badMark badCorner isolated repeatedSide nonManifold badValence markedRing sideAfter sideBefore faceThen noFace polygons shapeOf firstFrom first any count iterate quads from to opposed mate isBoundaryFrom boundaryFrom leaves valence turn start stops facesMet
 nets = refl
+
+-- ---- 16 of paper 02: a tension of 4 passes, 5 does not; 1, 2, 14 and 4 come before it, 5 and 9 after it
+abbrev tensions : List Verdict
+tensions =
+    verdict (call 1 (netOf (pos 0) 3 square) 4 ample)
+    ∷ verdict (call 1 (netOf (pos 0) 3 square) 5 ample)
+    ∷ verdict (call 1 (netOf (pos 0) 3 square) 4294967295 ample)
+    ∷ verdict (call 7 (netOf (pos 0) 3 square) 5 ample)
+    ∷ verdict (call 1 (netOf (pos 0) 3 (0 ∷ 1 ∷ [])) 5 ample)
+    ∷ verdict (call 1 (controlNet (flat 4) square (5 ∷ []) (unmarked 4)) 5 ample)
+    ∷ verdict (call 1 (netOf (pos 0) 3 square) 5 (room 48 16 16 false 0 63))
+    ∷ verdict (call 1 (netOf (pos 1048577) 3 square) 5 ample)
+    ∷ verdict (call 1 (netOf (pos 0) 3 (0 ∷ 1 ∷ 2 ∷ 3 ∷ 0 ∷ 1 ∷ 2 ∷ 3 ∷ [])) 5 ample)
+    ∷ []
+
+tension : tensions ≡ accepted ∷ refused 16 0 ∷ refused 16 0 ∷ refused 1 0 ∷ refused 2 0 ∷ refused 14 0 ∷ refused 4 0 ∷ refused 16 0 ∷ refused 16 0 ∷ []
+unfolding verdict limitsVerdict tablesVerdict sizeVerdict roomVerdict badSides badCount total netVerdict coordinatesVerdict shapeVerdict facesVerdict adjacencyVerdict vertexVerdict badCoordinate badMark badCorner isolated repeatedSide nonManifold badValence markedRing sideAfter sideBefore faceThen noFace polygons shapeOf firstFrom first any count iterate quads from to opposed mate isBoundaryFrom boundaryFrom leaves valence turn start stops facesMet
+tension = refl
+
+-- "nothing touched"
+untouched : workAfter (call 0 (netOf (pos 0) 3 square) 5 (room 12 4 4 false 0 16)) (7 ∷ 7 ∷ 7 ∷ []) ≡ 7 ∷ 7 ∷ 7 ∷ []
+unfolding limitsVerdict tablesVerdict sizeVerdict roomVerdict
+untouched = refl

@@ -23,7 +23,7 @@ use Rattle.refusals.proofs.Manifold.{badValence-ring}
 use Rattle.verdict.specs.Call.{Call, lengthsOf}
 use Rattle.verdict.specs.Verdict.{refused, badCoordinate, coordinatesVerdict, vertexVerdict, adjacencyVerdict, facesVerdict, shapeVerdict, netVerdict, verdict}
 use Rattle.verdict.specs.LargeRing.{NoneBefore11, LargeRing}
-use Rattle.verdict.proofs.Accepted.{within-if, at-hit, at-pass}
+use Rattle.verdict.proofs.Accepted.{call-both, within-if, at-hit, at-pass}
 
 -- 11 holds at a full ring of more than eight faces
 ring-bad : (S : Shape) (v : ℕ) (l : List ℕ) → Oriented S v l → (p h m : ℕ) → Ring S l p h m → 8 < m → badValence S l p ≡ true
@@ -42,7 +42,7 @@ module _ (c : Call) (n : NoneBefore11 c) where
   l = c .net .faces
 
   oriented : Oriented S v l
-  oriented = oriented-if S v l (shape-lawful (c .net .sides) (length l) (within-if (c .rounds) (c .net .sides) (lengthsOf (c .net) (c .room)) (n .call) .sided)) (n .net .no7) (n .net .no9)
+  oriented = oriented-if S v l (shape-lawful (c .net .sides) (length l) (within-if (c .rounds) (c .net .sides) (lengthsOf (c .net) (c .room)) (call-both c (n .call) .0) .sided)) (n .net .no7) (n .net .no9)
 
   -- the first vertex where 11 holds is the place
   gets-11 : first (badValence S l) v < v → refused 11 (first (badValence S l) v) ≡ verdict c

@@ -37,10 +37,12 @@ lengthsOf m room = lengths (length (m .vertices)) (length (m .faces)) (length (m
 pub record Call : Type 0 where
   pub rounds : ℕ
   pub net : ControlNet
+  -- Paper 02: "The net record gains a tension t". What does not depend on it, as the net where refining begins, is given the tables alone
+  pub tension : ℕ
   pub room : Room
 
-abbrev pub call : ℕ → ControlNet → Room → Call
-call rounds net room = record { rounds = rounds; net = net; room = room }
+abbrev pub call : ℕ → ControlNet → (tension : ℕ) → Room → Call
+call rounds net tension room = record { rounds = rounds; net = net; tension = tension; room = room }
 
 -- "V and F are their counts."
 abbrev pub vertexCount : Net → ℕ

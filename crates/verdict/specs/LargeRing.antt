@@ -19,7 +19,7 @@ pub record NoneOf5To10 (m : ControlNet) : Type 0 where
   pub no9 : first (repeatedSide (shapeOf (m .sides)) (m .faces)) (length (m .faces)) ≡ length (m .faces)
   pub no10 : first (nonManifold (shapeOf (m .sides)) (m .faces)) (length (m .marks)) ≡ length (m .marks)
 
--- "no reason before 11": neither 1 to 4 and 14 for the call, nor 5 to 10 in its net
+-- "no reason before 11": neither 1 to 4, 14 and 16 for the call, nor 5 to 10 in its net
 pub record NoneBefore11 (c : Call) : Type 0 where
   pub call : callVerdict c ≡ accepted
   pub net : NoneOf5To10 (c .net)

@@ -1,5 +1,5 @@
 -- The verdict of the check on a call: refused with a number and a place, or accepted. The first refusal that holds is given, in this order: 1; 2 for the vertex
--- table; 14 with side counts, without them 2 for the face table; 2 for the marks; 3; 4; 5 to 12. 15, which a refining call may get after them, is in `outcome`. "Places are the lowest number concerned."
+-- table; 14 with side counts, without them 2 for the face table; 2 for the marks; 3; 4; 16; 5 to 12. 15, which a refining call may get after them, is in `outcome`. "Places are the lowest number concerned."
 use mathlib.Core.Bool.{Bool, cond, not, _&&_}
 use mathlib.Core.List.{List, [], _∷_}
 use Prim.Native.Nat.{ℕ, _*_, _/_, _%_, _^_}
@@ -74,8 +74,9 @@ limitsVerdict rounds sides n =
     (orElse (sizeVerdict (n .coordinates / 3) (quadrilaterals sides (n .corners)) (quadrilaterals sides (n .corners) * 4 ^ rounds))
     (roomVerdict (quadrilaterals sides (n .corners) * 4 ^ rounds) (n .room))))
 
+-- 16 of paper 02: "t above 4, place 0, nothing touched, tested after 4"
 abbrev pub callVerdict : Call → Verdict
-callVerdict c = limitsVerdict (c .rounds) (c .net .sides) (lengthsOf (c .net) (c .room))
+callVerdict c = orElse (limitsVerdict (c .rounds) (c .net .sides) (lengthsOf (c .net) (c .room))) (refusedIf 16 (ltb 4 (c .tension)))
 
 -- ---- "Whoever drew the net"
 -- 5: "a coordinate outside -1,048,576 to 1,048,576; vertex."
@@ -112,6 +113,6 @@ unfoldable pub verdict : Call → Verdict
 verdict c = orElse (callVerdict c) (netVerdict (c .net))
 
 -- ---- the work table
--- "(place 0, all memory untouched)" on 1 to 4 and 14; "first 16G work numbers zero" on 5 to 12, on 15 and on acceptance; "Work numbers beyond 16G are never touched."
+-- "(place 0, all memory untouched)" on 1 to 4, 14 and 16; "first 16G work numbers zero" on 5 to 12, on 15 and on acceptance; "Work numbers beyond 16G are never touched."
 abbrev pub workAfter : Call → List ℕ → List ℕ
 workAfter c w = afterCall (callVerdict c) w (cleared (16 * finalFaces c) w)

@@ -1,14 +1,14 @@
 -- The sums that the code makes are the numerators of virtual points.
 use mathlib.Core.Path.{_≡_, refl, sym, ap, ap₂, _∙_, subst}
 use mathlib.Core.List.{List}
-use Prim.Native.Nat.{ℕ, suc, _+_, _-_, _*_, _/_, _≤_, _<_}
+use Prim.Native.Nat.{ℕ, suc, _+_, _-_, _/_, _≤_, _<_}
 use native.Mathlib.Omega.{arith}
 use lib.IntN.{ℤ, pos, _+ℤ_, _*ℤ_}
 use lib.ListN.{length}
 use borrow.Author.Tests.{eq-eqb, ne-eqb, lt-ltb, le-ltb}
 use Rattle.integers.specs.Sum.{sum}
 use Rattle.integers.proofs.Sum.{sum-more}
-use Rattle.curve.specs.Weights.{kobbelt}
+use Rattle.curve.specs.Weights.{Weights}
 use Rattle.rings.specs.Scales.{extrapolatedScale, valenceScale}
 use Rattle.rings.specs.RingWeights.{virtualZ, row}
 use Rattle.rings.specs.Ring.{Periodic}
@@ -31,12 +31,12 @@ use Rattle.virtualpoints.proofs.Extrapolated.{end-inside}
 
 module _ (v : ℕ) (l : List ℕ) (ok : Manifold quads v l) (h : ℕ) (b : h < length l) where
   -- ---- a full ring
-  module _ (inner : boundaryFrom quads l (from l h) ≡ length l) (n : ℕ) (en : n ≡ valence l (from l h)) (L K : List ℕ) (f : Filled l h n L K) where
-    inside : (p : ℕ → ℤ) → virtualAtZ kobbelt l p h ≡ pos (valenceScale / valence l (from l h)) *ℤ virtualZ kobbelt (valence l (from l h)) (ringNeighbourZ l p h) (ringCornerZ l p h) 0
+  module _ (weights : Weights) (inner : boundaryFrom quads l (from l h) ≡ length l) (n : ℕ) (en : n ≡ valence l (from l h)) (L K : List ℕ) (f : Filled l h n L K) where
+    inside : (p : ℕ → ℤ) → virtualAtZ weights l p h ≡ pos (valenceScale / valence l (from l h)) *ℤ virtualZ weights (valence l (from l h)) (ringNeighbourZ l p h) (ringCornerZ l p h) 0
     unfolding virtualAtZ ringVirtualZ
     inside p = let t = le-ltb (boundaryFrom quads l (from l h)) (length l) (omega arith) in rw t
 
-    ring-value : (p : ℕ → ℤ) → ringSum n (weightedSum (row kobbelt n) n 0 n p L K) ≡ virtualAtZ kobbelt l p h
+    ring-value : (p : ℕ → ℤ) → ringSum n (weightedSum (row weights n) n 0 n p L K) ≡ virtualAtZ weights l p h
     unfolding ringNeighbourZ ringCornerZ
     ring-value p =
         let c : length l ≤ boundaryFrom quads l (from l h) = omega arith in
@@ -46,12 +46,12 @@ module _ (v : ℕ) (l : List ℕ) (ok : Manifold quads v l) (h : ℕ) (b : h < l
         let X : ℕ → ℤ = ringNeighbourZ l p h in
         let Y : ℕ → ℤ = ringCornerZ l p h in
         ap (λ (z : ℤ). pos (valenceScale / n) *ℤ z)
-        (scaled-sum (row kobbelt n) n 0 n p L K X Y (λ i q. ap (λ (x : ℕ). pos extrapolatedScale *ℤ p x) (f .neighbours i q)) (λ i q. ap (λ (x : ℕ). pos extrapolatedScale *ℤ p x) (f .corners i q))
-        ∙ virtual-first n X Y (subst (λ (m : ℕ). Periodic m X) (sym en) (neighbours-periodic l p (from l h) h (valence l (from l h)) r)) (subst (λ (m : ℕ). Periodic m Y) (sym en) (corners-periodic l p (from l h) h (valence l (from l h)) r)) (omega arith) (omega arith))
-        ∙ ap (λ (m : ℕ). pos (valenceScale / m) *ℤ virtualZ kobbelt m X Y 0) en
+        (scaled-sum (row weights n) n 0 n p L K X Y (λ i q. ap (λ (x : ℕ). pos extrapolatedScale *ℤ p x) (f .neighbours i q)) (λ i q. ap (λ (x : ℕ). pos extrapolatedScale *ℤ p x) (f .corners i q))
+        ∙ virtual-first weights n X Y (subst (λ (m : ℕ). Periodic m X) (sym en) (neighbours-periodic l p (from l h) h (valence l (from l h)) r)) (subst (λ (m : ℕ). Periodic m Y) (sym en) (corners-periodic l p (from l h) h (valence l (from l h)) r)) (omega arith) (omega arith))
+        ∙ ap (λ (m : ℕ). pos (valenceScale / m) *ℤ virtualZ weights m X Y 0) en
         ∙ sym (inside p)
 
-    pub ring-made : (t : List ℤ) (x y z : ℤ) → OnAxes (λ (a : ℕ). ringSum n (weightedSum (row kobbelt n) n 0 n (axis t a) L K)) x y z → OnAxes (virtualOn l t h) x y z
+    pub ring-made : (t : List ℤ) (x y z : ℤ) → OnAxes (λ (a : ℕ). ringSum n (weightedSum (row weights n) n 0 n (axis t a) L K)) x y z → OnAxes (virtualOn weights l t h) x y z
     ring-made t x y z e = record { on₀ = e .on₀ ∙ ring-value (axis t 0); on₁ = e .on₁ ∙ ring-value (axis t 1); on₂ = e .on₂ ∙ ring-value (axis t 2) }
 
   -- ---- an open fan
@@ -92,15 +92,15 @@ module _ (v : ℕ) (l : List ℕ) (ok : Manifold quads v l) (h : ℕ) (b : h < l
       unfolding fanCornerZ
       far-first = let e = ne-eqb (m + 1) m (λ x. omega arith) in let f = eq-eqb (m + 1) (m + 1) refl in rw (e, f)
 
-      fan-value : (L K : List ℕ) → Filled l s m L K
-          → fanOn p L K m j (fanEnd l s m) (extrapolatedAtZ l p P) (extrapolatedAtZ l p (fanEnd l s m)) (extrapolatedAtZ l p (fanEnd l s 0)) ≡ virtualAtZ kobbelt l p h
+      fan-value : (weights : Weights) (L K : List ℕ) → Filled l s m L K
+          → fanOn weights p L K m j (fanEnd l s m) (extrapolatedAtZ l p P) (extrapolatedAtZ l p (fanEnd l s m)) (extrapolatedAtZ l p (fanEnd l s 0)) ≡ virtualAtZ weights l p h
       unfolding virtualAtZ fanVirtualZ
-      fan-value L K f =
+      fan-value weights L K f =
           let k = fan-sizes in
           let n : ℕ = m + 2 in
           let X : ℕ → ℤ = fanNeighbourZ l p P in
           let Y : ℕ → ℤ = fanCornerZ l p P in
-          let w : List ℤ = row kobbelt n in
+          let w : List ℤ = row weights n in
           let g : ℕ → ℤ = λ (i : ℕ). weighed w (placeOn n (n - j + i)) (X i) (Y i) in
           let e₀ : from l s ≡ P = boundaryFrom-at quads l P o in
           let ends : (i : ℕ) → i < m → to quads l (turns quads l i s) ≡ fanEnd l s i = λ i c. sym (end-inside v l ok s (boundaryFrom-on quads l P o) i (rw e₀ c)) in
@@ -116,7 +116,7 @@ module _ (v : ℕ) (l : List ℕ) (ok : Manifold quads v l) (h : ℕ) (b : h < l
           let all : sum (m + 1 + 1) g ≡ sum n g = (let q : m + 1 + 1 ≡ n = omega arith in ap (λ (i : ℕ). sum i g) q) in
           let c = lt-ltb (boundaryFrom quads l (from l h)) (length l) o in
           rw c (ap (λ (z : ℤ). pos (valenceScale / n) *ℤ z)
-          (ap₂ _+ℤ_ (ap₂ _+ℤ_ faces last ∙ sum-more m g) own ∙ sum-more (m + 1) g ∙ all ∙ virtual-turned n j X Y (omega arith) (omega arith) (k .0) (omega arith)))
+          (ap₂ _+ℤ_ (ap₂ _+ℤ_ faces last ∙ sum-more m g) own ∙ sum-more (m + 1) g ∙ all ∙ virtual-turned weights n j X Y (omega arith) (omega arith) (k .0) (omega arith)))
 
     pub count-is : (s′ m′ : ℕ) → s′ ≡ s → m′ ≡ valence l (from l s′) → m′ ≡ m
     count-is s′ m′ es em = em ∙ ap (λ (x : ℕ). valence l (from l x)) es ∙ ap (valence l) (boundaryFrom-at quads l P o)
@@ -139,13 +139,13 @@ module _ (v : ℕ) (l : List ℕ) (ok : Manifold quads v l) (h : ℕ) (b : h < l
       unfolding fanEnd
       first-is = ap (from l) (ed ∙ ap (along quads l) es) ∙ along-from quads v l ok s (boundaryFrom-on quads l P o)
 
-      pub fan-made : (t : List ℤ) (a : ℕ) (x A C B : ℤ) → A ≡ extrapolatedOn l t s′ a → C ≡ extrapolatedOn l t e a → B ≡ extrapolatedOn l t d a → x ≡ fanOn (axis t a) L K m′ j′ c A C B → x ≡ virtualOn l t h a
-      fan-made t a x A C B eA eC eB ex =
+      pub fan-made : (weights : Weights) (t : List ℤ) (a : ℕ) (x A C B : ℤ) → A ≡ extrapolatedOn l t s′ a → C ≡ extrapolatedOn l t e a → B ≡ extrapolatedOn l t d a → x ≡ fanOn weights (axis t a) L K m′ j′ c A C B → x ≡ virtualOn weights l t h a
+      fan-made weights t a x A C B eA eC eB ex =
           let p : ℕ → ℤ = axis t a in
           let q : Filled l s m L K = subst (λ (i : ℕ). Filled l s i L K) count (subst (λ (y : ℕ). Filled l y m′ L K) es f) in
           let xA : A ≡ extrapolatedAtZ l p P = eA ∙ ap (extrapolatedAtZ l p) (ap (from l) es ∙ boundaryFrom-at quads l P o) in
           let xC : C ≡ extrapolatedAtZ l p (fanEnd l s m) = eC ∙ ap (extrapolatedAtZ l p) last-is in
           let xB : B ≡ extrapolatedAtZ l p (fanEnd l s 0) = eB ∙ ap (extrapolatedAtZ l p) first-is in
           let xc : c ≡ fanEnd l s m = ec ∙ last-is in
-          ex ∙ ap₂ (λ (i y : ℕ). fanOn p L K i y c A C B) count ej ∙ ap (λ (y : ℕ). fanOn p L K m j y A C B) xc
-          ∙ ap (λ (y : ℤ). fanOn p L K m j (fanEnd l s m) y C B) xA ∙ ap₂ (λ (y z : ℤ). fanOn p L K m j (fanEnd l s m) (extrapolatedAtZ l p P) y z) xC xB ∙ fan-value p L K q
+          ex ∙ ap₂ (λ (i y : ℕ). fanOn weights p L K i y c A C B) count ej ∙ ap (λ (y : ℕ). fanOn weights p L K m j y A C B) xc
+          ∙ ap (λ (y : ℤ). fanOn weights p L K m j (fanEnd l s m) y C B) xA ∙ ap₂ (λ (y z : ℤ). fanOn weights p L K m j (fanEnd l s m) (extrapolatedAtZ l p P) y z) xC xB ∙ fan-value p weights L K q

@@ -13,7 +13,7 @@ use Rattle.integers.specs.Within.{Within, WithinFirst}
 use Rattle.integers.proofs.AbsoluteValue.{abs-add, abs-mul}
 use Rattle.integers.proofs.Polynomial.{var, _⊞_, _⊠_, same}
 use Rattle.integers.proofs.Sum.{abs-sum, sum-cong, sum-times}
-use Rattle.curve.specs.Weights.{kobbelt}
+use Rattle.curve.specs.Weights.{Weights}
 use Rattle.rings.specs.Scales.{coordinateRange, extrapolatedScale}
 use Rattle.rings.specs.Ring.{Periodic, wrap}
 use Rattle.rings.specs.RingWeights.{virtualZ, weightL, weightK, row}
@@ -90,21 +90,21 @@ sums-small w n e m t L K x y z f s b h k g =
     record { on₀ = rw e₀ (on 0); on₁ = rw e₁ (on 1); on₂ = rw e₂ (on 2) }
 
 -- what the code makes of them, with the weights of the table
-pub ring-read : (w : List ℤ) (n : ℕ) (t : List ℤ) (L K : List ℕ) (x y z x′ y′ z′ : ℤ) → w ≡ row kobbelt n → OnAxes (λ (a : ℕ). weightedSum w n 0 n (axis t a) L K) x y z
-    → x′ ≡ ringSum n x → y′ ≡ ringSum n y → z′ ≡ ringSum n z → OnAxes (λ (a : ℕ). ringSum n (weightedSum (row kobbelt n) n 0 n (axis t a) L K)) x′ y′ z′
-ring-read w n t L K x y z x′ y′ z′ e f ex ey ez =
-    let on : (a : ℕ) → weightedSum w n 0 n (axis t a) L K ≡ weightedSum (row kobbelt n) n 0 n (axis t a) L K = λ a. ap (λ (u : List ℤ). weightedSum u n 0 n (axis t a) L K) e in
+pub ring-read : (weights : Weights) (w : List ℤ) (n : ℕ) (t : List ℤ) (L K : List ℕ) (x y z x′ y′ z′ : ℤ) → w ≡ row weights n → OnAxes (λ (a : ℕ). weightedSum w n 0 n (axis t a) L K) x y z
+    → x′ ≡ ringSum n x → y′ ≡ ringSum n y → z′ ≡ ringSum n z → OnAxes (λ (a : ℕ). ringSum n (weightedSum (row weights n) n 0 n (axis t a) L K)) x′ y′ z′
+ring-read weights w n t L K x y z x′ y′ z′ e f ex ey ez =
+    let on : (a : ℕ) → weightedSum w n 0 n (axis t a) L K ≡ weightedSum (row weights n) n 0 n (axis t a) L K = λ a. ap (λ (u : List ℤ). weightedSum u n 0 n (axis t a) L K) e in
     record { on₀ = ex ∙ ap (ringSum n) (f .on₀ ∙ on 0); on₁ = ey ∙ ap (ringSum n) (f .on₁ ∙ on 1); on₂ = ez ∙ ap (ringSum n) (f .on₂ ∙ on 2) }
 
-pub fan-read : (w : List ℤ) (m j c : ℕ) (p : ℕ → ℤ) (L K : List ℕ) (s A C B z : ℤ) → w ≡ row kobbelt (m + 2) → s ≡ weightedSum w (m + 2) (m + 2 - j) m p L K
-    → z ≡ fanSum w (m + 2) (m - j) s (pos extrapolatedScale *ℤ p c) C A B → z ≡ fanOn p L K m j c A C B
-fan-read w m j c p L K s A C B z e es ez =
+pub fan-read : (weights : Weights) (w : List ℤ) (m j c : ℕ) (p : ℕ → ℤ) (L K : List ℕ) (s A C B z : ℤ) → w ≡ row weights (m + 2) → s ≡ weightedSum w (m + 2) (m + 2 - j) m p L K
+    → z ≡ fanSum w (m + 2) (m - j) s (pos extrapolatedScale *ℤ p c) C A B → z ≡ fanOn weights p L K m j c A C B
+fan-read weights w m j c p L K s A C B z e es ez =
     ez ∙ ap (λ (y : ℤ). fanSum w (m + 2) (m - j) y (pos extrapolatedScale *ℤ p c) C A B) es
     ∙ ap (λ (u : List ℤ). fanSum u (m + 2) (m - j) (weightedSum u (m + 2) (m + 2 - j) m p L K) (pos extrapolatedScale *ℤ p c) C A B) e
 
 -- ---- the weights of the row
-pub weighed-row : (n d : ℕ) (x y : ℤ) → d < n → n ≤ 8 → weighed (row kobbelt n) d x y ≡ weightL kobbelt n d *ℤ x +ℤ weightK kobbelt n d *ℤ y
-weighed-row n d x y b k = ap₂ (λ (u v : ℤ). u *ℤ x +ℤ v *ℤ y) (row-l n d b k) (row-k n d b k)
+pub weighed-row : (weights : Weights) (n d : ℕ) (x y : ℤ) → d < n → n ≤ 8 → weighed (row weights n) d x y ≡ weightL weights n d *ℤ x +ℤ weightK weights n d *ℤ y
+weighed-row weights n d x y b k = ap₂ (λ (u v : ℤ). u *ℤ x +ℤ v *ℤ y) (row-l weights n d b k) (row-k weights n d b k)
 
 -- a scaled sum is the sum of scaled values
 scaled : (c u x v y : ℤ) → c *ℤ (u *ℤ x +ℤ v *ℤ y) ≡ u *ℤ (c *ℤ x) +ℤ v *ℤ (c *ℤ y)
@@ -119,35 +119,35 @@ scaled-sum w n e m p L K X Y f g =
     scaled (pos extrapolatedScale) (getD w d (pos 0)) (p (getD L i 0)) (getD w (8 + d) (pos 0)) (p (getD K i 0)) ∙ ap₂ (weighed w d) (f i b) (g i b))
 
 -- ---- the virtual point: on the first edge of a ring
-pub virtual-first : (n : ℕ) (X Y : ℕ → ℤ) → Periodic n X → Periodic n Y → 3 ≤ n → n ≤ 8 → sum n (λ (i : ℕ). weighed (row kobbelt n) (placeOn n (0 + i)) (X i) (Y i)) ≡ virtualZ kobbelt n X Y 0
-virtual-first n X Y rx ry h k =
-    sum-cong n (λ (i : ℕ). weighed (row kobbelt n) (placeOn n (0 + i)) (X i) (Y i)) (λ (i : ℕ). weightL kobbelt n i *ℤ X (0 + i) +ℤ weightK kobbelt n i *ℤ Y (0 + i))
+pub virtual-first : (weights : Weights) (n : ℕ) (X Y : ℕ → ℤ) → Periodic n X → Periodic n Y → 3 ≤ n → n ≤ 8 → sum n (λ (i : ℕ). weighed (row weights n) (placeOn n (0 + i)) (X i) (Y i)) ≡ virtualZ weights n X Y 0
+virtual-first weights n X Y rx ry h k =
+    sum-cong n (λ (i : ℕ). weighed (row weights n) (placeOn n (0 + i)) (X i) (Y i)) (λ (i : ℕ). weightL weights n i *ℤ X (0 + i) +ℤ weightK weights n i *ℤ Y (0 + i))
     (λ i b.
     let z = zero-add i in
     let e : placeOn n (0 + i) ≡ i = ap (placeOn n) z ∙ place-before n i b in
-    rw (e, z) (weighed-row n i (X i) (Y i) b k))
-    ∙ sym (virtual-weighted kobbelt n X Y rx ry 0 h)
+    rw (e, z) (weighed-row weights n i (X i) (Y i) b k))
+    ∙ sym (virtual-weighted weights n X Y rx ry 0 h)
 
 -- and on edge j, where the places are counted from the start
-pub virtual-turned : (n j : ℕ) (X Y : ℕ → ℤ) → 3 ≤ n → n ≤ 8 → 0 < j → j < n
-    → sum n (λ (i : ℕ). weighed (row kobbelt n) (placeOn n (n - j + i)) (X i) (Y i)) ≡ virtualZ kobbelt n (wrap n X) (wrap n Y) j
-virtual-turned n j X Y h k some below =
-    sum-cong n (λ (i : ℕ). weighed (row kobbelt n) (placeOn n (n - j + i)) (X i) (Y i)) f
+pub virtual-turned : (weights : Weights) (n j : ℕ) (X Y : ℕ → ℤ) → 3 ≤ n → n ≤ 8 → 0 < j → j < n
+    → sum n (λ (i : ℕ). weighed (row weights n) (placeOn n (n - j + i)) (X i) (Y i)) ≡ virtualZ weights n (wrap n X) (wrap n Y) j
+virtual-turned weights n j X Y h k some below =
+    sum-cong n (λ (i : ℕ). weighed (row weights n) (placeOn n (n - j + i)) (X i) (Y i)) f
     (λ i b.
     let q = place-lt n (n - j + i) (omega arith) in
     let e = place-mod n (n - j + i) (omega arith) in
     let z = mod-eq-of-lt b in
-    weighed-row n (placeOn n (n - j + i)) (X i) (Y i) q k ∙ rw (e, z))
+    weighed-row weights n (placeOn n (n - j + i)) (X i) (Y i) q k ∙ rw (e, z))
     ∙ sym (sum-turned n f periodic j)
-    ∙ sum-cong n (λ (d : ℕ). f (j + d)) (λ (d : ℕ). weightL kobbelt n d *ℤ wrap n X (j + d) +ℤ weightK kobbelt n d *ℤ wrap n Y (j + d))
+    ∙ sum-cong n (λ (d : ℕ). f (j + d)) (λ (d : ℕ). weightL weights n d *ℤ wrap n X (j + d) +ℤ weightK weights n d *ℤ wrap n Y (j + d))
     (λ d b.
     let s : n - j + (j + d) ≡ d + n = omega arith in
     let e : (n - j + (j + d)) % n ≡ d = ap (λ (i : ℕ). i % n) s ∙ add-mod-right d n ∙ mod-eq-of-lt b in
     rw e)
-    ∙ sym (virtual-weighted kobbelt n (wrap n X) (wrap n Y) (wrap-periodic n X) (wrap-periodic n Y) j h)
+    ∙ sym (virtual-weighted weights n (wrap n X) (wrap n Y) (wrap-periodic n X) (wrap-periodic n Y) j h)
   where
     f : ℕ → ℤ
-    f i = weightL kobbelt n ((n - j + i) % n) *ℤ wrap n X i +ℤ weightK kobbelt n ((n - j + i) % n) *ℤ wrap n Y i
+    f i = weightL weights n ((n - j + i) % n) *ℤ wrap n X i +ℤ weightK weights n ((n - j + i) % n) *ℤ wrap n Y i
 
     periodic : Periodic n f
     periodic = record {

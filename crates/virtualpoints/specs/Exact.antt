@@ -2,7 +2,7 @@
 use mathlib.Core.List.{List}
 use Prim.Native.Nat.{ℕ, _≤_}
 use lib.IntN.{ℤ, natAbs}
-use Rattle.curve.specs.Weights.{kobbelt}
+use Rattle.curve.specs.Weights.{Weights}
 use Rattle.rings.specs.Scales.{extrapolatedRange}
 use Rattle.topology.specs.HalfEdge.{from}
 use Rattle.schemelaws.specs.Numerators.{extrapolatedAtZ, virtualAtZ}
@@ -12,8 +12,8 @@ use Rattle.nets.specs.Net.{axis}
 abbrev pub extrapolatedOn : List ℕ → List ℤ → (s a : ℕ) → ℤ
 extrapolatedOn l t s a = extrapolatedAtZ l (axis t a) (from l s)
 
-abbrev pub virtualOn : List ℕ → List ℤ → (h a : ℕ) → ℤ
-virtualOn l t h a = virtualAtZ kobbelt l (axis t a) h
+abbrev pub virtualOn : Weights → List ℕ → List ℤ → (h a : ℕ) → ℤ
+virtualOn w l t h a = virtualAtZ w l (axis t a) h
 
 -- within three times the largest coordinate
 pub record Extrapolated (x y z : ℤ) : Type 0 where

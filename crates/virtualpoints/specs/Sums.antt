@@ -6,13 +6,13 @@ use lib.Dec.{ltb}
 use lib.IntN.{ℤ, pos, _+ℤ_, _*ℤ_}
 use lib.ListN.{getD}
 use Rattle.integers.specs.Sum.{sum}
-use Rattle.curve.specs.Weights.{kobbelt}
+use Rattle.curve.specs.Weights.{Weights}
 use Rattle.rings.specs.RingWeights.{row}
 use Rattle.rings.specs.Scales.{extrapolatedScale, valenceScale, coordinateRange}
 
--- no weight of the table exceeds 36, and the sixteen of a ring make of coordinates no more than this
+-- no weight of the table exceeds 144 at a tension, and the sixteen of a ring make of coordinates no more than this
 abbrev pub weightRange : ℕ
-weightRange = 36
+weightRange = 144
 
 abbrev pub sumRange : ℕ
 sumRange = 16 * weightRange * coordinateRange
@@ -38,7 +38,7 @@ abbrev pub fanSum : List ℤ → (n t : ℕ) → (s x y x′ y′ : ℤ) → ℤ
 fanSum w n t s x y x′ y′ = pos (valenceScale / n) *ℤ (pos extrapolatedScale *ℤ s +ℤ weighed w t x y +ℤ weighed w (t + 1) x′ y′)
 
 -- on edge j of a fan of m faces, closed with its last neighbour c and the extrapolated points P of its vertex, C of c and B of its first neighbour
-abbrev pub fanOn : (ℕ → ℤ) → List ℕ → List ℕ → (m j c : ℕ) → (P C B : ℤ) → ℤ
-fanOn p L K m j c P C B =
+abbrev pub fanOn : Weights → (ℕ → ℤ) → List ℕ → List ℕ → (m j c : ℕ) → (P C B : ℤ) → ℤ
+fanOn weights p L K m j c P C B =
     let n = m + 2 in
-    fanSum (row kobbelt n) n (m - j) (weightedSum (row kobbelt n) n (n - j) m p L K) (pos extrapolatedScale *ℤ p c) C P B
+    fanSum (row weights n) n (m - j) (weightedSum (row weights n) n (n - j) m p L K) (pos extrapolatedScale *ℤ p c) C P B

@@ -5,7 +5,7 @@ ghost use lib.IntN.{pos, natAbs, _-ℤ_, _*ℤ_};
 ghost use lib.ListN.{length, getD};
 ghost use Rattle.integers.specs.Sum.{sum};
 ghost use Rattle.integers.specs.Within.{Within, WithinFirst};
-ghost use Rattle.curve.specs.Weights.{kobbelt};
+ghost use Rattle.curve.specs.Weights.{tension};
 ghost use Rattle.rings.specs.RingWeights.{row};
 ghost use Rattle.rings.specs.Scales.{extrapolatedScale, valenceScale, coordinateRange, extrapolatedRange};
 ghost use Rattle.topology.specs.Shape.{quads};
@@ -130,7 +130,7 @@ fn weighted_sum(
     coordinates::Exact { x: x, y: y, z: z }
 }
 
-// v, which is over 9n times the extrapolated scale, over one denominator for all sizes n of a ring.
+// v, which is over near · n times the extrapolated scale, over one denominator for all sizes n of a ring.
 fn times_share(n: usize, v: i64) -> i64
     requires { ⌜ (3 ≤ n) × (n ≤ 8) × (natAbs v ≤ 2 ^ 50) ⌝ }
     ensures { λ r. ⌜ r ≡ pos (valenceScale / n) *ℤ v ⌝ }
@@ -139,7 +139,7 @@ fn times_share(n: usize, v: i64) -> i64
     c as i64 * v
 }
 
-// The same for a sum s over vertices, which is over 9n alone.
+// The same for a sum s over vertices, which is over near · n alone.
 fn scaled_share(n: usize, s: i64) -> i64
     requires { ⌜ (3 ≤ n) × (n ≤ 8) × (natAbs s ≤ sumRange) ⌝ }
     ensures { λ r. ⌜ r ≡ ringSum n s ⌝ }
@@ -148,13 +148,13 @@ fn scaled_share(n: usize, s: i64) -> i64
 }
 
 // The virtual point on the first edge of a full ring of m faces.
-fn ring_point(points: &[i32], l: &[usize; 8], k: &[usize; 8], m: u16) -> coordinates::Exact
-    requires { ⌜ Within coordinateRange (now points) × (3 ≤ m) × (m ≤ 8) ⌝ }
+fn ring_point(points: &[i32], l: &[usize; 8], k: &[usize; 8], m: u16, t: u32) -> coordinates::Exact
+    requires { ⌜ Within coordinateRange (now points) × (3 ≤ m) × (m ≤ 8) × (t ≤ 4) ⌝ }
     requires { ⌜ VerticesIn (now points) m (now l) × VerticesIn (now points) m (now k) ⌝ }
-    ensures { λ r. ⌜ OnAxes (λ (a : ℕ). ringSum m (weightedSum (row kobbelt m) m 0 m (axis (now (points .entry)) a) (now (l .entry)) (now (k .entry)))) (r .x) (r .y) (r .z) ⌝ }
+    ensures { λ r. ⌜ OnAxes (λ (a : ℕ). ringSum m (weightedSum (row (tension t) m) m 0 m (axis (now (points .entry)) a) (now (l .entry)) (now (k .entry)))) (r .x) (r .y) (r .z) ⌝ }
 {
     let n = m as usize;
-    let w = rings::weights(n);
+    let w = rings::weights(n, t);
     let s = weighted_sum(points, &w, l, k, m, n, 0);
     coordinates::Exact {
         x: scaled_share(n, s.x),
@@ -281,31 +281,32 @@ fn fan_sum(
     p: coordinates::Exact,
     q: coordinates::Exact,
     r: coordinates::Exact,
+    t: u32,
 ) -> coordinates::Exact
-    requires { ⌜ Within coordinateRange (now points) × (0 < j) × (j < m) × (m ≤ 6) × InTable (now points) c ⌝ }
+    requires { ⌜ Within coordinateRange (now points) × (0 < j) × (j < m) × (m ≤ 6) × InTable (now points) c × (t ≤ 4) ⌝ }
     requires { ⌜ VerticesIn (now points) m (now l) × VerticesIn (now points) m (now k) ⌝ }
     requires { ⌜ Extrapolated (p .x) (p .y) (p .z) × Extrapolated (q .x) (q .y) (q .z) × Extrapolated (r .x) (r .y) (r .z) ⌝ }
-    ensures { λ e. ⌜ e .x ≡ fanOn (axis (now (points .entry)) 0) (now (l .entry)) (now (k .entry)) m j c (p .x) (q .x) (r .x) ⌝ }
-    ensures { λ e. ⌜ e .y ≡ fanOn (axis (now (points .entry)) 1) (now (l .entry)) (now (k .entry)) m j c (p .y) (q .y) (r .y) ⌝ }
-    ensures { λ e. ⌜ e .z ≡ fanOn (axis (now (points .entry)) 2) (now (l .entry)) (now (k .entry)) m j c (p .z) (q .z) (r .z) ⌝ }
+    ensures { λ e. ⌜ e .x ≡ fanOn (tension t) (axis (now (points .entry)) 0) (now (l .entry)) (now (k .entry)) m j c (p .x) (q .x) (r .x) ⌝ }
+    ensures { λ e. ⌜ e .y ≡ fanOn (tension t) (axis (now (points .entry)) 1) (now (l .entry)) (now (k .entry)) m j c (p .y) (q .y) (r .y) ⌝ }
+    ensures { λ e. ⌜ e .z ≡ fanOn (tension t) (axis (now (points .entry)) 2) (now (l .entry)) (now (k .entry)) m j c (p .z) (q .z) (r .z) ⌝ }
 {
     let n = m as usize + 2;
-    let t = m as usize - j;
-    let w = rings::weights(n);
+    let place = m as usize - j;
+    let w = rings::weights(n, t);
     let s = weighted_sum(points, &w, l, k, m, n, n - j);
     coordinates::Exact {
-        x: closed_on(points, &w, n, t, s.x, c, p.x, q.x, r.x, 0),
-        y: closed_on(points, &w, n, t, s.y, c, p.y, q.y, r.y, 1),
-        z: closed_on(points, &w, n, t, s.z, c, p.z, q.z, r.z, 2),
+        x: closed_on(points, &w, n, place, s.x, c, p.x, q.x, r.x, 0),
+        y: closed_on(points, &w, n, place, s.y, c, p.y, q.y, r.y, 1),
+        z: closed_on(points, &w, n, place, s.z, c, p.z, q.z, r.z, 2),
     }
 }
 
 // The virtual point at a boundary vertex, on the inner edge of h.
-fn fan_point(points: &[i32], faces: &[u32], work: &[u32], h: usize) -> coordinates::Exact
+fn fan_point(points: &[i32], faces: &[u32], work: &[u32], h: usize, t: u32) -> coordinates::Exact
     requires { ⌜ Ready (now faces) (now work) ⌝ }
-    requires { ⌜ Points (now faces) (now points) × (h < length (now faces)) × (mate quads (now faces) h < length (now faces)) ⌝ }
+    requires { ⌜ Points (now faces) (now points) × (h < length (now faces)) × (mate quads (now faces) h < length (now faces)) × (t ≤ 4) ⌝ }
     requires { ⌜ boundaryFrom quads (now faces) (from (now faces) h) < length (now faces) ⌝ }
-    ensures { λ r. ⌜ OnAxes (virtualOn (now (faces .entry)) (now (points .entry)) h) (r .x) (r .y) (r .z) ⌝ }
+    ensures { λ r. ⌜ OnAxes (virtualOn (tension t) (now (faces .entry)) (now (points .entry)) h) (r .x) (r .y) (r .z) ⌝ }
 {
     let f = walks::fan_start(faces, work, h);
     let s = f.side;
@@ -319,21 +320,27 @@ fn fan_point(points: &[i32], faces: &[u32], work: &[u32], h: usize) -> coordinat
     let p = extrapolated_from(points, faces, s, &l, &k, m);
     let q = extrapolated_point(points, faces, work, e);
     let r = extrapolated_point(points, faces, work, d);
-    fan_sum(points, &l, &k, m, f.place, c, p, q, r)
+    fan_sum(points, &l, &k, m, f.place, c, p, q, r, t)
 }
 
 // The virtual point at the vertex that h leaves, on the inner edge of h.
-pub fn virtual_point(points: &[i32], faces: &[u32], work: &[u32], h: usize) -> coordinates::Exact
+pub fn virtual_point(
+    points: &[i32],
+    faces: &[u32],
+    work: &[u32],
+    h: usize,
+    t: u32,
+) -> coordinates::Exact
     requires { ⌜ Ready (now faces) (now work) ⌝ }
     requires { ⌜ Points (now faces) (now points) ⌝ }
-    requires { ⌜ (h < length (now faces)) × (mate quads (now faces) h < length (now faces)) ⌝ }
-    ensures { λ e. ⌜ OnAxes (virtualOn (now (faces .entry)) (now (points .entry)) h) (e .x) (e .y) (e .z) ⌝ }
+    requires { ⌜ (h < length (now faces)) × (mate quads (now faces) h < length (now faces)) × (t ≤ 4) ⌝ }
+    ensures { λ e. ⌜ OnAxes (virtualOn (tension t) (now (faces .entry)) (now (points .entry)) h) (e .x) (e .y) (e .z) ⌝ }
 {
     let mut l: [usize; 8] = [0; 8];
     let mut k: [usize; 8] = [0; 8];
     let g = gather(faces, work, h, &mut l, &mut k);
     if g.after == h {
-        return ring_point(points, &l, &k, g.count);
+        return ring_point(points, &l, &k, g.count, t);
     }
-    fan_point(points, faces, work, h)
+    fan_point(points, faces, work, h, t)
 }

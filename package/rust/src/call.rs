@@ -1,11 +1,11 @@
 //! The functions of the archive over slices.
 
 use crate::foreign::{
-    gedrovit_check, gedrovit_refine, gedrovit_sizes_for, gedrovit_version, gedrovit_version_0_5_1,
+    gedrovit_check, gedrovit_refine, gedrovit_sizes_for, gedrovit_version, gedrovit_version_0_6_0,
 };
 use crate::{NetView, Refusal, Tables, Tally};
 
-/// The version of the archive: 0.5.1 is 5001.
+/// The version of the archive: 0.6.0 is 6000.
 #[must_use]
 pub fn version() -> u32 {
     // SAFETY: the function takes nothing.
@@ -16,7 +16,7 @@ pub fn version() -> u32 {
 /// another version does not link.
 fn same_version() {
     // SAFETY: the function takes nothing.
-    unsafe { gedrovit_version_0_5_1() };
+    unsafe { gedrovit_version_0_6_0() };
 }
 
 /// How many vertices and faces a refined net has.
@@ -57,7 +57,7 @@ impl Lengths {
 }
 
 /// The least lengths of the tables that serve a net without letters, by the lengths of its own tables
-/// and its side counts alone. [`Lengths::with_letters`] adds the letters.
+/// and its side counts alone, not its tension. [`Lengths::with_letters`] adds the letters.
 ///
 /// # Errors
 ///
@@ -92,7 +92,7 @@ pub fn lengths(rounds: u32, net: NetView<'_>) -> Result<Lengths, Refusal> {
 /// # Errors
 ///
 /// Every reason. The record, the vertices, faces, marks and letters stay as they are, and on reasons
-/// 1 to 4 and 14 the work numbers too.
+/// 1 to 4, 14 and 16 the work numbers too.
 pub fn refine(
     tally: &mut Tally,
     rounds: u32,
@@ -116,6 +116,7 @@ pub fn refine(
             net.sides.len(),
             net.marks.as_ptr(),
             net.marks.len(),
+            net.tension,
             tables.vertices.as_mut_ptr(),
             tables.vertices.len(),
             tables.faces.as_mut_ptr(),
@@ -162,6 +163,7 @@ pub fn check(
             net.sides.len(),
             net.marks.as_ptr(),
             net.marks.len(),
+            net.tension,
             lengths.vertices,
             lengths.faces,
             lengths.marks,

@@ -38,7 +38,7 @@ pub struct Sizes {
 unsafe extern "C" {
     pub fn gedrovit_version() -> u32;
 
-    pub fn gedrovit_version_0_5_1() -> u32;
+    pub fn gedrovit_version_0_6_0() -> u32;
 
     pub fn gedrovit_refine(
         tally: *mut Tally,
@@ -51,6 +51,7 @@ unsafe extern "C" {
         sides_length: usize,
         marks: *const u8,
         marks_length: usize,
+        tension: u32,
         out_vertices: *mut i32,
         out_vertices_length: usize,
         out_faces: *mut u32,
@@ -74,6 +75,7 @@ unsafe extern "C" {
         sides_length: usize,
         marks: *const u8,
         marks_length: usize,
+        tension: u32,
         out_vertices_length: usize,
         out_faces_length: usize,
         out_marks_length: usize,

@@ -1,9 +1,10 @@
-//! Refines nets of quadrilateral faces by Kobbelt's interpolatory subdivision at weight 1, with exact
-//! arithmetic and one rounding for each new coordinate, halves upward. Nets with faces of 3 to 8
-//! sides are first split into quadrilaterals. Two nets that share a boundary segment where refining
-//! begins, after the split if there is one, share it afterwards, point for point, if both are refined
-//! by versions with the same rounding, this one since 0.3.0. A net that is moved by whole numbers
-//! gives its refined net moved by the same, if the coordinates of both are in range.
+//! Refines nets of quadrilateral faces by Kobbelt's interpolatory subdivision, at a tension that the
+//! caller may choose, with exact arithmetic and one rounding for each new coordinate, halves upward.
+//! Nets with faces of 3 to 8 sides are first split into quadrilaterals. Two nets that share a boundary
+//! segment where refining begins, after the split if there is one, share it afterwards, point for
+//! point, if their tensions are equal and both are refined by versions with the same rounding, this
+//! one since 0.3.0. A net that is moved by whole numbers gives its refined net moved by the same, if
+//! the coordinates of both are in range.
 //!
 //! The work is done by proved code in the archive `libgedrovit.a`. The header `gedrovit.h` has the
 //! whole contract; what it says of tables, numbering and limits holds here too.
@@ -52,6 +53,25 @@
 //! assert_eq!(traced.letters[4].text(), "on a boundary segment of one edge");
 //! let drawn = traced.letters.iter().filter(|&&letter| letter == Letter::Drawn);
 //! assert_eq!(drawn.count(), 4);
+//! # Ok::<(), gedrovit::Refusal>(())
+//! ```
+//!
+//! A net has a tension from 0 to 4, and 4 unless [`Net::with_tension`] sets it. A lower one
+//! overshoots less; 0 gives plain midpoints on edges. This square has no marks, so that its boundary
+//! is one closed curve:
+//!
+//! ```
+//! let square = gedrovit::Net::new(
+//!     vec![0, 0, 0, 16, 0, 0, 16, 16, 0, 0, 16, 0],
+//!     vec![0, 1, 2, 3],
+//!     vec![0; 4],
+//! );
+//! let mut tally = gedrovit::Tally::new();
+//! assert_eq!(square.refined(&mut tally, 1)?.vertices[12..15], [8, -2, 0]);
+//! let softer = square.clone().with_tension(2);
+//! assert_eq!(softer.refined(&mut tally, 1)?.vertices[12..15], [8, -1, 0]);
+//! let plain = square.with_tension(0);
+//! assert_eq!(plain.refined(&mut tally, 1)?.vertices[12..15], [8, 0, 0]);
 //! # Ok::<(), gedrovit::Refusal>(())
 //! ```
 //!

@@ -18,6 +18,10 @@ pub const MAX_FAN: usize = 6;
 pub const MIN_SIDES: u8 = 3;
 /// The most sides of a face.
 pub const MAX_SIDES: u8 = 8;
+/// The largest tension.
+pub const MAX_TENSION: u32 = 4;
+/// The tension of a net that sets none.
+pub const DEFAULT_TENSION: u32 = 4;
 /// The most points in the record after an accepted call.
 pub const MAX_TALLY: u64 = 4_000_000_000;
 /// What refined coordinates stay within, in absolute value.

@@ -1,9 +1,9 @@
 //! Nets and the tables that a call fills.
 
-use crate::{lengths, refine, Counts, Letter, Refusal, Tally};
+use crate::{lengths, refine, Counts, Letter, Refusal, Tally, DEFAULT_TENSION};
 
-/// A net in tables of its own, made by [`Net::new`]; later versions add fields.
-#[derive(Clone, Debug, Default, PartialEq, Eq)]
+/// A net in tables of its own, made by [`Net::new`] or by default, empty; later versions add fields.
+#[derive(Clone, Debug, PartialEq, Eq)]
 #[non_exhaustive]
 pub struct Net {
     /// Three coordinates for each vertex.
@@ -14,6 +14,8 @@ pub struct Net {
     pub marks: Vec<u8>,
     /// For each face how many sides it has; empty if all have four.
     pub sides: Vec<u8>,
+    /// The tension, from 0 to 4; 0 is a surface of its own.
+    pub tension: u32,
 }
 
 /// A net in borrowed tables, made by [`NetView::new`]; later versions add fields. Tables of arrays, as `[[i32; 3]]`, give theirs by `as_flattened`.
@@ -28,6 +30,8 @@ pub struct NetView<'a> {
     pub marks: &'a [u8],
     /// For each face how many sides it has; empty if all have four.
     pub sides: &'a [u8],
+    /// The tension, from 0 to 4; 0 is a surface of its own.
+    pub tension: u32,
 }
 
 /// The tables that [`refine`] fills, with its workspace, made by [`Tables::new`]; later versions add
@@ -59,8 +63,15 @@ pub struct Traced {
     pub letters: Vec<Letter>,
 }
 
+/// The empty net, with [`DEFAULT_TENSION`].
+impl Default for Net {
+    fn default() -> Self {
+        Self::new(Vec::new(), Vec::new(), Vec::new())
+    }
+}
+
 impl Net {
-    /// A net of these tables, every face with four sides.
+    /// A net of these tables, every face with four sides, with [`DEFAULT_TENSION`].
     #[must_use]
     pub fn new(vertices: Vec<i32>, faces: Vec<u32>, marks: Vec<u8>) -> Self {
         Self {
@@ -68,6 +79,7 @@ impl Net {
             faces,
             marks,
             sides: Vec::new(),
+            tension: DEFAULT_TENSION,
         }
     }
 
@@ -78,14 +90,24 @@ impl Net {
         Self { sides, ..self }
     }
 
+    /// The net with this tension, from 0 to 4. The lower it is, the less the surface overshoots; at 0
+    /// new points are midpoints of edges and means of corners. Nets that are to share a boundary
+    /// segment need equal tensions.
+    #[must_use]
+    pub fn with_tension(self, tension: u32) -> Self {
+        Self { tension, ..self }
+    }
+
     /// The net as borrowed tables.
     #[must_use]
     pub fn view(&self) -> NetView<'_> {
-        NetView::new(&self.vertices, &self.faces, &self.marks).with_sides(&self.sides)
+        NetView::new(&self.vertices, &self.faces, &self.marks)
+            .with_sides(&self.sides)
+            .with_tension(self.tension)
     }
 
     /// The net after this many refinement steps, all faces with four sides, in tables allocated for
-    /// it. Its new points are added to the record.
+    /// it and with the tension it was refined at. Its new points are added to the record.
     ///
     /// # Errors
     ///
@@ -105,7 +127,7 @@ impl Net {
 }
 
 impl<'a> NetView<'a> {
-    /// A net of these tables, every face with four sides.
+    /// A net of these tables, every face with four sides, with [`DEFAULT_TENSION`].
     #[must_use]
     pub fn new(vertices: &'a [i32], faces: &'a [u32], marks: &'a [u8]) -> Self {
         Self {
@@ -113,6 +135,7 @@ impl<'a> NetView<'a> {
             faces,
             marks,
             sides: &[],
+            tension: DEFAULT_TENSION,
         }
     }
 
@@ -120,6 +143,12 @@ impl<'a> NetView<'a> {
     #[must_use]
     pub fn with_sides(self, sides: &'a [u8]) -> Self {
         Self { sides, ..self }
+    }
+
+    /// As [`Net::with_tension`].
+    #[must_use]
+    pub fn with_tension(self, tension: u32) -> Self {
+        Self { tension, ..self }
     }
 
     /// As [`Net::refined`].
@@ -184,11 +213,11 @@ impl<'a> Tables<'a> {
     }
 }
 
-/// Tables for the refined net and the workspace.
+/// Tables for the refined net, of the same tension, and the workspace.
 fn allocated(rounds: u32, net: NetView<'_>) -> Result<(Net, Vec<u32>), Refusal> {
     let n = lengths(rounds, net)?;
     let tables = Net::new(vec![0; n.vertices], vec![0; n.faces], vec![0; n.marks]);
-    Ok((tables, vec![0; n.work]))
+    Ok((tables.with_tension(net.tension), vec![0; n.work]))
 }
 
 impl Net {

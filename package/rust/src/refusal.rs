@@ -39,6 +39,8 @@ pub enum Reason {
     InvalidSideCounts,
     /// The record of new points would be above 4,000,000,000 after the call, even if nothing is added.
     TallyLimit,
+    /// Tension above 4.
+    TensionOutOfRange,
     /// A number that this version does not know.
     Unknown(u32),
 }
@@ -46,7 +48,7 @@ pub enum Reason {
 use Reason::*;
 
 /// The known reasons with their numbers.
-const ALL: [(u32, Reason); 14] = [
+const ALL: [(u32, Reason); 15] = [
     (1, TooManyRounds),
     (2, InvalidLengths),
     (3, NetTooLarge),
@@ -61,6 +63,7 @@ const ALL: [(u32, Reason); 14] = [
     (12, MarkedInteriorVertex),
     (14, InvalidSideCounts),
     (15, TallyLimit),
+    (16, TensionOutOfRange),
 ];
 
 impl Reason {
@@ -105,6 +108,7 @@ impl Reason {
                 "a side count is not from 3 to 8, or the counts do not add up to the corners"
             }
             TallyLimit => "the record of new points would be above 4,000,000,000",
+            TensionOutOfRange => "the tension is above 4",
             Unknown(_) => "a reason that this version does not know",
         }
     }
@@ -113,7 +117,7 @@ impl Reason {
     fn subject(self) -> Option<&'static str> {
         match self {
             TooManyRounds | InvalidLengths | NetTooLarge | TableTooShort | InvalidSideCounts
-            | TallyLimit | Unknown(_) => None,
+            | TallyLimit | TensionOutOfRange | Unknown(_) => None,
             InvalidCorner | RepeatedHalfEdge => Some("face"),
             _ => Some("vertex"),
         }
@@ -125,7 +129,7 @@ impl Reason {
 pub struct Refusal {
     /// Why.
     pub reason: Reason,
-    /// The lowest vertex or face number concerned, from 0; 0 for reasons 1 to 4, 14 and 15.
+    /// The lowest vertex or face number concerned, from 0; 0 for reasons 1 to 4 and 14 to 16.
     pub place: usize,
 }
 
@@ -167,7 +171,7 @@ mod tests {
 
     #[test]
     fn an_unknown_number_is_an_error() {
-        for number in [13, 16, u32::MAX] {
+        for number in [13, 17, u32::MAX] {
             let refusal = Refusal::accept(number, 5).unwrap_err();
             assert_eq!(refusal.reason, Unknown(number));
             assert!(refusal

@@ -2,6 +2,7 @@
 
 use gedrovit::{
     check, lengths, Counts, Lengths, Letter, Net, NetView, Reason, Refusal, Tables, Tally,
+    DEFAULT_TENSION, MAX_TENSION,
 };
 
 /// What the tables hold before a call.
@@ -107,9 +108,90 @@ fn zero_rounds_copy() {
 
 #[test]
 fn steps_can_be_done_one_by_one() {
-    let once = refined(square().view(), 1).unwrap();
-    let twice = refined(once.view(), 1);
-    assert_eq!(refined(square().view(), 2), twice);
+    for tension in 0..=MAX_TENSION {
+        let net = hills(3, 2).with_tension(tension);
+        let once = refined(net.view(), 1).unwrap();
+        let twice = refined(once.view(), 1);
+        assert_eq!(refined(net.view(), 2), twice);
+        assert_eq!(twice.unwrap().tension, tension);
+    }
+}
+
+/// The square without marks: its boundary is one closed segment.
+fn unmarked_square() -> Net {
+    let mut net = square();
+    net.marks.fill(0);
+    net
+}
+
+#[test]
+fn a_net_has_the_default_tension_unless_it_is_set() {
+    let net = unmarked_square();
+    let view = NetView::new(&net.vertices, &net.faces, &net.marks);
+    for tension in [net.tension, view.tension, Net::default().tension] {
+        assert_eq!(tension, DEFAULT_TENSION);
+    }
+    assert_eq!(refined(view, 1).unwrap().vertices[12..15], [8, -2, 0]);
+    assert_eq!(refined(view, 1), refined(net.with_tension(4).view(), 1));
+}
+
+#[test]
+fn a_lower_tension_overshoots_less() {
+    let points = [0, 0, -1, -1, -2];
+    for (tension, y) in (0..=MAX_TENSION).zip(points) {
+        let net = unmarked_square().with_tension(tension);
+        assert_eq!(refined(net.view(), 1).unwrap().vertices[12..15], [8, y, 0]);
+        assert_eq!(letters(&net, 1), "VVVVAAAAE");
+    }
+}
+
+#[test]
+fn at_tension_zero_nothing_overshoots() {
+    let net = hills(4, 3);
+    let range = |net: &Net, first| {
+        let axis = axis(&net.vertices, first);
+        (axis.iter().min().copied(), axis.iter().max().copied())
+    };
+    for first in 0..3 {
+        let flat = refined(net.view().with_tension(0), 4).unwrap();
+        assert_eq!(range(&flat, first), range(&net, first));
+        let full = refined(net.view(), 4).unwrap();
+        assert_ne!(range(&full, first), range(&net, first));
+    }
+}
+
+#[test]
+fn a_tension_above_the_limit_is_refused_and_tables_are_left_alone() {
+    let mut net = square();
+    net.vertices[7] = gedrovit::MAX_COORDINATE + 1;
+    for tension in [MAX_TENSION + 1, u32::MAX] {
+        let net = net.view().with_tension(tension);
+        let n = lengths(1, net).unwrap().with_letters();
+        let mut tables = Owned::new(n);
+        let refused = refusal(Reason::TensionOutOfRange, 0);
+        assert_eq!(check(1, net, n, &mut tables.work), Err(refused));
+        assert_eq!(refine(1, net, tables.lend()), Err(refused));
+        assert_eq!(tables, Owned::new(n));
+        let mut tally = Tally::with_points(u64::MAX);
+        assert_eq!(net.refined(&mut tally, 1), Err(refused));
+        assert_eq!(tally, Tally::with_points(u64::MAX));
+        let mut short = n;
+        short.work -= 1;
+        assert_eq!(
+            refine(1, net, Owned::new(short).lend()),
+            Err(refusal(Reason::TableTooShort, 0))
+        );
+    }
+}
+
+#[test]
+fn the_split_has_no_tension() {
+    let net = lone(&[0, 7, -3, 5, 9]);
+    let split = refined(net.view(), 0).unwrap();
+    for tension in 0..=MAX_TENSION {
+        let other = refined(net.view().with_tension(tension), 0).unwrap();
+        assert_eq!(other, split.clone().with_tension(tension));
+    }
 }
 
 #[test]
@@ -171,8 +253,7 @@ fn letters(net: &Net, rounds: u32) -> String {
 fn letters_tell_how_points_were_made() {
     assert_eq!(letters(&square(), 0), "VVVV");
     assert_eq!(letters(&square(), 1), "VVVVMMMME");
-    let mut unmarked = square();
-    unmarked.marks.fill(0);
+    let unmarked = unmarked_square();
     assert_eq!(letters(&unmarked, 1), "VVVVAAAAE");
     assert_eq!(letters(&unmarked.with_sides(vec![4]), 0), "VVVVSSSSS");
     // A segment of one edge gives M once and two end edges in the next step.
@@ -194,6 +275,16 @@ fn grid(columns: u32, rows: u32) -> Net {
             .collect(),
         vec![0; (across * (rows + 1)) as usize],
     )
+}
+
+/// A grid with hills, 100 counts to a face.
+fn hills(columns: u32, rows: u32) -> Net {
+    let mut net = grid(columns, rows);
+    for (v, point) in net.vertices.chunks_mut(3).enumerate() {
+        point[2] = 70 * (v as i32 % 3);
+        point[..2].iter_mut().for_each(|n| *n *= 100);
+    }
+    net
 }
 
 #[test]

@@ -5,7 +5,7 @@ use gedrovit::Reason::{self, *};
 
 const HEADER: &str = include_str!("../../include/gedrovit.h");
 
-const REASONS: [Reason; 14] = [
+const REASONS: [Reason; 15] = [
     TooManyRounds,
     InvalidLengths,
     NetTooLarge,
@@ -20,6 +20,7 @@ const REASONS: [Reason; 14] = [
     MarkedInteriorVertex,
     InvalidSideCounts,
     TallyLimit,
+    TensionOutOfRange,
 ];
 
 /// What stands between two texts, wherever they stand in one line of the header.
@@ -68,6 +69,8 @@ fn constants_are_the_headers() {
         ("MAX_FAN", gedrovit::MAX_FAN as u64),
         ("MIN_SIDES", gedrovit::MIN_SIDES.into()),
         ("MAX_SIDES", gedrovit::MAX_SIDES.into()),
+        ("MAX_TENSION", gedrovit::MAX_TENSION.into()),
+        ("DEFAULT_TENSION", gedrovit::DEFAULT_TENSION.into()),
         ("MAX_TALLY", gedrovit::MAX_TALLY),
         (
             "MAX_REFINED_COORDINATE",
@@ -78,9 +81,10 @@ fn constants_are_the_headers() {
     for (name, value) in constants {
         assert_eq!(constant(name), value, "{name}");
     }
-    let all = ["MAX", "MIN"].map(|word| between(&format!("#define GEDROVIT_{word}_"), " ").count());
+    let all = ["MAX_", "MIN_", "DEFAULT_", "STACK_"]
+        .map(|word| between(&format!("#define GEDROVIT_{word}"), " ").count());
     assert_eq!(
-        all[0] + all[1] + 1,
+        all.iter().sum::<usize>(),
         constants.len(),
         "the header has other limits"
     );

@@ -36,13 +36,14 @@ impl Zones {
     }
 }
 
-/// The tables that a call reads.
+/// The tables that a call reads, its rounds and its tension.
 pub struct Inputs {
     pub rounds: u32,
     pub vertices: Lent<i32>,
     pub faces: Lent<u32>,
     pub sides: Lent<u8>,
     pub marks: Lent<u8>,
+    pub tension: u32,
 }
 
 impl Inputs {
@@ -53,6 +54,7 @@ impl Inputs {
             faces: Lent::read_only(&case.faces, zones.of(1)),
             sides: Lent::read_only(&case.sides, zones.of(7)),
             marks: Lent::read_only(&case.marks, zones.of(2)),
+            tension: case.tension,
         }
     }
 
@@ -164,6 +166,7 @@ pub fn check(inputs: &Inputs, room: &Capacity, work: &mut Lent<u32>) -> Finding 
             inputs.sides.length(),
             inputs.marks.pointer(),
             inputs.marks.length(),
+            inputs.tension,
             room.vertices,
             room.faces,
             room.marks,
@@ -190,6 +193,7 @@ pub fn refine(record: &mut Lent<u64>, inputs: &Inputs, outputs: &mut Outputs) ->
             inputs.sides.length(),
             inputs.marks.pointer(),
             inputs.marks.length(),
+            inputs.tension,
             outputs.vertices.pointer(),
             outputs.vertices.length(),
             outputs.faces.pointer(),

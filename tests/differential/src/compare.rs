@@ -131,15 +131,7 @@ fn report(outcome: &Outcome) -> Report {
 /// What any tables for the results cannot avert, or the least that serve.
 fn sizes_due(case: &Case) -> Sizes {
     let any = Capacity::for_refined_faces(usize::MAX / 16);
-    let checked = check_call(
-        case.rounds,
-        &case.vertices,
-        &case.faces,
-        &case.sides,
-        &case.marks,
-        &any,
-    );
-    match checked {
+    match check_call(case.rounds, &case.net(), &any) {
         Ok(()) => sizes(case.served_faces()),
         Err(refusal) => no_sizes(refusal.reason),
     }

@@ -6,7 +6,9 @@ use std::fmt::{self, Display, Formatter};
 use nets::letters::LetterTable;
 use nets::refused::{PLAIN_REASONS, POLYGON_REASONS};
 use nets::tally::{Figure, new_points};
-use reference::refusal::{MAX_ROUNDS, SIDE_COUNTS};
+use reference::call::start_net;
+use reference::refusal::{MAX_ROUNDS, MAX_TENSION, SIDE_COUNTS, check_tally};
+use reference::rules::Tension;
 
 use crate::compare::Known;
 
@@ -71,7 +73,70 @@ pub struct Calls {
     /// What nets that are accepted, but for 15, find in the record.
     figures: Counts<&'static str>,
     letters: Letters,
+    tensions: Tensions,
     empty: u64,
+}
+
+/// What the tensions of the compared calls were.
+struct Tensions {
+    /// Those of accepted calls with a round or more.
+    accepted: Counts<u32>,
+    /// Where 16 holds, the reason beside it that comes first, if any.
+    refused: Counts<String>,
+}
+
+impl Tensions {
+    fn new(reasons: &[u32]) -> Self {
+        let others = reasons.iter().filter(|&&reason| reason != 16);
+        let beside = others.map(|&reason| beside_16(Some(reason)));
+        Self {
+            accepted: Counts::new(Tension::ALL.map(Tension::number)),
+            refused: Counts::new(beside.chain([beside_16(None)])),
+        }
+    }
+
+    fn add(&mut self, known: &Known) {
+        if known.case.tension > MAX_TENSION {
+            self.refused.add(beside_16(other_reason(known)));
+        } else if known.report.reason == 0 && known.case.rounds > 0 {
+            self.accepted.add(known.case.tension);
+        }
+    }
+
+    fn is_complete(&self) -> bool {
+        self.accepted.is_complete() && self.refused.is_complete()
+    }
+}
+
+/// The first reason of a call for which 16 holds, but for that.
+fn other_reason(Known { case, report, .. }: &Known) -> Option<u32> {
+    let other = match report.reason {
+        16 => {
+            start_net(&case.net())
+                .and_then(|_| check_tally(case.tally, new_points(case)))
+                .err()?
+                .reason
+        }
+        reason => reason,
+    };
+    Some(other)
+}
+
+/// Where 16 stands to this reason in the order.
+fn beside_16(reason: Option<u32>) -> String {
+    match reason {
+        None => "alone".to_owned(),
+        Some(reason @ (1..=4 | 14)) => format!("after {reason}"),
+        Some(reason) => format!("before {reason}"),
+    }
+}
+
+impl Display for Tensions {
+    fn fmt(&self, f: &mut Formatter) -> fmt::Result {
+        let accepted = "accepted with a round or more by tension";
+        writeln!(f, "{}", self.accepted.line(accepted))?;
+        write!(f, "{}", self.refused.line("a tension above 4"))
+    }
 }
 
 /// What the letter tables of the compared calls were.
@@ -153,6 +218,7 @@ impl Calls {
             sides: Counts::new([]),
             figures: Counts::new(Figure::ALL.map(Figure::name)),
             letters: Letters::without_sides(),
+            tensions: Tensions::new(&PLAIN_REASONS),
             empty: 0,
         }
     }
@@ -165,12 +231,14 @@ impl Calls {
             sides: Counts::new(SIDE_COUNTS),
             figures: Counts::new(Figure::ALL.map(Figure::name)),
             letters: Letters::with_sides(),
+            tensions: Tensions::new(&POLYGON_REASONS),
             empty: 0,
         }
     }
 
     pub fn add(&mut self, known: &Known) {
         self.letters.add(known);
+        self.tensions.add(known);
         if matches!(known.report.reason, 0 | 15) {
             let figure = Figure::of(known.case.tally, new_points(&known.case));
             self.figures.add(figure.name());
@@ -191,6 +259,7 @@ impl Calls {
             && self.sides.is_complete()
             && self.figures.is_complete()
             && self.letters.is_complete()
+            && self.tensions.is_complete()
     }
 }
 
@@ -208,6 +277,7 @@ impl Display for Calls {
         }
         writeln!(f, "{}", self.figures.line("the record goes"))?;
         writeln!(f, "{}", self.letters)?;
+        writeln!(f, "{}", self.tensions)?;
         write!(f, "{}", self.refusals.line("refused by reason"))
     }
 }

@@ -5,11 +5,13 @@ use nets::build::to_u32;
 use nets::case::{Case, Expected};
 use nets::change::{PLACINGS, mark, place, renumber};
 use nets::damaged::{damaged_call, damaged_tables, random_tables};
-use nets::letters::{LetterTable, any_letters, with_letter_table};
+use nets::kind::completed;
+use nets::letters::{LetterTable, with_letter_table};
 use nets::refused::{PLAIN_REASONS, refused_call};
 use nets::rng::Rng;
 use nets::shapes;
-use nets::tally::{Figure, any_tally, with_figure};
+use nets::tally::{Figure, with_figure};
+use nets::tension::fit_tension;
 use reference::net::Net;
 use reference::refusal::{Capacity, MAX_ROUNDS, Refusal};
 
@@ -39,6 +41,8 @@ pub enum Kind {
     Short(Table),
     /// With this reason for a refusal.
     Refused(u32),
+    /// With a tension above 4 and another reason for a refusal.
+    TensionAnd,
     /// With two or three reasons for a refusal.
     RefusedTwice,
     /// A sound net changed at random.
@@ -78,6 +82,7 @@ impl Kind {
         kinds.push(Kind::Short(Table::Letters));
         kinds.extend(PLAIN_REASONS.map(Kind::Refused));
         kinds.extend([Kind::Large, Kind::Large, Kind::DamagedLarge, Kind::Brink]);
+        kinds.extend([Kind::TensionAnd; 2]);
         kinds.extend([Kind::RefusedTwice, Kind::Damaged, Kind::Random].repeat(6));
         kinds.extend([Kind::Lengths, Kind::Noise].repeat(11));
         kinds
@@ -87,7 +92,7 @@ impl Kind {
         let case = self.draw_net(rng);
         match self {
             Kind::Largest(_) => with_all(case, rng),
-            _ => any_letters(any_tally(case, rng), rng),
+            _ => completed(case, rng),
         }
     }
 
@@ -99,6 +104,7 @@ impl Kind {
             Kind::Deep => deep(rng),
             Kind::Short(table) => return short(sound_call(rng), table, rng),
             Kind::Refused(reason) => refused_call(&[reason], rng),
+            Kind::TensionAnd => refused_call(&[16, rng.pick(&PLAIN_REASONS)], rng),
             Kind::RefusedTwice => {
                 let reasons: Vec<u32> = (0..rng.between(2, 3))
                     .map(|_| rng.pick(&PLAIN_REASONS))
@@ -117,10 +123,11 @@ impl Kind {
     }
 }
 
-/// A call up to the limit of the record, with letters.
+/// A call up to the limit of the record, with letters, at any tension from 0 to 4.
 pub fn with_all(case: Case, rng: &mut Rng) -> Case {
     let case = with_figure(case, Figure::ToLimit, rng);
-    with_letter_table(case, LetterTable::Exact, rng)
+    let case = with_letter_table(case, LetterTable::Exact, rng);
+    fit_tension(case, rng)
 }
 
 /// Other lengths for the results that leave the answer as it is.

@@ -1,8 +1,8 @@
 //! Calls and what the reference says of them, written for a harness in C.
 //!
-//! A call is 17 numbers of 64 bits (rounds, the lengths of its nine tables,
-//! whether letters are asked for, reason, place, both counts, the record before
-//! and after), the tables of the net, those for the results as found, and those
+//! A call is 18 numbers of 64 bits (rounds, tension, the lengths of its nine
+//! tables, whether letters are asked for, reason, place, both counts, the record
+//! before and after), the tables of the net, those for the results as found, and those
 //! for the results as left; all in the machine's order.
 
 use std::fs::File;
@@ -37,7 +37,7 @@ impl Dump {
             case.capacity.letters,
             case.capacity.workspace,
         ];
-        self.numbers([u64::from(case.rounds)])?;
+        self.numbers([case.rounds, case.tension].map(u64::from))?;
         self.numbers(lengths.map(|length| length as u64))?;
         self.numbers([
             u64::from(case.capacity.with_letters),

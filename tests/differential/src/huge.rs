@@ -5,6 +5,7 @@ use nets::case::{Case, Expected};
 use nets::letters::fit_letters;
 use nets::rng::Rng;
 use nets::shapes;
+use nets::tension::{fit_tension, refused_tension};
 use reference::net::PolygonNet;
 use reference::refusal::Capacity;
 
@@ -16,7 +17,7 @@ const BEYOND: usize = 1 << 32;
 type Claim = fn(&mut Inputs, &mut Outputs);
 
 /// The tables of a square told too long, and the reasons given then, without
-/// side counts and with them. After the one count that there is come bytes that
+/// side counts and with them; 16 may hold where there is none. After the one count that there is come bytes that
 /// make the sum too large, so nothing beyond is looked at.
 const CLAIMS: [(&str, [Option<u32>; 2], Claim); 11] = [
     ("vertices", [Some(2); 2], |inputs, _| {
@@ -88,7 +89,13 @@ pub fn compare(number: u64, rng: &mut Rng) -> Result<(), String> {
     } else {
         Case::with_sides(&PolygonNet::from(&square), 1, Expected::Accepted)
     };
-    let known = Known::new(fit_letters(case, rng), rng)?;
+    let case = fit_letters(case, rng);
+    let case = if rng.one_in(3) {
+        refused_tension(case, rng)
+    } else {
+        fit_tension(case, rng)
+    };
+    let known = Known::new(case, rng)?;
     match reasons[at % 2] {
         Some(reason) => {
             compare_claim(&known, reason, claim).map_err(|fault| format!("{name}: {fault}"))
@@ -137,7 +144,11 @@ fn compare_claim(known: &Known, reason: u32, claim: Claim) -> Result<(), String>
         }
     }
     let finding = check(&inputs, &room, &mut checked.work);
-    agree("check", &finding, &Finding { reason, place: 0 })?;
+    let due = Finding {
+        reason: report.reason,
+        place: 0,
+    };
+    agree("check", &finding, &due)?;
     as_expected("check", checked.work.difference("work", &left.workspace))?;
     let mut record = record(known.case.tally, BEFORE);
     let given = refine(&mut record, &inputs, &mut refined);

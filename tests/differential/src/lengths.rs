@@ -5,6 +5,7 @@ use nets::case::{Case, Expected};
 use nets::letters::fit_letters;
 use nets::rng::Rng;
 use reference::refusal::{Capacity, refined_faces};
+use reference::rules::Tension;
 
 /// A table of a call.
 #[derive(Clone, Copy, Debug, PartialEq, Eq)]
@@ -234,6 +235,7 @@ fn filled(vertices: usize, corners: usize, sides: Vec<u8>, rounds: u32, rng: &mu
         marks: (0..vertices)
             .map(|_| number(marks, rng).to_le_bytes()[0])
             .collect(),
+        tension: Tension::OLD.number(),
         capacity: Capacity::for_refined_faces(0),
         expected: Expected::Unknown,
     };

@@ -6,6 +6,7 @@ use nets::case::Case;
 use nets::moved::MovedPair;
 use nets::refused::{PLAIN_REASONS, POLYGON_REASONS};
 use nets::rng::Rng;
+use reference::rules::Tension;
 
 use crate::compare::{Known, agree};
 use crate::counts::Counts;
@@ -14,6 +15,8 @@ use crate::counts::Counts;
 pub struct Moves {
     /// Answers to both calls of a pair within the coordinate limit.
     answers: Counts<u32>,
+    /// The tensions of those accepted with a round or more.
+    tensions: Counts<u32>,
     sorts: Counts<&'static str>,
 }
 
@@ -31,6 +34,7 @@ impl Moves {
         let reasons = reasons.into_iter().filter(|&reason| reason != 5);
         Self {
             answers: Counts::new([0].into_iter().chain(reasons)),
+            tensions: Counts::new(Tension::ALL.map(Tension::number)),
             sorts: Counts::new([
                 "within the limit",
                 "to the limit",
@@ -42,7 +46,7 @@ impl Moves {
     }
 
     pub fn is_complete(&self) -> bool {
-        self.answers.is_complete() && self.sorts.is_complete()
+        self.answers.is_complete() && self.tensions.is_complete() && self.sorts.is_complete()
     }
 
     /// Compares both calls, from equal records, with the reference, and where
@@ -59,6 +63,9 @@ impl Moves {
         if pair.is_within_limit() {
             compare_pair(&pair, &plain, &moved).map_err(on_moved)?;
             self.answers.add(plain.report.reason);
+            if plain.report.reason == 0 && pair.case.rounds > 0 {
+                self.tensions.add(pair.case.tension);
+            }
         }
         self.add_sorts(&pair);
         Ok(())
@@ -105,6 +112,7 @@ impl Display for Moves {
         let pairs = self.answers.total();
         writeln!(f, "{pairs} nets and their moved copies agree")?;
         writeln!(f, "{}", self.answers.line("by reason, 0 if accepted"))?;
+        writeln!(f, "{}", self.tensions.line("accepted by tension"))?;
         write!(f, "{}", self.sorts.line("moved"))
     }
 }

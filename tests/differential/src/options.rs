@@ -12,9 +12,9 @@ pub const USAGE: &str = "usage: differential [--nets N] [--seed S] [--here] [MOD
 
 Compares N seeded nets (20000), one with side counts for every 3 of them,
 moved nets, series of calls over one record, pairs with seams, named nets with
-every number of rounds, crowds of them, calls with a vertex in many faces, the
-stored calls, and calls with huge lengths. A second process does it, so
-that the call is known if that dies; with --here this one.
+every number of rounds and at every tension, crowds of them, calls with a vertex
+in many faces, the stored calls, and calls with huge lengths. A second process
+does it, so that the call is known if that dies; with --here this one.
 MODE is one of
   --net I          compares only net I of the series
   --polygons I     compares only net I with side counts

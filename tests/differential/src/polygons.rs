@@ -5,13 +5,12 @@ use nets::build::to_u32;
 use nets::case::{Case, Expected};
 use nets::change::PLACINGS;
 use nets::damaged::{damaged_polygons, random_polygons};
-use nets::letters::any_letters;
+use nets::kind::completed;
 use nets::polygons::{PolygonShape, accepted_polygons, some_size};
 use nets::refused::{POLYGON_REASONS, refused_polygons};
 use nets::rng::Rng;
 use nets::shapes::union;
 use nets::solids;
-use nets::tally::any_tally;
 use reference::refusal::{Capacity, MAX_ROUNDS};
 
 use crate::draw::{fit_room, most_rounds, random, short, with_all};
@@ -46,6 +45,8 @@ pub enum PolygonKind {
     Refused(u32),
     /// With bad side counts and this reason for a refusal.
     BadSidesAnd(u32),
+    /// With a tension above 4 and another reason for a refusal.
+    TensionAnd,
     /// With two or three reasons for a refusal.
     RefusedTwice,
     /// A sound net changed at random.
@@ -79,7 +80,7 @@ impl PolygonKind {
     fn rotation() -> Vec<PolygonKind> {
         use PolygonKind::{
             Accepted, BadSidesAnd, Brink, Damaged, DamagedLarge, Deep, Large, Lengths, Noise,
-            Random, Refused, RefusedTwice, Short,
+            Random, Refused, RefusedTwice, Short, TensionAnd,
         };
         let mut kinds = vec![Deep, Large, DamagedLarge, Brink, Brink];
         for size in [Size::Small, Size::Medium] {
@@ -89,6 +90,7 @@ impl PolygonKind {
         kinds.push(Short(Table::Letters));
         kinds.extend(POLYGON_REASONS.map(Refused));
         kinds.extend([1, 2, 2, 3, 4].map(BadSidesAnd));
+        kinds.extend([TensionAnd; 3]);
         kinds.extend([RefusedTwice, Damaged, Random].repeat(6));
         kinds.extend([Lengths, Noise].repeat(8));
         kinds
@@ -98,7 +100,7 @@ impl PolygonKind {
         let case = self.draw_net(rng);
         match self {
             PolygonKind::Largest(_) => with_all(case, rng),
-            _ => any_letters(any_tally(case, rng), rng),
+            _ => completed(case, rng),
         }
     }
 
@@ -111,6 +113,7 @@ impl PolygonKind {
             PolygonKind::Short(table) => return short(sound_call(rng), table, rng),
             PolygonKind::Refused(reason) => refused_polygons(&[reason], rng),
             PolygonKind::BadSidesAnd(reason) => refused_polygons(&[reason, 14], rng),
+            PolygonKind::TensionAnd => refused_polygons(&[16, rng.pick(&POLYGON_REASONS)], rng),
             PolygonKind::RefusedTwice => {
                 let reasons: Vec<u32> = (0..rng.between(2, 3))
                     .map(|_| rng.pick(&POLYGON_REASONS))

@@ -9,6 +9,7 @@ use reference::call::start_net;
 use reference::letter::Letter;
 use reference::net::Net;
 use reference::retrace::{round_is_by_letters, start_is_by_letters};
+use reference::rules::Tension;
 use reference::step::trace;
 
 use crate::capi::Refined;
@@ -19,20 +20,21 @@ const MOST_FACES: usize = 256;
 
 /// The points that were worked out again.
 pub struct Retraced {
-    nets: u64,
+    /// Nets by their tension.
+    nets: Counts<u32>,
     points: Counts<char>,
 }
 
 impl Retraced {
     pub fn new() -> Self {
         Self {
-            nets: 0,
+            nets: Counts::new(Tension::ALL.map(Tension::number)),
             points: Counts::new(Letter::ALL.map(|letter| char::from(letter.byte()))),
         }
     }
 
     pub fn is_complete(&self) -> bool {
-        self.points.is_complete()
+        self.nets.is_complete() && self.points.is_complete()
     }
 
     /// Works out every point of an accepted call with letters and not too many
@@ -44,11 +46,12 @@ impl Retraced {
         let start = drawn_start(case);
         self.compare_start(case, &start, refined)?;
         let mut before = start;
-        for step in trace(&before, case.rounds) {
-            self.compare_round(&before, step.net.points.len(), refined)?;
+        let tension = tension_of(case);
+        for step in trace(&before, tension, case.rounds) {
+            self.compare_round(&before, tension, step.net.points.len(), refined)?;
             before = step.net;
         }
-        self.nets += 1;
+        self.nets.add(case.tension);
         Ok(())
     }
 
@@ -64,9 +67,12 @@ impl Retraced {
         if refined.letters.is_none() {
             return Ok(());
         }
-        self.nets += 1;
+        self.nets.add(case.tension);
         match before {
-            Some(before) => self.compare_round(before, refined.net.points.len(), refined),
+            Some(before) => {
+                let vertices = refined.net.points.len();
+                self.compare_round(before, tension_of(case), vertices, refined)
+            }
             None => self.compare_start(case, &drawn_start(case), refined),
         }
     }
@@ -85,11 +91,12 @@ impl Retraced {
     fn compare_round(
         &mut self,
         before: &Net,
+        tension: Tension,
         vertices: usize,
         refined: &Refined,
     ) -> Result<(), String> {
         let (points, letters) = front(refined, vertices)?;
-        if !round_is_by_letters(before, points, letters) {
+        if !round_is_by_letters(before, tension, points, letters) {
             let old = before.points.len();
             return Err(format!(
                 "a point from {old} on is not what its letter names"
@@ -108,8 +115,11 @@ impl Retraced {
 
 /// The net where the refining of an accepted call begins.
 fn drawn_start(case: &Case) -> Net {
-    let start = start_net(&case.vertices, &case.faces, &case.sides, &case.marks);
-    start.expect("an accepted net")
+    start_net(&case.net()).expect("an accepted net")
+}
+
+fn tension_of(case: &Case) -> Tension {
+    Tension::new(case.tension).expect("an accepted call")
 }
 
 /// The first so many points and their letters.
@@ -123,11 +133,12 @@ fn front(refined: &Refined, count: usize) -> Result<(&[[i32; 3]], &[u8]), String
 
 impl Display for Retraced {
     fn fmt(&self, f: &mut Formatter) -> fmt::Result {
-        let (nets, points) = (self.nets, self.points.total());
+        let (nets, points) = (self.nets.total(), self.points.total());
         writeln!(
             f,
             "{points} points of {nets} nets are what their letters name"
         )?;
+        writeln!(f, "{}", self.nets.line("nets by tension"))?;
         write!(f, "{}", self.points.line("points by letter"))
     }
 }

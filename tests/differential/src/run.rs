@@ -210,6 +210,6 @@ pub fn shown(case: &Case) -> String {
         case.sides.len(),
         case.marks.len(),
     ];
-    let rounds = case.rounds;
-    format!("{rounds} rounds, tables of {lengths:?} entries")
+    let (rounds, tension) = (case.rounds, case.tension);
+    format!("{rounds} rounds, tension {tension}, tables of {lengths:?} entries")
 }

@@ -10,11 +10,14 @@ use nets::tally::accepted_tally;
 use reference::curve::{Form, exact_curve, rounded_curve};
 use reference::net::Net;
 use reference::refusal::MAX_ROUNDS;
+use reference::rules::Tension;
 use reference::seam::{Boundary, Reading, is_near, shared_readings};
 
 use crate::compare::Known;
 use crate::counts::Counts;
 use crate::draw::most_rounds;
+
+const PART: &str = "part";
 
 type DrawPair = fn(&mut Rng) -> SharedPair;
 
@@ -25,8 +28,12 @@ pub struct Seams {
     few: [usize; 2],
     pairs: u64,
     readings: u64,
+    /// Shared readings of nets with equal tensions.
     rounds: Counts<u32>,
+    tensions: Counts<u32>,
     sorts: Counts<&'static str>,
+    /// Pairs with different tensions, of which nothing is promised.
+    different: Counts<&'static str>,
 }
 
 impl Seams {
@@ -53,16 +60,22 @@ impl Seams {
             pairs: 0,
             readings: 0,
             rounds: Counts::new(0..=most_rounds),
+            tensions: Counts::new(Tension::ALL.map(Tension::number)),
             sorts: Counts::new(ways.into_iter().chain(forms).chain(counts.iter().copied())),
+            different: Counts::new([PART]),
         }
     }
 
     pub fn is_complete(&self) -> bool {
-        self.rounds.is_complete() && self.sorts.is_complete()
+        self.rounds.is_complete()
+            && self.tensions.is_complete()
+            && self.sorts.is_complete()
+            && self.different.is_complete()
     }
 
     /// Compares all readings of a pair of nets after each round. They are
-    /// those of the nets where refining begins.
+    /// those of the nets where refining begins. "Two panels keep their seam if
+    /// their tensions are equal too."
     pub fn compare_pair(&mut self, rng: &mut Rng) -> Result<(), String> {
         let (pair, faces) = self.drawn_pair(rng);
         let starts = pair.nets.each_ref().map(Drawn::start);
@@ -70,27 +83,48 @@ impl Seams {
         if !shared.contains(&pair.readings.into()) {
             return Err("the nets do not share what was drawn".to_owned());
         }
+        let is_equal = pair.tensions[0] == pair.tensions[1];
         let most = (starts.each_ref()).map(|net| most_rounds(net.faces.len(), MAX_ROUNDS, faces));
+        let mut do_part = false;
         for rounds in 0..=most[0].min(most[1]) {
             let mut after = Vec::new();
-            for (net, start) in pair.nets.iter().zip(&starts) {
-                let refined = refined(net, rounds, rng)?;
-                self.readings += compare_readings(start, &refined, rounds)?;
+            for ((net, start), tension) in pair.nets.iter().zip(&starts).zip(pair.tensions) {
+                let refined = refined(net, tension, rounds, rng)?;
+                self.readings += compare_readings(start, tension, &refined, rounds)?;
                 after.push(refined);
             }
-            compare_shared(&after, &shared, rounds)?;
-            self.rounds.add_many(rounds, shared.len() as u64);
+            match (parting(&after, &shared), is_equal) {
+                (None, true) => self.add_shared(pair.tensions[0], rounds, shared.len()),
+                (Some((a, b)), true) => {
+                    return Err(format!("{a:?} and {b:?} part in round {rounds}"));
+                }
+                (parting, false) => do_part |= parting.is_some(),
+            }
         }
-        for readings in &shared {
-            self.add_sorts(&starts, readings);
+        self.pairs += 1;
+        match (is_equal, do_part) {
+            (true, _) => self.add_pair(&pair, &starts, &shared),
+            (false, true) => self.different.add(PART),
+            (false, false) => self.different.add("stay equal"),
+        }
+        Ok(())
+    }
+
+    /// Counts a pair with equal tensions by what it shares.
+    fn add_pair(&mut self, pair: &SharedPair, starts: &[Net; 2], shared: &[(Reading, Reading)]) {
+        for readings in shared {
+            self.add_sorts(starts, readings);
         }
         match pair.nets.iter().filter(|net| net.has_sides()).count() {
             0 => {}
             1 => self.sorts.add("with counts in one"),
             _ => self.sorts.add("with counts in both"),
         }
-        self.pairs += 1;
-        Ok(())
+    }
+
+    fn add_shared(&mut self, tension: Tension, rounds: u32, readings: usize) {
+        self.rounds.add_many(rounds, readings as u64);
+        self.tensions.add_many(tension.number(), readings as u64);
     }
 
     /// A pair of nets with the most faces after refining; some have so few
@@ -136,13 +170,16 @@ impl Display for Seams {
             "{pairs} pairs agree: {readings} readings are the rounded curve, {shared} shared ones are equal"
         )?;
         writeln!(f, "{}", self.rounds.line("shared by rounds"))?;
-        write!(f, "{}", self.sorts.line("shared by sort"))
+        writeln!(f, "{}", self.tensions.line("shared by tension"))?;
+        writeln!(f, "{}", self.sorts.line("shared by sort"))?;
+        let different = "pairs at different tensions";
+        write!(f, "{}", self.different.line(different))
     }
 }
 
 /// The net that the call through C gives.
-fn refined(net: &Drawn, rounds: u32, rng: &mut Rng) -> Result<Net, String> {
-    let case = accepted_tally(net.accepted_case(rounds), rng);
+fn refined(net: &Drawn, tension: Tension, rounds: u32, rng: &mut Rng) -> Result<Net, String> {
+    let case = accepted_tally(net.accepted_case(tension, rounds), rng);
     let case = fit_letters(case, rng);
     let known = Known::new(case, rng)?;
     let answer = known
@@ -154,34 +191,32 @@ fn refined(net: &Drawn, rounds: u32, rng: &mut Rng) -> Result<Net, String> {
 
 /// Each reading of the refined net is the rounded curve of what it was at
 /// first, near enough to the exact curve. Returns the number of readings.
-fn compare_readings(net: &Net, refined: &Net, rounds: u32) -> Result<u64, String> {
+fn compare_readings(
+    net: &Net,
+    tension: Tension,
+    refined: &Net,
+    rounds: u32,
+) -> Result<u64, String> {
     let (initial, after) = (Boundary::new(net), Boundary::new(refined));
     let readings = initial.readings();
     for &reading in &readings {
         let points = initial.read(reading).ok_or("a reading is missing")?;
-        let curve = rounded_curve(reading.form, &points, rounds);
+        let curve = rounded_curve(tension, reading.form, &points, rounds);
         let given = after.read(reading).ok_or("a reading got lost")?;
-        let exact = exact_curve(reading.form, &points, rounds);
+        let exact = exact_curve(tension, reading.form, &points, rounds);
         if given != curve || !is_near(&given, &exact, rounds) {
             return Err(format!(
-                "{reading:?} leaves its curve in round {rounds}; {net:?}"
+                "{reading:?} leaves its curve in round {rounds} at {tension:?}; {net:?}"
             ));
         }
     }
     Ok(readings.len() as u64)
 }
 
-/// Each shared segment is the same in both refined nets.
-fn compare_shared(
-    refined: &[Net],
-    shared: &[(Reading, Reading)],
-    rounds: u32,
-) -> Result<(), String> {
+/// A shared segment that is not the same in both refined nets.
+fn parting(refined: &[Net], shared: &[(Reading, Reading)]) -> Option<(Reading, Reading)> {
     let [one, other] = [&refined[0], &refined[1]].map(Boundary::new);
     let parts =
         |(a, b): &&(Reading, Reading)| one.read(*a).is_none() || one.read(*a) != other.read(*b);
-    match shared.iter().find(parts) {
-        Some((a, b)) => Err(format!("{a:?} and {b:?} part in round {rounds}")),
-        None => Ok(()),
-    }
+    shared.iter().find(parts).copied()
 }

@@ -29,7 +29,7 @@ impl Series {
     pub fn new() -> Self {
         Self {
             series: 0,
-            answers: Counts::new([0, 15]),
+            answers: Counts::new([0, 15, 16]),
             sorts: Counts::new([
                 "from 0",
                 "from near the limit",

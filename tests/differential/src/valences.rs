@@ -6,6 +6,7 @@ use nets::case::Case;
 use nets::letters::fit_letters;
 use nets::rng::Rng;
 use nets::tally::any_tally;
+use nets::tension::fit_tension;
 use nets::valences::{ROWS, Row, any_call, row_call};
 
 use crate::draw::fit_room;
@@ -36,5 +37,6 @@ pub fn valence_call(number: u64, rng: &mut Rng) -> (String, Case) {
         None => ("drawn".to_owned(), any_call(rng)),
     };
     fit_room(&mut case, rng);
-    (name, fit_letters(any_tally(case, rng), rng))
+    let case = fit_letters(any_tally(case, rng), rng);
+    (name, fit_tension(case, rng))
 }

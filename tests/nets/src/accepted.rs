@@ -4,6 +4,7 @@ use std::collections::BTreeSet;
 
 use reference::net::{Mesh, Net, sides};
 use reference::refusal::check_net;
+use reference::rules::Tension;
 use reference::step::refine_once;
 
 use crate::build::to_u32;
@@ -335,7 +336,7 @@ fn split(size: Size, rng: &mut Rng) -> Net {
             _ => draw_part(Size::Small, rng),
         };
         if 4 * part.faces.len() <= size.most_faces() {
-            return refine_once(&part).net;
+            return refine_once(&part, Tension::OLD).net;
         }
     }
 }

@@ -1,9 +1,10 @@
 //! Calls and texts together with what is known of their answers.
 
 use reference::call::{Call, Outcome, Tables, refine, refine_into};
-use reference::net::{Mesh, Net, PolygonNet};
+use reference::net::{Mesh, Net, NetRecord, PolygonNet};
 use reference::point::Point;
-use reference::refusal::{Capacity, MAX_ROUNDS, Refusal, quadrilaterals};
+use reference::refusal::{Capacity, MAX_ROUNDS, Refusal};
+use reference::rules::Tension;
 use reference::step::split;
 use reference::text::{Document, PROGRAM_REFINED_FACES};
 
@@ -40,13 +41,15 @@ pub struct Case {
     /// Sides of each face; none if every face has four.
     pub sides: Vec<u8>,
     pub marks: Vec<u8>,
+    pub tension: u32,
     pub capacity: Capacity,
     pub expected: Expected,
 }
 
 impl Case {
-    /// A call without side counts and letters, with a record from zero and
-    /// tables just long enough, or for one round if there are too many rounds.
+    /// A call without side counts and letters, at the tension of old callers, with
+    /// a record from zero and tables just long enough, or for one round if there
+    /// are too many rounds.
     pub fn new(net: &Net, rounds: u32, expected: Expected) -> Self {
         Self::of_tables(net, vec![], rounds, expected)
     }
@@ -69,6 +72,7 @@ impl Case {
             faces: net.face_table(),
             sides,
             marks: net.marks.clone(),
+            tension: Tension::OLD.number(),
             capacity: Capacity::for_refined_faces(0),
             expected,
         };
@@ -76,9 +80,20 @@ impl Case {
         case
     }
 
+    /// The net record of the call.
+    pub fn net(&self) -> NetRecord<'_> {
+        NetRecord {
+            vertices: &self.vertices,
+            faces: &self.faces,
+            sides: &self.sides,
+            marks: &self.marks,
+            tension: self.tension,
+        }
+    }
+
     /// F: the quadrilaterals that refining begins with.
     pub fn quadrilaterals(&self) -> usize {
-        quadrilaterals(self.faces.len(), &self.sides)
+        self.net().quadrilaterals()
     }
 
     /// Faces after refining, or after one round if there are too many rounds.
@@ -111,10 +126,7 @@ impl Case {
         refine(&Call {
             tally: self.tally,
             rounds: self.rounds,
-            vertices: &self.vertices,
-            faces: &self.faces,
-            sides: &self.sides,
-            marks: &self.marks,
+            net: self.net(),
             capacity: self.capacity,
         })
     }
@@ -123,15 +135,7 @@ impl Case {
     /// `tables` the final state of every table.
     pub fn outcome_in(&self, tables: &mut Tables) -> (Outcome, u64) {
         let mut tally = self.tally;
-        let outcome = refine_into(
-            &mut tally,
-            self.rounds,
-            &self.vertices,
-            &self.faces,
-            &self.sides,
-            &self.marks,
-            tables,
-        );
+        let outcome = refine_into(&mut tally, self.rounds, self.net(), tables);
         (outcome, tally)
     }
 }
@@ -182,10 +186,14 @@ impl Drawn {
         }
     }
 
-    pub fn accepted_case(&self, rounds: u32) -> Case {
-        match self {
+    pub fn accepted_case(&self, tension: Tension, rounds: u32) -> Case {
+        let case = match self {
             Drawn::Plain(net) => Case::new(net, rounds, Expected::Accepted),
             Drawn::WithSides(net) => Case::with_sides(net, rounds, Expected::Accepted),
+        };
+        Case {
+            tension: tension.number(),
+            ..case
         }
     }
 }

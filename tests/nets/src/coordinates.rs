@@ -2,6 +2,7 @@
 //! limit allows, or halves.
 
 use reference::fraction::Fraction;
+use reference::rules::Tension;
 use reference::step::{Rule, refine_once};
 
 use crate::case::Drawn;
@@ -11,9 +12,17 @@ use crate::rng::Rng;
 /// A common multiple of all side counts and of 2, so that splits are exact.
 const UNIT: i32 = 840;
 
-/// If all coordinates are multiples of these numbers, many sixteenths are
-/// halves, many 256ths, and many new points with wide edges.
-const STEPS: [i32; 3] = [8, 128, 72 * UNIT];
+/// The least denominators of the weights (8+ω)/16 and -ω/16, and of ω/(8+ω), at
+/// each tension.
+const DENOMINATORS: [[i32; 2]; 5] = [[2, 1], [64, 33], [32, 17], [64, 35], [16, 9]];
+
+/// If all coordinates are multiples of these numbers, many edge points are
+/// halves, many face points, and many new points with wide edges.
+fn steps(tension: Tension) -> [i32; 3] {
+    let [of_edges, of_rings] = DENOMINATORS[tension.number() as usize];
+    let half = of_edges / 2;
+    [half, half * of_edges, half * of_rings * UNIT]
+}
 
 /// A new point of the first round.
 #[derive(Clone, Debug)]
@@ -43,8 +52,8 @@ impl Weights {
     }
 }
 
-/// The weights in all new points of the first round.
-pub fn weights(drawn: &Drawn) -> Vec<Weights> {
+/// The weights in all new points of the first round at a tension.
+pub fn weights(drawn: &Drawn, tension: Tension) -> Vec<Weights> {
     let vertices: Vec<usize> = (0..drawn.points().len()).collect();
     let mut all: Vec<Weights> = Vec::new();
     for three in vertices.chunks(3) {
@@ -53,7 +62,7 @@ pub fn weights(drawn: &Drawn) -> Vec<Weights> {
         for (axis, &vertex) in three.iter().enumerate() {
             unit.points_mut()[vertex][axis] = UNIT;
         }
-        let made = refine_once(&unit.start()).made;
+        let made = refine_once(&unit.start(), tension).made;
         if all.is_empty() {
             all.extend(made.iter().map(|new| Weights::none(new.rule)));
         }
@@ -73,10 +82,10 @@ fn farthest<'a>(points: impl Iterator<Item = &'a Weights>) -> &'a Weights {
 }
 
 /// Places every vertex at the limit, so that some new points are as far out as
-/// they can be: on one axis an edge point, on the next a face point below 0,
+/// they can be at a tension: on one axis an edge point, on the next a face point below 0,
 /// on the last any point.
-pub fn place_peaks(drawn: &mut Drawn, rng: &mut Rng) {
-    let all = weights(drawn);
+pub fn place_peaks(drawn: &mut Drawn, tension: Tension, rng: &mut Rng) {
+    let all = weights(drawn, tension);
     let (faces, edges): (Vec<&Weights>, Vec<&Weights>) = all.iter().partition(|new| new.is_face());
     let any = &all[rng.below(all.len())];
     let chosen = [
@@ -97,9 +106,10 @@ pub fn place_peaks(drawn: &mut Drawn, rng: &mut Rng) {
     }
 }
 
-/// Places every vertex at multiples of a number, another one on each axis.
-pub fn place_halves(drawn: &mut Drawn, rng: &mut Rng) {
-    let mut steps = STEPS;
+/// Places every vertex at multiples of a number, another one on each axis, so
+/// that many new points at a tension are halves.
+pub fn place_halves(drawn: &mut Drawn, tension: Tension, rng: &mut Rng) {
+    let mut steps = steps(tension);
     rng.shuffle(&mut steps);
     for point in drawn.points_mut() {
         *point = steps.map(|step| {

@@ -2,6 +2,7 @@
 
 use reference::net::Net;
 use reference::refusal::{Capacity, Refusal};
+use reference::rules::Tension;
 use reference::text::MAX_BYTES;
 
 use crate::accepted::{Shape, Size, accepted};
@@ -420,6 +421,7 @@ pub fn random_tables(rng: &mut Rng) -> Case {
             .collect(),
         sides: vec![],
         marks: (0..vertices).map(|_| u8::from(rng.one_in(4))).collect(),
+        tension: Tension::OLD.number(),
         capacity: Capacity::for_refined_faces(16 * faces),
         expected: Expected::Unknown,
     };
@@ -445,6 +447,7 @@ pub fn random_polygons(rng: &mut Rng) -> Case {
             .collect(),
         sides,
         marks: (0..vertices).map(|_| u8::from(rng.one_in(4))).collect(),
+        tension: Tension::OLD.number(),
         capacity: Capacity::for_refined_faces(16 * corners),
         expected: Expected::Unknown,
     };

@@ -13,6 +13,7 @@ use reference::letter::{Letter, letter_table, refine_with_letters};
 use reference::net::{Net, PolygonNet, edge};
 use reference::point::ExactPoint;
 use reference::refusal::{Capacity, Refusal, check_call};
+use reference::rules::Tension;
 use reference::seam::{Boundary, Reading, Way};
 use reference::step::{Directions, Rule, Step, Surface, refine_once, split, trace};
 use reference::topology::Topology;
@@ -33,6 +34,7 @@ use crate::rng::Rng;
 use crate::shapes;
 use crate::stored::{from_text, stored_calls};
 use crate::tally::any_tally;
+use crate::tension::{any_tension, some_tension};
 
 /// Faces of the nets that are preferred, since the definitions are slow.
 const FEW_FACES: usize = 6;
@@ -65,7 +67,7 @@ pub fn lines(seed: u64, count: usize) -> Vec<String> {
     let rng = &mut Rng::new(seed);
     let mut lines: Vec<String> = accepted_nets(count, rng)
         .iter()
-        .map(|(kind, net)| accepted_line(kind, net, rng))
+        .map(|(kind, net)| accepted_line(kind, net, some_tension(rng), rng))
         .collect();
     for (at, &first) in PLAIN_REASONS.iter().enumerate() {
         lines.extend((0..ALONE).map(|_| refused_line(&[first], rng)));
@@ -75,7 +77,7 @@ pub fn lines(seed: u64, count: usize) -> Vec<String> {
     }
     for _ in 0..count / 4 {
         let damaged = served(|rng| damaged_tables(Size::Small, rng), rng);
-        let random = any_letters(random_tables(rng), rng);
+        let random = any_wishes(random_tables(rng), rng);
         lines.push(call_line("damaged", &damaged, &[]));
         lines.push(call_line("random", &random, &[]));
         lines.push(call_line("limits", &near_limits(rng), &[]));
@@ -95,7 +97,8 @@ fn polygon_lines(count: usize, rng: &mut Rng) -> Vec<String> {
         .map(|(at, shape)| {
             let tries = if at % 8 == 7 { 2 } else { 40 };
             let net = drawn_polygons(shape, tries, rng);
-            accepted_polygon_line(&format!("polygons-{}", shape.name()), &net, rng)
+            let kind = format!("polygons-{}", shape.name());
+            accepted_polygon_line(&kind, &net, some_tension(rng), rng)
         })
         .collect();
     for reason in POLYGON_REASONS {
@@ -105,7 +108,7 @@ fn polygon_lines(count: usize, rng: &mut Rng) -> Vec<String> {
     for _ in 0..count / 16 {
         let shape = rng.pick(&PolygonShape::ALL);
         let damaged = served(|rng| damaged_polygons(shape, Size::Small, rng), rng);
-        let random = any_letters(random_polygons(rng), rng);
+        let random = any_wishes(random_polygons(rng), rng);
         lines.push(call_line("polygons-damaged", &damaged, &[]));
         lines.push(call_line("polygons-random", &random, &[]));
         lines.push(call_line("polygons-limits", &near_polygon_limits(rng), &[]));
@@ -114,17 +117,17 @@ fn polygon_lines(count: usize, rng: &mut Rng) -> Vec<String> {
     lines
 }
 
-/// The facts of some named nets, in all dressings by turns.
+/// The facts of some named nets, in all dressings and at all tensions by turns.
 fn named_lines(seed: u64) -> Vec<String> {
     let rng = &mut Rng::new(seed);
-    let dressed = chosen_named()
-        .into_iter()
-        .zip(Dressing::ALL.into_iter().cycle());
-    let told = dressed.map(|(named, dressing)| {
+    let turns = Dressing::ALL.into_iter().cycle();
+    let turns = turns.zip(Tension::ALL.into_iter().cycle());
+    let dressed = chosen_named().into_iter().zip(turns);
+    let told = dressed.map(|(named, (dressing, tension))| {
         let kind = format!("named-{}", named.family.name());
-        match named.dressed(dressing, rng) {
-            Drawn::Plain(net) => accepted_line(&kind, &net, rng),
-            Drawn::WithSides(net) => accepted_polygon_line(&kind, &net, rng),
+        match named.dressed(dressing, tension, rng) {
+            Drawn::Plain(net) => accepted_line(&kind, &net, tension, rng),
+            Drawn::WithSides(net) => accepted_polygon_line(&kind, &net, tension, rng),
         }
     });
     told.collect()
@@ -178,11 +181,12 @@ fn drawn_polygons(shape: PolygonShape, tries: usize, rng: &mut Rng) -> PolygonNe
 }
 
 /// An accepted net with side counts: its split, and the net after one round.
-fn accepted_polygon_line(kind: &str, net: &PolygonNet, rng: &mut Rng) -> String {
-    let case = Case::with_sides(net, to_u32(rng.below(2)), Expected::Accepted);
+fn accepted_polygon_line(kind: &str, net: &PolygonNet, tension: Tension, rng: &mut Rng) -> String {
+    let drawn = Drawn::WithSides(net.clone());
+    let case = drawn.accepted_case(tension, to_u32(rng.below(2)));
     let case = any_letters(any_tally(case, rng), rng);
     let start = split(net);
-    let refined = refine_once(&start).net;
+    let refined = refine_once(&start, tension).net;
     let sizes: BTreeSet<usize> = net.faces.iter().map(Vec::len).collect();
     let traits = sizes.iter().map(|n| format!("face of {n} sides"));
     object(&[
@@ -192,7 +196,10 @@ fn accepted_polygon_line(kind: &str, net: &PolygonNet, rng: &mut Rng) -> String 
         ("moved", moved_text(&case)),
         ("sides", numbers(&case.sides)),
         ("split", list([&start, &refined].map(net_text))),
-        ("letters", letters_text(&start, net.points.len(), 0..=1)),
+        (
+            "letters",
+            letters_text(&start, tension, net.points.len(), 0..=1),
+        ),
         ("traits", list(traits.map(quoted))),
     ])
 }
@@ -217,6 +224,7 @@ fn near_polygon_limits(rng: &mut Rng) -> Case {
         faces: vec![0; count * times],
         sides: vec![u8::try_from(count).expect("small"); times],
         marks: vec![0; vertices],
+        tension: Tension::OLD.number(),
         capacity: Capacity::for_refined_faces(0),
         expected: Expected::Unknown,
     };
@@ -228,7 +236,7 @@ fn near_polygon_limits(rng: &mut Rng) -> Case {
     if rng.one_in(3) {
         case.capacity.workspace -= 1;
     }
-    any_letters(case, rng)
+    any_wishes(case, rng)
 }
 
 /// Different accepted nets with their names: every ring and every fan, then
@@ -274,11 +282,12 @@ fn drawn(shape: Shape, tries: usize, rng: &mut Rng) -> Net {
     net
 }
 
-fn accepted_line(kind: &str, net: &Net, rng: &mut Rng) -> String {
+fn accepted_line(kind: &str, net: &Net, tension: Tension, rng: &mut Rng) -> String {
     let rounds = if net.faces.len() <= TWO_ROUNDS { 2 } else { 1 };
-    let case = Case::new(net, to_u32(rng.below(3)), Expected::Accepted);
+    let drawn = Drawn::Plain(net.clone());
+    let case = drawn.accepted_case(tension, to_u32(rng.below(3)));
     let case = any_letters(any_tally(case, rng), rng);
-    let steps = trace(net, rounds);
+    let steps = trace(net, tension, rounds);
     let mut nets: Vec<&Net> = vec![net];
     nets.extend(steps.iter().map(|step| &step.net));
     object(&[
@@ -287,11 +296,18 @@ fn accepted_line(kind: &str, net: &Net, rng: &mut Rng) -> String {
         ("net", net_text(net)),
         ("moved", moved_text(&case)),
         ("steps", list(nets[1..].iter().map(|net| net_text(net)))),
-        ("letters", letters_text(net, net.points.len(), 0..=rounds)),
-        ("words", list(words(net).iter().map(word_text))),
+        (
+            "letters",
+            letters_text(net, tension, net.points.len(), 0..=rounds),
+        ),
+        ("words", list(words(net, tension).iter().map(word_text))),
         (
             "readings",
-            list(readings(net).iter().map(|r| reading_text(&nets, *r))),
+            list(
+                readings(net)
+                    .iter()
+                    .map(|r| reading_text(&nets, tension, *r)),
+            ),
         ),
         ("traits", list(traits(net, &steps).iter().map(quoted))),
     ])
@@ -305,12 +321,17 @@ fn refused_line(reasons: &[u32], rng: &mut Rng) -> String {
     call_line(&kind, &case, reasons)
 }
 
-/// The first call with few enough rounds, with any letter table.
+/// The call with any letter table and any tension.
+fn any_wishes(case: Case, rng: &mut Rng) -> Case {
+    any_tension(any_letters(case, rng), rng)
+}
+
+/// The first call with few enough rounds, with any letter table and any tension.
 fn served(make: impl Fn(&mut Rng) -> Case, rng: &mut Rng) -> Case {
     loop {
         let case = make(rng);
         if case.rounds <= MOST_ROUNDS {
-            return any_letters(case, rng);
+            return any_wishes(case, rng);
         }
     }
 }
@@ -338,10 +359,11 @@ fn near_limits(rng: &mut Rng) -> Case {
         faces: vec![0; 4 * faces],
         sides: vec![],
         marks: vec![0; vertices],
+        tension: Tension::OLD.number(),
         capacity: room,
         expected: Expected::Unknown,
     };
-    any_letters(case, rng)
+    any_wishes(case, rng)
 }
 
 /// A call with its tables, or with their lengths alone if they are long.
@@ -384,37 +406,24 @@ fn moved_text(case: &Case) -> String {
 /// Whether the lengths of the tables and the side counts fit.
 fn is_whole(case: &Case) -> bool {
     let enough = Capacity::for_refined_faces(case.quadrilaterals());
-    let checked = check_call(
-        0,
-        &case.vertices,
-        &case.faces,
-        &case.sides,
-        &case.marks,
-        &enough,
-    );
+    let checked = check_call(0, &case.net(), &enough);
     !checked.is_err_and(|refusal| matches!(refusal.reason, 2 | 14))
 }
 
-/// Rounds, lengths of the three tables, room, and the reference's verdicts on
-/// the call but for 15, of its lengths alone unless `with_net`, and on its net
-/// if the table lengths fit: nothing, or a number and a place.
+/// Rounds, tension, lengths of the three tables, room, and the reference's
+/// verdicts on the call but for 15, of its lengths alone unless `with_net`, and on
+/// its net if the table lengths fit: nothing, or a number and a place.
 fn call_text(case: &Case, with_net: bool) -> String {
     let lengths = [case.vertices.len(), case.faces.len(), case.marks.len()];
     let room = case.capacity;
     let verdict = match with_net.then(|| case.outcome()) {
         Some(Outcome::Refined { .. } | Outcome::Refused { reason: 15, .. }) => vec![],
         Some(Outcome::Refused { reason, place }) => vec![reason, place],
-        None => told(check_call(
-            case.rounds,
-            &case.vertices,
-            &case.faces,
-            &case.sides,
-            &case.marks,
-            &room,
-        )),
+        None => told(check_call(case.rounds, &case.net(), &room)),
     };
     let mut fields = vec![
         ("rounds", case.rounds.to_string()),
+        ("tension", case.tension.to_string()),
         ("lengths", numbers(&lengths)),
         (
             "room",
@@ -425,7 +434,7 @@ fn call_text(case: &Case, with_net: bool) -> String {
         ("verdict", numbers(&verdict)),
     ];
     if with_net && is_whole(case) {
-        let start = start_net(&case.vertices, &case.faces, &case.sides, &case.marks);
+        let start = start_net(&case.net());
         fields.push(("net_verdict", numbers(&told(start.map(drop)))));
     }
     let most_work = if case.sides.is_empty() {
@@ -484,9 +493,14 @@ fn net_text(net: &Net) -> String {
 
 /// The letters after each of these numbers of rounds, from a net with so many
 /// drawn vertices.
-fn letters_text(start: &Net, drawn: usize, rounds: impl Iterator<Item = u32>) -> String {
+fn letters_text(
+    start: &Net,
+    tension: Tension,
+    drawn: usize,
+    rounds: impl Iterator<Item = u32>,
+) -> String {
     list(rounds.map(|k| {
-        let (_, letters) = refine_with_letters(start.clone(), drawn, k);
+        let (_, letters) = refine_with_letters(start.clone(), tension, drawn, k);
         numbers(&letter_table(&letters))
     }))
 }
@@ -497,8 +511,8 @@ type Word = (usize, Letter, ExactPoint);
 
 /// For each new vertex of a round the points that other letters than its own
 /// name, and its own.
-fn words(net: &Net) -> Vec<Word> {
-    let surface = Surface::new(net);
+fn words(net: &Net, tension: Tension) -> Vec<Word> {
+    let surface = Surface::new(net, tension);
     let edges = Topology::edges_in_order(&net.faces);
     let exact = |&(a, b): &(u32, u32)| (edge(a, b), surface.edge_point(a, b).exact);
     let edge_points: BTreeMap<_, _> = edges.iter().map(exact).collect();
@@ -545,7 +559,7 @@ fn readings(net: &Net) -> Vec<Reading> {
 
 /// A reading: its vertices in each of the nets, its points, and the rounded
 /// and the exact curve after 1, 2, .. steps.
-fn reading_text(nets: &[&Net], reading: Reading) -> String {
+fn reading_text(nets: &[&Net], tension: Tension, reading: Reading) -> String {
     let read = |net: &&Net| {
         Boundary::new(net)
             .vertices(reading)
@@ -554,8 +568,8 @@ fn reading_text(nets: &[&Net], reading: Reading) -> String {
     let points = Boundary::new(nets[0])
         .read(reading)
         .expect("a listed reading");
-    let rounded = (1..=CURVE_STEPS).map(|k| rounded_curve(reading.form, &points, k));
-    let exact = (1..=CURVE_STEPS).map(|k| exact_curve(reading.form, &points, k));
+    let rounded = (1..=CURVE_STEPS).map(|k| rounded_curve(tension, reading.form, &points, k));
+    let exact = (1..=CURVE_STEPS).map(|k| exact_curve(tension, reading.form, &points, k));
     object(&[
         ("start", reading.start.to_string()),
         ("with", (reading.way == Way::With).to_string()),

@@ -3,6 +3,7 @@
 
 use reference::net::Net;
 use reference::refusal::Capacity;
+use reference::rules::Tension;
 use reference::text::PROGRAM_REFINED_FACES;
 
 use crate::accepted::{Shape, Size, accepted};
@@ -21,6 +22,7 @@ use crate::refused::{
 };
 use crate::rng::Rng;
 use crate::tally::any_tally;
+use crate::tension::{any_tension, fit_tension};
 
 /// A kind of text.
 #[derive(Clone, Debug, PartialEq, Eq)]
@@ -137,7 +139,7 @@ impl CallKind {
 
     pub fn make(&self, seed: u64) -> Case {
         let rng = &mut Rng::new(seed);
-        match self {
+        let case = match self {
             CallKind::Accepted(shape) => {
                 let net = accepted_polygons(*shape, Size::Small, rng);
                 let rounds = to_u32(rng.below(3));
@@ -146,7 +148,8 @@ impl CallKind {
             CallKind::Refused(reasons) => refused_polygons(reasons, rng),
             CallKind::Damaged => damaged_polygons(rng.pick(&PolygonShape::ALL), Size::Small, rng),
             CallKind::Random => random_polygons(rng),
-        }
+        };
+        fit_tension(case, rng)
     }
 }
 
@@ -176,10 +179,10 @@ fn accepted_text(net: &Net, rounds: u32, rng: &mut Rng) -> TextCase {
 pub fn named_texts(seed: u64) -> Vec<(String, TextCase)> {
     let mut texts = Vec::new();
     for number in 0..NAMED.len() {
-        let (named, dressing) = by_turns(number);
+        let (named, dressing, _) = by_turns(number);
         let rounds = most_rounds(named.drawn.quadrilaterals(), PROGRAM_REFINED_FACES);
         let rng = &mut Rng::new(seed.wrapping_add(number as u64));
-        if let (Drawn::Plain(net), 1..) = (named.dressed(dressing, rng), rounds) {
+        if let (Drawn::Plain(net), 1..) = (named.dressed(dressing, Tension::OLD, rng), rounds) {
             let name = format!("named-{}-{}", named.name, dressing.name());
             texts.push((name, accepted_text(&net, rounds, rng)));
         }
@@ -207,7 +210,7 @@ pub fn small_nets(seed: u64, number: usize) -> Vec<(Net, u32)> {
 
 /// A call of any kind: accepted nets of all sizes, one to three reasons for a
 /// refusal, damaged and random tables, with tables often longer than needed, with
-/// any figure in the record of new points and any letter table.
+/// any figure in the record of new points, any letter table and any tension.
 pub fn call(seed: u64) -> Case {
     let rng = &mut Rng::new(seed);
     let mut case = match seed % 8 {
@@ -222,7 +225,7 @@ pub fn call(seed: u64) -> Case {
         _ => random_tables(rng),
     };
     lengthen(&mut case, rng);
-    any_letters(any_tally(case, rng), rng)
+    completed(case, rng)
 }
 
 /// The same with side counts.
@@ -240,7 +243,14 @@ pub fn polygon_call(seed: u64) -> Case {
         _ => random_polygons(rng),
     };
     lengthen(&mut case, rng);
-    any_letters(any_tally(case, rng), rng)
+    completed(case, rng)
+}
+
+/// The call with any figure in its record, any letter table and any tension,
+/// unless it has such.
+pub fn completed(case: Case, rng: &mut Rng) -> Case {
+    let case = any_letters(any_tally(case, rng), rng);
+    any_tension(case, rng)
 }
 
 /// Makes some of the tables of an accepted call longer.

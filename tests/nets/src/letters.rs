@@ -100,7 +100,7 @@ fn with_short_table(expected: Expected) -> Expected {
     match expected {
         Expected::Accepted
         | Expected::Refused(Refusal {
-            reason: 4..=12 | 15,
+            reason: 4..=12 | 15 | 16,
             ..
         }) => Expected::Refused(Refusal::new(4, 0)),
         Expected::Refused(_) | Expected::Unknown => expected,

@@ -8,6 +8,7 @@
 //! - [`obj`]: OBJ texts, accepted, refused and damaged.
 //! - [`pairs`]: pairs of nets that share a boundary segment.
 //! - [`tally`]: what calls find in the record of new points.
+//! - [`tension`]: the tensions of calls.
 //! - [`letters`]: whether calls ask for letters, and the tables for them.
 //! - [`moved`]: calls and the same calls on the moved net.
 //! - [`named`]: small nets for the cases of the rules, one by one.
@@ -60,4 +61,5 @@ pub mod shapes;
 pub mod solids;
 pub mod stored;
 pub mod tally;
+pub mod tension;
 pub mod valences;

@@ -86,7 +86,8 @@ fn expected(case: &Case, moved: &[i32]) -> Expected {
         // Given before coordinates are looked at.
         (
             Expected::Refused(Refusal {
-                reason: 1..=4 | 14, ..
+                reason: 1..=4 | 14 | 16,
+                ..
             }),
             _,
         ) => case.expected,

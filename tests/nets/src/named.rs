@@ -5,6 +5,7 @@ use std::sync::LazyLock;
 use reference::net::{Mesh, Net, PolygonNet, sides};
 use reference::point::Point;
 use reference::refusal::{MAX_VERTICES, check_net};
+use reference::rules::Tension;
 use reference::topology::Topology;
 
 use crate::case::Drawn;
@@ -114,12 +115,18 @@ pub static NAMED: LazyLock<Vec<Named>> = LazyLock::new(|| {
 });
 
 impl Named {
-    /// The net with points, numbers and marks.
-    pub fn dressed(&self, dressing: Dressing, rng: &mut Rng) -> Drawn {
-        match &self.drawn {
+    /// The net with points, numbers and marks, for calls at a tension.
+    pub fn dressed(&self, dressing: Dressing, tension: Tension, rng: &mut Rng) -> Drawn {
+        let mut drawn = match &self.drawn {
             Drawn::Plain(net) => self.dress(net, Drawn::Plain, dressing, rng),
             Drawn::WithSides(net) => self.dress(net, Drawn::WithSides, dressing, rng),
+        };
+        match dressing {
+            Dressing::Peaks => place_peaks(&mut drawn, tension, rng),
+            Dressing::Halves => place_halves(&mut drawn, tension, rng),
+            Dressing::Scattered | Dressing::Wide => {}
         }
+        drawn
     }
 
     fn dress<F: Face>(
@@ -142,22 +149,17 @@ impl Named {
         }
         let mut net = renumber(&net, rng).0;
         place(&mut net, Placing::Wide, rng);
-        let mut drawn = drawn(net);
-        match dressing {
-            Dressing::Peaks => place_peaks(&mut drawn, rng),
-            Dressing::Halves => place_halves(&mut drawn, rng),
-            Dressing::Scattered | Dressing::Wide => {}
-        }
-        drawn
+        drawn(net)
     }
 }
 
-/// The net and the dressing of this number, where all nets come up by turns,
-/// each time in another dressing.
-pub fn by_turns(number: usize) -> (&'static Named, Dressing) {
-    let turn = number / NAMED.len();
+/// The net, the dressing and the tension of this number, where all nets come up
+/// by turns, each time in another dressing and at another tension.
+pub fn by_turns(number: usize) -> (&'static Named, Dressing, Tension) {
+    let (turn, at) = (number / NAMED.len(), number % NAMED.len());
     let dressing = Dressing::ALL[(number + turn) % Dressing::ALL.len()];
-    (&NAMED[number % NAMED.len()], dressing)
+    let tension = Tension::ALL[(at + turn) % Tension::ALL.len()];
+    (&NAMED[at], dressing, tension)
 }
 
 /// Many named nets side by side, with up to so many faces where refining

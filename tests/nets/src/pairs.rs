@@ -3,6 +3,7 @@
 use reference::curve::Form;
 use reference::net::{Mesh, Net, PolygonNet};
 use reference::point::Point;
+use reference::rules::Tension;
 use reference::seam::{Boundary, Reading, Way};
 use reference::step::split;
 
@@ -13,13 +14,15 @@ use crate::change::{Face, Placing, boundary_loops, flip, mark, place, renumber};
 use crate::polygons::{PolygonShape, accepted_polygons, some_size};
 use crate::remodel::Remodel;
 use crate::rng::Rng;
+use crate::tension::some_tension;
 use crate::{shapes, solids};
 
-/// Two nets, and a reading in each where refining begins; both readings give
-/// the same points.
+/// Two nets with their tensions, and a reading in each where refining begins;
+/// both readings give the same points.
 #[derive(Clone, Debug)]
 pub struct SharedPair {
     pub nets: [Drawn; 2],
+    pub tensions: [Tension; 2],
     pub readings: [Reading; 2],
 }
 
@@ -30,6 +33,7 @@ pub fn shared_pair(rng: &mut Rng) -> SharedPair {
     let [first, second] = [(); 2].map(|()| carrier(form, &points, rng));
     SharedPair {
         nets: [first.0, second.0].map(Drawn::Plain),
+        tensions: tensions(rng),
         readings: [first.1, second.1],
     }
 }
@@ -51,7 +55,18 @@ pub fn shared_polygon_pair(rng: &mut Rng) -> SharedPair {
     };
     SharedPair {
         nets: [Drawn::WithSides(first.0), second.0],
+        tensions: tensions(rng),
         readings: [first.1, second.1],
+    }
+}
+
+/// Equal tensions, or one time in six any two.
+fn tensions(rng: &mut Rng) -> [Tension; 2] {
+    let first = some_tension(rng);
+    if rng.one_in(6) {
+        [first, some_tension(rng)]
+    } else {
+        [first; 2]
     }
 }
 

@@ -14,6 +14,7 @@ use crate::rng::Rng;
 use crate::shapes;
 use crate::solids;
 use crate::tally::refused_tally;
+use crate::tension::refused_tension;
 
 /// Stands for a corner beyond the vertex table until the table is complete.
 const BEYOND: u32 = u32::MAX;
@@ -332,7 +333,7 @@ pub fn refused_call(reasons: &[u32], rng: &mut Rng) -> Case {
         shorten(&mut case, rng);
     }
     case.expected = callers_refusal(reasons).unwrap_or(case.expected);
-    with_tally(case, reasons, rng)
+    with_tally_and_tension(case, reasons, rng)
 }
 
 /// A call with side counts and these of [`POLYGON_REASONS`] against it.
@@ -372,23 +373,26 @@ pub fn refused_polygons(reasons: &[u32], rng: &mut Rng) -> Case {
     if let Some(&reason) = order.iter().find(|&&reason| has(reason)) {
         case.expected = Expected::Refused(Refusal::new(reason, 0));
     }
-    with_tally(case, reasons, rng)
+    with_tally_and_tension(case, reasons, rng)
 }
 
-/// Puts in reason 15 if it is one of these. It is the last in the order.
-fn with_tally(case: Case, reasons: &[u32], rng: &mut Rng) -> Case {
+/// Puts in 15 and 16 if they are among these reasons. 15 is the last in the
+/// order, 16 comes before 5.
+fn with_tally_and_tension(mut case: Case, reasons: &[u32], rng: &mut Rng) -> Case {
     if reasons.contains(&15) {
-        refused_tally(case, rng)
-    } else {
-        case
+        case = refused_tally(case, rng);
     }
+    if reasons.contains(&16) {
+        case = refused_tension(case, rng);
+    }
+    case
 }
 
 /// Reasons that a call without side counts can have.
-pub const PLAIN_REASONS: [u32; 13] = [1, 2, 3, 4, 5, 6, 7, 8, 9, 10, 11, 12, 15];
+pub const PLAIN_REASONS: [u32; 14] = [1, 2, 3, 4, 5, 6, 7, 8, 9, 10, 11, 12, 15, 16];
 
 /// Reasons that a call with side counts can have.
-pub const POLYGON_REASONS: [u32; 14] = [1, 2, 3, 4, 5, 6, 7, 8, 9, 10, 11, 12, 14, 15];
+pub const POLYGON_REASONS: [u32; 15] = [1, 2, 3, 4, 5, 6, 7, 8, 9, 10, 11, 12, 14, 15, 16];
 
 /// Makes the side counts wrong, or the corners for them.
 pub fn break_sides(case: &mut Case, rng: &mut Rng) {

@@ -1,8 +1,8 @@
 //! The stored form of a call: its rounds, the tables of its net and the
 //! lengths of the tables for its results, a line each. Before them stands a
-//! line with what the record of new points holds, unless that is 0. After them
-//! stands a line with 1 if letters are asked for, or 0, and the length of their
-//! table, unless both are 0.
+//! line with what the record of new points holds, unless that is 0, and one with
+//! the tension, unless that is 4. After them stands a line with 1 if letters are
+//! asked for, or 0, and the length of their table, unless both are 0.
 
 use std::fmt::Display;
 use std::fs;
@@ -10,12 +10,18 @@ use std::path::{Path, PathBuf};
 use std::str::FromStr;
 
 use reference::refusal::Capacity;
+use reference::rules::Tension;
 
 use crate::case::{Case, Expected};
 
 const TALLY: &str = "tally";
+const TENSION: &str = "tension";
 const LETTERS: &str = "letters";
 const NAMES: [&str; 6] = ["rounds", "vertices", "faces", "sides", "marks", "room"];
+
+/// What missing lines stand for.
+const NO_TALLY: u64 = 0;
+const OLD_TENSION: u32 = Tension::OLD.number();
 
 /// The text of a call.
 pub fn to_text(case: &Case) -> String {
@@ -25,12 +31,9 @@ pub fn to_text(case: &Case) -> String {
         (asked, length) => line(LETTERS, &[usize::from(asked), length]),
     };
     let room = [room.vertices, room.faces, room.marks, room.workspace];
-    let tally = match case.tally {
-        0 => String::new(),
-        tally => line(TALLY, &[tally]),
-    };
     [
-        tally,
+        optional(TALLY, case.tally, NO_TALLY),
+        optional(TENSION, case.tension, OLD_TENSION),
         line(NAMES[0], &[case.rounds]),
         line(NAMES[1], &case.vertices),
         line(NAMES[2], &case.faces),
@@ -42,6 +45,15 @@ pub fn to_text(case: &Case) -> String {
     .concat()
 }
 
+/// The line of a value, unless it is the one that a missing line stands for.
+fn optional<T: Display + PartialEq>(name: &str, value: T, missing: T) -> String {
+    if value == missing {
+        String::new()
+    } else {
+        line(name, &[value])
+    }
+}
+
 fn line<T: Display>(name: &str, values: &[T]) -> String {
     let values = values.iter().map(|value| format!(" {value}"));
     format!("{name}{}\n", values.collect::<String>())
@@ -49,11 +61,8 @@ fn line<T: Display>(name: &str, values: &[T]) -> String {
 
 /// The call of a text, if it has this form.
 pub fn from_text(text: &str) -> Option<Case> {
-    let (tally, text_of_net) = match text.split_once('\n')? {
-        (first, others) if first.starts_with(TALLY) => (numbers((first, TALLY))?, others),
-        _ => (vec![0], text),
-    };
-    let [tally] = tally.try_into().ok()?;
+    let (tally, others) = value_before(text, TALLY, NO_TALLY)?;
+    let (tension, text_of_net) = value_before(others, TENSION, OLD_TENSION)?;
     let letters = match text_of_net.lines().nth(NAMES.len()) {
         Some(last) => numbers((last, LETTERS))?,
         None => vec![0, 0],
@@ -67,10 +76,21 @@ pub fn from_text(text: &str) -> Option<Case> {
         faces: numbers(lines.next()?)?,
         sides: numbers(lines.next()?)?,
         marks: numbers(lines.next()?)?,
+        tension,
         capacity: capacity(&numbers(lines.next()?)?, &letters)?,
         expected: Expected::Unknown,
     };
     (to_text(&case) == text).then_some(case)
+}
+
+/// The value in the first line, if the line has this name, and the other lines.
+fn value_before<'a, T: FromStr>(text: &'a str, name: &str, missing: T) -> Option<(T, &'a str)> {
+    let (first, others) = text.split_once('\n')?;
+    if !first.starts_with(name) {
+        return Some((missing, text));
+    }
+    let [value] = numbers((first, name))?.try_into().ok()?;
+    Some((value, others))
 }
 
 fn numbers<T: FromStr>((line, name): (&str, &str)) -> Option<Vec<T>> {

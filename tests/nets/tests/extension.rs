@@ -6,6 +6,7 @@ use nets::build::to_u32;
 use nets::rng::Rng;
 use reference::net::{Net, sides};
 use reference::point::Point;
+use reference::rules::Tension;
 use reference::step::{Rule, Surface, refine_once};
 use reference::topology::Topology;
 
@@ -60,15 +61,15 @@ fn extend(net: &Net) -> Net {
 fn inner_edges_follow_the_ring_rule_of_the_extended_net() {
     let mut compared = 0;
     for shape in Shape::ALL {
-        for seed in 0..25 {
+        for (seed, tension) in (0..25).zip(Tension::ALL.into_iter().cycle()) {
             let mut net = accepted(shape, Size::Small, &mut Rng::new(seed));
             for value in net.points.as_flattened_mut() {
                 *value = *value % 10_000 * SCALE;
             }
             let extended = extend(&net);
-            let surface = Surface::new(&extended);
+            let surface = Surface::new(&extended, tension);
             let edges = Topology::edges_in_order(&net.faces);
-            for (&(from, to), new) in edges.iter().zip(refine_once(&net).made) {
+            for (&(from, to), new) in edges.iter().zip(refine_once(&net, tension).made) {
                 if new.rule == Rule::InnerEdge {
                     assert_eq!(surface.edge_point(from, to).exact, new.exact);
                     compared += 1;

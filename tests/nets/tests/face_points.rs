@@ -6,7 +6,7 @@ use nets::accepted::{Shape, Size, accepted};
 use nets::rng::Rng;
 use reference::net::{Net, edge, sides};
 use reference::point::ExactPoint;
-use reference::rules::{end_edge, four_point, midpoint};
+use reference::rules::{Tension, midpoint};
 use reference::step::refine_once;
 use reference::topology::Topology;
 
@@ -38,11 +38,15 @@ fn edges_in_a_row(net: &Net, face: [u32; 4], near: Edge, far: Edge) -> [Option<E
     [first, Some(near), Some(far), last]
 }
 
-fn point_in_a_row(row: [Option<Edge>; 4], at: impl Fn(Edge) -> ExactPoint) -> ExactPoint {
+fn point_in_a_row(
+    tension: Tension,
+    row: [Option<Edge>; 4],
+    at: impl Fn(Edge) -> ExactPoint,
+) -> ExactPoint {
     match row.map(|edge| edge.map(&at)) {
-        [Some(p), Some(q), Some(r), Some(s)] => four_point(p, q, r, s),
-        [None, Some(p), Some(q), Some(r)] => end_edge(p, q, r),
-        [Some(r), Some(q), Some(p), None] => end_edge(p, q, r),
+        [Some(p), Some(q), Some(r), Some(s)] => tension.four_point(p, q, r, s),
+        [None, Some(p), Some(q), Some(r)] => tension.end_edge(p, q, r),
+        [Some(r), Some(q), Some(p), None] => tension.end_edge(p, q, r),
         [None, Some(p), Some(q), None] => midpoint(p, q),
         _ => panic!("the sides are there"),
     }
@@ -54,9 +58,13 @@ fn is_inner(net: &Net, edge: Option<Edge>) -> bool {
 
 /// The face point if `counts` tells which direction may count alone.
 fn face_point(
-    net: &Net,
+    Refined {
+        net,
+        tension,
+        points,
+        ..
+    }: &Refined,
     face: [u32; 4],
-    points: &BTreeMap<Edge, ExactPoint>,
     counts: impl Fn([Option<Edge>; 4]) -> bool,
 ) -> ExactPoint {
     let [a, b, c, d] = face;
@@ -65,7 +73,7 @@ fn face_point(
         edges_in_a_row(net, face, (a, b), (c, d)),
         edges_in_a_row(net, face, (b, c), (d, a)),
     ];
-    let [first, second] = rows.map(|row| point_in_a_row(row, at));
+    let [first, second] = rows.map(|row| point_in_a_row(*tension, row, at));
     match rows.map(counts) {
         [true, false] => first,
         [false, true] => second,
@@ -73,34 +81,49 @@ fn face_point(
     }
 }
 
-/// Nets of every kind with their unrounded edge points and face points.
-fn refined_nets() -> impl Iterator<Item = (Net, BTreeMap<Edge, ExactPoint>, Vec<ExactPoint>)> {
+/// A net with its unrounded edge points and face points at a tension.
+struct Refined {
+    net: Net,
+    tension: Tension,
+    points: BTreeMap<Edge, ExactPoint>,
+    face_points: Vec<ExactPoint>,
+}
+
+/// Nets of every kind, at all tensions by turns.
+fn refined_nets() -> impl Iterator<Item = Refined> {
     let seeds = Shape::ALL
         .into_iter()
         .flat_map(|shape| (0..12).map(move |seed| (shape, seed)));
-    seeds.map(|(shape, seed)| {
+    let turns = seeds.zip(Tension::ALL.into_iter().cycle());
+    turns.map(|((shape, seed), tension)| {
         let net = accepted(shape, Size::Medium, &mut Rng::new(seed));
         let edges = Topology::edges_in_order(&net.faces);
-        let mut made = refine_once(&net).made.into_iter().map(|new| new.exact);
+        let made = refine_once(&net, tension).made.into_iter();
+        let mut made = made.map(|new| new.exact);
         let named = edges.iter().map(|&(from, to)| edge(from, to));
-        let points = named.zip(made.by_ref()).collect();
-        (net, points, made.collect())
+        Refined {
+            points: named.zip(made.by_ref()).collect(),
+            face_points: made.collect(),
+            net,
+            tension,
+        }
     })
 }
 
 #[test]
 fn face_points_are_those_of_the_paper() {
     let (mut by_neighbours, mut by_mean) = (0, 0);
-    for (net, points, face_points) in refined_nets() {
-        assert_eq!(net.faces.len(), face_points.len());
-        for (&face, &made) in net.faces.iter().zip(&face_points) {
-            let four_inner = |row: [Option<Edge>; 4]| row.iter().all(|&edge| is_inner(&net, edge));
-            assert_eq!(face_point(&net, face, &points, four_inner), made);
+    for refined in refined_nets() {
+        let net = &refined.net;
+        assert_eq!(net.faces.len(), refined.face_points.len());
+        for (&face, &made) in net.faces.iter().zip(&refined.face_points) {
+            let four_inner = |row: [Option<Edge>; 4]| row.iter().all(|&edge| is_inner(net, edge));
+            assert_eq!(face_point(&refined, face, four_inner), made);
             // Two wrong readings: two neighbours suffice; always the mean.
             let two_neighbours = |row: [Option<Edge>; 4]| row.iter().all(Option::is_some);
-            let wrong = face_point(&net, face, &points, two_neighbours);
+            let wrong = face_point(&refined, face, two_neighbours);
             by_neighbours += usize::from(wrong != made);
-            by_mean += usize::from(face_point(&net, face, &points, |_| false) != made);
+            by_mean += usize::from(face_point(&refined, face, |_| false) != made);
         }
     }
     assert!(by_neighbours > 50 && by_mean > 50);

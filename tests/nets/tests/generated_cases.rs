@@ -7,9 +7,11 @@ use nets::kind::{Kind, call, named_texts, polygon_call, small_nets};
 use nets::pairs::{SharedPair, shared_pair, shared_polygon_pair};
 use nets::refused::{PLAIN_REASONS, POLYGON_REASONS, refused_call, refused_polygons};
 use nets::rng::Rng;
+use nets::tension::TOO_LARGE;
 use reference::call::{Outcome, Tables, refine_times};
 use reference::curve::Form;
-use reference::refusal::check_net;
+use reference::refusal::{MAX_TENSION, check_net};
+use reference::rules::Tension;
 use reference::seam::{Boundary, Way, shared_readings};
 use reference::text::{answer, parse, print, refine_document};
 
@@ -63,7 +65,8 @@ fn calls_with_one_or_two_reasons_get_the_lowest() {
                 let Expected::Refused(refusal) = case.expected else {
                     panic!("no refusal expected for {first} and {second}");
                 };
-                assert_eq!(refusal.reason, first);
+                let lowest = rank(first).min(rank(second));
+                assert_eq!(rank(refusal.reason), lowest);
                 let outcome = case.outcome();
                 assert!(case.expected.agrees_with(&outcome), "{case:?} {outcome:?}");
             }
@@ -71,14 +74,12 @@ fn calls_with_one_or_two_reasons_get_the_lowest() {
     }
 }
 
-/// Place of a reason in the order of the refusals of a call with side counts,
-/// where the vertex part of 2 goes before 14 and its marks part after it.
+/// Place of a reason in the order of refusals; with side counts the vertex part
+/// of 2 goes before 14 and its marks part after it.
 fn rank(reason: u32) -> u32 {
-    match reason {
-        1 => 0,
-        14 => 1,
-        _ => reason,
-    }
+    let order = [1, 14, 2, 3, 4, 16, 5, 6, 7, 8, 9, 10, 11, 12, 15];
+    let at = (0..).zip(order).find(|(_, other)| *other == reason);
+    at.expect("a reason of a call").0
 }
 
 #[test]
@@ -112,6 +113,20 @@ fn reasons_met(call: impl Fn(u64) -> Case) -> BTreeSet<u32> {
         }
     };
     (0..1200).map(answered).collect()
+}
+
+/// The tensions of these calls, and those above 4.
+#[test]
+fn calls_have_every_tension() {
+    for draw in [call, polygon_call] {
+        let met: Vec<u32> = (0..1200).map(|seed| draw(seed).tension).collect();
+        for tension in Tension::ALL {
+            let number = tension.number();
+            assert!(met.iter().filter(|&&t| t == number).count() > 150);
+        }
+        let above: BTreeSet<u32> = met.into_iter().filter(|&t| t > MAX_TENSION).collect();
+        assert!(above.into_iter().eq(TOO_LARGE));
+    }
 }
 
 #[test]
@@ -191,13 +206,13 @@ fn shared_after_every_round(
     draw: impl Fn(&mut Rng) -> SharedPair,
     seeds: std::ops::Range<u64>,
 ) -> BTreeSet<(Form, Way, bool)> {
-    let mut met = BTreeSet::new();
+    let (mut met, mut met_tensions, mut parted) = (BTreeSet::new(), BTreeSet::new(), 0);
     for seed in seeds {
         let pair = draw(&mut Rng::new(seed));
         let answers = pair
             .nets
             .each_ref()
-            .map(|net| net.accepted_case(0).outcome());
+            .map(|net| net.accepted_case(pair.tensions[0], 0).outcome());
         assert!(
             answers
                 .iter()
@@ -206,19 +221,29 @@ fn shared_after_every_round(
         let [first, second] = pair.nets.each_ref().map(Drawn::start);
         let shared = shared_readings(&first, &second);
         assert!(shared.contains(&pair.readings.into()), "{seed}");
+        let [tension, other_tension] = pair.tensions;
         for rounds in 1..=2 {
-            let nets = [&first, &second].map(|net| refine_times(net.clone(), rounds));
-            let [one, other] = nets.each_ref().map(Boundary::new);
+            let one = refine_times(first.clone(), tension, rounds);
+            let other = refine_times(second.clone(), other_tension, rounds);
+            let [one, other] = [&one, &other].map(Boundary::new);
             for &(a, b) in &shared {
                 let points = one.read(a);
                 assert!(points.is_some());
-                assert_eq!(points, other.read(b));
+                if tension == other_tension {
+                    assert_eq!(points, other.read(b));
+                } else {
+                    parted += usize::from(points != other.read(b));
+                }
             }
         }
+        met_tensions.insert((tension, tension == other_tension));
         for (reading, net) in pair.readings.iter().zip(&pair.nets) {
             met.insert((reading.form, reading.way, net.has_sides()));
         }
     }
+    let due = Tension::ALL.map(|tension| [false, true].map(|is_equal| (tension, is_equal)));
+    assert!(met_tensions.into_iter().eq(due.into_iter().flatten()));
+    assert!(parted > 20);
     met
 }
 

@@ -13,20 +13,22 @@ use reference::letter::{letter_table, refine_with_letters};
 use reference::net::Net;
 use reference::refusal::MAX_ROUNDS;
 use reference::retrace::{round_is_by_letters, start_is_by_letters};
+use reference::rules::Tension;
 use reference::text::parse;
 
 /// Letters of the net after each number of rounds, checked point by point.
-fn assert_by_letters(name: &str, drawn: &Drawn, rounds: u32) -> Vec<u8> {
+fn assert_by_letters(name: &str, drawn: &Drawn, tension: Tension, rounds: u32) -> Vec<u8> {
     let (start, count) = (drawn.start(), drawn.points().len());
     let front = start.points.len();
     let mut before: Option<(Net, Vec<u8>)> = None;
     for k in 0..=rounds {
-        let (net, letters) = refine_with_letters(start.clone(), count, k);
+        let (net, letters) = refine_with_letters(start.clone(), tension, count, k);
         let letters = letter_table(&letters);
         let (points, named) = (&net.points[..front], &letters[..front]);
         assert!(start_is_by_letters(&start, count, points, named), "{name}");
         if let Some((old, kept)) = before {
-            assert!(round_is_by_letters(&old, &net.points, &letters), "{name}");
+            let is_by_letters = round_is_by_letters(&old, tension, &net.points, &letters);
+            assert!(is_by_letters, "{name}");
             assert_eq!(letters[..kept.len()], kept, "{name}");
         }
         before = Some((net, letters));
@@ -38,10 +40,10 @@ fn assert_by_letters(name: &str, drawn: &Drawn, rounds: u32) -> Vec<u8> {
 fn the_rule_that_a_letter_names_gives_every_point_of_a_named_net() {
     let mut met: BTreeMap<u8, usize> = BTreeMap::new();
     for number in 0..NAMED.len() {
-        let (named, dressing) = by_turns(number);
-        let drawn = named.dressed(dressing, &mut Rng::new(3));
+        let (named, dressing, tension) = by_turns(number);
+        let drawn = named.dressed(dressing, tension, &mut Rng::new(3));
         let rounds = if drawn.quadrilaterals() <= 16 { 2 } else { 1 };
-        for letter in assert_by_letters(&named.name, &drawn, rounds) {
+        for letter in assert_by_letters(&named.name, &drawn, tension, rounds) {
             *met.entry(letter).or_default() += 1;
         }
     }
@@ -139,7 +141,7 @@ fn every_letter_table_beside_every_reason_gets_its_answer() {
     }
 }
 
-/// Refusals 1 to 15 leave the letters, asked for or not.
+/// Refusals leave the letters, asked for or not.
 #[test]
 fn refused_calls_leave_the_letters() {
     for (seed, &reason) in (0..).zip(PLAIN_REASONS.iter().cycle().take(80)) {

@@ -4,7 +4,7 @@
 use std::collections::BTreeSet;
 
 use nets::accepted::{Shape, Size, accepted};
-use nets::case::{Case, Expected};
+use nets::case::{Case, Drawn, Expected};
 use nets::kind::{call, polygon_call};
 use nets::moved::MovedPair;
 use nets::refused::{PLAIN_REASONS, POLYGON_REASONS};
@@ -15,6 +15,7 @@ use reference::curve::{Form, rounded_curve};
 use reference::fraction::Fraction;
 use reference::point::Point;
 use reference::refusal::Refusal;
+use reference::rules::Tension;
 use reference::step::refine_once;
 
 /// The number of a refusal, or 0, its place, and the counts of the refined
@@ -72,15 +73,9 @@ impl Met {
 /// New coordinates of the first round that are halves, below 0 in one net and
 /// above it in the other.
 fn halves_on_other_side(pair: &MovedPair) -> usize {
-    let Case {
-        vertices,
-        faces,
-        sides,
-        marks,
-        ..
-    } = &pair.case;
-    let start = start_net(vertices, faces, sides, marks).expect("accepted");
-    let made = refine_once(&start).made;
+    let start = start_net(&pair.case.net()).expect("accepted");
+    let tension = Tension::new(pair.case.tension).expect("accepted");
+    let made = refine_once(&start, tension).made;
     let values = made
         .iter()
         .flat_map(|new| new.exact.0.into_iter().zip(pair.shift));
@@ -121,10 +116,10 @@ fn calls_with_side_counts_on_moved_nets_give_the_same_moved() {
 #[test]
 fn every_small_shift_commutes_with_refining() {
     for shape in Shape::ALL {
-        let net = accepted(shape, Size::Small, &mut Rng::new(2));
-        let case = Case::new(&net, 1, Expected::Accepted);
-        for by in -20..=20 {
-            let pair = MovedPair::new(case.clone(), [by, -by, by / 2]);
+        let net = Drawn::Plain(accepted(shape, Size::Small, &mut Rng::new(2)));
+        for (by, tension) in (-20..=20).flat_map(|by| Tension::ALL.map(|t| (by, t))) {
+            let case = net.accepted_case(tension, 1);
+            let pair = MovedPair::new(case, [by, -by, by / 2]);
             Met::default().compare(&pair, 0);
         }
     }
@@ -166,9 +161,9 @@ fn rounded_curves_move_with_their_points() {
                 let add = |point: &Point| std::array::from_fn(|axis| point[axis] + shift[axis]);
                 list.iter().map(add).collect()
             };
-            for steps in 0..=5 {
-                let curve = rounded_curve(form, &points, steps);
-                assert_eq!(rounded_curve(form, &moved(&points), steps), moved(&curve));
+            for (steps, tension) in (0..=5).flat_map(|k| Tension::ALL.map(|t| (k, t))) {
+                let curve = |points: &[Point]| rounded_curve(tension, form, points, steps);
+                assert_eq!(curve(&moved(&points)), moved(&curve(&points)));
             }
         }
     }

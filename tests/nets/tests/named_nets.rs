@@ -11,19 +11,20 @@ use reference::call::Outcome;
 use reference::fraction::Fraction;
 use reference::net::{Net, edge};
 use reference::point::ExactPoint;
+use reference::rules::Tension;
 use reference::step::{Surface, refine_once};
 use reference::topology::Topology;
 
-/// Every net in a dressing.
-fn dressed(dressing: Dressing) -> impl Iterator<Item = (&'static str, Drawn)> {
+/// Every net in a dressing, for calls at a tension.
+fn dressed(dressing: Dressing, tension: Tension) -> impl Iterator<Item = (&'static str, Drawn)> {
     (0..).zip(NAMED.iter()).map(move |(seed, named)| {
-        let drawn = named.dressed(dressing, &mut Rng::new(seed));
+        let drawn = named.dressed(dressing, tension, &mut Rng::new(seed));
         (named.name.as_str(), drawn)
     })
 }
 
 fn assert_accepted((name, drawn): (&str, Drawn)) {
-    let outcome = drawn.accepted_case(0).outcome();
+    let outcome = drawn.accepted_case(Tension::OLD, 0).outcome();
     assert!(matches!(outcome, Outcome::Refined { .. }), "{name}");
 }
 
@@ -32,7 +33,7 @@ fn all_are_accepted_under_names_of_their_own() {
     let names: BTreeSet<&str> = NAMED.iter().map(|named| named.name.as_str()).collect();
     assert_eq!(names.len(), NAMED.len());
     for dressing in [Dressing::Scattered, Dressing::Wide, Dressing::Halves] {
-        dressed(dressing).for_each(assert_accepted);
+        dressed(dressing, Tension::OLD).for_each(assert_accepted);
     }
 }
 
@@ -51,10 +52,10 @@ fn crowds_are_accepted_and_nearly_as_large_as_allowed() {
 #[test]
 fn every_feature_is_met_in_the_first_round_and_in_the_second() {
     let [mut first, mut second] = [BTreeSet::new(), BTreeSet::new()];
-    for (_, drawn) in dressed(Dressing::Scattered) {
+    for (_, drawn) in dressed(Dressing::Scattered, Tension::OLD) {
         let start = drawn.start();
         first.extend(Met::of(&start).features);
-        second.extend(Met::of(&refine_once(&start).net).features);
+        second.extend(Met::of(&refine_once(&start, Tension::OLD).net).features);
     }
     assert!(first.into_iter().eq(Feature::ALL));
     let later = Feature::ALL.into_iter().filter(|f| f.occurs_later());
@@ -64,7 +65,7 @@ fn every_feature_is_met_in_the_first_round_and_in_the_second() {
 #[test]
 fn edges_join_vertices_of_every_two_sorts() {
     let [mut inner, mut rims] = [BTreeSet::new(), BTreeSet::new()];
-    for (_, drawn) in dressed(Dressing::Scattered) {
+    for (_, drawn) in dressed(Dressing::Scattered, Tension::OLD) {
         let start = drawn.start();
         inner.extend(Met::of(&start).ends);
         let adjacency = Adjacency::new(&start);
@@ -92,8 +93,9 @@ struct Refined {
 }
 
 impl Refined {
-    fn new(net: Net) -> Self {
-        let mut made = refine_once(&net).made.into_iter().map(|new| new.exact);
+    fn new(net: Net, tension: Tension) -> Self {
+        let made = refine_once(&net, tension).made.into_iter();
+        let mut made = made.map(|new| new.exact);
         let edges = Topology::edges_in_order(&net.faces);
         let named = edges.into_iter().map(|(from, to)| edge(from, to));
         Self {
@@ -104,12 +106,13 @@ impl Refined {
     }
 }
 
-/// Nets where refining begins, and after a round.
-fn refined(dressing: Dressing) -> impl Iterator<Item = Refined> {
-    dressed(dressing).flat_map(|(_, drawn)| {
+/// Nets where refining begins, and after a round; every `step`th of the named ones.
+fn refined(dressing: Dressing, tension: Tension, step: usize) -> impl Iterator<Item = Refined> {
+    let nets = dressed(dressing, tension).step_by(step);
+    nets.flat_map(move |(_, drawn)| {
         let start = drawn.start();
-        let after = refine_once(&start).net;
-        [start, after].map(Refined::new)
+        let after = refine_once(&start, tension).net;
+        [start, after].map(|net| Refined::new(net, tension))
     })
 }
 
@@ -118,26 +121,38 @@ fn is_over(denominator: i128, point: &ExactPoint) -> bool {
     point.0.iter().all(divides)
 }
 
+/// What the edge points of plain edges are over at each tension.
+const DENOMINATORS: [i128; 5] = [2, 64, 32, 64, 16];
+
 #[test]
-fn plain_edges_are_sixteenths_and_wide_ones_need_not_be() {
-    let mut others = 0;
-    for Refined { net, edges, .. } in refined(Dressing::Wide) {
-        let adjacency = Adjacency::new(&net);
-        for (&(from, to), point) in &edges {
-            let is_wide = adjacency.sort(from, to) == Sort::Wide;
-            assert!(is_wide || is_over(16, point), "{from} {to} {net:?}");
-            others += usize::from(!is_over(16, point));
+fn plain_edges_have_the_denominator_of_their_rule_and_wide_ones_need_not() {
+    for (tension, denominator) in Tension::ALL.into_iter().zip(DENOMINATORS) {
+        let mut others = 0;
+        for Refined { net, edges, .. } in refined(Dressing::Wide, tension, 3) {
+            let adjacency = Adjacency::new(&net);
+            for (&(from, to), point) in &edges {
+                let is_wide = adjacency.sort(from, to) == Sort::Wide;
+                let is_over = is_over(denominator, point);
+                assert!(is_wide || is_over, "{from} {to} {net:?}");
+                others += usize::from(!is_over);
+            }
         }
+        assert_eq!(others > 300, tension.number() > 0);
     }
-    assert!(others > 1000);
 }
 
 #[test]
 fn directions_agree_where_all_eight_edges_are_regular_and_may_differ_elsewhere() {
+    for (tension, denominator) in Tension::ALL.into_iter().zip(DENOMINATORS) {
+        directions_agree_where_all_eight_edges_are_regular(tension, denominator);
+    }
+}
+
+fn directions_agree_where_all_eight_edges_are_regular(tension: Tension, denominator: i128) {
     // By the regular, wide and boundary edges among the eight.
     let mut differing: BTreeMap<[usize; 3], usize> = BTreeMap::new();
-    for Refined { net, edges, faces } in refined(Dressing::Wide) {
-        let (adjacency, surface) = (Adjacency::new(&net), Surface::new(&net));
+    for Refined { net, edges, faces } in refined(Dressing::Wide, tension, 1) {
+        let (adjacency, surface) = (Adjacency::new(&net), Surface::new(&net, tension));
         for (&face, point) in net.faces.iter().zip(&faces) {
             let rows = adjacency.rows(face);
             let eight = rows.as_flattened();
@@ -146,7 +161,7 @@ fn directions_agree_where_all_eight_edges_are_regular_and_may_differ_elsewhere()
             let [first, second] = surface.directions(face, &edges);
             if counts[0] == 8 {
                 assert_eq!(first.point, second.point, "{face:?} {net:?}");
-                assert!(is_over(256, point));
+                assert!(is_over(denominator * denominator, point));
             } else if first.point != second.point {
                 *differing.entry(counts).or_default() += 1;
             }
@@ -155,7 +170,8 @@ fn directions_agree_where_all_eight_edges_are_regular_and_may_differ_elsewhere()
     // Seven regular edges and a wide one, or a boundary one; four regular edges
     // between boundary edges, as in the centre of three by three faces.
     for counts in [[7, 1, 0], [7, 0, 1], [4, 0, 4]] {
-        assert!(differing.get(&counts) > Some(&5), "{counts:?}");
+        let is_met = differing.get(&counts) > Some(&5);
+        assert_eq!(is_met, tension.number() > 0, "{counts:?} {tension:?}");
     }
 }
 
@@ -168,9 +184,13 @@ fn halves<'a>(points: impl Iterator<Item = &'a ExactPoint>) -> BTreeSet<bool> {
 
 #[test]
 fn edges_of_every_sort_and_faces_of_several_are_halves() {
+    Tension::ALL.into_iter().for_each(assert_halves);
+}
+
+fn assert_halves(tension: Tension) {
     let mut edge_halves: BTreeMap<Sort, BTreeSet<bool>> = BTreeMap::new();
     let mut face_halves: BTreeMap<[bool; 2], BTreeSet<bool>> = BTreeMap::new();
-    for Refined { net, edges, faces } in refined(Dressing::Halves).step_by(2) {
+    for Refined { net, edges, faces } in refined(Dressing::Halves, tension, 1).step_by(2) {
         let adjacency = Adjacency::new(&net);
         for (&(from, to), point) in &edges {
             let sort = adjacency.sort(from, to);
@@ -188,7 +208,7 @@ fn edges_of_every_sort_and_faces_of_several_are_halves() {
     }
     assert_eq!((edge_halves.len(), face_halves.len()), (4, 3));
     let mut all = edge_halves.values().chain(face_halves.values());
-    assert!(all.all(|met| met.len() == 2));
+    assert!(all.all(|met| met.len() == 2), "{tension:?}");
 }
 
 fn greatest(sums: &[Fraction]) -> Fraction {
@@ -200,18 +220,22 @@ fn greatest(sums: &[Fraction]) -> Fraction {
 /// On the first axis one is there, on the second a face point, below 0.
 #[test]
 fn peaks_are_as_far_out_as_can_be() {
-    for (name, drawn) in dressed(Dressing::Peaks).step_by(4) {
+    // Every fourth net, at all tensions by turns.
+    let tensions = Tension::ALL.into_iter().cycle();
+    for ((seed, named), tension) in (0..).zip(NAMED.iter()).step_by(4).zip(tensions) {
+        let drawn = named.dressed(Dressing::Peaks, tension, &mut Rng::new(seed));
+        let name = named.name.as_str();
         assert_accepted((name, drawn.clone()));
         if drawn.has_sides() {
             continue;
         }
-        let sums = weights(&drawn).into_iter().map(|new| {
+        let sums = weights(&drawn, tension).into_iter().map(|new| {
             let total = new.of_vertices.iter().copied().reduce(|a, b| a + b);
             assert_eq!(total, Some(Fraction::whole(1)));
             new.absolute_sum() * 1_048_576
         });
         let sums: Vec<Fraction> = sums.collect();
-        let Refined { edges, faces, .. } = Refined::new(drawn.start());
+        let Refined { edges, faces, .. } = Refined::new(drawn.start(), tension);
         let (of_edges, of_faces) = sums.split_at(edges.len());
         let [far, low] = [greatest(of_edges), greatest(of_faces) * -1];
         assert!(edges.values().any(|point| point.0[0] == far), "{name}");

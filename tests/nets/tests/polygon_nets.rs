@@ -12,6 +12,7 @@ use reference::call::refine_times;
 use reference::net::{Mesh, Net, PolygonNet, sides};
 use reference::point::Point;
 use reference::refusal::check_net;
+use reference::rules::Tension;
 use reference::seam::check_seam;
 use reference::step::split;
 use reference::topology::Topology;
@@ -21,6 +22,11 @@ fn nets(size: Size, count: u64) -> impl Iterator<Item = (PolygonShape, PolygonNe
     PolygonShape::ALL.into_iter().flat_map(move |shape| {
         (0..count).map(move |seed| (shape, accepted_polygons(shape, size, &mut Rng::new(seed))))
     })
+}
+
+/// All tensions by turns.
+fn tensions() -> impl Iterator<Item = Tension> {
+    Tension::ALL.into_iter().cycle()
 }
 
 #[test]
@@ -173,10 +179,10 @@ fn the_split_of_an_accepted_net_is_accepted() {
 #[test]
 fn boundaries_after_the_split_are_curves_of_their_own() {
     let mut readings = 0;
-    for (shape, net) in nets(Size::Small, 6) {
+    for ((shape, net), tension) in nets(Size::Small, 6).zip(tensions()) {
         let start = split(&net);
         for rounds in 0..=2 {
-            match check_seam(&start, rounds) {
+            match check_seam(&start, tension, rounds) {
                 Ok(count) => readings += count,
                 Err(fault) => panic!("{shape:?}: {fault:?} after {rounds} rounds"),
             }
@@ -194,19 +200,12 @@ fn cloud(net: &Net) -> Vec<(Point, u8)> {
 
 #[test]
 fn numbering_rotation_and_turning_over_do_not_move_points() {
-    for (shape, net) in nets(Size::Small, 6) {
-        let expected = cloud(&refine_times(split(&net), 1));
+    for ((shape, net), tension) in nets(Size::Small, 6).zip(tensions()) {
+        let refined = |net: &PolygonNet| cloud(&refine_times(split(net), tension, 1));
+        let expected = refined(&net);
         let mut other = renumber(&net, &mut Rng::new(77)).0;
-        assert_eq!(
-            cloud(&refine_times(split(&other), 1)),
-            expected,
-            "{shape:?}"
-        );
+        assert_eq!(refined(&other), expected, "{shape:?}");
         flip(&mut other);
-        assert_eq!(
-            cloud(&refine_times(split(&other), 1)),
-            expected,
-            "{shape:?}"
-        );
+        assert_eq!(refined(&other), expected, "{shape:?}");
     }
 }

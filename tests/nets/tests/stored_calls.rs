@@ -104,6 +104,64 @@ fn stored_letters_are_those_worked_out_by_hand() {
     assert_eq!("MBA".chars().map(count).collect::<Vec<_>>(), [4, 16, 8]);
 }
 
+/// The point of a vertex in the answer to the stored call of this name.
+fn stored_point(name: &str, vertex: usize) -> [i32; 3] {
+    match beginning(name).pop() {
+        Some((_, Outcome::Refined { vertices, .. })) => vertices.as_chunks().0[vertex],
+        _ => panic!("{name}: no stored call that is accepted"),
+    }
+}
+
+#[test]
+fn stored_points_at_tensions_are_those_worked_out_by_hand() {
+    let edges = [[8, 0, 0], [16, 8, 0], [8, 16, 0], [0, 8, 0]];
+    for (vertex, due) in (4..).zip(edges) {
+        assert_eq!(stored_point("tension-0-square.", vertex), due);
+    }
+    // t/2 outside the square, halves upward.
+    for (name, due) in [("1", [0, 17]), ("2", [-1, 17]), ("3", [-1, 18])] {
+        let name = format!("tension-{name}-square.");
+        assert_eq!([4, 6].map(|vertex| stored_point(&name, vertex)[1]), due);
+    }
+    assert_eq!(stored_point("tension-2-cube.", 8 + 3), [0, -564, -564]);
+    assert_eq!(stored_point("tension-2-cube.", 8 + 12), [0, 0, -634]);
+    // The mean of 1, 0, 0 and 0, not of the rounded midpoints 1, 0, 0 and 1.
+    assert_eq!(stored_point("tension-0-halves.", 8)[2], 0);
+}
+
+#[test]
+fn stored_tensions_are_refused_in_their_order() {
+    for (name, due) in [
+        ("7-rounds", 1),
+        ("a-coordinate-more", 2),
+        ("bad-count", 14),
+        ("a-mark-more", 2),
+        ("65-faces-6-rounds", 3),
+        ("short-work", 4),
+        ("short-letters", 4),
+        ("a-coordinate-beyond", 16),
+        ("a-mark-of-2", 16),
+        ("a-corner-beyond", 16),
+        ("a-marked-ring", 16),
+    ] {
+        let calls = beginning(&format!("tension-5-and-{name}."));
+        let [(case, outcome)] = &calls[..] else {
+            panic!("no stored call with {name}");
+        };
+        assert_eq!(case.tension, 5);
+        assert_eq!(*outcome, Refusal::new(due, 0).into(), "{name}");
+    }
+    let is_refused =
+        |(case, outcome): (Case, Outcome)| (case.tension, outcome == Refusal::new(16, 0).into());
+    let met: BTreeSet<_> = beginning("tension-").into_iter().map(is_refused).collect();
+    for tension in 0..=4 {
+        assert!(met.contains(&(tension, false)) && !met.contains(&(tension, true)));
+    }
+    for tension in [5, 255, 256, 260, 1 << 31, u32::MAX] {
+        assert!(met.contains(&(tension, true)), "{tension}");
+    }
+}
+
 #[test]
 fn letters_are_asked_for_beside_every_refusal() {
     let mut met = BTreeSet::new();
@@ -144,5 +202,27 @@ fn every_kind_is_stored_and_calls_survive_printing() {
     ] {
         assert!(square.contains(old));
         assert!(from_text(&square.replacen(old, new, 1)).is_none(), "{new}");
+    }
+    for (before, tension) in [
+        ("", 4),
+        ("tension 0\n", 0),
+        ("tension 4294967295\n", u32::MAX),
+        ("tally 9\ntension 3\n", 3),
+    ] {
+        let case = from_text(&format!("{before}{square}"));
+        assert_eq!(case.map(|case| case.tension), Some(tension), "{before}");
+    }
+    for before in [
+        "tension 4\n",
+        "tension\n",
+        "tension 1 2\n",
+        "tension -1\n",
+        "tension 4294967296\n",
+        "tension 3\ntally 9\n",
+    ] {
+        assert!(
+            from_text(&format!("{before}{square}")).is_none(),
+            "{before}"
+        );
     }
 }

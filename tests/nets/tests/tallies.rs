@@ -20,10 +20,10 @@ fn answered(case: &Case) -> (Outcome, u64) {
 #[test]
 fn new_points_are_known_from_the_counts_of_the_drawn_net() {
     for number in 0..NAMED.len() {
-        let (named, dressing) = by_turns(number);
+        let (named, dressing, tension) = by_turns(number);
         for rounds in 0..=1 {
-            let drawn = named.dressed(dressing, &mut Rng::new(7));
-            let case = drawn.accepted_case(rounds);
+            let drawn = named.dressed(dressing, tension, &mut Rng::new(7));
+            let case = drawn.accepted_case(tension, rounds);
             let due = new_points(&case);
             assert_eq!(answered(&case).1, due, "{} {rounds}", named.name);
         }
@@ -33,12 +33,12 @@ fn new_points_are_known_from_the_counts_of_the_drawn_net() {
 #[test]
 fn every_figure_gets_its_answer() {
     for (number, figure) in (0..NAMED.len()).zip(Figure::ALL.into_iter().cycle()) {
-        let (named, dressing) = by_turns(number);
+        let (named, dressing, tension) = by_turns(number);
         let rng = &mut Rng::new(number as u64);
-        let drawn = named.dressed(dressing, rng);
-        let rounds = rng.pick(&[0, 1]);
-        let case = with_figure(drawn.accepted_case(rounds), figure, rng);
-        let added = new_points(&drawn.accepted_case(rounds));
+        let drawn = named.dressed(dressing, tension, rng);
+        let accepted = drawn.accepted_case(tension, rng.pick(&[0, 1]));
+        let added = new_points(&accepted);
+        let case = with_figure(accepted, figure, rng);
         let (outcome, after) = answered(&case);
         assert!(case.expected.agrees_with(&outcome), "{case:?} {outcome:?}");
         let is_accepted = case.expected == Expected::Accepted;

@@ -1,10 +1,9 @@
 //! The call that refines a net, with the tables it is given.
 
 use crate::letter::{Letter, letter_table, refine_with_letters};
-use crate::net::{Net, PolygonNet};
-use crate::refusal::{
-    Capacity, Refusal, check_call, check_net, check_tally, quadrilaterals, refined_faces,
-};
+use crate::net::{Net, NetRecord, PolygonNet};
+use crate::refusal::{Capacity, Refusal, check_call, check_net, check_tally, refined_faces};
+use crate::rules::Tension;
 use crate::step::{refine_once, split};
 
 /// What a caller passes: the record of new points, the rounds, the net, the
@@ -15,11 +14,7 @@ pub struct Call<'a> {
     /// What the record holds before the call.
     pub tally: u64,
     pub rounds: u32,
-    pub vertices: &'a [i32],
-    pub faces: &'a [u32],
-    /// Sides of each face; none if every face has four.
-    pub sides: &'a [u8],
-    pub marks: &'a [u8],
+    pub net: NetRecord<'a>,
     pub capacity: Capacity,
 }
 
@@ -75,59 +70,48 @@ impl Tables {
 
 /// The result of a call.
 pub fn refine(call: &Call) -> Outcome {
-    match check_call(
-        call.rounds,
-        call.vertices,
-        call.faces,
-        call.sides,
-        call.marks,
-        &call.capacity,
-    ) {
-        Ok(()) => refine_net(call),
-        Err(refusal) => refusal.into(),
-    }
+    refine_net(call).unwrap_or_else(Outcome::from)
 }
 
-/// The result of a call that refusals 1 to 4 and 14 do not stop.
-fn refine_net(call: &Call) -> Outcome {
-    match start_net(call.vertices, call.faces, call.sides, call.marks) {
-        Ok(net) => {
-            let drawn = call.vertices.len() / 3;
-            let (refined, letters) = refine_with_letters(net, drawn, call.rounds);
-            judge_tally(call, &refined, &letters)
-        }
-        Err(refusal) => refusal.into(),
-    }
+/// The same, with refusals in their order: what [`check_call`] finds, then 16,
+/// what is wrong with the net, and 15.
+fn refine_net(call: &Call) -> Result<Outcome, Refusal> {
+    check_call(call.rounds, &call.net, &call.capacity)?;
+    let tension = Tension::new(call.net.tension)?;
+    let start = start_net(&call.net)?;
+    let drawn = call.net.vertices.len() / 3;
+    let (refined, letters) = refine_with_letters(start, tension, drawn, call.rounds);
+    judge_tally(call, &refined, &letters)
 }
 
 /// The result of a call that gives this net with these letters unless refusal
 /// 15 holds.
-fn judge_tally(call: &Call, refined: &Net, letters: &[Letter]) -> Outcome {
-    match check_tally(call.tally, new_points(call.vertices, &refined.marks)) {
-        Ok(()) => Outcome::Refined {
-            vertices: refined.vertex_table(),
-            faces: refined.face_table(),
-            marks: refined.marks.clone(),
-            letters: call.capacity.with_letters.then(|| letter_table(letters)),
-        },
-        Err(refusal) => refusal.into(),
-    }
+fn judge_tally(call: &Call, refined: &Net, letters: &[Letter]) -> Result<Outcome, Refusal> {
+    check_tally(call.tally, new_points(&call.net, &refined.marks))?;
+    Ok(Outcome::Refined {
+        vertices: refined.vertex_table(),
+        faces: refined.face_table(),
+        marks: refined.marks.clone(),
+        letters: call.capacity.with_letters.then(|| letter_table(letters)),
+    })
 }
 
-/// "refined vertices minus drawn vertices", from the drawn vertex table and
-/// the refined marks.
-fn new_points(drawn_vertices: &[i32], refined_marks: &[u8]) -> u64 {
-    (refined_marks.len() - drawn_vertices.len() / 3) as u64
+/// "refined vertices minus drawn vertices", from the drawn net and the refined
+/// marks.
+fn new_points(drawn: &NetRecord, refined_marks: &[u8]) -> u64 {
+    (refined_marks.len() - drawn.vertices.len() / 3) as u64
 }
 
 /// The net where refining begins, or why the drawn net is refused: the net
 /// itself, or with side counts its split.
-pub fn start_net(
-    vertices: &[i32],
-    faces: &[u32],
-    sides: &[u8],
-    marks: &[u8],
-) -> Result<Net, Refusal> {
+pub fn start_net(drawn: &NetRecord) -> Result<Net, Refusal> {
+    let NetRecord {
+        vertices,
+        faces,
+        sides,
+        marks,
+        ..
+    } = *drawn;
     if sides.is_empty() {
         let net = Net::from_tables(vertices, faces, marks);
         check_net(&net).map(|()| net)
@@ -138,31 +122,19 @@ pub fn start_net(
 }
 
 /// An accepted net after `rounds` refinement steps.
-pub fn refine_times(net: Net, rounds: u32) -> Net {
-    (0..rounds).fold(net, |net, _| refine_once(&net).net)
+pub fn refine_times(net: Net, tension: Tension, rounds: u32) -> Net {
+    (0..rounds).fold(net, |net, _| refine_once(&net, tension).net)
 }
 
 /// The result of a call, in `tally` what the record holds after it, and in
 /// `tables` the final state of every table.
-pub fn refine_into(
-    tally: &mut u64,
-    rounds: u32,
-    vertices: &[i32],
-    faces: &[u32],
-    sides: &[u8],
-    marks: &[u8],
-    tables: &mut Tables,
-) -> Outcome {
+pub fn refine_into(tally: &mut u64, rounds: u32, net: NetRecord, tables: &mut Tables) -> Outcome {
     let outcome = refine(&Call {
         tally: *tally,
         rounds,
-        vertices,
-        faces,
-        sides,
-        marks,
+        net,
         capacity: tables.capacity(),
     });
-    let drawn_vertices = vertices;
     match &outcome {
         Outcome::Refined {
             vertices,
@@ -170,7 +142,7 @@ pub fn refine_into(
             marks,
             letters,
         } => {
-            *tally += new_points(drawn_vertices, marks);
+            *tally += new_points(&net, marks);
             tables.vertices[..vertices.len()].copy_from_slice(vertices);
             tables.faces[..faces.len()].copy_from_slice(faces);
             tables.marks[..marks.len()].copy_from_slice(marks);
@@ -179,11 +151,12 @@ pub fn refine_into(
             }
         }
         Outcome::Refused {
-            reason: 1..=4 | 14, ..
+            reason: 1..=4 | 14 | 16,
+            ..
         } => return outcome,
         Outcome::Refused { .. } => {}
     }
-    let used = 16 * refined_faces(quadrilaterals(faces.len(), sides), rounds);
+    let used = 16 * refined_faces(net.quadrilaterals(), rounds);
     let used = usize::try_from(used).expect("the workspace was long enough");
     tables.workspace[..used].fill(0);
     outcome

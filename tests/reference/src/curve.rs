@@ -2,6 +2,7 @@
 
 use crate::fraction::Fraction;
 use crate::point::Point;
+use crate::rules::Tension;
 
 /// Whether a list of points is an open polygon or a closed one.
 #[derive(Clone, Copy, Debug, PartialEq, Eq, Hash, PartialOrd, Ord)]
@@ -12,38 +13,48 @@ pub enum Form {
 
 type Wide = [i128; 3];
 
+/// The denominator of every rule.
+const DENOMINATOR: i128 = 64;
+
 /// The list after `steps` refinement steps, each new point rounded once.
-pub fn rounded_curve(form: Form, points: &[Point], steps: u32) -> Vec<Point> {
+pub fn rounded_curve(tension: Tension, form: Form, points: &[Point], steps: u32) -> Vec<Point> {
     let mut curve: Vec<Point> = points.to_vec();
     for _ in 0..steps {
         let wide: Vec<Wide> = curve.iter().map(|point| point.map(i128::from)).collect();
-        let middles = new_numerators(form, &wide)
+        let middles = new_numerators(tension, form, &wide)
             .into_iter()
-            .map(|middle| middle.map(round_sixteenth));
+            .map(|middle| middle.map(rounded));
         curve = interleave(curve.iter().copied(), middles);
     }
     curve
 }
 
-/// The list after `steps` steps without rounding, each coordinate times 16^steps.
-pub fn exact_curve(form: Form, points: &[Point], steps: u32) -> Vec<Wide> {
+/// The list after `steps` steps without rounding, each coordinate times 64^steps.
+pub fn exact_curve(tension: Tension, form: Form, points: &[Point], steps: u32) -> Vec<Wide> {
     let mut curve: Vec<Wide> = points.iter().map(|point| point.map(i128::from)).collect();
     for _ in 0..steps {
-        let middles = new_numerators(form, &curve).into_iter();
-        let old = curve.iter().map(|point| point.map(|value| value * 16));
+        let middles = new_numerators(tension, form, &curve).into_iter();
+        let old = curve
+            .iter()
+            .map(|point| point.map(|value| value * DENOMINATOR));
         curve = interleave(old, middles);
     }
     curve
 }
 
 /// The greatest distance on an axis between the rounded curve and the exact
-/// curve after `steps` steps, at the scale 16^steps.
+/// curve after `steps` steps, at the scale 64^steps.
 pub fn distance_bound(steps: u32) -> i128 {
-    2 * (20_i128.pow(steps) - 16_i128.pow(steps))
+    2 * (80_i128.pow(steps) - scale(steps))
 }
 
-fn round_sixteenth(numerator: i128) -> i32 {
-    let value = Fraction::new(numerator, 16).round();
+/// What the coordinates of the exact curve after `steps` steps are multiplied by.
+pub fn scale(steps: u32) -> i128 {
+    DENOMINATOR.pow(steps)
+}
+
+fn rounded(numerator: i128) -> i32 {
+    let value = Fraction::new(numerator, DENOMINATOR).round();
     i32::try_from(value).expect("rounded coordinate fits 32 bits")
 }
 
@@ -58,36 +69,36 @@ fn interleave<T>(old: impl Iterator<Item = T>, new: impl Iterator<Item = T>) -> 
     list
 }
 
-/// For each edge of the list its new point as a numerator over 16.
-fn new_numerators(form: Form, points: &[Wide]) -> Vec<Wide> {
-    let n = points.len();
+/// For each edge of the list its new point as a numerator over 64.
+fn new_numerators(tension: Tension, form: Form, points: &[Wide]) -> Vec<Wide> {
+    let (n, t) = (points.len(), tension.weight());
     match form {
         Form::Open => {
             assert!(n >= 2, "an open list has two points or more");
-            (0..n - 1).map(|at| open_numerator(points, at)).collect()
+            (0..n - 1).map(|at| open_numerator(t, points, at)).collect()
         }
         Form::Round => {
             assert!(n >= 3, "a round list has three points or more");
             (0..n)
                 .map(|at| {
                     let [p, q, r, s] = [n - 1, 0, 1, 2].map(|on| points[(at + on) % n]);
-                    combine([(-1, p), (9, q), (9, r), (-1, s)])
+                    combine([(-t, p), (32 + t, q), (32 + t, r), (-t, s)])
                 })
                 .collect()
         }
     }
 }
 
-/// The new point between points `at` and `at + 1` of an open list.
-fn open_numerator(points: &[Wide], at: usize) -> Wide {
+/// The new point between points `at` and `at + 1` of an open list, at tension `t`.
+fn open_numerator(t: i128, points: &[Wide], at: usize) -> Wide {
     let (q, r) = (points[at], points[at + 1]);
     let before = at.checked_sub(1).map(|i| points[i]);
     let after = points.get(at + 2).copied();
     match (before, after) {
-        (Some(p), Some(s)) => combine([(-1, p), (9, q), (9, r), (-1, s)]),
-        (None, Some(s)) => combine([(7, q), (10, r), (-1, s)]),
-        (Some(p), None) => combine([(7, r), (10, q), (-1, p)]),
-        (None, None) => combine([(8, q), (8, r)]),
+        (Some(p), Some(s)) => combine([(-t, p), (32 + t, q), (32 + t, r), (-t, s)]),
+        (None, Some(s)) => combine([(32 - t, q), (32 + 2 * t, r), (-t, s)]),
+        (Some(p), None) => combine([(32 - t, r), (32 + 2 * t, q), (-t, p)]),
+        (None, None) => combine([(32, q), (32, r)]),
     }
 }
 

@@ -2,6 +2,7 @@
 //! point."
 
 use crate::net::Net;
+use crate::rules::Tension;
 use crate::step::{Directions, Rule, refine_once};
 
 /// What made a point, in paper 02's words.
@@ -84,10 +85,15 @@ pub fn start_letters(vertices: usize, drawn: usize) -> Vec<Letter> {
 /// The net after `rounds` refinement steps from a net with so many drawn
 /// vertices, and its letters. "Points kept from an earlier round keep the
 /// letter they were made with."
-pub fn refine_with_letters(start: Net, drawn: usize, rounds: u32) -> (Net, Vec<Letter>) {
+pub fn refine_with_letters(
+    start: Net,
+    tension: Tension,
+    drawn: usize,
+    rounds: u32,
+) -> (Net, Vec<Letter>) {
     let letters = start_letters(start.points.len(), drawn);
     (0..rounds).fold((start, letters), |(net, mut letters), _| {
-        let step = refine_once(&net);
+        let step = refine_once(&net, tension);
         letters.extend(step.made.iter().map(|new| Letter::from(new.rule)));
         (step.net, letters)
     })

@@ -54,6 +54,30 @@ impl PolygonNet {
     }
 }
 
+/// The net of a call as the caller gives it: flat tables and a tension, any of
+/// which may be a reason for a refusal.
+#[derive(Clone, Copy, Debug)]
+pub struct NetRecord<'a> {
+    pub vertices: &'a [i32],
+    pub faces: &'a [u32],
+    /// Sides of each face; none if every face has four.
+    pub sides: &'a [u8],
+    pub marks: &'a [u8],
+    pub tension: u32,
+}
+
+impl NetRecord<'_> {
+    /// F: the quadrilaterals that refining begins with. Without side counts they
+    /// are the drawn faces, with them each drawn face gives one for each corner.
+    pub fn quadrilaterals(&self) -> usize {
+        if self.sides.is_empty() {
+            self.faces.len() / 4
+        } else {
+            self.faces.len()
+        }
+    }
+}
+
 /// The same net with lists of corners.
 impl From<&Net> for PolygonNet {
     fn from(net: &Net) -> Self {

@@ -1,6 +1,6 @@
 //! Reasons for refusing a call, their order and their places.
 
-use crate::net::Mesh;
+use crate::net::{Mesh, NetRecord};
 use crate::topology::{Star, Topology};
 
 pub const MAX_ROUNDS: u32 = 6;
@@ -10,6 +10,7 @@ pub const MAX_REFINED_FACES: u128 = 262_144;
 pub const MAX_COORDINATE: u32 = 1_048_576;
 pub const RING_SIZES: std::ops::RangeInclusive<usize> = 3..=8;
 pub const MAX_FAN: usize = 6;
+pub const MAX_TENSION: u32 = 4;
 pub const MAX_TALLY: u64 = 4_000_000_000;
 pub const SIDE_COUNTS: std::ops::RangeInclusive<u8> = 3..=8;
 
@@ -79,37 +80,20 @@ pub fn refined_faces(faces: usize, rounds: u32) -> u128 {
     faces as u128 * 4_u128.pow(rounds)
 }
 
-/// F: the quadrilaterals that refining begins with. Without side counts they
-/// are the drawn faces, with them each drawn face gives one for each corner.
-pub fn quadrilaterals(corners: usize, sides: &[u8]) -> usize {
-    if sides.is_empty() {
-        corners / 4
-    } else {
-        corners
-    }
-}
-
 /// Refusals 1 to 4 and 14, which look at lengths, rounds and side counts only:
 /// first 1, then 2 for the vertex table, 14 or 2 for the face table, 2 for the
-/// marks, 3 and 4.
-pub fn check_call(
-    rounds: u32,
-    vertices: &[i32],
-    faces: &[u32],
-    sides: &[u8],
-    marks: &[u8],
-    capacity: &Capacity,
-) -> Result<(), Refusal> {
+/// marks, 3 and 4. After them comes 16, which is the tension's alone.
+pub fn check_call(rounds: u32, net: &NetRecord, capacity: &Capacity) -> Result<(), Refusal> {
     check_rounds(rounds)?;
-    let vertex_count = vertices.len() / 3;
-    if !vertices.len().is_multiple_of(3) {
+    let vertex_count = net.vertices.len() / 3;
+    if !net.vertices.len().is_multiple_of(3) {
         return Err(Refusal::new(2, 0));
     }
-    check_faces(faces.len(), sides)?;
-    if marks.len() != vertex_count {
+    check_faces(net.faces.len(), net.sides)?;
+    if net.marks.len() != vertex_count {
         return Err(Refusal::new(2, 0));
     }
-    let face_count = quadrilaterals(faces.len(), sides);
+    let face_count = net.quadrilaterals();
     check_limits(rounds, vertex_count, face_count)?;
     if !capacity.serves(refined_faces(face_count, rounds)) {
         return Err(Refusal::new(4, 0));

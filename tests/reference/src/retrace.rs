@@ -7,7 +7,7 @@ use std::collections::BTreeMap;
 use crate::letter::Letter;
 use crate::net::{Net, edge};
 use crate::point::{ExactPoint, Point};
-use crate::rules::{end_edge, four_point, midpoint};
+use crate::rules::{Tension, midpoint};
 use crate::step::Surface;
 use crate::topology::Topology;
 
@@ -19,14 +19,15 @@ impl Surface<'_> {
         let exact = |vertex: Option<&u32>| Some(self.exact(*vertex?));
         let before = exact(self.boundary.before.get(&from));
         let after = exact(self.boundary.after.get(&to));
+        let t = self.tension;
         match letter {
-            Letter::InsideSegment => Some(four_point(before?, p, q, after?)),
-            Letter::EndEdge if self.net.is_marked(from) => Some(end_edge(p, q, after?)),
-            Letter::EndEdge if self.net.is_marked(to) => Some(end_edge(q, p, before?)),
+            Letter::InsideSegment => Some(t.four_point(before?, p, q, after?)),
+            Letter::EndEdge if self.net.is_marked(from) => Some(t.end_edge(p, q, after?)),
+            Letter::EndEdge if self.net.is_marked(to) => Some(t.end_edge(q, p, before?)),
             Letter::OneEdge => Some(midpoint(p, q)),
             Letter::InnerEdge if self.topology.is_inner(from, to) => {
                 let [v, w] = [self.virtual_point(from, to), self.virtual_point(to, from)];
-                Some(four_point(v, p, q, w))
+                Some(t.four_point(v, p, q, w))
             }
             _ => None,
         }
@@ -57,8 +58,8 @@ impl Surface<'_> {
 
 /// The new points of a round on a net by their letters, one for each edge and
 /// then one for each face; none if a letter names no rule there.
-fn new_points_by(net: &Net, letters: &[Letter]) -> Option<Vec<Point>> {
-    let surface = Surface::new(net);
+fn new_points_by(net: &Net, tension: Tension, letters: &[Letter]) -> Option<Vec<Point>> {
+    let surface = Surface::new(net, tension);
     let edges = Topology::edges_in_order(&net.faces);
     let (on_edges, on_faces) = letters.split_at_checked(edges.len())?;
     let mut points = Vec::new();
@@ -77,11 +78,16 @@ fn new_points_by(net: &Net, letters: &[Letter]) -> Option<Vec<Point>> {
 
 /// Whether a round on this net gives these points by these letters: all points
 /// after the round, and a letter for each.
-pub fn round_is_by_letters(before: &Net, points: &[Point], letters: &[u8]) -> bool {
+pub fn round_is_by_letters(
+    before: &Net,
+    tension: Tension,
+    points: &[Point],
+    letters: &[u8],
+) -> bool {
     let old = before.points.len();
     let letters: Option<Vec<Letter>> = letters.iter().map(|&b| Letter::of_byte(b)).collect();
     let new = letters.filter(|letters| letters.len() == points.len() && old <= points.len());
-    let new = new.and_then(|letters| new_points_by(before, &letters[old..]));
+    let new = new.and_then(|letters| new_points_by(before, tension, &letters[old..]));
     new.is_some_and(|new| before.points == points[..old] && new == points[old..])
 }
 

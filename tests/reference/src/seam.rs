@@ -5,9 +5,10 @@
 //! begins: with side counts, of the split net.
 
 use crate::call::refine_times;
-use crate::curve::{Form, distance_bound, exact_curve, rounded_curve};
+use crate::curve::{Form, distance_bound, exact_curve, rounded_curve, scale};
 use crate::net::Net;
 use crate::point::Point;
+use crate::rules::Tension;
 use crate::topology::{BoundaryLoops, Topology};
 
 /// Whether a boundary is walked the way the sides run.
@@ -110,19 +111,20 @@ pub enum SeamFault {
 }
 
 /// Checks every reading of an accepted net: after `rounds` steps it is the
-/// rounded curve of the initial reading, within the distance from the exact
-/// curve. Returns the number of readings.
-pub fn check_seam(net: &Net, rounds: u32) -> Result<usize, SeamFault> {
-    let refined = refine_times(net.clone(), rounds);
+/// rounded curve of the initial reading at the same tension, within the distance
+/// from the exact curve. Returns the number of readings.
+pub fn check_seam(net: &Net, tension: Tension, rounds: u32) -> Result<usize, SeamFault> {
+    let refined = refine_times(net.clone(), tension, rounds);
     let (initial, after) = (Boundary::new(net), Boundary::new(&refined));
     let readings = initial.readings();
     for &reading in &readings {
         let points = initial.read(reading).expect("listed readings exist");
-        let curve = rounded_curve(reading.form, &points, rounds);
+        let curve = rounded_curve(tension, reading.form, &points, rounds);
+        let exact = exact_curve(tension, reading.form, &points, rounds);
         if after.read(reading).as_ref() != Some(&curve) {
             return Err(SeamFault::NotTheCurve(reading));
         }
-        if !is_near(&curve, &exact_curve(reading.form, &points, rounds), rounds) {
+        if !is_near(&curve, &exact, rounds) {
             return Err(SeamFault::TooFar(reading));
         }
     }
@@ -130,9 +132,9 @@ pub fn check_seam(net: &Net, rounds: u32) -> Result<usize, SeamFault> {
 }
 
 /// Whether a rounded curve after `rounds` steps is within the distance from
-/// the exact one, which is at the scale 16^rounds.
+/// the exact one.
 pub fn is_near(curve: &[Point], exact: &[[i128; 3]], rounds: u32) -> bool {
-    let scale = 16_i128.pow(rounds);
+    let scale = scale(rounds);
     let curve = curve.as_flattened().iter();
     let exact = exact.as_flattened().iter();
     curve

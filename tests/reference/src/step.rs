@@ -5,7 +5,7 @@ use std::collections::BTreeMap;
 
 use crate::net::{Mesh, Net, PolygonNet, edge, sides};
 use crate::point::ExactPoint;
-use crate::rules::{end_edge, four_point, mean, midpoint, reflect, virtual_point};
+use crate::rules::{Tension, mean, midpoint, reflect};
 use crate::topology::{BoundaryLoops, Star, Topology};
 
 /// The rule that makes a new point.
@@ -64,8 +64,8 @@ pub struct Step {
 }
 
 /// Refines an accepted net, or the result of refining one, once.
-pub fn refine_once(net: &Net) -> Step {
-    let surface = Surface::new(net);
+pub fn refine_once(net: &Net, tension: Tension) -> Step {
+    let surface = Surface::new(net, tension);
     let edges = Topology::edges_in_order(&net.faces);
     let mut made: Vec<NewPoint> = Vec::with_capacity(edges.len() + net.faces.len());
     let mut edge_points = BTreeMap::new();
@@ -140,28 +140,30 @@ fn parts(face: &[u32], centre: u32, numbers: &BTreeMap<(u32, u32), u32>) -> Vec<
 
 /// The first `rounds` steps of an accepted net, each with the origin of its
 /// new vertices.
-pub fn trace(net: &Net, rounds: u32) -> Vec<Step> {
+pub fn trace(net: &Net, tension: Tension, rounds: u32) -> Vec<Step> {
     let mut steps: Vec<Step> = Vec::new();
     for _ in 0..rounds {
         let last = steps.last().map_or(net, |step| &step.net);
-        steps.push(refine_once(last));
+        steps.push(refine_once(last, tension));
     }
     steps
 }
 
-/// A net with its adjacency, as the rules see it.
+/// A net with its adjacency and the tension, as the rules see it.
 pub struct Surface<'a> {
     pub(crate) net: &'a Net,
+    pub(crate) tension: Tension,
     pub(crate) topology: Topology,
     pub(crate) boundary: BoundaryLoops,
 }
 
 impl<'a> Surface<'a> {
-    pub fn new(net: &'a Net) -> Self {
+    pub fn new(net: &'a Net, tension: Tension) -> Self {
         let topology = Topology::new(&net.faces).expect("the sides of the net are distinct");
         let boundary = topology.boundary();
         Self {
             net,
+            tension,
             topology,
             boundary,
         }
@@ -175,7 +177,7 @@ impl<'a> Surface<'a> {
         if self.topology.is_inner(from, to) {
             NewPoint {
                 rule: Rule::InnerEdge,
-                exact: four_point(
+                exact: self.tension.four_point(
                     self.virtual_point(from, to),
                     self.exact(from),
                     self.exact(to),
@@ -192,11 +194,12 @@ impl<'a> Surface<'a> {
         let [p, q] = [from, to].map(|vertex| self.exact(vertex));
         let before = || self.exact(self.boundary.before[&from]);
         let after = || self.exact(self.boundary.after[&to]);
+        let t = self.tension;
         let (rule, exact) = match (self.net.is_marked(from), self.net.is_marked(to)) {
             (true, true) => (Rule::OneEdge, midpoint(p, q)),
-            (true, false) => (Rule::EndEdge, end_edge(p, q, after())),
-            (false, true) => (Rule::EndEdge, end_edge(q, p, before())),
-            (false, false) => (Rule::BoundaryInside, four_point(before(), p, q, after())),
+            (true, false) => (Rule::EndEdge, t.end_edge(p, q, after())),
+            (false, true) => (Rule::EndEdge, t.end_edge(q, p, before())),
+            (false, false) => (Rule::BoundaryInside, t.four_point(before(), p, q, after())),
         };
         NewPoint { rule, exact }
     }
@@ -241,7 +244,8 @@ impl<'a> Surface<'a> {
             .position(|&neighbour| neighbour == other)
             .expect("the edge starts at the vertex");
         let (neighbours, opposites) = self.closed_ring(vertex);
-        virtual_point(&neighbours, &opposites, towards)
+        let tension = self.tension;
+        tension.virtual_point(&neighbours, &opposites, towards)
     }
 
     /// Both directions of a face, from side 0 and from side 1.
@@ -262,11 +266,12 @@ impl<'a> Surface<'a> {
         edge_points: &BTreeMap<(u32, u32), ExactPoint>,
     ) -> Direction {
         let at = |(a, b): (u32, u32)| edge_points[&edge(a, b)];
+        let t = self.tension;
         let beyond = [self.edge_beyond(near), self.edge_beyond(far)];
         let (neighbours, point) = match beyond {
-            [Some(first), Some(last)] => (2, four_point(at(first), at(near), at(far), at(last))),
-            [Some(first), None] => (1, end_edge(at(far), at(near), at(first))),
-            [None, Some(last)] => (1, end_edge(at(near), at(far), at(last))),
+            [Some(first), Some(last)] => (2, t.four_point(at(first), at(near), at(far), at(last))),
+            [Some(first), None] => (1, t.end_edge(at(far), at(near), at(first))),
+            [None, Some(last)] => (1, t.end_edge(at(near), at(far), at(last))),
             [None, None] => (0, midpoint(at(near), at(far))),
         };
         let four_inner = beyond

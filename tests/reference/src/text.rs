@@ -1,9 +1,11 @@
-//! The text form of nets and answers, which has no side counts. Nets may also
-//! come as OBJ texts.
+//! The text form of nets and answers, which has no side counts and no tension.
+//! Nets may also come as OBJ texts.
 
 use crate::call::{Call, Outcome, refine};
+use crate::net::NetRecord;
 use crate::obj;
 use crate::refusal::{Capacity, Refusal, check_limits, check_rounds, refined_faces};
+use crate::rules::Tension;
 
 pub const MAX_BYTES: usize = 32_768;
 /// The program's own tables serve nets up to these sizes.
@@ -77,10 +79,13 @@ pub fn refine_document(document: &Document) -> Outcome {
     refine(&Call {
         tally: 0,
         rounds: document.rounds,
-        vertices: &document.vertices,
-        faces: &document.faces,
-        sides: &[],
-        marks: &document.marks,
+        net: NetRecord {
+            vertices: &document.vertices,
+            faces: &document.faces,
+            sides: &[],
+            marks: &document.marks,
+            tension: Tension::OLD.number(),
+        },
         capacity,
     })
 }

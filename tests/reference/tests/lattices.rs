@@ -8,6 +8,7 @@ use reference::curve::{Form, exact_curve};
 use reference::fraction::Fraction;
 use reference::net::Net;
 use reference::point::{ExactPoint, Point};
+use reference::rules::Tension;
 use reference::step::refine_once;
 
 /// A lattice of faces that is open or closes on itself in each direction.
@@ -47,16 +48,16 @@ impl Lattice {
         net
     }
 
-    /// Rows of points after one step, each coordinate times 256.
-    fn refined_rows(&self, net: &Net) -> Vec<Vec<[i128; 3]>> {
+    /// Rows of points after one step, each coordinate times 64 twice.
+    fn refined_rows(&self, tension: Tension, net: &Net) -> Vec<Vec<[i128; 3]>> {
         let [across, up] = self.size();
         let rows: Vec<Vec<Point>> = (0..up)
             .map(|y| (0..across).map(|x| net.point(self.vertex(x, y))).collect())
-            .map(|row: Vec<Point>| narrow(&exact_curve(self.forms[0], &row, 1)))
+            .map(|row: Vec<Point>| narrow(&exact_curve(tension, self.forms[0], &row, 1)))
             .collect();
         let columns: Vec<Vec<[i128; 3]>> = (0..rows[0].len())
             .map(|x| rows.iter().map(|row| row[x]).collect())
-            .map(|column: Vec<Point>| exact_curve(self.forms[1], &column, 1))
+            .map(|column: Vec<Point>| exact_curve(tension, self.forms[1], &column, 1))
             .collect();
         (0..columns[0].len())
             .map(|y| columns.iter().map(|column| column[y]).collect())
@@ -71,13 +72,20 @@ fn narrow(points: &[[i128; 3]]) -> Vec<Point> {
 
 #[track_caller]
 fn assert_refined_by_curves(faces: [usize; 2], forms: [Form; 2]) {
+    for tension in Tension::ALL {
+        assert_refined_at(tension, faces, forms);
+    }
+}
+
+#[track_caller]
+fn assert_refined_at(tension: Tension, faces: [usize; 2], forms: [Form; 2]) {
     let lattice = Lattice { faces, forms };
     let net = lattice.net();
-    let rows = lattice.refined_rows(&net);
-    let step = refine_once(&net);
+    let rows = lattice.refined_rows(tension, &net);
+    let step = refine_once(&net, tension);
     let expected = |x: usize, y: usize| {
         let row = &rows[y % rows.len()];
-        ExactPoint(row[x % row.len()].map(|value| Fraction::new(value, 256)))
+        ExactPoint(row[x % row.len()].map(|value| Fraction::new(value, 64 * 64)))
     };
     let made = |vertex: u32| step.made[vertex as usize - net.points.len()].exact;
     for y in 0..faces[1] {

@@ -4,26 +4,36 @@ mod common;
 
 use std::collections::BTreeSet;
 
-use common::{SAMPLE_TEXT, bent_grid, cube, grid, scattered, square, unmarked, wheel, with_marks};
-use reference::call::{Call, Outcome, Tables, refine, refine_into};
+use common::{
+    SAMPLE_TEXT, bent_grid, cube, grid, refine_drawn, scattered, square, unmarked, wheel,
+    with_marks,
+};
+use reference::call::{Call, Outcome, Tables, refine};
 use reference::letter::{Letter, letter_table, refine_with_letters};
-use reference::net::{Net, PolygonNet};
+use reference::net::{Net, NetRecord, PolygonNet};
 use reference::point::Point;
 use reference::refusal::Capacity;
 use reference::retrace::{round_is_by_letters, start_is_by_letters};
+use reference::rules::Tension;
 use reference::step::{refine_once, split};
 use reference::text::answer;
 
 /// The letters of a net without side counts.
 fn letters(net: &Net, rounds: u32) -> String {
-    let (_, letters) = refine_with_letters(net.clone(), net.points.len(), rounds);
-    text(&letters)
+    letters_from(net, net.points.len(), rounds)
 }
 
 /// The letters of a net with side counts.
 fn letters_of_polygons(net: &PolygonNet, rounds: u32) -> String {
-    let (_, letters) = refine_with_letters(split(net), net.points.len(), rounds);
-    text(&letters)
+    letters_from(&split(net), net.points.len(), rounds)
+}
+
+/// Letters are the same at every tension.
+fn letters_from(start: &Net, drawn: usize, rounds: u32) -> String {
+    let at = |tension| refine_with_letters(start.clone(), tension, drawn, rounds).1;
+    let [old, others @ ..] = [4, 0, 1, 2, 3].map(|t: usize| at(Tension::ALL[t]));
+    assert!(others.iter().all(|letters| *letters == old));
+    text(&old)
 }
 
 fn text(letters: &[Letter]) -> String {
@@ -99,7 +109,7 @@ fn faces_with_four_inner_edges_are_told_from_others() {
 /// Faces both of whose directions have four inner edges.
 fn both_directions(net: &Net) -> usize {
     use reference::step::{Directions, Rule};
-    let made = refine_once(net).made;
+    let made = refine_once(net, Tension::OLD).made;
     let is_both = |rule: Rule| {
         matches!(
             rule,
@@ -168,9 +178,7 @@ fn tables(refined_faces: usize, with_letters: bool, letters: usize) -> Tables {
 }
 
 fn call(tally: u64, net: &Net, rounds: u32, tables: &mut Tables) -> Outcome {
-    let (vertices, faces) = (net.vertex_table(), net.face_table());
-    let tally = &mut { tally };
-    refine_into(tally, rounds, &vertices, &faces, &[], &net.marks, tables)
+    refine_drawn(&mut { tally }, net, &[], 1, rounds, tables)
 }
 
 #[test]
@@ -242,7 +250,7 @@ fn refusals_leave_the_letters() {
     }
 }
 
-/// 4 is tested after 1, 2, 14 and 3, and before 5.
+/// 4 is tested after 1, 2, 14 and 3, and before 16 and 5.
 #[test]
 fn a_short_letter_table_has_its_place_in_the_order() {
     let [bad_vertex, sound] = [1_048_577, 0];
@@ -259,10 +267,13 @@ fn a_short_letter_table_has_its_place_in_the_order() {
         let outcome = refine(&Call {
             tally: u64::MAX,
             rounds,
-            vertices: &vertices,
-            faces: &[0, 1, 2, 3],
-            sides,
-            marks: &vec![0; marks],
+            net: NetRecord {
+                vertices: &vertices,
+                faces: &[0, 1, 2, 3],
+                sides,
+                marks: &vec![0; marks],
+                tension: 5,
+            },
             capacity: Capacity::for_refined_faces(99).asking_for_letters(15),
         });
         let refused = Outcome::Refused {
@@ -289,17 +300,17 @@ fn the_program_prints_a_last_column_if_the_first_line_asks() {
 }
 
 /// Each point of a net is what its letter says, in every round.
-fn assert_by_letters(start: &Net, drawn: usize, rounds: u32) {
+fn assert_by_letters(start: &Net, tension: Tension, drawn: usize, rounds: u32) {
     let mut before = start.clone();
     for k in 0..=rounds {
-        let (net, letters) = refine_with_letters(start.clone(), drawn, k);
+        let (net, letters) = refine_with_letters(start.clone(), tension, drawn, k);
         let letters = letter_table(&letters);
         let front = start.points.len();
         let [points, named] = [&net.points[..front], &start.points];
         assert_eq!(points, named);
         assert!(start_is_by_letters(start, drawn, points, &letters[..front]));
         if k > 0 {
-            assert!(round_is_by_letters(&before, &net.points, &letters));
+            assert!(round_is_by_letters(&before, tension, &net.points, &letters));
         }
         before = net;
     }
@@ -310,9 +321,11 @@ fn the_rule_that_a_letter_names_gives_the_point() {
     let mut bent = with_marks(grid(5, 4), &[0, 5, 24, 29, 3]);
     bent.points = scattered(30);
     for net in [square(), cube(), grid(5, 5), bent] {
-        assert_by_letters(&net, net.points.len(), 3);
-        let drawn = PolygonNet::from(&net);
-        assert_by_letters(&split(&drawn), drawn.points.len(), 2);
+        for tension in Tension::ALL {
+            assert_by_letters(&net, tension, net.points.len(), 3);
+            let drawn = PolygonNet::from(&net);
+            assert_by_letters(&split(&drawn), tension, drawn.points.len(), 2);
+        }
     }
 }
 
@@ -325,21 +338,37 @@ fn rugged(count: i64) -> Vec<Point> {
 }
 
 /// The letters of a round in whose place another one names the same point.
-fn exchangeable(net: &Net) -> BTreeSet<(char, char)> {
-    let (refined, letters) = refine_with_letters(net.clone(), net.points.len(), 1);
+fn exchangeable(net: &Net, tension: Tension) -> BTreeSet<(char, char)> {
+    let (refined, letters) = refine_with_letters(net.clone(), tension, net.points.len(), 1);
     let right = letter_table(&letters);
-    assert!(round_is_by_letters(net, &refined.points, &right));
+    let is_by = |letters: &[u8]| round_is_by_letters(net, tension, &refined.points, letters);
+    assert!(is_by(&right));
     let mut same = BTreeSet::new();
     for vertex in net.points.len()..right.len() {
         for other in Letter::ALL.map(Letter::byte) {
             let mut wrong = right.clone();
             wrong[vertex] = other;
-            if other != right[vertex] && round_is_by_letters(net, &refined.points, &wrong) {
+            if other != right[vertex] && is_by(&wrong) {
                 same.insert((char::from(right[vertex]), char::from(other)));
             }
         }
     }
     same
+}
+
+#[test]
+fn the_rules_of_another_tension_give_other_points() {
+    for mut net in [grid(5, 5), cube(), wheel(5), square()] {
+        net.points = rugged(i64::try_from(net.points.len()).expect("few"));
+        for tension in Tension::ALL {
+            let (refined, letters) = refine_with_letters(net.clone(), tension, 0, 1);
+            let letters = letter_table(&letters);
+            for other in Tension::ALL {
+                let is_by = round_is_by_letters(&net, other, &refined.points, &letters);
+                assert_eq!(is_by, other == tension);
+            }
+        }
+    }
 }
 
 /// Every other letter names another point, but for D and E where both
@@ -349,13 +378,19 @@ fn exchangeable(net: &Net) -> BTreeSet<(char, char)> {
 fn another_letter_names_another_point() {
     let mut grid = with_marks(grid(5, 5), &[0, 5, 30, 35, 2]);
     grid.points = rugged(36);
-    assert_eq!(exchangeable(&grid), [('D', 'E'), ('E', 'D')].into());
     let mut wheel = with_marks(wheel(5), &[1, 2]);
     wheel.points = rugged(11);
-    assert_eq!(exchangeable(&wheel), [].into());
     let mut cube = cube();
     cube.points = rugged(8);
-    assert_eq!(exchangeable(&cube), [('D', 'E')].into());
+    for tension in &Tension::ALL[1..] {
+        let of_grid = exchangeable(&grid, *tension);
+        assert_eq!(of_grid, [('D', 'E'), ('E', 'D')].into());
+        assert_eq!(exchangeable(&wheel, *tension), [].into());
+        assert_eq!(exchangeable(&cube, *tension), [('D', 'E')].into());
+    }
+    // At tension 0 all rules of edges give the midpoint, both of faces the mean.
+    let of_wheel = exchangeable(&wheel, Tension::ALL[0]);
+    assert!(of_wheel.contains(&('C', 'M')) && of_wheel.contains(&('E', 'D')));
 }
 
 /// On this net a face with one direction alone differs from the mean.
@@ -363,12 +398,13 @@ fn another_letter_names_another_point() {
 fn e_in_the_place_of_a_d_with_one_direction_is_found_out() {
     let mut net = bent_grid();
     net.points = rugged(i64::try_from(net.points.len()).expect("few"));
-    let (refined, letters) = refine_with_letters(net.clone(), net.points.len(), 1);
+    let tension = Tension::OLD;
+    let (refined, letters) = refine_with_letters(net.clone(), tension, net.points.len(), 1);
     let right = letter_table(&letters);
     let found = (net.points.len()..right.len()).filter(|&vertex| {
         let mut wrong = right.clone();
         wrong[vertex] = b'E';
-        right[vertex] == b'D' && !round_is_by_letters(&net, &refined.points, &wrong)
+        right[vertex] == b'D' && !round_is_by_letters(&net, tension, &refined.points, &wrong)
     });
     assert!(found.count() > 0);
 }
@@ -376,10 +412,12 @@ fn e_in_the_place_of_a_d_with_one_direction_is_found_out() {
 #[test]
 fn letters_that_are_too_few_or_at_the_wrong_place_are_found_out() {
     let net = square();
-    let (refined, letters) = refine_with_letters(net.clone(), 4, 1);
+    let tension = Tension::OLD;
+    let (refined, letters) = refine_with_letters(net.clone(), tension, 4, 1);
     let right = letter_table(&letters);
-    assert!(!round_is_by_letters(&net, &refined.points, &right[1..]));
-    assert!(!round_is_by_letters(&net, &refined.points, &right[..8]));
+    for few in [&right[1..], &right[..8]] {
+        assert!(!round_is_by_letters(&net, tension, &refined.points, few));
+    }
     assert!(start_is_by_letters(&net, 4, &net.points, b"VVVV"));
     assert!(!start_is_by_letters(&net, 4, &net.points, b"VVVS"));
     assert!(!start_is_by_letters(&net, 3, &net.points, b"VVVV"));

@@ -1,16 +1,17 @@
 //! The cases marked P in the scope paper, where paper 02 does not state them
-//! anew, and its sample text.
+//! anew, and its sample text; some of them at other tensions.
 
 mod common;
 
 use common::{
-    SAMPLE_ANSWER, SAMPLE_TEXT, cube, grid, refine_net, refined, square, unmarked, verdict,
-    with_marks,
+    SAMPLE_ANSWER, SAMPLE_TEXT, cube, grid, refine_net, refined, refined_at, square, unmarked,
+    verdict, with_marks,
 };
 use reference::call::Outcome;
 use reference::curve::{Form, rounded_curve};
 use reference::fraction::Fraction;
 use reference::refusal::{Refusal, check_limits};
+use reference::rules::Tension;
 use reference::step::refine_once;
 use reference::text::answer;
 
@@ -28,10 +29,31 @@ fn the_square_without_marks_bulges() {
     );
 }
 
+/// The edge points lie t/2 outside the square.
+#[test]
+fn the_square_without_marks_bulges_less_at_a_lower_tension() {
+    let due = [
+        [[8, 0], [16, 8], [8, 16], [0, 8]],
+        [[8, 0], [17, 8], [8, 17], [0, 8]],
+        [[8, -1], [17, 8], [8, 17], [-1, 8]],
+        [[8, -1], [18, 8], [8, 18], [-1, 8]],
+        [[8, -2], [18, 8], [8, 18], [-2, 8]],
+    ];
+    for (tension, edges) in Tension::ALL.into_iter().zip(due) {
+        let net = refined_at(&square(), tension, 1);
+        assert_eq!(net.points[4..8], edges.map(|[x, y]| [x, y, 0]));
+        assert_eq!(net.points[8], [8, 8, 0]);
+    }
+}
+
 /// The new points of one step along the x axis.
 fn middles(form: Form, values: &[i32]) -> Vec<i32> {
+    middles_at(Tension::OLD, form, values)
+}
+
+fn middles_at(tension: Tension, form: Form, values: &[i32]) -> Vec<i32> {
     let points: Vec<_> = values.iter().map(|&x| [x, 0, 0]).collect();
-    let curve = rounded_curve(form, &points, 1);
+    let curve = rounded_curve(tension, form, &points, 1);
     curve.iter().skip(1).step_by(2).map(|p| p[0]).collect()
 }
 
@@ -48,6 +70,23 @@ fn the_open_segment_gets_8_22_54() {
     assert_eq!(on_axis, [8, 22, 54]);
 }
 
+/// Inside, (32 + t) 48 - t 80 over 64 is 24 - t/2; at the right end,
+/// (32 - t) 80 + (32 + 2t) 32 - t 16 over 64 is 56 - t/2.
+#[test]
+fn the_open_segment_at_every_tension() {
+    let segment = [0, 16, 32, 80];
+    let due = [
+        [8, 24, 56],
+        [8, 24, 56],
+        [8, 23, 55],
+        [8, 23, 55],
+        [8, 22, 54],
+    ];
+    for (tension, middles) in Tension::ALL.into_iter().zip(due) {
+        assert_eq!(middles_at(tension, Form::Open, &segment), middles);
+    }
+}
+
 #[test]
 fn halves_inside_a_segment_round_upward() {
     assert_eq!(middles(Form::Open, &[0, 0, 0, 8])[1], 0);
@@ -57,7 +96,7 @@ fn halves_inside_a_segment_round_upward() {
 
 #[test]
 fn the_cube_gets_590_and_737() {
-    let step = refine_once(&cube());
+    let step = refine_once(&cube(), Tension::OLD);
     let vertices = 8 + 12 + 6;
     assert_eq!(step.net.points.len(), vertices);
     // Face 0 is at z = -540 (vertices 0, 2, 6, 4 have z bit 0); its side 3
@@ -71,11 +110,30 @@ fn the_cube_gets_590_and_737() {
     assert_eq!(step.net.points[8 + 13], [0, 0, 738]);
 }
 
+/// An edge point from -9585/17, a face point from -86265/136.
+#[test]
+fn the_cube_at_tension_2_gets_564_and_634() {
+    let step = refine_once(&cube(), Tension::ALL[2]);
+    let on_edge = step.made[3].exact.0;
+    assert_eq!(on_edge[0], Fraction::ZERO);
+    assert_eq!(on_edge[1..], [Fraction::new(-9585, 17); 2]);
+    assert_eq!(step.net.points[8 + 3], [0, -564, -564]);
+    assert_eq!(step.made[12].exact.0[2], Fraction::new(-86265, 136));
+    assert_eq!(step.net.points[8 + 12], [0, 0, -634]);
+}
+
+#[test]
+fn the_cube_at_tension_0_gets_midpoints() {
+    let net = refined_at(&cube(), Tension::ALL[0], 1);
+    assert_eq!(net.points[8 + 3], [0, -540, -540]);
+    assert_eq!(net.points[8 + 12], [0, 0, -540]);
+}
+
 #[test]
 fn the_raised_centre_gives_10_and_6() {
     let mut net = with_marks(grid(2, 2), &[0, 2, 6, 8]);
     net.points[4][2] = 16;
-    let step = refine_once(&net);
+    let step = refine_once(&net, Tension::OLD);
     let inner: Vec<i32> = step.net.points[9..21]
         .iter()
         .filter(|p| p[2] != 0)

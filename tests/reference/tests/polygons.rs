@@ -4,9 +4,10 @@ mod common;
 
 use common::{grid, refined, scattered, square};
 use reference::call::{Call, Outcome, Tables, refine, refine_into};
-use reference::net::{Net, PolygonNet};
+use reference::net::{Net, NetRecord, PolygonNet};
 use reference::point::Point;
 use reference::refusal::{Capacity, check_net};
+use reference::rules::Tension;
 use reference::seam::{Boundary, check_seam, shared_readings};
 use reference::step::{refine_once, split};
 
@@ -32,6 +33,7 @@ struct Drawn {
     faces: Vec<u32>,
     sides: Vec<u8>,
     marks: Vec<u8>,
+    tension: u32,
     capacity: Capacity,
 }
 
@@ -43,6 +45,7 @@ impl Drawn {
             vertices: net.vertex_table(),
             sides: net.side_table(),
             marks: net.marks.clone(),
+            tension: Tension::OLD.number(),
             capacity: Capacity::for_refined_faces(faces.len() << (2 * rounds)),
             faces,
         }
@@ -57,6 +60,7 @@ impl Drawn {
             faces: vec![0; corners],
             sides,
             marks: vec![0; vertices],
+            tension: Tension::OLD.number(),
             capacity: Capacity::for_refined_faces(corners << (2 * rounds)),
         }
     }
@@ -67,14 +71,21 @@ impl Drawn {
         changed
     }
 
-    fn outcome(&self) -> Outcome {
-        refine(&Call {
-            tally: 0,
-            rounds: self.rounds,
+    fn record(&self) -> NetRecord<'_> {
+        NetRecord {
             vertices: &self.vertices,
             faces: &self.faces,
             sides: &self.sides,
             marks: &self.marks,
+            tension: self.tension,
+        }
+    }
+
+    fn outcome(&self) -> Outcome {
+        refine(&Call {
+            tally: 0,
+            rounds: self.rounds,
+            net: self.record(),
             capacity: self.capacity,
         })
     }
@@ -136,7 +147,7 @@ fn four_sided_faces_are_split_too() {
     // A round after the split, and no round without counts.
     let once = drawn.with(|d| d.rounds = 1);
     let once = once.with(|d| d.capacity = Capacity::for_refined_faces(16));
-    assert_eq!(once.refined(), refine_once(&start).net);
+    assert_eq!(once.refined(), refine_once(&start, Tension::OLD).net);
     assert_eq!(drawn.with(|d| d.sides.clear()).refined(), net);
 }
 
@@ -306,6 +317,37 @@ fn fourteen_comes_after_1_and_the_vertex_part_of_2() {
     assert_eq!(house().with(|d| d.vertices.push(0)).refusal(), (2, 0));
 }
 
+/// 14 and both parts of 2 come before 16, which comes before 5.
+#[test]
+fn a_tension_above_4_comes_after_side_counts_and_tables() {
+    let tense = house().with(|d| d.tension = 5);
+    assert_eq!(tense.refusal(), (16, 0));
+    assert_eq!(tense.with(|d| d.sides = vec![4, 4]).refusal(), (14, 0));
+    assert_eq!(tense.with(|d| d.vertices.push(0)).refusal(), (2, 0));
+    assert_eq!(tense.with(|d| d.marks.push(0)).refusal(), (2, 0));
+    assert_eq!(tense.with(|d| d.rounds = 7).refusal(), (1, 0));
+    assert_eq!(tense.with(|d| d.capacity.faces -= 1).refusal(), (4, 0));
+    assert_eq!(tense.with(|d| d.vertices[0] = i32::MAX).refusal(), (16, 0));
+    assert_eq!(tense.with(|d| d.marks[0] = 2).refusal(), (16, 0));
+    let (_, before, after) = run(&tense);
+    assert_eq!(after, before);
+}
+
+/// The split does not depend on the tension, the rounds after it do.
+#[test]
+fn the_split_is_the_same_at_every_tension() {
+    for n in 3..=8 {
+        let at = |rounds, tension| {
+            let drawn = Drawn::new(&lone(n), rounds);
+            drawn.with(|d| d.tension = tension).refined()
+        };
+        for tension in 0..4 {
+            assert_eq!(at(0, tension), at(0, 4));
+            assert_ne!(at(1, tension), at(1, 4));
+        }
+    }
+}
+
 #[test]
 fn limits_count_the_quadrilaterals_after_the_split() {
     let short = |drawn: Drawn| drawn.with(|d| d.capacity.workspace = 0);
@@ -355,15 +397,7 @@ fn run(drawn: &Drawn) -> (Outcome, Tables, Tables) {
         workspace: vec![777; drawn.capacity.workspace],
     };
     let mut after = before.clone();
-    let outcome = refine_into(
-        &mut 0,
-        drawn.rounds,
-        &drawn.vertices,
-        &drawn.faces,
-        &drawn.sides,
-        &drawn.marks,
-        &mut after,
-    );
+    let outcome = refine_into(&mut 0, drawn.rounds, drawn.record(), &mut after);
     (outcome, before, after)
 }
 
@@ -573,8 +607,9 @@ fn the_boundary_of_the_split_net_is_a_curve_of_its_own() {
             for vertex in marked {
                 net.marks[vertex] = 1;
             }
-            for rounds in 0..=2 {
-                assert!(check_seam(&split(&net), rounds).is_ok_and(|readings| readings > 0));
+            for (rounds, tension) in (0..=2).flat_map(|k| Tension::ALL.map(|t| (k, t))) {
+                let readings = check_seam(&split(&net), tension, rounds);
+                assert!(readings.is_ok_and(|readings| readings > 0));
             }
         }
     }

@@ -1,13 +1,15 @@
-//! Refusals 1 to 12: their order, their places and what they leave behind.
+//! Refusals 1 to 12 and 16: their order, their places and what they leave behind.
 
 mod common;
 
 use common::{
-    cube, fan, grid, refine_net, scattered, square, unmarked, verdict, wheel, with_marks,
+    cube, fan, grid, refine_at, refine_drawn, refine_net, scattered, square, unmarked, verdict,
+    wheel, with_marks,
 };
-use reference::call::{Call, Outcome, Tables, refine, refine_into};
-use reference::net::Net;
+use reference::call::{Call, Outcome, Tables, refine};
+use reference::net::{Net, NetRecord};
 use reference::refusal::Capacity;
+use reference::rules::Tension;
 
 fn refused(reason: u32, place: u32) -> Outcome {
     Outcome::Refused { reason, place }
@@ -19,6 +21,7 @@ struct Sizes {
     vertices: usize,
     faces: usize,
     marks: usize,
+    tension: u32,
     capacity: Capacity,
 }
 
@@ -27,10 +30,13 @@ impl Sizes {
         refine(&Call {
             tally: 0,
             rounds: self.rounds,
-            vertices: &vec![0; self.vertices],
-            faces: &vec![0; self.faces],
-            sides: &[],
-            marks: &vec![0; self.marks],
+            net: NetRecord {
+                vertices: &vec![0; self.vertices],
+                faces: &vec![0; self.faces],
+                sides: &[],
+                marks: &vec![0; self.marks],
+                tension: self.tension,
+            },
             capacity: self.capacity,
         })
     }
@@ -46,24 +52,28 @@ const NOTHING: Capacity = Capacity {
 };
 
 #[test]
-fn an_empty_net_is_accepted_for_all_rounds() {
-    for rounds in 0..=7 {
-        let outcome = refine(&Call {
-            tally: 0,
+fn an_empty_net_is_accepted_for_all_rounds_and_tensions() {
+    for (rounds, tension) in (0..=7).flat_map(|k| (0..=5).map(move |t| (k, t))) {
+        let outcome = Sizes {
             rounds,
-            vertices: &[],
-            faces: &[],
-            sides: &[],
-            marks: &[],
+            vertices: 0,
+            faces: 0,
+            marks: 0,
+            tension,
             capacity: NOTHING,
-        });
+        }
+        .outcome();
         let empty = Outcome::Refined {
             vertices: vec![],
             faces: vec![],
             marks: vec![],
             letters: None,
         };
-        let expected = if rounds <= 6 { empty } else { refused(1, 0) };
+        let expected = match (rounds, tension) {
+            (0..=6, 0..=4) => empty,
+            (0..=6, _) => refused(16, 0),
+            _ => refused(1, 0),
+        };
         assert_eq!(outcome, expected);
     }
 }
@@ -75,6 +85,7 @@ fn callers_refusals_come_in_order() {
         vertices,
         faces,
         marks,
+        tension: 5,
         capacity: NOTHING,
     };
     for (case, reason) in [
@@ -95,6 +106,35 @@ fn callers_refusals_come_in_order() {
         (sizes(6, 3, 4 * 64, 1), 4),
     ] {
         assert_eq!(case.outcome(), refused(reason, 0));
+        let sound = Sizes { tension: 4, ..case };
+        assert_eq!(sound.outcome(), refused(reason, 0));
+    }
+}
+
+/// A tension above 4 comes after short tables and before what is wrong with the
+/// net.
+#[test]
+fn sixteen_comes_after_4_and_before_5() {
+    let mut flawed = with_marks(grid(2, 2), &[4]);
+    let mut nets = vec![grid(2, 2), flawed.clone()];
+    flawed.marks[4] = 2;
+    nets.push(flawed.clone());
+    flawed.points[8][0] = i32::MAX;
+    nets.push(flawed);
+    for net in nets {
+        for tension in [5, 256, 1 << 31, u32::MAX] {
+            assert_eq!(refine_at(&net, tension, 1), refused(16, 0));
+            assert_eq!(refine_at(&net, tension, 7), refused(1, 0));
+            let before = filled_tables(15, 0);
+            let (outcome, tables) = run_at(&net, tension, 1, before.clone());
+            assert_eq!((outcome, tables), (refused(4, 0), before));
+        }
+    }
+    for tension in 0..=4 {
+        assert!(matches!(
+            refine_at(&square(), tension, 1),
+            Outcome::Refined { .. }
+        ));
     }
 }
 
@@ -111,10 +151,13 @@ fn each_table_must_be_long_enough() {
         refine(&Call {
             tally: 0,
             rounds: 2,
-            vertices: &net.vertex_table(),
-            faces: &net.face_table(),
-            sides: &[],
-            marks: &net.marks,
+            net: NetRecord {
+                vertices: &net.vertex_table(),
+                faces: &net.face_table(),
+                sides: &[],
+                marks: &net.marks,
+                tension: 0,
+            },
             capacity,
         })
     };
@@ -237,16 +280,13 @@ fn filled_tables(refined_faces: usize, surplus: usize) -> Tables {
 }
 
 /// Calls with filled tables and returns their final state.
-fn run(net: &Net, rounds: u32, mut tables: Tables) -> (Outcome, Tables) {
-    let outcome = refine_into(
-        &mut 0,
-        rounds,
-        &net.vertex_table(),
-        &net.face_table(),
-        &[],
-        &net.marks,
-        &mut tables,
-    );
+fn run(net: &Net, rounds: u32, tables: Tables) -> (Outcome, Tables) {
+    run_at(net, Tension::OLD.number(), rounds, tables)
+}
+
+/// The same at any tension.
+fn run_at(net: &Net, tension: u32, rounds: u32, mut tables: Tables) -> (Outcome, Tables) {
+    let outcome = refine_drawn(&mut 0, net, &[], tension, rounds, &mut tables);
     (outcome, tables)
 }
 
@@ -289,8 +329,8 @@ fn a_refused_net_clears_the_workspace_only() {
 #[test]
 fn a_refused_caller_finds_all_tables_untouched() {
     let before = filled_tables(15, 0);
-    for (rounds, reason) in [(2, 4), (7, 1)] {
-        let (outcome, tables) = run(&square(), rounds, before.clone());
+    for (rounds, tension, reason) in [(2, 4, 4), (7, 4, 1), (1, 5, 16), (0, u32::MAX, 16)] {
+        let (outcome, tables) = run_at(&square(), tension, rounds, before.clone());
         assert_eq!(outcome, refused(reason, 0));
         assert_eq!(tables, before);
     }
@@ -299,5 +339,7 @@ fn a_refused_caller_finds_all_tables_untouched() {
 #[test]
 fn zero_rounds_copy_the_net() {
     let net = with_marks(grid(3, 2), &[0, 3]);
-    assert_eq!(common::refined(&net, 0), net);
+    for tension in Tension::ALL {
+        assert_eq!(common::refined_at(&net, tension, 0), net);
+    }
 }

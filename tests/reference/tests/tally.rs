@@ -3,10 +3,11 @@
 
 mod common;
 
-use common::{cube, grid, square, unmarked, with_marks};
-use reference::call::{Outcome, Tables, refine_into};
+use common::{cube, grid, refine_drawn, square, unmarked, with_marks};
+use reference::call::{Outcome, Tables};
 use reference::net::{Net, PolygonNet};
 use reference::refusal::{Capacity, MAX_TALLY};
+use reference::rules::Tension;
 
 const REFUSED: Outcome = Outcome::Refused {
     reason: 15,
@@ -29,16 +30,27 @@ fn tables(refined_faces: usize) -> Tables {
 /// A call without side counts on a record.
 fn call(tally: &mut u64, net: &Net, rounds: u32) -> Outcome {
     let refined = net.faces.len() << (2 * rounds.min(6));
-    let (vertices, faces) = (net.vertex_table(), net.face_table());
-    let tables = &mut tables(refined);
-    refine_into(tally, rounds, &vertices, &faces, &[], &net.marks, tables)
+    refine_drawn(
+        tally,
+        net,
+        &[],
+        Tension::OLD.number(),
+        rounds,
+        &mut tables(refined),
+    )
 }
 
 /// The same with side counts.
 fn call_with_sides(tally: &mut u64, net: &PolygonNet, rounds: u32) -> Outcome {
-    let (vertices, faces, sides) = (net.vertex_table(), net.face_table(), net.side_table());
-    let tables = &mut tables(faces.len() << (2 * rounds));
-    refine_into(tally, rounds, &vertices, &faces, &sides, &net.marks, tables)
+    let tables = &mut tables(net.corners().count() << (2 * rounds));
+    refine_drawn(
+        tally,
+        net,
+        &net.side_table(),
+        Tension::OLD.number(),
+        rounds,
+        tables,
+    )
 }
 
 /// What a call adds to a record from zero.
@@ -100,16 +112,8 @@ fn a_refusal_by_the_record_clears_the_workspace_only() {
     let net = with_marks(square(), &[0]);
     let mut after = tables(4);
     let mut tally = MAX_TALLY - 4;
-    let (vertices, faces) = (net.vertex_table(), net.face_table());
-    let outcome = refine_into(
-        &mut tally,
-        1,
-        &vertices,
-        &faces,
-        &[],
-        &net.marks,
-        &mut after,
-    );
+    let old = Tension::OLD.number();
+    let outcome = refine_drawn(&mut tally, &net, &[], old, 1, &mut after);
     assert_eq!(outcome, REFUSED);
     let mut expected = tables(4);
     expected.workspace[..64].fill(0);
@@ -130,6 +134,28 @@ fn the_record_is_judged_last() {
             panic!("refused");
         };
         assert_eq!((reason, tally), (due, u64::MAX));
+    }
+}
+
+/// What a call adds does not depend on its tension; one above 4 adds nothing and
+/// touches nothing, from whatever figure.
+#[test]
+fn the_tension_adds_no_points() {
+    for tension in 0..=4 {
+        let mut tally = 7;
+        refine_drawn(&mut tally, &grid(2, 2), &[], tension, 1, &mut tables(16));
+        assert_eq!(tally, 7 + 16);
+    }
+    for figure in [0, MAX_TALLY, u64::MAX] {
+        for tension in [5, 256, u32::MAX] {
+            let (mut tally, mut after) = (figure, tables(16));
+            let outcome = refine_drawn(&mut tally, &grid(2, 2), &[], tension, 1, &mut after);
+            let refused = Outcome::Refused {
+                reason: 16,
+                place: 0,
+            };
+            assert_eq!((outcome, tally, after), (refused, figure, tables(16)));
+        }
     }
 }
 

@@ -23,8 +23,8 @@ room s = record { vertices = s .args .out-vertices; faces = s .args .out-faces; 
 abbrev start : tie.Else1 → tie.Start
 start c = c .before .before .before .before .before .before
 
-past : (c : tie.Else1) → callVerdict (call (start c .args .rounds) (net (start c)) (room (start c))) ≡ accepted
-past c = passed _ (c .before .limits .ensures) (c .if1 .left)
+past : (c : tie.Else1) → callVerdict (call (start c .args .rounds) (net (start c)) (start c .args .tension) (room (start c))) ≡ accepted
+past c = passed _ (c .before .call-fault .ensures) (c .if1 .left)
 
 -- with the shape: the work table, and its length
 abbrev opened : tie.After-build-shape → tie.Else1
@@ -50,11 +50,11 @@ built x = x .before .before .before .before
 abbrev examined : tie.After-examine-net → List ℕ
 examined x = x .examine-net .last .1 .1 .1 .1 .0
 
-limits-requires : tie.Need-limits-requires
-limits-requires c κs = search needs
+call-fault-requires : tie.Need-call-fault-requires
+call-fault-requires c κs = search needs
 
 returns : tie.Need-returns
-returns c = let s = c .before .before .before .before .before .before in refused-limits (s .args .rounds) (net s) (room s) (s .args .work .now) _ (c .before .limits .ensures) (c .if1 .taken)
+returns c = let s = c .before .before .before .before .before .before in refused-limits (s .args .rounds) (net s) (s .args .tension) (room s) (s .args .work .now) _ (c .before .call-fault .ensures) (c .if1 .taken)
 
 quadrilaterals-requires : tie.Need-quadrilaterals-requires
 quadrilaterals-requires c κs = search needs
@@ -63,13 +63,13 @@ final-faces-requires : tie.Need-final-faces-requires
 final-faces-requires c κs = search needs
 
 build-shape-requires : tie.Need-build-shape-requires
-build-shape-requires c κs = let x = c .before .before .before in let s = start x in shape-room (s .args .rounds) (net s) (room s) (s .args .work .now) (past x) refl
+build-shape-requires c κs = let x = c .before .before .before in let s = start x in shape-room (s .args .rounds) (net s) (s .args .tension) (room s) (s .args .work .now) (past x) refl
 
 examine-net-requires : tie.Need-examine-net-requires
 examine-net-requires c κs =
     let b = c .before .before .before in
     let s = start (opened b) in
-    check-tables (s .args .rounds) (net s) (room s) (s .args .work .now) (past (opened b)) (shaped b) (b .build-shape .ensures) (kept b) refl
+    check-tables (s .args .rounds) (net s) (s .args .tension) (room s) (s .args .work .now) (past (opened b)) (shaped b) (b .build-shape .ensures) (kept b) refl
 
 enum-told : tie.Need-enum-told
 enum-told c = search needs
@@ -85,7 +85,7 @@ clear-requires c κs =
     let x = c .before .before .before .before .before .before in
     let b = built x in
     let s = start (opened b) in
-    room-work (s .args .rounds) (net s) (room s) (s .args .work .now) (past (opened b)) (shaped b) (b .build-shape .ensures) (kept b) _ (final b) (examined x) (x .examine-net .ensures .rest) refl
+    room-work (s .args .rounds) (net s) (s .args .tension) (room s) (s .args .work .now) (past (opened b)) (shaped b) (b .build-shape .ensures) (kept b) _ (final b) (examined x) (x .examine-net .ensures .rest) refl
     (x .examine-net .kept .1 .1 .1 .1 .0)
 
 same-length : tie.Need-same-length
@@ -98,7 +98,7 @@ returns-2 c =
     let s = start (opened b) in
     let e = x .examine-net .ensures in
     let a = ap verdictOf (c .enum-told .given .1) in
-    admitted-net (s .args .rounds) (net s) (room s) (s .args .work .now) (past (opened b)) (shaped b) (b .build-shape .ensures) (kept b) _ (final b) (examined x) (e .rest)
+    admitted-net (s .args .rounds) (net s) (s .args .tension) (room s) (s .args .work .now) (past (opened b)) (shaped b) (b .build-shape .ensures) (kept b) _ (final b) (examined x) (e .rest)
     (x .examine-net .kept .1 .1 .1 .1 .0) (sym a ∙ e .verdict) (e .mated a)
 
 same-length-2 : tie.Need-same-length-2
@@ -111,14 +111,14 @@ returns-3 c =
     let s = start (opened b) in
     let e = x .examine-net .ensures in
     let a = ap verdictOf (c .before .before .before .before .before .number .given .1) in
-    refused-net (s .args .rounds) (net s) (room s) (s .args .work .now) (past (opened b)) (shaped b) (b .build-shape .ensures) (kept b) _ (final b) (examined x) (e .rest) _ _ _ (sym a ∙ e .verdict)
+    refused-net (s .args .rounds) (net s) (s .args .tension) (room s) (s .args .work .now) (past (opened b)) (shaped b) (b .build-shape .ensures) (kept b) _ (final b) (examined x) (e .rest) _ _ _ (sym a ∙ e .verdict)
     (c .before .before .clear .ensures)
 
 pub admit-spec : {M : Type 1} → statement M
 admit-spec =
     tie.close
     (tie.spec
-    limits-requires
+    call-fault-requires
     returns
     quadrilaterals-requires
     final-faces-requires

@@ -24,10 +24,10 @@ abbrev start : tie.After-admit → tie.Start
 start x = x .before .before .before .before .before .before
 
 abbrev called : tie.After-admit → Call
-called x = record { rounds = start x .args .rounds; net = net (start x); room = room (start x) }
+called x = record { rounds = start x .args .rounds; net = net (start x); tension = start x .args .tension; room = room (start x) }
 
 abbrev left : tie.After-admit → List ℕ
-left x = x .admit .last .1 .1 .1 .1 .1 .1 .1 .1 .1 .1 .0
+left x = x .admit .last .1 .1 .1 .1 .1 .1 .1 .1 .1 .1 .1 .0
 
 admits : (x : tie.After-admit) (a : Admission) → x .admit .result ≡ a → Admits (called x) (start x .args .work .now) a (left x)
 admits x a e = subst (λ (b : Admission). Admits (called x) (start x .args .work .now) b (left x)) e (x .admit .ensures)
@@ -46,7 +46,7 @@ clear-requires c κs =
     let x = c .before .before .before .before .before .before in
     let a = admits x _ (c .before .before .g .given .1) in
     let b = admitted-room (called x) _ (left x) (a .0) in
-    let k = x .admit .kept .1 .1 .1 .1 .1 .1 .1 .1 .1 .1 .0 in
+    let k = x .admit .kept .1 .1 .1 .1 .1 .1 .1 .1 .1 .1 .1 .0 in
     omega arith
 
 enum-known-number : tie.Need-enum-known-number

@@ -96,7 +96,7 @@ Called 𝓤 H A at-mem run = tripleOf 𝓤 H A g.signature (g.spec 𝓤 H A at-m
 
 -- the parameters after the record
 abbrev Rest : Type 0
-Rest = ℕ × (RefT (List ℤ) × (RefT (List ℕ) × (RefT (List ℕ) × (RefT (List ℕ) × (RefT (List ℤ) × (RefT (List ℕ) × (RefT (List ℕ) × (Bool × (RefT (List ℕ) × (RefT (List ℕ) × (Unit {0})))))))))))
+Rest = ℕ × (RefT (List ℤ) × (RefT (List ℕ) × (RefT (List ℕ) × (RefT (List ℕ) × (ℕ × (RefT (List ℤ) × (RefT (List ℕ) × (RefT (List ℕ) × (Bool × (RefT (List ℕ) × (RefT (List ℕ) × (Unit {0}))))))))))))
 
 module _ {M : Type 1} (𝓤 : URA M) (H : Heap 𝓤) (A : Atoms 𝓤) (W : Given 𝓤 H A) (at-mem : Memory → SProp 𝓤) (run : Routine → Fun 𝓤)
     (κ : Lft) (κs : Lfts 9) (q : Share) (qs : Shares 9) (b o : ℕ) (γ : GName) (h : Tally) (xs : Rest) where
@@ -121,40 +121,43 @@ module _ {M : Type 1} (𝓤 : URA M) (H : Heap 𝓤) (A : Atoms 𝓤) (W : Given
   abbrev marks : RefT (List ℕ)
   marks = xs .1 .1 .1 .1 .0
 
+  abbrev tension : ℕ
+  tension = xs .1 .1 .1 .1 .1 .0
+
   abbrev «out_vertices» : RefT (List ℤ)
-  «out_vertices» = xs .1 .1 .1 .1 .1 .0
+  «out_vertices» = xs .1 .1 .1 .1 .1 .1 .0
 
   abbrev «out_faces» : RefT (List ℕ)
-  «out_faces» = xs .1 .1 .1 .1 .1 .1 .0
+  «out_faces» = xs .1 .1 .1 .1 .1 .1 .1 .0
 
   abbrev «out_marks» : RefT (List ℕ)
-  «out_marks» = xs .1 .1 .1 .1 .1 .1 .1 .0
+  «out_marks» = xs .1 .1 .1 .1 .1 .1 .1 .1 .0
 
   abbrev «with_letters» : Bool
-  «with_letters» = xs .1 .1 .1 .1 .1 .1 .1 .1 .0
+  «with_letters» = xs .1 .1 .1 .1 .1 .1 .1 .1 .1 .0
 
   abbrev letters : RefT (List ℕ)
-  letters = xs .1 .1 .1 .1 .1 .1 .1 .1 .1 .0
+  letters = xs .1 .1 .1 .1 .1 .1 .1 .1 .1 .1 .0
 
   abbrev work : RefT (List ℕ)
-  work = xs .1 .1 .1 .1 .1 .1 .1 .1 .1 .1 .0
+  work = xs .1 .1 .1 .1 .1 .1 .1 .1 .1 .1 .1 .0
 
   abbrev rest : List RattleType
   rest =
-      u32 ∷ ShrSlice (named 0) (κs .0) i32 ∷ ShrSlice (named 1) (κs .1 .0) u32 ∷ ShrSlice (named 2) (κs .1 .1 .0) u8 ∷ ShrSlice (named 3) (κs .1 .1 .1 .0) u8 ∷
+      u32 ∷ ShrSlice (named 0) (κs .0) i32 ∷ ShrSlice (named 1) (κs .1 .0) u32 ∷ ShrSlice (named 2) (κs .1 .1 .0) u8 ∷ ShrSlice (named 3) (κs .1 .1 .1 .0) u8 ∷ u32 ∷
       MutSlice (named 4) (κs .1 .1 .1 .1 .0) i32 ∷ MutSlice (named 5) (κs .1 .1 .1 .1 .1 .0) u32 ∷ MutSlice (named 6) (κs .1 .1 .1 .1 .1 .1 .0) u8 ∷ bool ∷
       MutSlice (named 7) (κs .1 .1 .1 .1 .1 .1 .1 .0) u8 ∷ MutSlice (named 8) (κs .1 .1 .1 .1 .1 .1 .1 .1 .0) u32 ∷ []
 
   abbrev all : List RattleType
   all = MutRef (named 0) κ T.the-row ∷ rest
 
-  abbrev vs : List Val × (List Val × (List Val × (List Val × (List Val × (List Val × (List Val × (List Val × (List Val × (List Val × (List Val × (Unit {0})))))))))))
-  vs = (uint-vals w32 rounds, (slice-vals vertices, (slice-vals faces, (slice-vals sides, (slice-vals marks, (slice-vals «out_vertices», (slice-vals «out_faces», (slice-vals «out_marks», (bool-vals «with_letters», (slice-vals letters, (slice-vals work, tt)))))))))))
+  abbrev vs : List Val × (List Val × (List Val × (List Val × (List Val × (List Val × (List Val × (List Val × (List Val × (List Val × (List Val × (List Val × (Unit {0}))))))))))))
+  vs = (uint-vals w32 rounds, (slice-vals vertices, (slice-vals faces, (slice-vals sides, (slice-vals marks, (uint-vals w32 tension, (slice-vals «out_vertices», (slice-vals «out_faces», (slice-vals «out_marks», (bool-vals «with_letters», (slice-vals letters, (slice-vals work, tt))))))))))))
 
   abbrev ms : List Val
   ms =
       vint w32 rounds ∷ sliceVal (vertices .ptr) (length (vertices .now)) ∷ sliceVal (faces .ptr) (length (faces .now)) ∷ sliceVal (sides .ptr) (length (sides .now)) ∷
-      sliceVal (marks .ptr) (length (marks .now)) ∷ sliceVal («out_vertices» .ptr) (length («out_vertices» .now)) ∷
+      sliceVal (marks .ptr) (length (marks .now)) ∷ vint w32 tension ∷ sliceVal («out_vertices» .ptr) (length («out_vertices» .now)) ∷
       sliceVal («out_faces» .ptr) (length («out_faces» .now)) ∷ sliceVal («out_marks» .ptr) (length («out_marks» .now)) ∷ vbool «with_letters» ∷
       sliceVal (letters .ptr) (length (letters .now)) ∷ sliceVal (work .ptr) (length (work .now)) ∷ []
 
@@ -178,8 +181,8 @@ module _ {M : Type 1} (𝓤 : URA M) (H : Heap 𝓤) (A : Atoms 𝓤) (W : Given
   -- what the callee says of its answer and of the last lists
   abbrev Said : Charged → Last → Type 0
   Said r zs =
-      chargedExportOf r (buffers (zs .1 .1 .1 .1 .1 .1 .0) (zs .1 .1 .1 .1 .1 .1 .1 .0) (zs .1 .1 .1 .1 .1 .1 .1 .1 .0) (zs .1 .1 .1 .1 .1 .1 .1 .1 .1 .1 .1 .0)) (zs .1 .1 .1 .1 .1 .1 .1 .1 .1 .1 .0) ≡
-      refineExport (outcome (request points rounds (controlNet (vertices .now) (faces .now) (sides .now) (marks .now))
+      chargedExportOf r (buffers (zs .1 .1 .1 .1 .1 .1 .1 .0) (zs .1 .1 .1 .1 .1 .1 .1 .1 .0) (zs .1 .1 .1 .1 .1 .1 .1 .1 .1 .0) (zs .1 .1 .1 .1 .1 .1 .1 .1 .1 .1 .1 .1 .0)) (zs .1 .1 .1 .1 .1 .1 .1 .1 .1 .1 .1 .0) ≡
+      refineExport (outcome (request points rounds (controlNet (vertices .now) (faces .now) (sides .now) (marks .now)) tension
       (buffers («out_vertices» .now) («out_faces» .now) («out_marks» .now) (work .now)) (letterTable «with_letters» (letters .now))))
 
   -- the record at exit
@@ -199,7 +202,7 @@ module _ {M : Type 1} (𝓤 : URA M) (H : Heap 𝓤) (A : Atoms 𝓤) (W : Given
   exits : (r : Charged) (zs : Last) → Said r zs → Is R.the-row (r .report) (LL.vals R.the-type R′.the-laws (r .report)) → ent 𝓤 (⋆ 𝓤 H A (at-exit r zs)) (Own .post to-f (returned r))
   exits r zs e is =
       qed W (at-exit r zs) ∵
-      suffices ! _ (ends-at 𝓤 H A f.ended stayed (f.clauses 𝓤 H A at-mem run) W to-f (returned r) (r .report) (h′ r, zs .1) (tt, (tt, (tt, (tt, (tt, (tt, (tt, (tt, (tt, (tt, (tt, (tt, tt))))))))))))) $
+      suffices ! _ (ends-at 𝓤 H A f.ended stayed (f.clauses 𝓤 H A at-mem run) W to-f (returned r) (r .report) (h′ r, zs .1) (tt, (tt, (tt, (tt, (tt, (tt, (tt, (tt, (tt, (tt, (tt, (tt, (tt, tt)))))))))))))) $
       says ! e $ move ! (2 ∷ 3 ∷ []) $ join ! $ frame ! $
       feqI ! (List Val) (vptr b o ∷ []) (vptr b o ∷ []) refl $ fjoin3 ! $ fjoin ! $ frame ! $
       owned ! R.the-row (Is R.the-row) ((LL.makes R.the-type R′.the-plain) 𝓤 H A) (r .report) _ is $ done !
@@ -230,57 +233,59 @@ module _ {M : Type 1} (𝓤 : URA M) (H : Heap 𝓤) (A : Atoms 𝓤) (W : Given
         enter ! C Λ code.function (vptr b o ∷ ms) _ $
         alloc1 ! (λ l0. alloc1 ! (λ l1. alloc1 ! (λ l2. alloc1 ! (λ l3. alloc1 ! (λ l4. alloc1 ! (λ l5. alloc1 ! (λ l6. alloc1 ! (λ l7. alloc1 ! (λ l8. alloc1 ! (λ l9.
         alloc1 ! (λ l10. alloc1 ! (λ l11. alloc1 ! (λ l12. alloc1 ! (λ l13. alloc1 ! (λ l14. alloc1 ! (λ l15. alloc1 ! (λ l16. alloc1 ! (λ l17. alloc1 ! (λ l18.
-        alloc1 ! (λ l19. alloc1 ! (λ l20. alloc1 ! (λ l21. alloc1 ! (λ l22. alloc1 ! (λ l23. alloc1 ! (λ l24.
+        alloc1 ! (λ l19. alloc1 ! (λ l20. alloc1 ! (λ l21. alloc1 ! (λ l22. alloc1 ! (λ l23. alloc1 ! (λ l24. alloc1 ! (λ l25.
         alloc0 ! $ params1 ! $
-        pass1 ! (init ! 46 refl (tt, tt)) $
-        pass1 ! (init ! 44 refl (uint-lawful 𝓤 H A W w32 .typed rounds _ (are .1 .0) .0)) $
-        pass1 ! (init ! 42 refl (shr-slice-lawful 𝓤 H A W (named 1) (κs .0) i32 .typed vertices _ (are .1 .1 .0) .0)) $
-        pass1 ! (init ! 40 refl (shr-slice-lawful 𝓤 H A W (named 2) (κs .1 .0) u32 .typed faces _ (are .1 .1 .1 .0) .0)) $
-        pass1 ! (init ! 38 refl (shr-slice-lawful 𝓤 H A W (named 3) (κs .1 .1 .0) u8 .typed sides _ (are .1 .1 .1 .1 .0) .0)) $
-        pass1 ! (init ! 36 refl (shr-slice-lawful 𝓤 H A W (named 4) (κs .1 .1 .1 .0) u8 .typed marks _ (are .1 .1 .1 .1 .1 .0) .0)) $
-        pass1 ! (init ! 34 refl (mut-slice-lawful 𝓤 H A W (named 5) (κs .1 .1 .1 .1 .0) i32 .typed «out_vertices» _ (are .1 .1 .1 .1 .1 .1 .0) .0)) $
-        pass1 ! (init ! 32 refl (mut-slice-lawful 𝓤 H A W (named 6) (κs .1 .1 .1 .1 .1 .0) u32 .typed «out_faces» _ (are .1 .1 .1 .1 .1 .1 .1 .0) .0)) $
-        pass1 ! (init ! 30 refl (mut-slice-lawful 𝓤 H A W (named 7) (κs .1 .1 .1 .1 .1 .1 .0) u8 .typed «out_marks» _ (are .1 .1 .1 .1 .1 .1 .1 .1 .0) .0)) $
-        pass1 ! (init ! 28 refl (bool-lawful 𝓤 H A W .typed «with_letters» _ (are .1 .1 .1 .1 .1 .1 .1 .1 .1 .0) .0)) $
-        pass1 ! (init ! 26 refl (mut-slice-lawful 𝓤 H A W (named 8) (κs .1 .1 .1 .1 .1 .1 .1 .0) u8 .typed letters _ (are .1 .1 .1 .1 .1 .1 .1 .1 .1 .1 .0) .0)) $
-        pass1 ! (init ! 24 refl (mut-slice-lawful 𝓤 H A W (named 9) (κs .1 .1 .1 .1 .1 .1 .1 .1 .0) u32 .typed work _ (are .1 .1 .1 .1 .1 .1 .1 .1 .1 .1 .1 .0) .0)) $
+        pass1 ! (init ! 48 refl (tt, tt)) $
+        pass1 ! (init ! 46 refl (uint-lawful 𝓤 H A W w32 .typed rounds _ (are .1 .0) .0)) $
+        pass1 ! (init ! 44 refl (shr-slice-lawful 𝓤 H A W (named 1) (κs .0) i32 .typed vertices _ (are .1 .1 .0) .0)) $
+        pass1 ! (init ! 42 refl (shr-slice-lawful 𝓤 H A W (named 2) (κs .1 .0) u32 .typed faces _ (are .1 .1 .1 .0) .0)) $
+        pass1 ! (init ! 40 refl (shr-slice-lawful 𝓤 H A W (named 3) (κs .1 .1 .0) u8 .typed sides _ (are .1 .1 .1 .1 .0) .0)) $
+        pass1 ! (init ! 38 refl (shr-slice-lawful 𝓤 H A W (named 4) (κs .1 .1 .1 .0) u8 .typed marks _ (are .1 .1 .1 .1 .1 .0) .0)) $
+        pass1 ! (init ! 36 refl (uint-lawful 𝓤 H A W w32 .typed tension _ (are .1 .1 .1 .1 .1 .1 .0) .0)) $
+        pass1 ! (init ! 34 refl (mut-slice-lawful 𝓤 H A W (named 5) (κs .1 .1 .1 .1 .0) i32 .typed «out_vertices» _ (are .1 .1 .1 .1 .1 .1 .1 .0) .0)) $
+        pass1 ! (init ! 32 refl (mut-slice-lawful 𝓤 H A W (named 6) (κs .1 .1 .1 .1 .1 .0) u32 .typed «out_faces» _ (are .1 .1 .1 .1 .1 .1 .1 .1 .0) .0)) $
+        pass1 ! (init ! 30 refl (mut-slice-lawful 𝓤 H A W (named 7) (κs .1 .1 .1 .1 .1 .1 .0) u8 .typed «out_marks» _ (are .1 .1 .1 .1 .1 .1 .1 .1 .1 .0) .0)) $
+        pass1 ! (init ! 28 refl (bool-lawful 𝓤 H A W .typed «with_letters» _ (are .1 .1 .1 .1 .1 .1 .1 .1 .1 .1 .0) .0)) $
+        pass1 ! (init ! 26 refl (mut-slice-lawful 𝓤 H A W (named 8) (κs .1 .1 .1 .1 .1 .1 .1 .0) u8 .typed letters _ (are .1 .1 .1 .1 .1 .1 .1 .1 .1 .1 .1 .0) .0)) $
+        pass1 ! (init ! 24 refl (mut-slice-lawful 𝓤 H A W (named 9) (κs .1 .1 .1 .1 .1 .1 .1 .1 .0) u32 .typed work _ (are .1 .1 .1 .1 .1 .1 .1 .1 .1 .1 .1 .1 .0) .0)) $
         pass0 ! $
         -- the borrow is opened
-        move ! (50 ∷ 51 ∷ 52 ∷ []) $
+        move ! (52 ∷ 53 ∷ 54 ∷ []) $
         opens ! tt T.the-row {h = h} b o (λ us.
         spelt ! T.the-row (Is T.the-row) (shows 𝓤 H A T.the-row) (LL.vals T.the-type T′.the-laws) (LL.tells T.the-type T′.the-laws) fullShare h us b o $
         move ! (1 ∷ []) $ peeks ! T.the-row (Is T.the-row) (shows 𝓤 H A T.the-row) h (LL.vals T.the-type T′.the-laws h) (λ was. move ! (1 ∷ 0 ∷ []) $
         -- [the record's cell; what it owns; the open borrow; obs; auth; the locals, the last first; what the tables own; their tokens]
-        assigns ! (of-opd ! (load ! (from ! (hop ! (look ! 51 refl) (fld ! refl (stop !)))) (look-in ! 0 (sub ! 0 refl (whole !)))))
+        assigns ! (of-opd ! (load ! (from ! (hop ! (look ! 53 refl) (fld ! refl (stop !)))) (look-in ! 0 (sub ! 0 refl (whole !)))))
         (from ! (stop !)) (init ! 25 refl (tt, record { fits = was-fits was })) $
         assigns ! (addr ! (from ! (fld ! refl (hop ! (look-in ! 39 (sub ! 0 refl (whole !))) (stop !))))) (from ! (stop !)) (init ! 23 refl (tt, tt)) $
         assigns ! (agg ! (and-then ! (load ! (from ! (stop !)) (look ! 23 refl))
         (and-then ! (load ! (from ! (fld ! refl (stop !))) (look-in ! 39 (sub ! 1 refl (whole !)))) (no-more !))))
-        (from ! (stop !)) (init ! 21 refl (tt, (tt, (record { fits = are .1 .1 .1 .1 .1 .1 .0 .0 .1 .0 }, tt)))) $
+        (from ! (stop !)) (init ! 21 refl (tt, (tt, (record { fits = are .1 .1 .1 .1 .1 .1 .1 .0 .0 .1 .0 }, tt)))) $
         assigns ! (addr ! (from ! (fld ! refl (hop ! (look-in ! 37 (sub ! 0 refl (whole !))) (stop !))))) (from ! (stop !)) (init ! 19 refl (tt, tt)) $
         assigns ! (agg ! (and-then ! (load ! (from ! (stop !)) (look ! 19 refl))
         (and-then ! (load ! (from ! (fld ! refl (stop !))) (look-in ! 37 (sub ! 1 refl (whole !)))) (no-more !))))
-        (from ! (stop !)) (init ! 17 refl (tt, (tt, (record { fits = are .1 .1 .1 .1 .1 .1 .1 .0 .0 .1 .0 }, tt)))) $
+        (from ! (stop !)) (init ! 17 refl (tt, (tt, (record { fits = are .1 .1 .1 .1 .1 .1 .1 .1 .0 .0 .1 .0 }, tt)))) $
         assigns ! (addr ! (from ! (fld ! refl (hop ! (look-in ! 35 (sub ! 0 refl (whole !))) (stop !))))) (from ! (stop !)) (init ! 15 refl (tt, tt)) $
         assigns ! (agg ! (and-then ! (load ! (from ! (stop !)) (look ! 15 refl))
         (and-then ! (load ! (from ! (fld ! refl (stop !))) (look-in ! 35 (sub ! 1 refl (whole !)))) (no-more !))))
-        (from ! (stop !)) (init ! 13 refl (tt, (tt, (record { fits = are .1 .1 .1 .1 .1 .1 .1 .1 .0 .0 .1 .0 }, tt)))) $
+        (from ! (stop !)) (init ! 13 refl (tt, (tt, (record { fits = are .1 .1 .1 .1 .1 .1 .1 .1 .1 .0 .0 .1 .0 }, tt)))) $
         assigns ! (addr ! (from ! (fld ! refl (hop ! (look-in ! 31 (sub ! 0 refl (whole !))) (stop !))))) (from ! (stop !)) (init ! 11 refl (tt, tt)) $
         assigns ! (agg ! (and-then ! (load ! (from ! (stop !)) (look ! 11 refl))
         (and-then ! (load ! (from ! (fld ! refl (stop !))) (look-in ! 31 (sub ! 1 refl (whole !)))) (no-more !))))
-        (from ! (stop !)) (init ! 9 refl (tt, (tt, (record { fits = are .1 .1 .1 .1 .1 .1 .1 .1 .1 .1 .0 .0 .1 .0 }, tt)))) $
+        (from ! (stop !)) (init ! 9 refl (tt, (tt, (record { fits = are .1 .1 .1 .1 .1 .1 .1 .1 .1 .1 .1 .0 .0 .1 .0 }, tt)))) $
         assigns ! (addr ! (from ! (fld ! refl (hop ! (look-in ! 29 (sub ! 0 refl (whole !))) (stop !))))) (from ! (stop !)) (init ! 7 refl (tt, tt)) $
         assigns ! (agg ! (and-then ! (load ! (from ! (stop !)) (look ! 7 refl))
         (and-then ! (load ! (from ! (fld ! refl (stop !))) (look-in ! 29 (sub ! 1 refl (whole !)))) (no-more !))))
-        (from ! (stop !)) (init ! 5 refl (tt, (tt, (record { fits = are .1 .1 .1 .1 .1 .1 .1 .1 .1 .1 .1 .0 .0 .1 .0 }, tt)))) $
-        move ! (55 ∷ 56 ∷ []) $ use2 W (raw (Called 𝓤 H A at-mem run .pre to-g)) (goes (was-fits was)) $
+        (from ! (stop !)) (init ! 5 refl (tt, (tt, (record { fits = are .1 .1 .1 .1 .1 .1 .1 .1 .1 .1 .1 .1 .0 .0 .1 .0 }, tt)))) $
+        move ! (57 ∷ 58 ∷ []) $ use2 W (raw (Called 𝓤 H A at-mem run .pre to-g)) (goes (was-fits was)) $
         calls-at ! fm (Called 𝓤 H A at-mem run) known to-g
-        (and-then ! (load ! (from ! (stop !)) (look ! 26 refl)) (and-then ! (load ! (from ! (stop !)) (look ! 50 refl))
-        (and-then ! (load ! (from ! (stop !)) (look ! 48 refl)) (and-then ! (load ! (from ! (stop !)) (look ! 46 refl))
-        (and-then ! (load ! (from ! (stop !)) (look ! 44 refl)) (and-then ! (load ! (from ! (stop !)) (look ! 42 refl))
-        (and-then ! (load ! (from ! (stop !)) (look ! 22 refl)) (and-then ! (load ! (from ! (stop !)) (look ! 18 refl))
-        (and-then ! (load ! (from ! (stop !)) (look ! 14 refl)) (and-then ! (load ! (from ! (stop !)) (look ! 34 refl))
-        (and-then ! (load ! (from ! (stop !)) (look ! 10 refl)) (and-then ! (load ! (from ! (stop !)) (look ! 6 refl)) (no-more !))))))))))))) (λ w.
+        (and-then ! (load ! (from ! (stop !)) (look ! 26 refl)) (and-then ! (load ! (from ! (stop !)) (look ! 52 refl))
+        (and-then ! (load ! (from ! (stop !)) (look ! 50 refl)) (and-then ! (load ! (from ! (stop !)) (look ! 48 refl))
+        (and-then ! (load ! (from ! (stop !)) (look ! 46 refl)) (and-then ! (load ! (from ! (stop !)) (look ! 44 refl))
+        (and-then ! (load ! (from ! (stop !)) (look ! 42 refl)) (and-then ! (load ! (from ! (stop !)) (look ! 22 refl))
+        (and-then ! (load ! (from ! (stop !)) (look ! 18 refl)) (and-then ! (load ! (from ! (stop !)) (look ! 14 refl))
+        (and-then ! (load ! (from ! (stop !)) (look ! 34 refl)) (and-then ! (load ! (from ! (stop !)) (look ! 10 refl))
+        (and-then ! (load ! (from ! (stop !)) (look ! 6 refl)) (no-more !)))))))))))))) (λ w.
         use1 W (later (some (λ (r : Charged). (raw (toks 𝓤 A 9 κs qs) ⊛ ‵ (D.the-row .own r (w ∷ []))) ⊛
         raw (ensured 𝓤 H A g.ended (g.clauses 𝓤 H A at-mem run) κs (points, xs) tt r)))) (id⊢ 𝓤 _) $
         await ! tt $ pick ! (λ r. split ! $ move ! (1 ∷ []) $
@@ -289,36 +294,36 @@ module _ {M : Type 1} (𝓤 : URA M) (H : Heap 𝓤) (A : Atoms 𝓤) (W : Given
         -- [what the answer owns; the tables' tokens; what is said of them; the record's cell; ..]
         peeks ! D.the-row (Is D.the-row) (shows 𝓤 H A D.the-row) r (w ∷ []) (λ is.
         land ! (from ! (stop !)) (init ! 30 refl (LL.lawful D.the-type D′.the-laws 𝓤 H A W .typed r _ is .0)) $
-        rewrite ! 30 (λ (u : Val). ‵ (fat fullShare D′.mir l13 0 u)) (is-answer r w is) refl $
+        rewrite ! 30 (λ (u : Val). ‵ (fat fullShare D′.mir l14 0 u)) (is-answer r w is) refl $
         assigns ! (of-opd ! (load ! (from ! (fld ! refl (stop !))) (look-in ! 30 (sub ! 1 refl (whole !)))))
-        (from ! (hop ! (look ! 54 refl) (fld ! refl (stop !)))) (store-in ! 3 (sub ! 0 refl (whole !)) (tt, record { fits = figure-fits r w is })) $
+        (from ! (hop ! (look ! 56 refl) (fld ! refl (stop !)))) (store-in ! 3 (sub ! 0 refl (whole !)) (tt, record { fits = figure-fits r w is })) $
         assigns ! (of-opd ! (load ! (from ! (fld ! refl (stop !))) (look-in ! 30 (sub ! 0 refl (whole !)))))
-        (from ! (stop !)) (init ! 56 refl (LL.lawful R.the-type R′.the-laws 𝓤 H A W .typed (r .report) _ (is-report r w is) .0)) $
+        (from ! (stop !)) (init ! 58 refl (LL.lawful R.the-type R′.the-laws 𝓤 H A W .typed (r .report) _ (is-report r w is) .0)) $
         -- the borrow is closed at the new figure
         move ! (4 ∷ []) $ drop ! $
         owned ! T.the-row (Is T.the-row) ((LL.makes T.the-type T′.the-plain) 𝓤 H A) (h′ r) _ (LL.owes T.the-type T′.the-laws (h′ r) ((refl, figure-fits r w is), tt)) $
         move ! (4 ∷ 0 ∷ 5 ∷ 6 ∷ 7 ∷ []) $ closes ! tt T.the-row (h′ r) (LL.vals T.the-type T′.the-laws (h′ r)) b o $
         -- [obs; the borrow; its token; what the answer owns; the tables' tokens; what is said of them; the locals]
-        returns ! (look ! 54 refl) $
+        returns ! (look ! 56 refl) $
         forget ! 6 refl $ forget ! 8 refl $ forget ! 10 refl $ forget ! 12 refl $ forget ! 14 refl $ forget ! 16 refl $ forget ! 18 refl $ forget ! 20 refl $
         forget ! 22 refl $ forget ! 24 refl $ forget ! 26 refl $ forget ! 28 refl $ forget ! 30 refl $ forget ! 32 refl $ forget ! 34 refl $ forget ! 36 refl $
         forget ! 38 refl $ forget ! 40 refl $ forget ! 42 refl $ forget ! 44 refl $ forget ! 46 refl $ forget ! 48 refl $ forget ! 50 refl $ forget ! 52 refl $
-        forget ! 54 refl $
-        move ! (54 ∷ 55 ∷ []) $ free1 ! $ move ! (52 ∷ 53 ∷ []) $ free1 ! $ move ! (50 ∷ 51 ∷ []) $ free1 ! $ move ! (48 ∷ 49 ∷ []) $ free1 ! $
-        move ! (46 ∷ 47 ∷ []) $ free1 ! $ move ! (44 ∷ 45 ∷ []) $ free1 ! $ move ! (42 ∷ 43 ∷ []) $ free1 ! $ move ! (40 ∷ 41 ∷ []) $ free1 ! $
-        move ! (38 ∷ 39 ∷ []) $ free1 ! $ move ! (36 ∷ 37 ∷ []) $ free1 ! $ move ! (34 ∷ 35 ∷ []) $ free1 ! $ move ! (32 ∷ 33 ∷ []) $ free1 ! $
-        move ! (30 ∷ 31 ∷ []) $ free1 ! $ move ! (28 ∷ 29 ∷ []) $ free1 ! $ move ! (26 ∷ 27 ∷ []) $ free1 ! $ move ! (24 ∷ 25 ∷ []) $ free1 ! $
-        move ! (22 ∷ 23 ∷ []) $ free1 ! $ move ! (20 ∷ 21 ∷ []) $ free1 ! $ move ! (18 ∷ 19 ∷ []) $ free1 ! $ move ! (16 ∷ 17 ∷ []) $ free1 ! $
-        move ! (14 ∷ 15 ∷ []) $ free1 ! $ move ! (12 ∷ 13 ∷ []) $ free1 ! $ move ! (10 ∷ 11 ∷ []) $ free1 ! $ move ! (8 ∷ 9 ∷ []) $ free1 ! $
-        move ! (6 ∷ 7 ∷ []) $ free1 ! $
-        free0 ! $ keep ! (0 ∷ 1 ∷ 2 ∷ 4 ∷ 5 ∷ []) $ by ! (exits r zs e (is-report r w is))))))))))))))))))))))))))))))))))
+        forget ! 54 refl $ forget ! 56 refl $
+        move ! (56 ∷ 57 ∷ []) $ free1 ! $ move ! (54 ∷ 55 ∷ []) $ free1 ! $ move ! (52 ∷ 53 ∷ []) $ free1 ! $ move ! (50 ∷ 51 ∷ []) $ free1 ! $
+        move ! (48 ∷ 49 ∷ []) $ free1 ! $ move ! (46 ∷ 47 ∷ []) $ free1 ! $ move ! (44 ∷ 45 ∷ []) $ free1 ! $ move ! (42 ∷ 43 ∷ []) $ free1 ! $
+        move ! (40 ∷ 41 ∷ []) $ free1 ! $ move ! (38 ∷ 39 ∷ []) $ free1 ! $ move ! (36 ∷ 37 ∷ []) $ free1 ! $ move ! (34 ∷ 35 ∷ []) $ free1 ! $
+        move ! (32 ∷ 33 ∷ []) $ free1 ! $ move ! (30 ∷ 31 ∷ []) $ free1 ! $ move ! (28 ∷ 29 ∷ []) $ free1 ! $ move ! (26 ∷ 27 ∷ []) $ free1 ! $
+        move ! (24 ∷ 25 ∷ []) $ free1 ! $ move ! (22 ∷ 23 ∷ []) $ free1 ! $ move ! (20 ∷ 21 ∷ []) $ free1 ! $ move ! (18 ∷ 19 ∷ []) $ free1 ! $
+        move ! (16 ∷ 17 ∷ []) $ free1 ! $ move ! (14 ∷ 15 ∷ []) $ free1 ! $ move ! (12 ∷ 13 ∷ []) $ free1 ! $ move ! (10 ∷ 11 ∷ []) $ free1 ! $
+        move ! (8 ∷ 9 ∷ []) $ free1 ! $ move ! (6 ∷ 7 ∷ []) $ free1 ! $
+        free0 ! $ keep ! (0 ∷ 1 ∷ 2 ∷ 4 ∷ 5 ∷ []) $ by ! (exits r zs e (is-report r w is)))))))))))))))))))))))))))))))))))
 
 module _ {M : Type 1} (𝓤 : URA M) (H : Heap 𝓤) (A : Atoms 𝓤) (W : Given 𝓤 H A) (at-mem : Memory → SProp 𝓤) (run : Routine → Fun 𝓤) where
   walks : (C : Calls 𝓤 H) (Λ : Loops 𝓤 H) → FmC 𝓤 H (W .laws) C → Triple 𝓤 (C #callee) (Called 𝓤 H A at-mem run)
       → Walks 𝓤 H A f.ended stayed (WpFn 𝓤 H C Λ code.function) (f.clauses 𝓤 H A at-mem run)
   walks C Λ fm known = walked 𝓤 H A f.ended stayed (f.clauses 𝓤 H A at-mem run) (WpFn 𝓤 H C Λ code.function)
-      (λ κs. (ptr-vals, (uint-vals w32, (slice-vals, (slice-vals, (slice-vals, (slice-vals, (slice-vals, (slice-vals, (slice-vals, (bool-vals, (slice-vals, (slice-vals, tt)))))))))))))
-      (λ κs. (mut-tells (named 0) (κs .0) T.the-row, (uint-tells w32, (shr-slice-tells (named 1) (κs .1 .0) i32, (shr-slice-tells (named 2) (κs .1 .1 .0) u32, (shr-slice-tells (named 3) (κs .1 .1 .1 .0) u8, (shr-slice-tells (named 4) (κs .1 .1 .1 .1 .0) u8, (mut-slice-tells (named 5) (κs .1 .1 .1 .1 .1 .0) i32, (mut-slice-tells (named 6) (κs .1 .1 .1 .1 .1 .1 .0) u32, (mut-slice-tells (named 7) (κs .1 .1 .1 .1 .1 .1 .1 .0) u8, (bool-tells, (mut-slice-tells (named 8) (κs .1 .1 .1 .1 .1 .1 .1 .1 .0) u8, (mut-slice-tells (named 9) (κs .1 .1 .1 .1 .1 .1 .1 .1 .1 .0) u32, tt)))))))))))))
+      (λ κs. (ptr-vals, (uint-vals w32, (slice-vals, (slice-vals, (slice-vals, (slice-vals, (uint-vals w32, (slice-vals, (slice-vals, (slice-vals, (bool-vals, (slice-vals, (slice-vals, tt))))))))))))))
+      (λ κs. (mut-tells (named 0) (κs .0) T.the-row, (uint-tells w32, (shr-slice-tells (named 1) (κs .1 .0) i32, (shr-slice-tells (named 2) (κs .1 .1 .0) u32, (shr-slice-tells (named 3) (κs .1 .1 .1 .0) u8, (shr-slice-tells (named 4) (κs .1 .1 .1 .1 .0) u8, (uint-tells w32, (mut-slice-tells (named 5) (κs .1 .1 .1 .1 .1 .0) i32, (mut-slice-tells (named 6) (κs .1 .1 .1 .1 .1 .1 .0) u32, (mut-slice-tells (named 7) (κs .1 .1 .1 .1 .1 .1 .1 .0) u8, (bool-tells, (mut-slice-tells (named 8) (κs .1 .1 .1 .1 .1 .1 .1 .1 .0) u8, (mut-slice-tells (named 9) (κs .1 .1 .1 .1 .1 .1 .1 .1 .1 .0) u32, tt))))))))))))))
       (λ κs qs bounds a _ are. via 𝓤 _ (fst∗ 𝓤 _ (emp 𝓤))
       (walk 𝓤 H A W at-mem run (κs .0) (κs .1) (qs .0) (qs .1) (a .0 .ptr .0) (a .0 .ptr .1) (a .0 .name) (a .0 .now) (a .1) C Λ fm known are))
 

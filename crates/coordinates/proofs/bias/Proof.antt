@@ -19,8 +19,8 @@ cast-result : tie.Need-cast-result
 cast-result c =
     let g : SFits w64 (c .args .z) = c .fits .z in
     let k = bias-fits (c .args .z) (c .pre) in
-    let n : T (nonNeg (c .args .z +ℤ pos 4611686020574871552)) = bias-natural (c .args .z) (c .pre) in
-    let f : Fits w64 (natAbs (c .args .z +ℤ pos 4611686020574871552)) = fits-natAbs tt k in
+    let n : T (nonNeg (c .args .z +ℤ pos 72057596185411584)) = bias-natural (c .args .z) (c .pre) in
+    let f : Fits w64 (natAbs (c .args .z +ℤ pos 72057596185411584)) = fits-natAbs tt k in
     simp toZ-ofZ (n, f)
 
 returns : tie.Need-returns

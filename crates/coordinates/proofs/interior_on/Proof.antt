@@ -4,7 +4,7 @@ use borrow.Author.Needs.{needs}
 use mir.Syntax.{w64}
 use mir.Val.{SFits}
 use mir.Facts.{toZ-ofZ}
-use Rattle.curve.proofs.Kobbelt.{interior-read}
+use Rattle.curve.proofs.Tension.{interior-read}
 use Rattle.coordinates.proofs.Values.{read-small}
 use Rattle.coordinates.proofs.interior_on.Statement.{statement}
 use Rattle.coordinates.proofs.interior_on.Tie as tie
@@ -35,7 +35,7 @@ four-point-requires c κs =
     let b = read-small _ _ _ (x₂ .coordinate2 .result) (s .pre .0) (x₂ .coordinate2 .ensures) in
     let d = read-small _ _ _ (x₃ .coordinate3 .result) (s .pre .0) (x₃ .coordinate3 .ensures) in
     let e = read-small _ _ _ (c .coordinate4 .result) (s .pre .0) (c .coordinate4 .ensures) in
-    simp toZ-ofZ (omega arith, omega arith, omega arith, omega arith)
+    simp toZ-ofZ (s .pre .1 .5, omega arith, omega arith, omega arith, omega arith)
 
 returns : tie.Need-returns
 returns c =
@@ -48,7 +48,7 @@ returns c =
     let f₃ : SFits w64 (x₃ .coordinate3 .result) = search needs in
     let f₄ : SFits w64 (x₄ .coordinate4 .result) = search needs in
     let f : SFits w64 (c .four-point .result) = search needs in
-    simp toZ-ofZ (interior-read (c .four-point .result) (x₁ .coordinate .result) (x₂ .coordinate2 .result) (x₃ .coordinate3 .result) (x₄ .coordinate4 .result) _ _ _ _
+    simp toZ-ofZ (interior-read _ (c .four-point .result) (x₁ .coordinate .result) (x₂ .coordinate2 .result) (x₃ .coordinate3 .result) (x₄ .coordinate4 .result) _ _ _ _
     (simp toZ-ofZ at (c .four-point .ensures)) (x₁ .coordinate .ensures) (x₂ .coordinate2 .ensures) (x₃ .coordinate3 .ensures) (x₄ .coordinate4 .ensures))
 
 pub interior-on-spec : {M : Type 1} → statement M

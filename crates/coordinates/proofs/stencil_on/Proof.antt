@@ -56,7 +56,7 @@ four-point-requires c κs =
     let b = small-y y in
     let d = far-small _ _ _ _ _ (u .far-on .result) (s .pre .0) a b (simp toZ-ofZ at (u .far-on .ensures)) in
     let e = far-small _ _ _ _ _ (c .far-on2 .result) (s .pre .0) b a (simp toZ-ofZ at (c .far-on2 .ensures)) in
-    simp toZ-ofZ (omega arith, omega arith, omega arith, omega arith)
+    simp toZ-ofZ (s .pre .1 .5, omega arith, omega arith, omega arith, omega arith)
 
 returns : tie.Need-returns
 returns c =
@@ -70,7 +70,7 @@ returns c =
     let i : SFits w64 (u .far-on .result) = search needs in
     let j : SFits w64 (v .far-on2 .result) = search needs in
     let k : SFits w64 (c .four-point .result) = search needs in
-    simp toZ-ofZ (stencil-read _ _ _ _ _ _ (c .four-point .result) (u .far-on .result) (x .coordinate .result) (y .coordinate2 .result) (v .far-on2 .result)
+    simp toZ-ofZ (stencil-read _ _ _ _ _ _ _ (c .four-point .result) (u .far-on .result) (x .coordinate .result) (y .coordinate2 .result) (v .far-on2 .result)
     (simp toZ-ofZ at (c .four-point .ensures)) (x .coordinate .ensures) (y .coordinate2 .ensures) (simp toZ-ofZ at (u .far-on .ensures)) (simp toZ-ofZ at (v .far-on2 .ensures)))
 
 pub stencil-on-spec : {M : Type 1} → statement M

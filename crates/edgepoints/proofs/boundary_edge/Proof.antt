@@ -9,6 +9,7 @@ use Rattle.topology.specs.Shape.{quads}
 use Rattle.topology.specs.HalfEdge.{from, to}
 use Rattle.nets.specs.Net.{axis}
 use Rattle.coordinates.specs.Stencil.{stencilValue}
+use Rattle.curve.specs.Weights.{tension}
 use Rattle.edgepoints.proofs.Plain.{on-axes-as}
 use Rattle.edgepoints.proofs.boundary_edge.Statement.{statement}
 use Rattle.edgepoints.proofs.boundary_edge.Tie as tie
@@ -24,7 +25,7 @@ stencil-exact-requires c κs =
     let s = c .before .before .before in
     let ep = c .before .start-of .ensures in
     let eq = c .end-of .ensures in
-    (s .pre .0 .2, (s .pre .1 .0, rw ep (s .pre .1 .1), rw eq (s .pre .1 .2), s .pre .1 .3))
+    (s .pre .0 .2, (s .pre .1 .0, rw ep (s .pre .1 .1), rw eq (s .pre .1 .2), s .pre .1 .3, s .pre .1 .4))
 
 returns : tie.Need-returns
 returns c =
@@ -34,8 +35,8 @@ returns c =
     let f : SFits w64 (e .x) = search needs in
     let g : SFits w64 (e .y) = search needs in
     let h : SFits w64 (e .z) = search needs in
-    let at : (a : ℕ) → stencilValue (axis (s .args .points .now) a) (s .args .o) (x .before .before .start-of .result) (x .before .end-of .result) (s .args .r) ≡ stencilValue (axis (s .args .points .now) a) (s .args .o) (from (s .args .faces .now) (s .args .h)) (to quads (s .args .faces .now) (s .args .h)) (s .args .r) =
-    λ a. ap₂ (λ (p q : ℕ). stencilValue (axis (s .args .points .now) a) (s .args .o) p q (s .args .r)) (x .before .before .start-of .ensures) (x .before .end-of .ensures) in
+    let at : (a : ℕ) → stencilValue (tension (s .args .t)) (axis (s .args .points .now) a) (s .args .o) (x .before .before .start-of .result) (x .before .end-of .result) (s .args .r) ≡ stencilValue (tension (s .args .t)) (axis (s .args .points .now) a) (s .args .o) (from (s .args .faces .now) (s .args .h)) (to quads (s .args .faces .now) (s .args .h)) (s .args .r) =
+    λ a. ap₂ (λ (p q : ℕ). stencilValue (tension (s .args .t)) (axis (s .args .points .now) a) (s .args .o) p q (s .args .r)) (x .before .before .start-of .ensures) (x .before .end-of .ensures) in
     (refl, simp toZ-ofZ (on-axes-as _ _ (e .x) (e .y) (e .z) at (x .stencil-exact .ensures)))
 
 pub boundary-edge-spec : {M : Type 1} → statement M

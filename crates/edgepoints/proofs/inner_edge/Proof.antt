@@ -32,7 +32,7 @@ ordinary-ends-requires c κs = search needs
 plain-exact-requires : tie.Need-plain-exact-requires
 plain-exact-requires c κs =
     let s = c .before .before .before .before in
-    (s .pre .0, (s .pre .1 .0 .0, ends c, s .pre .1 .1 .1))
+    (s .pre .0, (s .pre .1 .0 .0, ends c, s .pre .1 .1 .1, s .pre .1 .1 .3))
 
 returns : tie.Need-returns
 returns c =
@@ -43,7 +43,7 @@ returns c =
     let f₁ : SFits w64 (r .x) = fits e .0 in
     let f₂ : SFits w64 (r .y) = fits e .1 in
     let f₃ : SFits w64 (r .z) = fits e .2 in
-    simp toZ-ofZ (plain-point (s .pre .0 .vertices) _ (s .pre .0 .net) (s .args .points .now) (s .pre .1 .0 .0) _ (ends i) (r .x) (r .y) (r .z) (e .plain-exact .ensures))
+    simp toZ-ofZ (plain-point (s .args .t) (s .pre .1 .1 .3) (s .pre .0 .vertices) _ (s .pre .0 .net) (s .args .points .now) (s .pre .1 .0 .0) _ (ends i) (r .x) (r .y) (r .z) (e .plain-exact .ensures))
 
 wide-edge-requires : tie.Need-wide-edge-requires
 wide-edge-requires c κs = search needs
@@ -54,7 +54,7 @@ returns-2 c =
     let x = i .before in
     let s = x .before .before .before in
     let r = c .wide-edge .result in
-    wide-point (s .pre .0 .vertices) _ (s .pre .0 .net) (s .args .points .now) (s .pre .1 .0 .0) _ (s .pre .1 .1 .0) (inner s) (x .ordinary-ends .ensures .not-both (i .if1 .left)) (r .flag) (r .x) (r .y) (r .z) (c .wide-edge .ensures)
+    wide-point (s .args .t) (s .pre .1 .1 .3) (s .pre .0 .vertices) _ (s .pre .0 .net) (s .args .points .now) (s .pre .1 .0 .0) _ (s .pre .1 .1 .0) (inner s) (x .ordinary-ends .ensures .not-both (i .if1 .left)) (r .flag) (r .x) (r .y) (r .z) (c .wide-edge .ensures)
 
 pub inner-edge-spec : {M : Type 1} → statement M
 inner-edge-spec =

@@ -41,6 +41,7 @@ interior-exact-requires c κs =
         corner-room _ _ room _ (start-corner v _ net _ _ b (p .start-of .ensures)),
         corner-room _ _ room _ (end-corner v _ net _ _ b (q .end-of .ensures)),
         corner-room _ _ room _ (before-corner v _ net _ _ (y .if2 .taken) (c .corner-before2 .ensures)),
+        s .pre .1 .3,
       ),
     )
 
@@ -56,7 +57,7 @@ returns c =
     let g = k .before in
     let s = g .before .before .before in
     on-axes-as _ _ _ _ _
-    (λ a. plain-made (s .pre .0 .vertices) _ (s .pre .0 .net) _ _ (s .pre .1 .1) (s .pre .1 .2) _ _ (p .start-of .ensures) (q .end-of .ensures) _ _ (g .turn-side .ensures) (x .if1 .taken) (k .turn-side2 .ensures) (y .if2 .taken)
+    (λ a. plain-made (s .pre .0 .vertices) _ (s .pre .0 .net) _ _ (s .pre .1 .1) (s .pre .1 .2) _ _ (p .start-of .ensures) (q .end-of .ensures) _ _ _ (g .turn-side .ensures) (x .if1 .taken) (k .turn-side2 .ensures) (y .if2 .taken)
     _ _ (o .corner-before .ensures) (r .corner-before2 .ensures) (axis (s .args .points .now) a))
     (c .interior-exact .ensures)
 

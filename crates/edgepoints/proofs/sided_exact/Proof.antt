@@ -35,6 +35,7 @@ stencil-exact-requires c κs =
         corner-room _ _ room _ (start-corner (s .pre .0 .vertices) _ net _ _ b (p .start-of .ensures)),
         corner-room _ _ room _ (end-corner (s .pre .0 .vertices) _ net _ _ b (q .end-of .ensures)),
         straight-in _ _ room _ _ (c .straight-far2 .ensures),
+        s .pre .1 .3,
       ),
     )
 
@@ -46,7 +47,7 @@ returns c =
     let p = q .before in
     let s = p .before .before .before in
     on-axes-as _ _ _ _ _
-    (λ a. sided-made (s .pre .0 .vertices) _ (s .pre .0 .net) _ _ (s .pre .1 .1) (s .pre .1 .2) _ _ (p .start-of .ensures) (q .end-of .ensures) _ _ (u .straight-far .ensures) (w .straight-far2 .ensures) (axis (s .args .points .now) a))
+    (λ a. sided-made (s .pre .0 .vertices) _ (s .pre .0 .net) _ _ (s .pre .1 .1) (s .pre .1 .2) _ _ (p .start-of .ensures) (q .end-of .ensures) _ _ _ (u .straight-far .ensures) (w .straight-far2 .ensures) (axis (s .args .points .now) a))
     (c .stencil-exact .ensures)
 
 pub sided-exact-spec : {M : Type 1} → statement M

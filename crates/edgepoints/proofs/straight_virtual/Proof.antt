@@ -35,13 +35,13 @@ straight-far-requires : tie.Need-straight-far-requires
 straight-far-requires c κs = search needs
 
 scaled-far-requires : tie.Need-scaled-far-requires
-scaled-far-requires c κs = let s = start c in (s .pre .1 .0 .bounded, (omega arith, far-in c, start-in c, end-in c))
+scaled-far-requires c κs = let s = start c in (s .pre .1 .0 .bounded, (omega arith, far-in c, start-in c, end-in c, s .pre .1 .1 .3))
 
 scaled-far-requires-2 : tie.Need-scaled-far-requires-2
-scaled-far-requires-2 c κs = let u = c .before in let s = start u in (s .pre .1 .0 .bounded, (omega arith, far-in u, start-in u, end-in u))
+scaled-far-requires-2 c κs = let u = c .before in let s = start u in (s .pre .1 .0 .bounded, (omega arith, far-in u, start-in u, end-in u, s .pre .1 .1 .3))
 
 scaled-far-requires-3 : tie.Need-scaled-far-requires-3
-scaled-far-requires-3 c κs = let u = c .before .before in let s = start u in (s .pre .1 .0 .bounded, (omega arith, far-in u, start-in u, end-in u))
+scaled-far-requires-3 c κs = let u = c .before .before in let s = start u in (s .pre .1 .0 .bounded, (omega arith, far-in u, start-in u, end-in u, s .pre .1 .1 .3))
 
 returns : tie.Need-returns
 returns c =
@@ -52,7 +52,7 @@ returns c =
     let f₁ : SFits w64 (x .scaled-far .result) = search needs in
     let f₂ : SFits w64 (y .scaled-far2 .result) = search needs in
     let f₃ : SFits w64 (c .scaled-far3 .result) = search needs in
-    let at = far-virtual (s .pre .0 .vertices) _ (s .pre .0 .net) _ (s .pre .1 .1 .0) (s .pre .1 .1 .1) (s .pre .1 .1 .2) _ (u .straight-far .ensures) _ _ (u .before .before .start-of .ensures) (u .before .end-of .ensures) in
+    let at = far-virtual (s .args .t) (s .pre .1 .1 .3) (s .pre .0 .vertices) _ (s .pre .0 .net) _ (s .pre .1 .1 .0) (s .pre .1 .1 .1) (s .pre .1 .1 .2) _ (u .straight-far .ensures) _ _ (u .before .before .start-of .ensures) (u .before .end-of .ensures) in
     simp toZ-ofZ (record {
       on₀ = at (axis (s .args .points .now) 0) (x .scaled-far .result) (x .scaled-far .ensures);
       on₁ = at (axis (s .args .points .now) 1) (y .scaled-far2 .result) (y .scaled-far2 .ensures);

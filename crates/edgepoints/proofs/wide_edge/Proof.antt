@@ -8,7 +8,7 @@ use lib.ListN.{length}
 use mir.Syntax.{w64}
 use mir.Val.{SFits}
 use mir.Facts.{toZ-ofZ}
-use Rattle.curve.specs.Weights.{kobbelt}
+use Rattle.curve.specs.Weights.{tension}
 use Rattle.rings.specs.Scales.{virtualRange}
 use Rattle.topology.specs.Shape.{quads}
 use Rattle.topology.specs.HalfEdge.{mate}
@@ -41,8 +41,8 @@ back s =
     omega arith
 
 small : (s : tie.Start) (h a : ℕ) → h < length (s .args .faces .now) → mate quads (s .args .faces .now) h < length (s .args .faces .now) → (z : ℤ)
-    → z ≡ virtualAtZ kobbelt (s .args .faces .now) (axis (s .args .points .now) a) h → natAbs z ≤ virtualRange kobbelt
-small s h a k m z e = virtual-small (s .pre .0 .vertices) _ (s .pre .0 .net) _ (s .pre .1 .0 .0) a h k m z e
+    → z ≡ virtualAtZ (tension (s .args .t)) (s .args .faces .now) (axis (s .args .points .now) a) h → natAbs z ≤ virtualRange (tension (s .args .t))
+small s h a k m z e = virtual-small (s .args .t) (s .pre .1 .1 .3) (s .pre .0 .vertices) _ (s .pre .0 .net) _ (s .pre .1 .0 .0) a h k m z e
 
 fits-first : (u : tie.After-end-virtual2) → SFits w64 (u .before .end-virtual .result .x) × SFits w64 (u .before .end-virtual .result .y) × SFits w64 (u .before .end-virtual .result .z)
 fits-first u = (search needs, search needs, search needs)
@@ -57,10 +57,10 @@ end-of-requires : tie.Need-end-of-requires
 end-of-requires c κs = search needs
 
 end-virtual-requires : tie.Need-end-virtual-requires
-end-virtual-requires c κs = let s = c .before .before .before .before in (s .pre .0, (s .pre .1 .0, (s .pre .1 .1 .0, inner s)))
+end-virtual-requires c κs = let s = c .before .before .before .before in (s .pre .0, (s .pre .1 .0, (s .pre .1 .1 .0, inner s, s .pre .1 .1 .3)))
 
 end-virtual-requires-2 : tie.Need-end-virtual-requires-2
-end-virtual-requires-2 c κs = let s = c .before .before .before .before .before in (s .pre .0, (s .pre .1 .0, (s .pre .1 .1 .2, back s)))
+end-virtual-requires-2 c κs = let s = c .before .before .before .before .before in (s .pre .0, (s .pre .1 .0, (s .pre .1 .1 .2, back s, s .pre .1 .1 .3)))
 
 wide-on-requires : tie.Need-wide-on-requires
 wide-on-requires c κs =
@@ -68,7 +68,7 @@ wide-on-requires c κs =
     let s = start u in
     let f : SFits w64 (u .before .end-virtual .result .x) = fits-first u .0 in
     let g : SFits w64 (u .end-virtual2 .result .x) = fits-second u .0 in
-    simp toZ-ofZ ((omega arith, start-in u, end-in u, s .pre .1 .0 .0 .bounded), (small s _ 0 (s .pre .1 .1 .0) (inner s) _ (u .before .end-virtual .ensures .on₀), small s _ 0 (s .pre .1 .1 .2) (back s) _ (u .end-virtual2 .ensures .on₀)))
+    simp toZ-ofZ ((omega arith, start-in u, end-in u, s .pre .1 .0 .0 .bounded), (small s _ 0 (s .pre .1 .1 .0) (inner s) _ (u .before .end-virtual .ensures .on₀), small s _ 0 (s .pre .1 .1 .2) (back s) _ (u .end-virtual2 .ensures .on₀), s .pre .1 .1 .3))
 
 wide-on-requires-2 : tie.Need-wide-on-requires-2
 wide-on-requires-2 c κs =
@@ -76,7 +76,7 @@ wide-on-requires-2 c κs =
     let s = start u in
     let f : SFits w64 (u .before .end-virtual .result .y) = fits-first u .1 in
     let g : SFits w64 (u .end-virtual2 .result .y) = fits-second u .1 in
-    simp toZ-ofZ ((omega arith, start-in u, end-in u, s .pre .1 .0 .0 .bounded), (small s _ 1 (s .pre .1 .1 .0) (inner s) _ (u .before .end-virtual .ensures .on₁), small s _ 1 (s .pre .1 .1 .2) (back s) _ (u .end-virtual2 .ensures .on₁)))
+    simp toZ-ofZ ((omega arith, start-in u, end-in u, s .pre .1 .0 .0 .bounded), (small s _ 1 (s .pre .1 .1 .0) (inner s) _ (u .before .end-virtual .ensures .on₁), small s _ 1 (s .pre .1 .1 .2) (back s) _ (u .end-virtual2 .ensures .on₁), s .pre .1 .1 .3))
 
 wide-on-requires-3 : tie.Need-wide-on-requires-3
 wide-on-requires-3 c κs =
@@ -84,7 +84,7 @@ wide-on-requires-3 c κs =
     let s = start u in
     let f : SFits w64 (u .before .end-virtual .result .z) = fits-first u .2 in
     let g : SFits w64 (u .end-virtual2 .result .z) = fits-second u .2 in
-    simp toZ-ofZ ((omega arith, start-in u, end-in u, s .pre .1 .0 .0 .bounded), (small s _ 2 (s .pre .1 .1 .0) (inner s) _ (u .before .end-virtual .ensures .on₂), small s _ 2 (s .pre .1 .1 .2) (back s) _ (u .end-virtual2 .ensures .on₂)))
+    simp toZ-ofZ ((omega arith, start-in u, end-in u, s .pre .1 .0 .0 .bounded), (small s _ 2 (s .pre .1 .1 .0) (inner s) _ (u .before .end-virtual .ensures .on₂), small s _ 2 (s .pre .1 .1 .2) (back s) _ (u .end-virtual2 .ensures .on₂), s .pre .1 .1 .3))
 
 returns : tie.Need-returns
 returns c =
@@ -103,7 +103,7 @@ returns c =
     let q₁ : SFits w64 (Q .x) = fits-second u .0 in
     let q₂ : SFits w64 (Q .y) = fits-second u .1 in
     let q₃ : SFits w64 (Q .z) = fits-second u .2 in
-    let made = wide-made (s .args .faces .now) (s .args .h) (s .args .m) (s .pre .1 .1 .1) _ _ (u .before .before .before .start-of .ensures) (u .before .before .end-of .ensures) in (
+    let made = wide-made (s .args .t) (s .pre .1 .1 .3) (s .args .faces .now) (s .args .h) (s .args .m) (s .pre .1 .1 .1) _ _ (u .before .before .before .start-of .ensures) (u .before .before .end-of .ensures) in (
       refl,
       simp toZ-ofZ (record {
         on₀ = made (axis (s .args .points .now) 0) (P .x) (Q .x) (x .wide-on .result) (u .before .end-virtual .ensures .on₀) (u .end-virtual2 .ensures .on₀) (simp toZ-ofZ at (x .wide-on .ensures));

@@ -6,7 +6,7 @@ use lib.IntN.{ℤ}
 use mir.Syntax.{w64}
 use mir.Val.{SFits}
 use mir.Facts.{toZ-ofZ}
-use Rattle.curve.specs.Weights.{kobbelt, interior}
+use Rattle.curve.specs.Weights.{tension, interior}
 use Rattle.nets.specs.Net.{axis}
 use Rattle.coordinates.proofs.Values.{axis-bound}
 use Rattle.edgepoints.proofs.Wide.{scaled-size}
@@ -27,11 +27,12 @@ four-point-requires c κs =
     let fw : SFits w64 (s .args .w) = s .fits .w in
     let fp : SFits w64 (x .scaled .result) = search needs in
     let fq : SFits w64 (c .scaled2 .result) = search needs in
-    let bp = scaled-size (axis (s .args .points .now) (s .args .a) (s .args .p)) (x .scaled .result) (axis-bound (s .args .points .now) (s .args .a) (s .args .p) (s .pre .0 .3)) (x .scaled .ensures) in
-    let bq = scaled-size (axis (s .args .points .now) (s .args .a) (s .args .q)) (c .scaled2 .result) (axis-bound (s .args .points .now) (s .args .a) (s .args .q) (s .pre .0 .3)) (c .scaled2 .ensures) in
+    let bp = scaled-size (s .args .t) (s .pre .1 .2) (axis (s .args .points .now) (s .args .a) (s .args .p)) (x .scaled .result) (axis-bound (s .args .points .now) (s .args .a) (s .args .p) (s .pre .0 .3)) (x .scaled .ensures) in
+    let bq = scaled-size (s .args .t) (s .pre .1 .2) (axis (s .args .points .now) (s .args .a) (s .args .q)) (c .scaled2 .result) (axis-bound (s .args .points .now) (s .args .a) (s .args .q) (s .pre .0 .3)) (c .scaled2 .ensures) in
     let bu = s .pre .1 .0 in
     let bw = s .pre .1 .1 in
-    simp toZ-ofZ (omega arith, omega arith, omega arith, omega arith)
+    let low = s .pre .1 .2 in
+    simp toZ-ofZ (low, omega arith, omega arith, omega arith, omega arith)
 
 returns : tie.Need-returns
 returns c =
@@ -43,8 +44,8 @@ returns c =
     let fp : SFits w64 (x .scaled .result) = search needs in
     let fq : SFits w64 (y .scaled2 .result) = search needs in
     let f : SFits w64 (c .four-point .result) = search needs in
-    let e : c .four-point .result ≡ interior kobbelt (s .args .u) (x .scaled .result) (y .scaled2 .result) (s .args .w) = simp toZ-ofZ at (c .four-point .ensures) in
-    simp toZ-ofZ (e ∙ ap₂ (λ (p q : ℤ). interior kobbelt (s .args .u) p q (s .args .w)) (x .scaled .ensures) (y .scaled2 .ensures))
+    let e : c .four-point .result ≡ interior (tension (s .args .t)) (s .args .u) (x .scaled .result) (y .scaled2 .result) (s .args .w) = simp toZ-ofZ at (c .four-point .ensures) in
+    simp toZ-ofZ (e ∙ ap₂ (λ (p q : ℤ). interior (tension (s .args .t)) (s .args .u) p q (s .args .w)) (x .scaled .ensures) (y .scaled2 .ensures))
 
 pub wide-on-spec : {M : Type 1} → statement M
 wide-on-spec = tie.close (tie.spec scaled-requires scaled-requires-2 four-point-requires returns)

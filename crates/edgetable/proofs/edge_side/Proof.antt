@@ -14,8 +14,9 @@ use Rattle.topology.specs.HalfEdge.{mate}
 use Rattle.coordinates.proofs.Packed.{length-put-three}
 use Rattle.coordinates.specs.Points.{putPoint}
 use Rattle.coordinates.specs.Packed.{putThree}
+use Rattle.curve.specs.Weights.{tension}
 use Rattle.edgetable.specs.EdgeTable.{roundedBy, met, passed}
-use Rattle.edgetable.proofs.EdgeTable.{small-of, told-of, flag-fits, exact-small}
+use Rattle.edgetable.proofs.EdgeTable.{small-of, classed-of, flag-fits, exact-small}
 use Rattle.edgetable.proofs.edge_side.Statement.{statement}
 use Rattle.edgetable.proofs.edge_side.Tie as tie
 
@@ -60,20 +61,20 @@ stored-length c =
     ap length (stored-is c) ∙ length-put-three (s .args .work .now) (2 * length (s .args .faces .now) + 6 * s .args .edges) (r .x) (r .y) (r .z)
 
 put-is : (q : tie.After-put-rounded) → (let e = q .before .before in let s = start (at e) in let r = e .edge-exact .result in
-    q .put-rounded .last .0 ≡ putPoint (s .args .points .now) (length (s .args .marks .now) + s .args .edges) (roundedBy (r .flag) (r .x)) (roundedBy (r .flag) (r .y)) (roundedBy (r .flag) (r .z)))
+    q .put-rounded .last .0 ≡ putPoint (s .args .points .now) (length (s .args .marks .now) + s .args .edges) (roundedBy (tension (s .args .t)) (r .flag) (r .x)) (roundedBy (tension (s .args .t)) (r .flag) (r .y)) (roundedBy (tension (s .args .t)) (r .flag) (r .z)))
 put-is q = q .put-rounded .ensures
 
 mate-side-requires : tie.Need-mate-side-requires
 mate-side-requires c κs = let s = c .before .before .before .before in (s .pre .ready .table, s .pre .lt)
 
-add-t : tie.Need-add-t
-add-t c = search needs
+add-entry : tie.Need-add-entry
+add-entry c = search needs
 
-mul-t : tie.Need-mul-t
-mul-t c = search needs
+mul-entry : tie.Need-mul-entry
+mul-entry c = search needs
 
-slice-read-t : tie.Need-slice-read-t
-slice-read-t c = search needs
+slice-read-entry : tie.Need-slice-read-entry
+slice-read-entry c = search needs
 
 add-work : tie.Need-add-work
 add-work c = search needs
@@ -111,7 +112,7 @@ edge-exact-requires : tie.Need-edge-exact-requires
 edge-exact-requires c κs =
     let i = c .before .before in
     let s = start i in
-    (s .pre .ready, ((s .pre .points, s .pre .marked, told-of _ _ _ _ _ (s .pre .marked) (s .pre .classes)), (s .pre .lt, i .before .mate-side .ensures)))
+    (s .pre .ready, ((s .pre .points, s .pre .marked, classed-of _ _ _ _ _ (s .pre .marked) (s .pre .classes)), (s .pre .lt, i .before .mate-side .ensures, s .pre .low)))
 
 add-put-rounded : tie.Need-add-put-rounded
 add-put-rounded c = let s = start (at (c .before)) in let a = s .pre .vertices in let b = s .pre .below in let k = s .pre .ready .table .sides .few in omega arith
@@ -122,7 +123,7 @@ put-rounded-requires c κs =
     let i = at e in
     let s = start i in
     let r = e .edge-exact .result in
-    (s .pre .room (first i), small-of _ _ (r .flag) _ (r .x) (r .y) (r .z) (e .edge-exact .ensures .0) (e .edge-exact .ensures .1))
+    (s .pre .room (first i), small-of (s .args .t) _ _ (r .flag) _ (r .x) (r .y) (r .z) (e .edge-exact .ensures .0) (e .edge-exact .ensures .1), s .pre .low)
 
 mul-store-exact : tie.Need-mul-store-exact
 mul-store-exact c = let s = start (at (c .before .before .before .before .before)) in let k = s .pre .ready .table .sides .few in omega arith
@@ -142,7 +143,7 @@ store-exact-requires c κs =
     let fx : SFits w64 (r .x) = fits e .0 in
     let fy : SFits w64 (r .y) = fits e .1 in
     let fz : SFits w64 (r .z) = fits e .2 in
-    simp toZ-ofZ (s .pre .exact (first i), exact-small _ _ (r .flag) _ (r .x) (r .y) (r .z) (e .edge-exact .ensures .0) (e .edge-exact .ensures .1))
+    simp toZ-ofZ (s .pre .exact (first i), exact-small (s .args .t) (s .pre .low) _ _ (r .flag) _ (r .x) (r .y) (r .z) (e .edge-exact .ensures .0) (e .edge-exact .ensures .1))
 
 cast-work : tie.Need-cast-work
 cast-work c =
@@ -206,9 +207,9 @@ edge-side-spec =
     tie.close
     (tie.spec
     mate-side-requires
-    add-t
-    mul-t
-    slice-read-t
+    add-entry
+    mul-entry
+    slice-read-entry
     add-work
     mul-work
     slice-write-work

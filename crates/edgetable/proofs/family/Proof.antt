@@ -12,8 +12,8 @@ use Rattle.edgetable.proofs.PlainFamily.{family-of, mates-some}
 use Rattle.edgetable.proofs.family.Statement.{statement}
 use Rattle.edgetable.proofs.family.Tie as tie
 
-turn : (s : tie.Start) → Turn (s .args .faces .now) (s .args .marks .now) (s .args .points .now) (s .args .work .now) (s .pre .0 .at) (s .pre .0 .initial) (s .args .h) (s .args .edges)
-turn s = let a = s .pre .1 .last₂ .lt in turn-now _ _ _ _ _ _ (s .pre .0) (omega arith)
+turn : (s : tie.Start) → Turn (s .args .t) (s .args .faces .now) (s .args .marks .now) (s .args .points .now) (s .args .work .now) (s .pre .0 .at) (s .pre .0 .initial) (s .args .h) (s .args .edges)
+turn s = let a = s .pre .1 .last₂ .lt in turn-now _ _ _ _ _ _ _ (s .pre .0) (omega arith)
 
 few : (s : tie.Start) → (s .args .h + 15 < length (s .args .faces .now)) × (length (s .args .faces .now) ≤ 262144)
 few s = (s .pre .1 .last₂ .lt, turn s .ready .table .sides .few)

@@ -15,8 +15,8 @@ use Rattle.edgetable.proofs.last_half.Tie as tie
 lt : (s : tie.Start) → s .args .h < length (s .args .faces .now)
 lt s = s .pre .1 .lt
 
-turn : (s : tie.Start) → Turn (s .args .faces .now) (s .args .marks .now) (s .args .points .now) (s .args .work .now) (s .pre .0 .at) (s .pre .0 .initial) (s .args .h) (s .args .edges)
-turn s = turn-now _ _ _ _ _ _ (s .pre .0) (lt s)
+turn : (s : tie.Start) → Turn (s .args .t) (s .args .faces .now) (s .args .marks .now) (s .args .points .now) (s .args .work .now) (s .pre .0 .at) (s .pre .0 .initial) (s .args .h) (s .args .edges)
+turn s = turn-now _ _ _ _ _ _ _ (s .pre .0) (lt s)
 
 new-here : (s : tie.Start) (m : ℕ) → m ≡ mate quads (s .args .faces .now) (s .args .h) → s .args .f ≤ m → s .args .h < mate quads (s .args .faces .now) (s .args .h)
 new-here s m e b = ⊎-elim (λ x. let z : ⊥ = omega arith in absurd z) (λ x. x) (s .pre .1 .side)
@@ -24,14 +24,14 @@ new-here s m e b = ⊎-elim (λ x. let z : ⊥ = omega arith in absurd z) (λ x.
 mate-side-requires : tie.Need-mate-side-requires
 mate-side-requires c κs = let s = c .before .before .before .before in (turn s .ready .table, lt s)
 
-add-t : tie.Need-add-t
-add-t c = let s = c .before .before .before .before .before .before in let k = turn s .ready .table .sides .few in let j = turn s .entries in let l = lt s in let a = s .pre .1 .after in let m = c .if1 .taken in record { fits = omega arith }
+add-entry : tie.Need-add-entry
+add-entry c = let s = c .before .before .before .before .before .before in let k = turn s .ready .table .sides .few in let j = turn s .entries in let l = lt s in let a = s .pre .1 .after in let m = c .if1 .taken in record { fits = omega arith }
 
-mul-t : tie.Need-mul-t
-mul-t c = let s = c .before .before .before .before .before .before in let k = turn s .ready .table .sides .few in let j = turn s .entries in let l = lt s in let a = s .pre .1 .after in let m = c .if1 .taken in record { fits = omega arith }
+mul-entry : tie.Need-mul-entry
+mul-entry c = let s = c .before .before .before .before .before .before in let k = turn s .ready .table .sides .few in let j = turn s .entries in let l = lt s in let a = s .pre .1 .after in let m = c .if1 .taken in record { fits = omega arith }
 
-slice-read-t : tie.Need-slice-read-t
-slice-read-t c = let s = c .before .before .before .before .before .before .before in let k = turn s .ready .table .sides .few in let j = turn s .entries in let l = lt s in let a = s .pre .1 .after in let m = c .before .if1 .taken in omega arith
+slice-read-entry : tie.Need-slice-read-entry
+slice-read-entry c = let s = c .before .before .before .before .before .before .before in let k = turn s .ready .table .sides .few in let j = turn s .entries in let l = lt s in let a = s .pre .1 .after in let m = c .before .if1 .taken in omega arith
 
 add-work : tie.Need-add-work
 add-work c = let s = c .before .before .before .before .before .before .before in let k = turn s .ready .table .sides .few in let j = turn s .entries in let l = lt s in let a = s .pre .1 .after in record { fits = omega arith }
@@ -53,7 +53,7 @@ returns c =
     let e = x .mate-side .ensures in
     let m = i .if1 .taken in
     let a = s .pre .1 .after in
-    turned-carries _ _ _ _ _ _ _ _ _ (lt s)
+    turned-carries _ _ _ _ _ _ _ _ _ _ (lt s)
     (passed (omega arith) refl refl (ap (λ (m : ℕ). set (s .args .work .now) (length (s .args .faces .now) + s .args .h) (getD (s .args .work .now) (length (s .args .faces .now) + m) 0)) e))
 
 sub-mate-side : tie.Need-sub-mate-side
@@ -76,7 +76,7 @@ line-edge-requires c κs =
     let x = i .before in
     let s = c .before .before .before .before .before .before .before .before .before .before .before in
     let new = new-here s (x .mate-side .result) (x .mate-side .ensures) (i .if1 .left) in (
-      place-now _ _ _ _ _ _ (s .pre .0) (lt s) new,
+      place-now _ _ _ _ _ _ _ (s .pre .0) (lt s) new,
       subst (Line (s .args .faces .now) (s .args .h) (s .args .c) (s .args .e) (s .args .d)) (sym (a .start-of .ensures ∙ ap (λ (j : ℕ). from (s .args .faces .now) (j - 2)) (y .mate-side2 .ensures))) (s .pre .1 .line new),
     )
 
@@ -87,16 +87,16 @@ same-length-3 : tie.Need-same-length-3
 same-length-3 c = search needs
 
 returns-2 : tie.Need-returns-2
-returns-2 c = let s = c .before .before .before .before .before .before .before .before .before .before .before .before .before .before .before in turned-carries _ _ _ _ _ _ _ _ _ (lt s) (c .before .before .before .line-edge .ensures)
+returns-2 c = let s = c .before .before .before .before .before .before .before .before .before .before .before .before .before .before .before in turned-carries _ _ _ _ _ _ _ _ _ _ (lt s) (c .before .before .before .line-edge .ensures)
 
 pub last-half-spec : {M : Type 1} → statement M
 last-half-spec =
     tie.close
     (tie.spec
     mate-side-requires
-    add-t
-    mul-t
-    slice-read-t
+    add-entry
+    mul-entry
+    slice-read-entry
     add-work
     mul-work
     slice-write-work

@@ -40,22 +40,22 @@ slice-aggregate-interior-exact : tie.Need-slice-aggregate-interior-exact
 slice-aggregate-interior-exact c = let s = c .before .before .before .before in sym (length-take-le (3 * length (s .args .marks .now)) (s .args .points .now) (s .pre .0 .old))
 
 interior-exact-requires : tie.Need-interior-exact-requires
-interior-exact-requires c κs = let s = c .before .before .before .before in (s .pre .0 .points .bounded, line-in _ _ _ _ _ _ _ _ _ _ (s .pre .0) (s .pre .1))
+interior-exact-requires c κs = let s = c .before .before .before .before in (s .pre .0 .points .bounded, line-in _ _ _ _ _ _ _ _ _ _ _ (s .pre .0) (s .pre .1))
 
 rounded-plain-requires : tie.Need-rounded-plain-requires
 rounded-plain-requires c κs = let e = c .before in let s = start e in let r = e .interior-exact .result in
     let fx : SFits w64 (r .x) = fits e .0 in
-    simp toZ-ofZ (small₀ _ _ _ _ _ _ _ _ _ _ (s .pre .0) (s .pre .1) (r .x) (r .y) (r .z) (e .interior-exact .ensures))
+    simp toZ-ofZ (small₀ _ _ _ _ _ _ _ _ _ _ _ (s .pre .0) (s .pre .1) (r .x) (r .y) (r .z) (e .interior-exact .ensures))
 
 rounded-plain-requires-2 : tie.Need-rounded-plain-requires-2
 rounded-plain-requires-2 c κs = let e = c .before .before .before in let s = start e in let r = e .interior-exact .result in
     let fy : SFits w64 (r .y) = fits e .1 in
-    simp toZ-ofZ (small₁ _ _ _ _ _ _ _ _ _ _ (s .pre .0) (s .pre .1) (r .x) (r .y) (r .z) (e .interior-exact .ensures))
+    simp toZ-ofZ (small₁ _ _ _ _ _ _ _ _ _ _ _ (s .pre .0) (s .pre .1) (r .x) (r .y) (r .z) (e .interior-exact .ensures))
 
 rounded-plain-requires-3 : tie.Need-rounded-plain-requires-3
 rounded-plain-requires-3 c κs = let e = c .before .before .before .before .before in let s = start e in let r = e .interior-exact .result in
     let fz : SFits w64 (r .z) = fits e .2 in
-    simp toZ-ofZ (small₂ _ _ _ _ _ _ _ _ _ _ (s .pre .0) (s .pre .1) (r .x) (r .y) (r .z) (e .interior-exact .ensures))
+    simp toZ-ofZ (small₂ _ _ _ _ _ _ _ _ _ _ _ (s .pre .0) (s .pre .1) (r .x) (r .y) (r .z) (e .interior-exact .ensures))
 
 add-put-point : tie.Need-add-put-point
 add-put-point c = search needs
@@ -80,8 +80,8 @@ store-exact-requires c κs =
     let fx : SFits w64 (r .x) = fits e .0 in
     let fy : SFits w64 (r .y) = fits e .1 in
     let fz : SFits w64 (r .z) = fits e .2 in
-    let k = line-exact _ _ _ _ _ _ _ _ _ _ (s .pre .0) (s .pre .1) (r .x) (r .y) (r .z) (e .interior-exact .ensures) in
-    (s .pre .0 .exact, exact-small _ _ 0 _ (r .x) (r .y) (r .z) (k .0) (k .1))
+    let k = line-exact _ _ _ _ _ _ _ _ _ _ _ (s .pre .0) (s .pre .1) (r .x) (r .y) (r .z) (e .interior-exact .ensures) in
+    (s .pre .0 .exact, exact-small (s .args .t) (s .pre .0 .low) _ _ 0 _ (r .x) (r .y) (r .z) (k .0) (k .1))
 
 cast-work : tie.Need-cast-work
 cast-work c = let s = start (exact c) in let a = s .pre .0 .lt in let b = s .pre .0 .below in let k = s .pre .0 .ready .table .sides .few in record { fits = omega arith }
@@ -112,7 +112,7 @@ returns c =
     let fx : SFits w64 (r .x) = fits e .0 in
     let fy : SFits w64 (r .y) = fits e .1 in
     let fz : SFits w64 (r .z) = fits e .2 in
-    let k = line-exact _ _ _ _ _ _ _ _ _ _ (s .pre .0) (s .pre .1) (r .x) (r .y) (r .z) (e .interior-exact .ensures) in
+    let k = line-exact _ _ _ _ _ _ _ _ _ _ _ (s .pre .0) (s .pre .1) (r .x) (r .y) (r .z) (e .interior-exact .ensures) in
     let t = c .before .before .before .before .before in
     let z₃ = t .before .before in
     let z₂ = z₃ .before .before in
@@ -122,9 +122,9 @@ returns c =
     let f₃ : SFits w32 (z₃ .rounded-plain3 .result) = search needs in
     met 0 (r .x) (r .y) (r .z) (s .pre .1 .new) refl (k .0) (k .1)
     (put-point-is _ _ _ (z₁ .rounded-plain .result) (z₂ .rounded-plain2 .result) (z₃ .rounded-plain3 .result) _ _ _ (simp toZ-ofZ at (t .put-point .ensures))
-    (simp toZ-ofZ at (z₁ .rounded-plain .ensures) ∙ rounded-zero (r .x))
-    (simp toZ-ofZ at (z₂ .rounded-plain2 .ensures) ∙ rounded-zero (r .y))
-    (simp toZ-ofZ at (z₃ .rounded-plain3 .ensures) ∙ rounded-zero (r .z)))
+    (simp toZ-ofZ at (z₁ .rounded-plain .ensures) ∙ rounded-zero (s .args .t) (r .x))
+    (simp toZ-ofZ at (z₂ .rounded-plain2 .ensures) ∙ rounded-zero (s .args .t) (r .y))
+    (simp toZ-ofZ at (z₃ .rounded-plain3 .ensures) ∙ rounded-zero (s .args .t) (r .z)))
     (let a : s .args .edges ≡ s .args .edges + 0 = sym (add-zero (s .args .edges)) in
     ap (λ (x : List ℕ). set x (length (s .args .faces .now) + s .args .h) (s .args .edges)) (c .before .before .store-exact .ensures)
     ∙ ap (set (putThree (s .args .work .now) (2 * length (s .args .faces .now) + 6 * s .args .edges) (r .x) (r .y) (r .z)) (length (s .args .faces .now) + s .args .h)) a)

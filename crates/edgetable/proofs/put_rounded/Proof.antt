@@ -4,16 +4,16 @@ use borrow.Author.Needs.{needs}
 use mir.Syntax.{w32, w64}
 use mir.Val.{SFits}
 use mir.Facts.{toZ-ofZ}
-use Rattle.curve.specs.Weights.{kobbelt}
+use Rattle.curve.specs.Weights.{tension}
 use Rattle.rings.specs.Scales.{virtualScale}
 use Rattle.coordinates.specs.Entry.{unitOf}
 use Rattle.coordinates.proofs.Points.{put-point-is}
-use Rattle.edgetable.proofs.Rounded.{wide-is, wide-range, plain-is, plain-range}
+use Rattle.edgetable.proofs.Rounded.{wide-is, wide-range, plain-is, plain-range, plain-small, round-plain}
 use Rattle.edgetable.proofs.put_rounded.Statement.{statement}
 use Rattle.edgetable.proofs.put_rounded.Tie as tie
 
 -- the unit of a flag that is not the wide one
-unit : (c : tie.Else1) → unitOf (c .before .before .args .e .flag) ≡ virtualScale kobbelt
+unit : (c : tie.Else1) → unitOf (tension (c .before .before .args .t)) (c .before .before .args .e .flag) ≡ virtualScale (tension (c .before .before .args .t))
 unit c = let s = c .before .before in s .pre .1 .plain (c .if1 .left)
 
 fits-x : (s : tie.Start) → SFits w64 (s .args .e .x)
@@ -29,19 +29,19 @@ rounded-wide-requires : tie.Need-rounded-wide-requires
 rounded-wide-requires c κs =
     let s = c .before .before .before in
     let f : SFits w64 (s .args .e .x) = search needs in
-    simp toZ-ofZ (wide-range (s .args .e .flag) (c .before .if1 .taken) (s .args .e .x) (s .pre .1 .on₀))
+    simp toZ-ofZ (wide-range (s .args .t) (s .args .e .flag) (c .before .if1 .taken) (s .args .e .x) (s .pre .1 .on₀), s .pre .2)
 
 rounded-wide-requires-2 : tie.Need-rounded-wide-requires-2
 rounded-wide-requires-2 c κs =
     let s = c .before .before .before .before .before in
     let f : SFits w64 (s .args .e .y) = search needs in
-    simp toZ-ofZ (wide-range (s .args .e .flag) (c .before .before .before .if1 .taken) (s .args .e .y) (s .pre .1 .on₁))
+    simp toZ-ofZ (wide-range (s .args .t) (s .args .e .flag) (c .before .before .before .if1 .taken) (s .args .e .y) (s .pre .1 .on₁), s .pre .2)
 
 rounded-wide-requires-3 : tie.Need-rounded-wide-requires-3
 rounded-wide-requires-3 c κs =
     let s = c .before .before .before .before .before .before .before in
     let f : SFits w64 (s .args .e .z) = search needs in
-    simp toZ-ofZ (wide-range (s .args .e .flag) (c .before .before .before .before .before .if1 .taken) (s .args .e .z) (s .pre .1 .on₂))
+    simp toZ-ofZ (wide-range (s .args .t) (s .args .e .flag) (c .before .before .before .before .before .if1 .taken) (s .args .e .z) (s .pre .1 .on₂), s .pre .2)
 
 put-point-requires : tie.Need-put-point-requires
 put-point-requires c κs = search needs
@@ -64,27 +64,27 @@ returns c =
     let gy = fits-y s in
     let gz = fits-z s in
     put-point-is _ _ _ (p .rounded-wide .result) (q .rounded-wide2 .result) (r .rounded-wide3 .result) _ _ _ (simp toZ-ofZ at (c .before .put-point .ensures))
-    (simp toZ-ofZ at (p .rounded-wide .ensures) ∙ wide-is (s .args .e .flag) e (s .args .e .x))
-    (simp toZ-ofZ at (q .rounded-wide2 .ensures) ∙ wide-is (s .args .e .flag) e (s .args .e .y))
-    (simp toZ-ofZ at (r .rounded-wide3 .ensures) ∙ wide-is (s .args .e .flag) e (s .args .e .z))
+    (simp toZ-ofZ at (p .rounded-wide .ensures) ∙ wide-is (s .args .t) (s .args .e .flag) e (s .args .e .x))
+    (simp toZ-ofZ at (q .rounded-wide2 .ensures) ∙ wide-is (s .args .t) (s .args .e .flag) e (s .args .e .y))
+    (simp toZ-ofZ at (r .rounded-wide3 .ensures) ∙ wide-is (s .args .t) (s .args .e .flag) e (s .args .e .z))
 
 rounded-plain-requires : tie.Need-rounded-plain-requires
 rounded-plain-requires c κs =
     let s = c .before .before .before in
     let f : SFits w64 (s .args .e .x) = search needs in
-    simp toZ-ofZ (plain-range (s .args .e .flag) (unit (c .before)) (s .args .e .x) (s .pre .1 .on₀))
+    simp toZ-ofZ (plain-small (s .args .t) (s .args .e .x) (plain-range (s .args .t) (s .args .e .flag) (unit (c .before)) (s .args .e .x) (s .pre .1 .on₀)))
 
 rounded-plain-requires-2 : tie.Need-rounded-plain-requires-2
 rounded-plain-requires-2 c κs =
     let s = c .before .before .before .before .before in
     let f : SFits w64 (s .args .e .y) = search needs in
-    simp toZ-ofZ (plain-range (s .args .e .flag) (unit (c .before .before .before)) (s .args .e .y) (s .pre .1 .on₁))
+    simp toZ-ofZ (plain-small (s .args .t) (s .args .e .y) (plain-range (s .args .t) (s .args .e .flag) (unit (c .before .before .before)) (s .args .e .y) (s .pre .1 .on₁)))
 
 rounded-plain-requires-3 : tie.Need-rounded-plain-requires-3
 rounded-plain-requires-3 c κs =
     let s = c .before .before .before .before .before .before .before in
     let f : SFits w64 (s .args .e .z) = search needs in
-    simp toZ-ofZ (plain-range (s .args .e .flag) (unit (c .before .before .before .before .before)) (s .args .e .z) (s .pre .1 .on₂))
+    simp toZ-ofZ (plain-small (s .args .t) (s .args .e .z) (plain-range (s .args .t) (s .args .e .flag) (unit (c .before .before .before .before .before)) (s .args .e .z) (s .pre .1 .on₂)))
 
 put-point-requires-2 : tie.Need-put-point-requires-2
 put-point-requires-2 c κs = search needs
@@ -107,9 +107,9 @@ returns-2 c =
     let gy = fits-y s in
     let gz = fits-z s in
     put-point-is _ _ _ (p .rounded-plain .result) (q .rounded-plain2 .result) (r .rounded-plain3 .result) _ _ _ (simp toZ-ofZ at (c .before .put-point2 .ensures))
-    (simp toZ-ofZ at (p .rounded-plain .ensures) ∙ plain-is (s .args .e .flag) e (s .args .e .x))
-    (simp toZ-ofZ at (q .rounded-plain2 .ensures) ∙ plain-is (s .args .e .flag) e (s .args .e .y))
-    (simp toZ-ofZ at (r .rounded-plain3 .ensures) ∙ plain-is (s .args .e .flag) e (s .args .e .z))
+    (simp toZ-ofZ at (p .rounded-plain .ensures) ∙ round-plain (s .args .t) (s .args .e .x) ∙ plain-is (s .args .t) (s .args .e .flag) e (s .args .e .x))
+    (simp toZ-ofZ at (q .rounded-plain2 .ensures) ∙ round-plain (s .args .t) (s .args .e .y) ∙ plain-is (s .args .t) (s .args .e .flag) e (s .args .e .y))
+    (simp toZ-ofZ at (r .rounded-plain3 .ensures) ∙ round-plain (s .args .t) (s .args .e .z) ∙ plain-is (s .args .t) (s .args .e .flag) e (s .args .e .z))
 
 pub put-rounded-spec : {M : Type 1} → statement M
 put-rounded-spec =

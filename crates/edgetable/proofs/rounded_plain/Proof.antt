@@ -1,34 +1,26 @@
 -- `rounded_plain` meets its contract: the rounded value is in the range of 32 bits. Assumes nothing.
-use Prim.Native.Nat.{_*_}
-use mathlib.Core.Path.{_≡_, _∙_}
+use mathlib.Core.Path.{_≡_, refl}
 use native.Mathlib.Omega.{arith}
 use borrow.Author.Needs.{needs}
-use lib.IntN.{ℤ, pos, _*ℤ_}
 use mir.Syntax.{w32, w64}
 use mir.Val.{SFits}
 use mir.Facts.{toZ-ofZ}
+use Rattle.integers.proofs.Range.{fits-abs}
 use Rattle.rounding.specs.Rounding.{round}
-use Rattle.curve.specs.Weights.{kobbelt}
-use Rattle.rings.specs.Scales.{virtualScale, edgeScale}
-use mathlib.Core.Path.{refl}
-use Rattle.edgetable.proofs.Rounded.{rounded-fits, plain-small, round-plain}
+use Rattle.rounding.proofs.Laws.{round-size}
 use Rattle.edgetable.proofs.rounded_plain.Statement.{statement}
 use Rattle.edgetable.proofs.rounded_plain.Tie as tie
 
-value : (c : tie.After-round-shift) → c .round-shift .result ≡ round (pos (virtualScale kobbelt) *ℤ c .before .args .z) (edgeScale kobbelt)
-value c =
-    let s = c .before in
-    let f : SFits w64 (s .args .z) = s .fits .z in
-    let e : c .round-shift .result ≡ round (s .args .z) 16 = simp toZ-ofZ at (c .round-shift .ensures) in
-    e ∙ round-plain (s .args .z)
+value : (c : tie.After-round-shift) → c .round-shift .result ≡ round (c .before .args .z) 64
+value c = let f : SFits w64 (c .before .args .z) = c .before .fits .z in simp toZ-ofZ at (c .round-shift .ensures)
 
 fits : (c : tie.After-round-shift) → SFits w32 (c .round-shift .result)
-fits c = let s = c .before in let e = value c in rw e (rounded-fits (pos (virtualScale kobbelt) *ℤ s .args .z) (s .pre))
+fits c = let s = c .before in let h = s .pre in let r = round-size (s .args .z) 64 (omega arith) in let e = value c in rw e (fits-abs w32 (round (s .args .z) 64) (omega arith))
 
 round-shift-requires : tie.Need-round-shift-requires
 round-shift-requires c κs =
     let f : SFits w64 (c .args .z) = c .fits .z in
-    let h = plain-small (c .args .z) (c .pre) in
+    let h = c .pre in
     simp toZ-ofZ (omega arith, refl, omega arith, omega arith)
 
 cast-result : tie.Need-cast-result

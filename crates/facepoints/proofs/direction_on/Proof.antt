@@ -7,7 +7,8 @@ use lib.IntN.{natAbs}
 use mir.Syntax.{w64}
 use mir.Val.{SFits}
 use mir.Facts.{toZ-ofZ}
-use Rattle.curve.specs.Weights.{kobbelt}
+use Rattle.curve.specs.Weights.{tension}
+use Rattle.rings.proofs.Tension.{edge-range-le}
 use Rattle.rings.specs.Scales.{edgeRange}
 use Rattle.coordinates.specs.Entry.{exactOf}
 use Rattle.facepoints.proofs.Reading.{across-lt, readable, exact-of, exact-small}
@@ -16,41 +17,41 @@ use Rattle.facepoints.proofs.direction_on.Statement.{statement}
 use Rattle.facepoints.proofs.direction_on.Tie as tie
 
 -- the values of h and of the opposite side
-value-x : (x : tie.After-exact-on) → let s = x .before .before .before .before in x .exact-on .result ≡ exactOf (s .args .n) (s .args .work .now) (s .args .a) (s .args .h)
-value-x x = exact-of _ _ _ _ _ _ (x .before .entry .ensures .0) (x .exact-on .ensures)
+value-x : (x : tie.After-exact-on) → let s = x .before .before .before .before in x .exact-on .result ≡ exactOf (tension (s .args .t)) (s .args .n) (s .args .work .now) (s .args .a) (s .args .h)
+value-x x = exact-of _ _ _ _ _ _ _ (x .before .entry .ensures .0) (x .exact-on .ensures)
 
-small-x : (x : tie.After-exact-on) → natAbs (x .exact-on .result) ≤ edgeRange kobbelt
-small-x x = let s = x .before .before .before .before in exact-small _ _ _ _ _ (s .pre .0) (s .pre .2) (s .pre .1) (value-x x)
+small-x : (x : tie.After-exact-on) → natAbs (x .exact-on .result) ≤ edgeRange (tension (x .before .before .before .before .args .t))
+small-x x = let s = x .before .before .before .before in exact-small _ _ _ _ _ _ (s .pre .0) (s .pre .2) (s .pre .1) (value-x x)
 
 opposite-lt : (g : tie.After-across-side) → let s = g .before .before in g .across-side .result < s .args .n
-opposite-lt g = let s = g .before .before in omega (arith, g .across-side .ensures, across-lt _ _ (s .pre .0 .fours) (s .pre .1))
+opposite-lt g = let s = g .before .before in omega (arith, g .across-side .ensures, across-lt _ _ (s .pre .0 .entries .fours) (s .pre .1))
 
 value-y : (y : tie.After-exact-on2)
     → let g = y .before .before .before .before in
     let s = g .before .before in
-    y .exact-on2 .result ≡ exactOf (s .args .n) (s .args .work .now) (s .args .a) (g .across-side .result)
-value-y y = exact-of _ _ _ _ _ _ (y .before .entry2 .ensures .0) (y .exact-on2 .ensures)
+    y .exact-on2 .result ≡ exactOf (tension (s .args .t)) (s .args .n) (s .args .work .now) (s .args .a) (g .across-side .result)
+value-y y = exact-of _ _ _ _ _ _ _ (y .before .entry2 .ensures .0) (y .exact-on2 .ensures)
 
-small-y : (y : tie.After-exact-on2) → natAbs (y .exact-on2 .result) ≤ edgeRange kobbelt
+small-y : (y : tie.After-exact-on2) → natAbs (y .exact-on2 .result) ≤ edgeRange (tension (y .before .before .before .before .before .before .args .t))
 small-y y =
     let g = y .before .before .before .before in
     let s = g .before .before in
-    exact-small _ _ _ _ _ (s .pre .0) (s .pre .2) (opposite-lt g) (value-y y)
+    exact-small _ _ _ _ _ _ (s .pre .0) (s .pre .2) (opposite-lt g) (value-y y)
 
 across-side-requires : tie.Need-across-side-requires
 across-side-requires c κs = search needs
 
 entry-requires : tie.Need-entry-requires
-entry-requires c κs = search needs
+entry-requires c κs = let s = c .before .before in (s .pre .0 .entries, s .pre .1)
 
 exact-on-requires : tie.Need-exact-on-requires
-exact-on-requires c κs = let s = c .before .before .before in readable _ _ _ _ _ (s .pre .0) (s .pre .2) (s .pre .1) (c .entry .ensures .0)
+exact-on-requires c κs = let s = c .before .before .before in readable _ _ _ _ _ _ (s .pre .0) (s .pre .2) (s .pre .1) (c .entry .ensures .0)
 
 entry-requires-2 : tie.Need-entry-requires-2
-entry-requires-2 c κs = let s = c .before .before .before .before in (s .pre .0, opposite-lt (c .before .before))
+entry-requires-2 c κs = let s = c .before .before .before .before in (s .pre .0 .entries, opposite-lt (c .before .before))
 
 exact-on-requires-2 : tie.Need-exact-on-requires-2
-exact-on-requires-2 c κs = let g = c .before .before .before in let s = g .before .before in readable _ _ _ _ _ (s .pre .0) (s .pre .2) (opposite-lt g) (c .entry2 .ensures .0)
+exact-on-requires-2 c κs = let g = c .before .before .before in let s = g .before .before in readable _ _ _ _ _ _ (s .pre .0) (s .pre .2) (opposite-lt g) (c .entry2 .ensures .0)
 
 far-on-requires : tie.Need-far-on-requires
 far-on-requires c κs =
@@ -81,9 +82,10 @@ four-point-requires c κs =
     let j : SFits w64 (c .far-on2 .result) = search needs in
     let a = small-x x in
     let b = small-y y in
-    let d = far-size _ _ _ (s .pre .0) (s .pre .2) _ _ _ (u .far-on .result) a b (simp toZ-ofZ at (u .far-on .ensures)) in
-    let e = far-size _ _ _ (s .pre .0) (s .pre .2) _ _ _ (c .far-on2 .result) b a (simp toZ-ofZ at (c .far-on2 .ensures)) in
-    simp toZ-ofZ (omega arith, omega arith, omega arith, omega arith)
+    let d = far-size (s .args .t) _ _ _ (s .pre .0) (s .pre .2) _ _ _ (u .far-on .result) a b (simp toZ-ofZ at (u .far-on .ensures)) in
+    let e = far-size (s .args .t) _ _ _ (s .pre .0) (s .pre .2) _ _ _ (c .far-on2 .result) b a (simp toZ-ofZ at (c .far-on2 .ensures)) in
+    let r = edge-range-le (s .args .t) (s .pre .0 .low) in
+    simp toZ-ofZ (s .pre .0 .low, omega arith, omega arith, omega arith, omega arith)
 
 returns : tie.Need-returns
 returns c =
@@ -96,7 +98,7 @@ returns c =
     let i : SFits w64 (u .far-on .result) = search needs in
     let j : SFits w64 (v .far-on2 .result) = search needs in
     let k : SFits w64 (c .four-point .result) = search needs in
-    simp toZ-ofZ (direction-read _ _ _ _ _ (c .four-point .result) (u .far-on .result) (x .exact-on .result) (y .exact-on2 .result) (v .far-on2 .result)
+    simp toZ-ofZ (direction-read _ _ _ _ _ _ (c .four-point .result) (u .far-on .result) (x .exact-on .result) (y .exact-on2 .result) (v .far-on2 .result)
     (x .before .before .across-side .ensures) (simp toZ-ofZ at (c .four-point .ensures)) (value-x x) (value-y y) (simp toZ-ofZ at (u .far-on .ensures)) (simp toZ-ofZ at (v .far-on2 .ensures)))
 
 pub direction-on-spec : {M : Type 1} → statement M

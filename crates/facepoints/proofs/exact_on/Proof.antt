@@ -7,15 +7,16 @@ use mir.Facts.{toZ-ofZ}
 use mathlib.Core.Path.{_≡_}
 use lib.IntN.{_*ℤ_}
 use Rattle.coordinates.specs.Entry.{placeOf, exactAt}
+use Rattle.curve.specs.Weights.{tension}
 use Rattle.facepoints.proofs.Reading.{exact-fits, exact-read}
 use Rattle.facepoints.proofs.exact_on.Statement.{statement}
 use Rattle.facepoints.proofs.exact_on.Tie as tie
 
-product : (c : tie.After-unit) → let s = c .before .before .before in c .unit .result *ℤ c .before .load .result ≡ exactAt (s .args .n) (s .args .work .now) (s .args .a) (s .args .t)
-product c = exact-read _ _ _ _ (c .unit .result) (c .before .load .result) (c .unit .ensures) (c .before .load .ensures)
+product : (c : tie.After-unit) → let s = c .before .before .before in c .unit .result *ℤ c .before .load .result ≡ exactAt (tension (s .args .t)) (s .args .n) (s .args .work .now) (s .args .a) (s .args .e)
+product c = exact-read _ _ _ _ _ (c .unit .result) (c .before .load .result) (c .unit .ensures) (c .before .load .ensures)
 
 product-fits : (c : tie.After-unit) → SFits w64 (c .unit .result *ℤ c .before .load .result)
-product-fits c = rw (product c) (exact-fits _ _ _ _ (c .before .before .before .pre))
+product-fits c = rw (product c) (exact-fits _ _ _ _ _ (c .before .before .before .pre))
 
 mul-load : tie.Need-mul-load
 mul-load c = search needs
@@ -37,7 +38,7 @@ unfolding placeOf
 load-requires c κs = let s = c .before in let k = s .pre in let r = k .room in let m = k .number in let a = k .on in (omega arith, k .high)
 
 unit-requires : tie.Need-unit-requires
-unit-requires c κs = search needs
+unit-requires c κs = c .before .before .pre .low
 
 mul-result : tie.Need-mul-result
 mul-result c = let f : SFits w64 (c .unit .result) = search needs in let g : SFits w64 (c .before .load .result) = search needs in let h = product-fits c in simp toZ-ofZ h

@@ -5,7 +5,7 @@ use mir.Syntax.{w32}
 use mir.Val.{SFits}
 use mir.Facts.{toZ-ofZ}
 use Rattle.rounding.specs.Rounding.{round}
-use Rattle.curve.specs.Weights.{kobbelt}
+use Rattle.curve.specs.Weights.{tension}
 use Rattle.rings.specs.Scales.{faceScale}
 use Rattle.facepoints.specs.declared.FaceRule.{FaceRule}
 use Rattle.facepoints.specs.Faces.{faceValueOf}
@@ -47,7 +47,7 @@ unfolding faceValueOf
 returns c =
     let s = c .before .before .before .before in
     let f : SFits w32 (c .mean-on .result) = search needs in
-    let e = ap (λ (r : FaceRule). round (faceValueOf (s .args .n) (s .args .work .now) (s .args .a) (s .args .f) r) (faceScale kobbelt)) (c .before .enum-told .given .1) in
+    let e = ap (λ (r : FaceRule). round (faceValueOf (tension (s .args .t)) (s .args .n) (s .args .work .now) (s .args .a) (s .args .f) r) (faceScale (tension (s .args .t)))) (c .before .enum-told .given .1) in
     simp toZ-ofZ (c .mean-on .ensures ∙ sym e)
 
 returns-2 : tie.Need-returns-2
@@ -55,7 +55,7 @@ unfolding faceValueOf
 returns-2 c =
     let s = c .before .before .before .before in
     let f : SFits w32 (c .mean-on2 .result) = search needs in
-    let e = ap (λ (r : FaceRule). round (faceValueOf (s .args .n) (s .args .work .now) (s .args .a) (s .args .f) r) (faceScale kobbelt)) (c .before .enum-told2 .given .1) in
+    let e = ap (λ (r : FaceRule). round (faceValueOf (tension (s .args .t)) (s .args .n) (s .args .work .now) (s .args .a) (s .args .f) r) (faceScale (tension (s .args .t)))) (c .before .enum-told2 .given .1) in
     simp toZ-ofZ (c .mean-on2 .ensures ∙ sym e)
 
 returns-3 : tie.Need-returns-3
@@ -63,7 +63,7 @@ unfolding faceValueOf
 returns-3 c =
     let s = c .before .before .before .before in
     let f : SFits w32 (c .mean-on3 .result) = search needs in
-    let e = ap (λ (r : FaceRule). round (faceValueOf (s .args .n) (s .args .work .now) (s .args .a) (s .args .f) r) (faceScale kobbelt)) (c .before .enum-told3 .given .1) in
+    let e = ap (λ (r : FaceRule). round (faceValueOf (tension (s .args .t)) (s .args .n) (s .args .work .now) (s .args .a) (s .args .f) r) (faceScale (tension (s .args .t)))) (c .before .enum-told3 .given .1) in
     simp toZ-ofZ (c .mean-on3 .ensures ∙ sym e)
 
 returns-4 : tie.Need-returns-4
@@ -71,7 +71,7 @@ unfolding faceValueOf
 returns-4 c =
     let s = c .before .before .before .before in
     let f : SFits w32 (c .mean-on4 .result) = search needs in
-    let e = ap (λ (r : FaceRule). round (faceValueOf (s .args .n) (s .args .work .now) (s .args .a) (s .args .f) r) (faceScale kobbelt)) (c .before .enum-told4 .given .1) in
+    let e = ap (λ (r : FaceRule). round (faceValueOf (tension (s .args .t)) (s .args .n) (s .args .work .now) (s .args .a) (s .args .f) r) (faceScale (tension (s .args .t)))) (c .before .enum-told4 .given .1) in
     simp toZ-ofZ (c .mean-on4 .ensures ∙ sym e)
 
 pub face-on-spec : {M : Type 1} → statement M

@@ -8,7 +8,7 @@ use Rattle.facepoints.proofs.general_face.Statement.{statement}
 use Rattle.facepoints.proofs.general_face.Tie as tie
 
 face-rule-requires : tie.Need-face-rule-requires
-face-rule-requires c κs = search needs
+face-rule-requires c κs = let s = c .before in (s .pre .0 .entries, s .pre .1)
 
 face-on-requires : tie.Need-face-on-requires
 face-on-requires c κs = search needs
@@ -33,7 +33,7 @@ returns c =
     let f₀ : SFits w32 (x .face-on .result) = search needs in
     let f₁ : SFits w32 (y .face-on2 .result) = search needs in
     let f₂ : SFits w32 (z .face-on3 .result) = search needs in
-    put-by-rule _ _ _ _ _ _ (x .face-on .result) (y .face-on2 .result) (z .face-on3 .result) (x .before .face-rule .ensures) (x .face-on .ensures) (y .face-on2 .ensures) (z .face-on3 .ensures)
+    put-by-rule _ _ _ _ _ _ _ (x .face-on .result) (y .face-on2 .result) (z .face-on3 .result) (x .before .face-rule .ensures) (x .face-on .ensures) (y .face-on2 .ensures) (z .face-on3 .ensures)
     (simp toZ-ofZ at (c .before .put-point .ensures))
 
 pub general-face-spec : {M : Type 1} → statement M

@@ -129,7 +129,7 @@ returns c =
     let f₀ : SFits w32 (x .plain-on .result) = search needs in
     let f₁ : SFits w32 (y .plain-on2 .result) = search needs in
     let f₂ : SFits w32 (z .plain-on3 .result) = search needs in
-    put-plain _ _ _ _ _ _ _ _ _ (x .plain-on .result) (y .plain-on2 .result) (z .plain-on3 .result) (x .plain-on .ensures) (y .plain-on2 .ensures) (z .plain-on3 .ensures)
+    put-plain _ _ _ _ _ _ _ _ _ _ (x .plain-on .result) (y .plain-on2 .result) (z .plain-on3 .result) (x .plain-on .ensures) (y .plain-on2 .ensures) (z .plain-on3 .ensures)
     (simp toZ-ofZ at (c .before .put-point .ensures))
 
 pub plain-face-spec : {M : Type 1} → statement M

@@ -53,8 +53,8 @@ add-entry-5 c = search needs
 entry-requires-6 : tie.Need-entry-requires-6
 entry-requires-6 c κs = search needs
 
-add-t : tie.Need-add-t
-add-t c = search needs
+add-u : tie.Need-add-u
+add-u c = search needs
 
 add-entry-6 : tie.Need-add-entry-6
 add-entry-6 c = search needs
@@ -62,8 +62,8 @@ add-entry-6 c = search needs
 entry-requires-7 : tie.Need-entry-requires-7
 entry-requires-7 c κs = search needs
 
-add-t-2 : tie.Need-add-t-2
-add-t-2 c = search needs
+add-u-2 : tie.Need-add-u-2
+add-u-2 c = search needs
 
 add-entry-7 : tie.Need-add-entry-7
 add-entry-7 c = search needs
@@ -71,8 +71,8 @@ add-entry-7 c = search needs
 entry-requires-8 : tie.Need-entry-requires-8
 entry-requires-8 c κs = search needs
 
-add-t-3 : tie.Need-add-t-3
-add-t-3 c = search needs
+add-u-3 : tie.Need-add-u-3
+add-u-3 c = search needs
 
 add-result : tie.Need-add-result
 add-result c = search needs
@@ -99,12 +99,12 @@ plain-family-spec =
     entry-requires-5
     add-entry-5
     entry-requires-6
-    add-t
+    add-u
     add-entry-6
     entry-requires-7
-    add-t-2
+    add-u-2
     add-entry-7
     entry-requires-8
-    add-t-3
+    add-u-3
     add-result
     returns)

@@ -19,7 +19,7 @@ plain c =
     let q = r .before in
     let p = q .before in
     let s = p .before .before in
-    all-plain _ _ _ _ _ _ _ _ _ _ _ (s .pre .0) (s .pre .1) (p .entry .ensures .0) (q .entry2 .ensures .0) (r .entry3 .ensures .0) (d .entry4 .ensures .0)
+    all-plain (s .args .t) _ _ _ _ _ _ _ _ _ _ _ (s .pre .0) (s .pre .1) (p .entry .ensures .0) (q .entry2 .ensures .0) (r .entry3 .ensures .0) (d .entry4 .ensures .0)
     (t .beyond .ensures .0) (u .beyond2 .ensures .0) (v .beyond3 .ensures .0) (x .beyond4 .ensures .0) (t .before .if1 .taken) (c .if2 .taken)
 
 mul-h : tie.Need-mul-h
@@ -59,9 +59,9 @@ beyond-requires : tie.Need-beyond-requires
 beyond-requires c κs =
     let d = c .before in
     let s = d .before .before .before .before .before in
-    let m = s .pre .0 .fours in
+    let m = s .pre .0 .entries .fours in
     let k = c .if1 .taken in
-    (s .pre .0, omega arith, plain-mated _ _ (4 * s .args .f) _ (s .pre .0) (omega arith) (d .before .before .before .entry .ensures .0) (omega arith))
+    (s .pre .0 .entries, omega arith, plain-mated (s .args .t) _ _ (4 * s .args .f) _ (s .pre .0) (omega arith) (d .before .before .before .entry .ensures .0) (omega arith))
 
 add-beyond : tie.Need-add-beyond
 add-beyond c = search needs
@@ -71,9 +71,9 @@ beyond-requires-2 c κs =
     let b = c .before in
     let d = b .before in
     let s = d .before .before .before .before .before in
-    let m = s .pre .0 .fours in
+    let m = s .pre .0 .entries .fours in
     let k = b .if1 .taken in
-    (s .pre .0, omega arith, plain-mated _ _ (4 * s .args .f + 1) _ (s .pre .0) (omega arith) (d .before .before .entry2 .ensures .0) (omega arith))
+    (s .pre .0 .entries, omega arith, plain-mated (s .args .t) _ _ (4 * s .args .f + 1) _ (s .pre .0) (omega arith) (d .before .before .entry2 .ensures .0) (omega arith))
 
 add-beyond-2 : tie.Need-add-beyond-2
 add-beyond-2 c = search needs
@@ -83,9 +83,9 @@ beyond-requires-3 c κs =
     let b = c .before .before in
     let d = b .before in
     let s = d .before .before .before .before .before in
-    let m = s .pre .0 .fours in
+    let m = s .pre .0 .entries .fours in
     let k = b .if1 .taken in
-    (s .pre .0, omega arith, plain-mated _ _ (4 * s .args .f + 2) _ (s .pre .0) (omega arith) (d .before .entry3 .ensures .0) (omega arith))
+    (s .pre .0 .entries, omega arith, plain-mated (s .args .t) _ _ (4 * s .args .f + 2) _ (s .pre .0) (omega arith) (d .before .entry3 .ensures .0) (omega arith))
 
 add-beyond-3 : tie.Need-add-beyond-3
 add-beyond-3 c = search needs
@@ -95,9 +95,9 @@ beyond-requires-4 c κs =
     let b = c .before .before .before in
     let d = b .before in
     let s = d .before .before .before .before .before in
-    let m = s .pre .0 .fours in
+    let m = s .pre .0 .entries .fours in
     let k = b .if1 .taken in
-    (s .pre .0, omega arith, plain-mated _ _ (4 * s .args .f + 3) _ (s .pre .0) (omega arith) (d .entry4 .ensures .0) (omega arith))
+    (s .pre .0 .entries, omega arith, plain-mated (s .args .t) _ _ (4 * s .args .f + 3) _ (s .pre .0) (omega arith) (d .entry4 .ensures .0) (omega arith))
 
 add-if2 : tie.Need-add-if2
 add-if2 c = search needs
@@ -116,7 +116,7 @@ plain-face-requires c κs =
     let r = t .before .before .before in
     let p = r .before .before in
     let s = p .before .before in
-    (regular-edges _ _ _ _ _ _ _ (s .pre .0) (s .pre .1) (plain y) (t .beyond .ensures .0) (p .entry .ensures .0) (r .entry3 .ensures .0) (v .beyond3 .ensures .0), s .pre .2)
+    (regular-edges (s .args .t) _ _ _ _ _ _ _ (s .pre .0) (s .pre .1) (plain y) (t .beyond .ensures .0) (p .entry .ensures .0) (r .entry3 .ensures .0) (v .beyond3 .ensures .0), (s .pre .2, s .pre .0 .low))
 
 same-length : tie.Need-same-length
 same-length c = search needs
@@ -129,7 +129,7 @@ returns c =
     let r = t .before .before .before in
     let p = r .before .before in
     let s = p .before .before in
-    put-regular _ _ _ _ _ _ _ (s .pre .0) (s .pre .1) (plain y) (t .beyond .ensures .0) (p .entry .ensures .0) (r .entry3 .ensures .0) (v .beyond3 .ensures .0) _ _ (c .before .plain-face .ensures)
+    put-regular _ _ _ _ _ _ _ _ (s .pre .0) (s .pre .1) (plain y) (t .beyond .ensures .0) (p .entry .ensures .0) (r .entry3 .ensures .0) (v .beyond3 .ensures .0) _ _ (c .before .plain-face .ensures)
 
 general-face-requires : tie.Need-general-face-requires
 general-face-requires c κs = search needs

@@ -40,10 +40,10 @@ long-work = length-replicate {A = ℕ} 4096 0
 
 -- its tables after the call
 abbrev after : tie.After-refine → Buffers
-after x = let o = x .refine .last .1 .1 .1 .1 .1 .1 in buffers (o .0) (o .1 .0) (o .1 .1 .0) (o .1 .1 .1 .1 .1 .0)
+after x = let o = x .refine .last .1 .1 .1 .1 .1 .1 .1 in buffers (o .0) (o .1 .0) (o .1 .1 .0) (o .1 .1 .1 .1 .1 .0)
 
 abbrev named : tie.After-refine → List ℕ
-named x = x .refine .last .1 .1 .1 .1 .1 .1 .1 .1 .1 .1 .0
+named x = x .refine .last .1 .1 .1 .1 .1 .1 .1 .1 .1 .1 .1 .0
 
 abbrev net : tie.Start → Net
 net s = record { vertices = s .args .vertices .now; faces = s .args .faces .now; marks = s .args .marks .now }
@@ -52,7 +52,7 @@ abbrev begun : tie.After-refine → tie.Start
 begun x = x .before .before .before .before .before .before .before .before .before .before
 
 abbrev asked : tie.Start → Request
-asked s = request 0 (s .args .rounds) (plain (net s)) zeros (letterTable (s .args .rule) unnamed)
+asked s = request 0 (s .args .rounds) (plain (net s)) 4 zeros (letterTable (s .args .rule) unnamed)
 
 -- what the call gives, once its answer is known
 given : (x : tie.After-refine) (a : Answer) → x .refine .result .answer ≡ a → answered (record { answer = a; points = x .refine .result .points }) (after x) (named x) ≡ outcome (asked (begun x))
@@ -102,7 +102,7 @@ write-net-requires c κs =
     let t = served (s .args .rounds) (s .args .rule) (net s) zeros unnamed long-vertices long-corners long-marks long-letters long-work (s .pre .0) (after x) (named x) _ _ _ e in
     let a = t .0 in
     let b = t .1 in
-    let k = x .refine .kept .1 .1 .1 .1 .1 .1 in
+    let k = x .refine .kept .1 .1 .1 .1 .1 .1 .1 in
     let lv = k .0 ∙ long-vertices in
     let lf = k .1 .0 ∙ long-corners in
     let lm = k .1 .1 .0 ∙ long-marks in

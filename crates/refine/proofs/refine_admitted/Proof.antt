@@ -17,7 +17,7 @@ use Rattle.refine.proofs.refine_admitted.Tie as tie
 
 abbrev asked : tie.Start → Request
 asked s =
-    request (s .args .points) (s .args .rounds) (controlNet (s .args .vertices .now) (s .args .faces .now) (s .args .sides .now) (s .args .marks .now))
+    request (s .args .points) (s .args .rounds) (controlNet (s .args .vertices .now) (s .args .faces .now) (s .args .sides .now) (s .args .marks .now)) (s .args .tension)
     (buffers (s .args .out-vertices .now) (s .args .out-faces .now) (s .args .out-marks .now) (s .args .work .now)) (letterTable (s .args .with-letters) (s .args .letters .now))
 
 -- after the count: the vertices are at least those that the caller has, and the others are new
@@ -32,10 +32,10 @@ few x = few-new (asked (start x)) (start x .args .last) (start x .pre)
 
 -- after the rounds: the caller's tables, and the letters
 abbrev after : tie.After-run → Buffers
-after y = let o = y .run .last .1 .1 .1 .1 .1 in buffers (o .0) (o .1 .0) (o .1 .1 .0) (o .1 .1 .1 .1 .1 .0)
+after y = let o = y .run .last .1 .1 .1 .1 .1 .1 in buffers (o .0) (o .1 .0) (o .1 .1 .0) (o .1 .1 .1 .1 .1 .0)
 
 abbrev named : tie.After-run → List ℕ
-named y = y .run .last .1 .1 .1 .1 .1 .1 .1 .1 .1 .0
+named y = y .run .last .1 .1 .1 .1 .1 .1 .1 .1 .1 .1 .0
 
 final-vertices-requires : tie.Need-final-vertices-requires
 final-vertices-requires c κs = let s = c .before .before .before .before .before .before .before .before in growable (asked s) (s .args .last) (s .pre)
@@ -47,10 +47,10 @@ sub-if1 : tie.Need-sub-if1
 sub-if1 c = let n = new c .1 in let f = few c in omega arith
 
 mul-clear : tie.Need-mul-clear
-mul-clear c = let s = start (c .before .before) in let l = last-le (s .args .rounds) (asked s .net) (asked s .buffers) (asked s .letters) (s .args .last) (s .pre) in omega arith
+mul-clear c = let s = start (c .before .before) in let l = last-le (s .args .rounds) (asked s .net) (s .args .tension) (asked s .buffers) (asked s .letters) (s .args .last) (s .pre) in omega arith
 
 clear-requires : tie.Need-clear-requires
-clear-requires c κs = let s = start (c .before .before) in let r = room-work (s .args .rounds) (asked s .net) (asked s .buffers) (asked s .letters) (s .args .last) (s .pre) in omega arith
+clear-requires c κs = let s = start (c .before .before) in let r = room-work (s .args .rounds) (asked s .net) (s .args .tension) (asked s .buffers) (asked s .letters) (s .args .last) (s .pre) in omega arith
 
 same-length : tie.Need-same-length
 same-length c = search needs
@@ -67,8 +67,8 @@ returns c =
 run-requires : tie.Need-run-requires
 run-requires c κs = search needs
 
-add-t21 : tie.Need-add-t21
-add-t21 c =
+add-t22 : tie.Need-add-t22
+add-t22 c =
     let x = c .before .before .before .before .before .before .before .before .before .before .before .before .before .before .before .before in
     let n = new x .1 in
     let f = few x in
@@ -113,7 +113,7 @@ refine-admitted-spec =
     same-length
     returns
     run-requires
-    add-t21
+    add-t22
     same-length-2
     same-length-3
     same-length-4

@@ -1,6 +1,6 @@
 -- `rounds::round` meets its contract. Assumes nothing.
 use mathlib.Core.Path.{sym, subst}
-use Prim.Native.Nat.{ℕ, _+_, _-_, _*_, _/_, _≤_}
+use Prim.Native.Nat.{ℕ, _+_, _*_, _/_, _≤_}
 use native.Mathlib.Omega.{arith}
 use Rattle.nets.specs.Buffers.{Buffers, buffers}
 use Rattle.rounds.proofs.Laws.{corners, marked, count-le, ready, nameable, letters-made, face-ready, family-ready, net-ready, part-start, part-room, refines}
@@ -19,40 +19,40 @@ start x = x .before .before .before .before .before .before .before .before .bef
 few : (x : tie.After-edge-points) → (let s = start x in s .args .v + x .edge-points .result + s .args .n / 4 ≤ 4 * s .args .n)
 few x =
     let s = start x in
-    subst (λ (j : ℕ). s .args .v + j + s .args .n / 4 ≤ 4 * s .args .n) (sym (x .edge-points .ensures .0)) (count-le (s .args .v) (s .args .n) (s .args .at) (s .args .initial) (tables s) (s .pre .0))
+    subst (λ (j : ℕ). s .args .v + j + s .args .n / 4 ≤ 4 * s .args .n) (sym (x .edge-points .ensures .0)) (count-le (s .args .t) (s .args .v) (s .args .n) (s .args .at) (s .args .initial) (tables s) (s .pre .0))
 
 slice-reshare-prefix-edge-points : tie.Need-slice-reshare-prefix-edge-points
 slice-reshare-prefix-edge-points c = let s = c .before .before .before .before .before in omega (arith, s .pre .0 .roomFaces)
 
 slice-aggregate-edge-points : tie.Need-slice-aggregate-edge-points
-slice-aggregate-edge-points c = let s = c .before .before .before .before .before .before in sym (corners (s .args .v) (s .args .n) (s .args .at) (s .args .initial) (tables s) (s .pre .0))
+slice-aggregate-edge-points c = let s = c .before .before .before .before .before .before in sym (corners (s .args .t) (s .args .v) (s .args .n) (s .args .at) (s .args .initial) (tables s) (s .pre .0))
 
 slice-reshare-prefix-edge-points-2 : tie.Need-slice-reshare-prefix-edge-points-2
 slice-reshare-prefix-edge-points-2 c = let s = c .before .before .before .before .before .before in omega (arith, s .pre .0 .roomMarks, s .pre .0 .vertices)
 
 slice-aggregate-edge-points-2 : tie.Need-slice-aggregate-edge-points-2
-slice-aggregate-edge-points-2 c = let s = c .before .before .before .before .before .before .before in sym (marked (s .args .v) (s .args .n) (s .args .at) (s .args .initial) (tables s) (s .pre .0))
+slice-aggregate-edge-points-2 c = let s = c .before .before .before .before .before .before .before in sym (marked (s .args .t) (s .args .v) (s .args .n) (s .args .at) (s .args .initial) (tables s) (s .pre .0))
 
 edge-points-requires : tie.Need-edge-points-requires
-edge-points-requires c κs = let s = c .before .before .before .before .before .before .before .before in (ready (s .args .v) (s .args .n) (s .args .at) (s .args .initial) (tables s) (s .pre .0), s .pre .1 .1)
+edge-points-requires c κs = let s = c .before .before .before .before .before .before .before .before in (ready (s .args .t) (s .args .v) (s .args .n) (s .args .at) (s .args .initial) (tables s) (s .pre .0), s .pre .1 .1)
 
 slice-reshare-prefix-name-points : tie.Need-slice-reshare-prefix-name-points
 slice-reshare-prefix-name-points c = let s = start (c .before .before .before .before) in omega (arith, s .pre .0 .roomFaces)
 
 slice-aggregate-name-points : tie.Need-slice-aggregate-name-points
-slice-aggregate-name-points c = let s = start (c .before .before .before .before .before) in sym (corners (s .args .v) (s .args .n) (s .args .at) (s .args .initial) (tables s) (s .pre .0))
+slice-aggregate-name-points c = let s = start (c .before .before .before .before .before) in sym (corners (s .args .t) (s .args .v) (s .args .n) (s .args .at) (s .args .initial) (tables s) (s .pre .0))
 
 slice-reshare-prefix-name-points-2 : tie.Need-slice-reshare-prefix-name-points-2
 slice-reshare-prefix-name-points-2 c = let s = start (c .before .before .before .before .before) in omega (arith, s .pre .0 .roomMarks, s .pre .0 .vertices)
 
 slice-aggregate-name-points-2 : tie.Need-slice-aggregate-name-points-2
-slice-aggregate-name-points-2 c = let s = start (c .before .before .before .before .before .before) in sym (marked (s .args .v) (s .args .n) (s .args .at) (s .args .initial) (tables s) (s .pre .0))
+slice-aggregate-name-points-2 c = let s = start (c .before .before .before .before .before .before) in sym (marked (s .args .t) (s .args .v) (s .args .n) (s .args .at) (s .args .initial) (tables s) (s .pre .0))
 
 name-points-requires : tie.Need-name-points-requires
 name-points-requires c κs =
     let x = c .before .before .before .before .before .before .before in
     let s = start x in
-    λ a. (nameable (s .args .v) (s .args .n) (s .args .at) (s .args .initial) (tables s) (s .pre .0) _ _ (x .edge-points .ensures .1) (s .args .letters .now) (s .pre .1 .0 a), x .edge-points .ensures .0)
+    λ a. (nameable (s .args .t) (s .args .v) (s .args .n) (s .args .at) (s .args .initial) (tables s) (s .pre .0) _ _ (x .edge-points .ensures .1) (s .args .letters .now) (s .pre .1 .0 a), x .edge-points .ensures .0)
 
 -- after the letters
 abbrev edged : tie.After-name-points → tie.After-edge-points
@@ -83,10 +83,10 @@ mul-face-points : tie.Need-mul-face-points
 mul-face-points c = let x = c .before .before .before .before .before .before .before .before .before .before .before .before .before .before in let k = few x in let s = start x in let q = s .pre .0 .small in omega arith
 
 sub-face-points : tie.Need-sub-face-points
-sub-face-points c = let x = c .before .before .before .before .before .before .before .before .before .before .before .before .before .before in let s = start x in part-start (s .args .v) (s .args .n) (s .args .at) (s .args .initial) (tables s) (s .pre .0) _ _ (x .edge-points .ensures .1) _ (x .edge-points .ensures .0)
+sub-face-points c = let x = c .before .before .before .before .before .before .before .before .before .before .before .before .before .before in let s = start x in part-start (s .args .t) (s .args .v) (s .args .n) (s .args .at) (s .args .initial) (tables s) (s .pre .0) _ _ (x .edge-points .ensures .1) _ (x .edge-points .ensures .0)
 
 part-face-points-start : tie.Need-part-face-points-start
-part-face-points-start c = let x = c .before .before .before .before .before .before .before .before .before .before .before .before .before .before in let s = start x in part-start (s .args .v) (s .args .n) (s .args .at) (s .args .initial) (tables s) (s .pre .0) _ _ (x .edge-points .ensures .1) _ (x .edge-points .ensures .0)
+part-face-points-start c = let x = c .before .before .before .before .before .before .before .before .before .before .before .before .before .before in let s = start x in part-start (s .args .t) (s .args .v) (s .args .n) (s .args .at) (s .args .initial) (tables s) (s .pre .0) _ _ (x .edge-points .ensures .1) _ (x .edge-points .ensures .0)
 
 part-face-points-end : tie.Need-part-face-points-end
 part-face-points-end c = search needs
@@ -97,11 +97,11 @@ face-points-requires c κs =
     let s = start x in
     let d = x .edge-points .ensures .1 in (
       (
-        face-ready (s .args .v) (s .args .n) (s .args .at) (s .args .initial) (tables s) (s .pre .0) _ _ d,
-        net-ready (s .args .v) (s .args .n) (s .args .at) (s .args .initial) (tables s) (s .pre .0) _ _ d _ (x .edge-points .ensures .0),
-        part-room (s .args .v) (s .args .n) (s .args .at) (s .args .initial) (tables s) (s .pre .0) _ _ d _ (x .edge-points .ensures .0),
+        face-ready (s .args .t) (s .args .v) (s .args .n) (s .args .at) (s .args .initial) (tables s) (s .pre .0) _ _ d,
+        net-ready (s .args .t) (s .args .v) (s .args .n) (s .args .at) (s .args .initial) (tables s) (s .pre .0) _ _ d _ (x .edge-points .ensures .0),
+        part-room (s .args .t) (s .args .v) (s .args .n) (s .args .at) (s .args .initial) (tables s) (s .pre .0) _ _ d _ (x .edge-points .ensures .0),
       ),
-      λ t. family-ready (s .args .v) (s .args .n) (s .args .at) (s .args .initial) (tables s) (s .pre .0) _ _ d (s .pre .1 .1 t),
+      λ y. family-ready (s .args .t) (s .args .v) (s .args .n) (s .args .at) (s .args .initial) (tables s) (s .pre .0) _ _ d (s .pre .1 .1 y),
     )
 
 same-length : tie.Need-same-length
@@ -128,8 +128,8 @@ returns c =
     let s = start x in
     let e = x .edge-points .ensures .0 in
     let d = x .edge-points .ensures .1 in (
-      refines (s .args .v) (s .args .n) (s .args .at) (s .args .initial) (tables s) (s .pre .0) _ _ d _ e _ _ _ (f .face-points .ensures .0) (f .face-points .ensures .1) (m .extend-marks .ensures),
-      letters-made (s .args .v) (s .args .n) (s .args .at) (s .args .initial) (tables s) (s .pre .0) _ _ d _ e _ _ _ (y .name-points .ensures),
+      refines (s .args .t) (s .args .v) (s .args .n) (s .args .at) (s .args .initial) (tables s) (s .pre .0) _ _ d _ e _ _ _ (f .face-points .ensures .0) (f .face-points .ensures .1) (m .extend-marks .ensures),
+      letters-made (s .args .t) (s .args .v) (s .args .n) (s .args .at) (s .args .initial) (tables s) (s .pre .0) _ _ d _ e _ _ _ (y .name-points .ensures),
     )
 
 pub round-spec : {M : Type 1} → statement M

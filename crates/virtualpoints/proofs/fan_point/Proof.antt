@@ -3,6 +3,7 @@ use mathlib.Core.Path.{_≡_, _∙_}
 use Prim.Native.Nat.{_-_}
 use native.Mathlib.Omega.{arith}
 use borrow.Author.Needs.{needs}
+use Rattle.curve.specs.Weights.{tension}
 use Rattle.topology.specs.Shape.{quads}
 use Rattle.topology.specs.HalfEdge.{from}
 use Rattle.topology.specs.Boundary.{OnBoundary, back}
@@ -101,7 +102,7 @@ fan-sum-requires c κs =
     let k = fan-sizes v l (r .net) (s .args .h) (s .pre .1 .0 .1) (s .pre .1 .0 .2) (s .pre .1 .1) in
     let n = count-is v l (r .net) (s .args .h) (s .pre .1 .0 .1) (s .pre .1 .0 .2) (s .pre .1 .1) h (m .count) es (w .circuit .whole (on-s f)) in
     let ec = c .before .before .before .before .before .before .before .start-of .ensures in (
-      (b, omega arith, omega arith, omega arith, rw ec (s .pre .1 .0 .0 .room (e .prev-side .result) (on-e e .lt))),
+      (b, omega arith, omega arith, omega arith, rw ec (s .pre .1 .0 .0 .room (e .prev-side .result) (on-e e .lt)), s .pre .1 .0 .3),
       (
         (neighbours-in v l (r .net) h (m .count) (m .last) (m .after) _ _ w t (s .pre .1 .0 .0), corners-in v l (r .net) h (m .count) (m .last) (m .after) _ _ w t (s .pre .1 .0 .0)),
         (
@@ -130,7 +131,7 @@ returns c =
     let z = c .fan-sum in
     let made =
     fan-made (r .vertices) (s .args .faces .now) (r .net) (s .args .h) (s .pre .1 .0 .1) (s .pre .1 .0 .2) (s .pre .1 .1) (f .fan-start .result .side) (m .count) (f .fan-start .result .place) (m .last) (e .prev-side .result) (o .start-of .result) (d .along-side .result)
-    (f .fan-start .ensures .side) (f .fan-start .ensures .place (s .pre .1 .1)) (w .circuit .whole (on-s f)) (w .last) (e .prev-side .ensures) (o .start-of .ensures) (d .along-side .ensures) _ _ (w .filled) t in
+    (f .fan-start .ensures .side) (f .fan-start .ensures .place (s .pre .1 .1)) (w .circuit .whole (on-s f)) (w .last) (e .prev-side .ensures) (o .start-of .ensures) (d .along-side .ensures) _ _ (w .filled) (tension (s .args .t)) t in
     record {
       on₀ = made 0 (z .result .x) (x₁ .result .x) (x₂ .result .x) (x₃ .result .x) (x₁ .ensures .on₀) (x₂ .ensures .on₀) (x₃ .ensures .on₀) (z .ensures .0);
       on₁ = made 1 (z .result .y) (x₁ .result .y) (x₂ .result .y) (x₃ .result .y) (x₁ .ensures .on₁) (x₂ .ensures .on₁) (x₃ .ensures .on₁) (z .ensures .1 .0);

@@ -19,14 +19,14 @@ use Rattle.virtualpoints.proofs.fan_sum.Tie as tie
 add-n : tie.Need-add-n
 add-n c = search needs
 
-sub-t : tie.Need-sub-t
-sub-t c = search needs
+sub-place : tie.Need-sub-place
+sub-place c = search needs
 
 weights-requires : tie.Need-weights-requires
 weights-requires c κs = search needs
 
 weights-small : (c : tie.After-weights) → WithinFirst 16 weightRange (c .weights .result)
-weights-small c = let p = c .before .pre .0 in let e = c .weights .ensures in rw e (row-small (c .before .args .m + 2) (omega arith) (omega arith))
+weights-small c = let p = c .before .pre .0 in let e = c .weights .ensures in rw e (row-small (c .before .args .m + 2) (c .before .args .t) (omega arith) (omega arith) (p .5))
 
 sub-weighted-sum : tie.Need-sub-weighted-sum
 sub-weighted-sum c = search needs
@@ -111,10 +111,10 @@ returns c =
     let g₃ : SFits w64 (c .closed-on3 .result) = search needs in
     let w = q .before .before .weights in
     simp toZ-ofZ (
-      fan-read (w .result) (s .args .m) (s .args .j) (s .args .c) (axis (s .args .points .now) 0) (s .args .l .now) (s .args .k .now) (e .x) (s .args .p .x) (s .args .q .x) (s .args .r .x) (r₁ .closed-on .result) (w .ensures) (q .weighted-sum .ensures .on₀) (simp toZ-ofZ at (r₁ .closed-on .ensures)),
+      fan-read _ (w .result) (s .args .m) (s .args .j) (s .args .c) (axis (s .args .points .now) 0) (s .args .l .now) (s .args .k .now) (e .x) (s .args .p .x) (s .args .q .x) (s .args .r .x) (r₁ .closed-on .result) (w .ensures) (q .weighted-sum .ensures .on₀) (simp toZ-ofZ at (r₁ .closed-on .ensures)),
       (
-        fan-read (w .result) (s .args .m) (s .args .j) (s .args .c) (axis (s .args .points .now) 1) (s .args .l .now) (s .args .k .now) (e .y) (s .args .p .y) (s .args .q .y) (s .args .r .y) (r₂ .closed-on2 .result) (w .ensures) (q .weighted-sum .ensures .on₁) (simp toZ-ofZ at (r₂ .closed-on2 .ensures)),
-        fan-read (w .result) (s .args .m) (s .args .j) (s .args .c) (axis (s .args .points .now) 2) (s .args .l .now) (s .args .k .now) (e .z) (s .args .p .z) (s .args .q .z) (s .args .r .z) (c .closed-on3 .result) (w .ensures) (q .weighted-sum .ensures .on₂) (simp toZ-ofZ at (c .closed-on3 .ensures)),
+        fan-read _ (w .result) (s .args .m) (s .args .j) (s .args .c) (axis (s .args .points .now) 1) (s .args .l .now) (s .args .k .now) (e .y) (s .args .p .y) (s .args .q .y) (s .args .r .y) (r₂ .closed-on2 .result) (w .ensures) (q .weighted-sum .ensures .on₁) (simp toZ-ofZ at (r₂ .closed-on2 .ensures)),
+        fan-read _ (w .result) (s .args .m) (s .args .j) (s .args .c) (axis (s .args .points .now) 2) (s .args .l .now) (s .args .k .now) (e .z) (s .args .p .z) (s .args .q .z) (s .args .r .z) (c .closed-on3 .result) (w .ensures) (q .weighted-sum .ensures .on₂) (simp toZ-ofZ at (c .closed-on3 .ensures)),
       ),
     )
 
@@ -123,7 +123,7 @@ fan-sum-spec =
     tie.close
     (tie.spec
     add-n
-    sub-t
+    sub-place
     weights-requires
     sub-weighted-sum
     weighted-sum-requires

@@ -16,7 +16,7 @@ weights-requires : tie.Need-weights-requires
 weights-requires c κs = search needs
 
 weights-small : (c : tie.After-weights) → WithinFirst 16 weightRange (c .weights .result)
-weights-small c = let p = c .before .pre .0 in let e = c .weights .ensures in rw e (row-small (c .before .args .m) (p .1) (p .2))
+weights-small c = let p = c .before .pre .0 in let e = c .weights .ensures in rw e (row-small (c .before .args .m) (c .before .args .t) (p .1) (p .2) (p .3))
 
 weighted-sum-requires : tie.Need-weighted-sum-requires
 weighted-sum-requires c κs = let s = c .before .before in ((s .pre .0 .0, weights-small (c .before)), (omega arith, s .pre .0 .2, omega arith, s .pre .1 .0, s .pre .1 .1))
@@ -65,7 +65,7 @@ returns c =
     let g₂ : SFits w64 (r₂ .scaled-share2 .result) = search needs in
     let g₃ : SFits w64 (c .scaled-share3 .result) = search needs in
     simp toZ-ofZ
-    (ring-read (q .before .before .weights .result) (s .args .m) (s .args .points .now) (s .args .l .now) (s .args .k .now) (e .x) (e .y) (e .z) (r₁ .scaled-share .result) (r₂ .scaled-share2 .result) (c .scaled-share3 .result) (q .before .before .weights .ensures) (q .weighted-sum .ensures)
+    (ring-read _ (q .before .before .weights .result) (s .args .m) (s .args .points .now) (s .args .l .now) (s .args .k .now) (e .x) (e .y) (e .z) (r₁ .scaled-share .result) (r₂ .scaled-share2 .result) (c .scaled-share3 .result) (q .before .before .weights .ensures) (q .weighted-sum .ensures)
     (simp toZ-ofZ at (r₁ .scaled-share .ensures)) (simp toZ-ofZ at (r₂ .scaled-share2 .ensures)) (simp toZ-ofZ at (c .scaled-share3 .ensures)))
 
 pub ring-point-spec : {M : Type 1} → statement M

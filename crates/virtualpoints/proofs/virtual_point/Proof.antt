@@ -33,7 +33,7 @@ ring-point-requires c κs =
     let g = t .before .before .gather in
     let e = g .ensures .circuit .ring (inner t) .0 in
     let k = ring-here-range (r .vertices) l (r .net) (s .args .h) (s .pre .1 .1 .0) (inner t) in (
-      (s .pre .1 .0 .bounded, omega arith, omega arith),
+      (s .pre .1 .0 .bounded, omega arith, omega arith, s .pre .1 .1 .2),
       (
         neighbours-in (r .vertices) l (r .net) (s .args .h) (g .result .count) (g .result .last) (g .result .after) _ _ (g .ensures) (s .args .points .now) (s .pre .1 .0),
         corners-in (r .vertices) l (r .net) (s .args .h) (g .result .count) (g .result .last) (g .result .after) _ _ (g .ensures) (s .args .points .now) (s .pre .1 .0),
@@ -49,7 +49,7 @@ returns c =
     let p = s .args .points .now in
     let g = t .before .before .gather in
     let z = c .ring-point .result in
-    ring-made (r .vertices) l (r .net) (s .args .h) (s .pre .1 .1 .0) (inner t) (g .result .count) (g .ensures .circuit .ring (inner t) .0) _ _ (g .ensures .filled) p (z .x) (z .y) (z .z) (c .ring-point .ensures)
+    ring-made (r .vertices) l (r .net) (s .args .h) (s .pre .1 .1 .0) _ (inner t) (g .result .count) (g .ensures .circuit .ring (inner t) .0) _ _ (g .ensures .filled) p (z .x) (z .y) (z .z) (c .ring-point .ensures)
 
 fan-point-requires : tie.Need-fan-point-requires
 fan-point-requires c κs =
@@ -58,7 +58,7 @@ fan-point-requires c κs =
     let g = c .before .before .gather in (
       r,
       (
-        (s .pre .1 .0, s .pre .1 .1 .0, s .pre .1 .1 .1),
+        (s .pre .1 .0, s .pre .1 .1 .0, s .pre .1 .1 .1, s .pre .1 .1 .2),
         gathered-fan (r .vertices) (s .args .faces .now) (r .net) (s .args .h) (g .result .count) (g .result .last) (g .result .after) _ _ (g .ensures) (c .if1 .left),
       ),
     )

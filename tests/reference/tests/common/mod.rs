@@ -2,10 +2,11 @@
 
 #![allow(dead_code)]
 
-use reference::call::{Call, Outcome, refine};
-use reference::net::Net;
+use reference::call::{Call, Outcome, Tables, refine, refine_into};
+use reference::net::{Mesh, Net, NetRecord};
 use reference::point::Point;
 use reference::refusal::{Capacity, Refusal, check_net};
+use reference::rules::Tension;
 use reference::text::{Document, answer};
 
 pub const SAMPLE_TEXT: &str = "vertices faces rounds\n4 1 1\nx y z corner\n0 0 0 1\n\
@@ -110,23 +111,55 @@ pub fn scattered(count: u32) -> Vec<Point> {
         .collect()
 }
 
-/// The call for a net with tables just long enough.
+/// The call for a net at the tension of old callers, with tables just long
+/// enough.
 pub fn refine_net(net: &Net, rounds: u32) -> Outcome {
+    refine_at(net, Tension::OLD.number(), rounds)
+}
+
+/// The same at any tension.
+pub fn refine_at(net: &Net, tension: u32, rounds: u32) -> Outcome {
     let refined = net.faces.len() * 4_usize.pow(rounds.min(6));
     refine(&Call {
         tally: 0,
         rounds,
-        vertices: &net.vertex_table(),
-        faces: &net.face_table(),
-        sides: &[],
-        marks: &net.marks,
+        net: NetRecord {
+            vertices: &net.vertex_table(),
+            faces: &net.face_table(),
+            sides: &[],
+            marks: &net.marks,
+            tension,
+        },
         capacity: Capacity::for_refined_faces(refined),
     })
 }
 
-/// The refined net of an accepted call.
+/// Any call, with the record and the tables that it writes.
+pub fn refine_drawn<F: AsRef<[u32]>>(
+    tally: &mut u64,
+    net: &Mesh<F>,
+    sides: &[u8],
+    tension: u32,
+    rounds: u32,
+    tables: &mut Tables,
+) -> Outcome {
+    let record = NetRecord {
+        vertices: &net.vertex_table(),
+        faces: &net.face_table(),
+        sides,
+        marks: &net.marks,
+        tension,
+    };
+    refine_into(tally, rounds, record, tables)
+}
+
+/// The net that an accepted call gives, at the tension of old callers.
 pub fn refined(net: &Net, rounds: u32) -> Net {
-    match refine_net(net, rounds) {
+    refined_at(net, Tension::OLD, rounds)
+}
+
+pub fn refined_at(net: &Net, tension: Tension, rounds: u32) -> Net {
+    match refine_at(net, tension.number(), rounds) {
         Outcome::Refined {
             vertices,
             faces,
