@@ -25,7 +25,7 @@ use Rattle.topology.specs.Boundary.{along, back}
 use Rattle.topology.specs.Manifold.{Manifold}
 use Rattle.nets.specs.Net.{marked, axis}
 use Rattle.scheme.specs.Points.{EdgeRule, insideSegment, startOfSegment, endOfSegment, wholeSegment, innerRule, edgeRule}
-use Rattle.schemelaws.specs.Ordinary.{Ordinary, straight, ordinaryValue, ordinaryEdge}
+use Rattle.schemelaws.specs.Ordinary.{Ordinary, OrdinaryEnds, straight, ordinaryValue, ordinaryEdge}
 use Rattle.schemelaws.specs.Numerators.{virtualAtZ, edgeValueZ, edgeZ}
 use Rattle.schemelaws.proofs.FanOfTwo.{virtual-ordinary}
 use Rattle.schemelaws.proofs.Ties.{equals-virtualAt, edge-boundary}
@@ -38,7 +38,7 @@ use Rattle.coordinates.specs.Points.{Points, OnAxes}
 use Rattle.coordinates.specs.Entry.{wideFlag, boundaryFlag, unitOf}
 use Rattle.coordinates.specs.Stencil.{farValue, stencilValue}
 use Rattle.coordinates.proofs.Values.{axis-bound}
-use Rattle.edgepoints.specs.Edge.{farBefore, farAfter, farOn, StraightFar, OrdinaryEnds, ClassedCorners, Flagged, plain, wide, boundary, ExactEdge, ExactPoint}
+use Rattle.edgepoints.specs.Edge.{farBefore, farAfter, farOn, StraightFar, ClassedCorners, Flagged, plain, wide, boundary, ExactEdge, ExactPoint}
 use Rattle.edgepoints.proofs.Plain.{rule-inner, rule-boundary}
 
 -- ---- the end of a half-edge is a corner too

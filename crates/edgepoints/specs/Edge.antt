@@ -42,13 +42,6 @@ pub record CornerOf (l : List ℕ) (o : ℕ) : Type 0 where
   pub lt : at < length l
   pub is : from l at ≡ o
 
--- h is an inner half-edge between ordinary vertices
-pub record OrdinaryEnds (l : List ℕ) (h : ℕ) : Type 0 where
-  pub lt : h < length l
-  pub inner : mate quads l h < length l
-  pub start : Ordinary l (from l h)
-  pub end : Ordinary l (to quads l h)
-
 -- the far point beyond the ordinary vertex that the inner half-edge h leaves
 pub record StraightFar (l : List ℕ) (h : ℕ) (f : Far) : Type 0 where
   pub value : (e : ℕ → ℤ) → farValue e f (e (from l h)) (e (to quads l h)) ≡ straight l e h

@@ -12,14 +12,14 @@ ghost use Rattle.topology.specs.HalfEdge.{from, to, mate};
 ghost use Rattle.topology.specs.Boundary.{OnBoundary, along, back};
 ghost use Rattle.scheme.specs.Points.{innerRule, edgeRule};
 ghost use Rattle.nets.specs.Net.{marked, axis};
-ghost use Rattle.schemelaws.specs.Ordinary.{Ordinary, ordinaryValue};
+ghost use Rattle.schemelaws.specs.Ordinary.{Ordinary, OrdinaryEnds, ordinaryValue};
 ghost use Rattle.schemelaws.specs.Numerators.{virtualAtZ, edgeValueZ, edgeZ};
 ghost use Rattle.halfedges.specs.Tables.{Quadrilaterals};
 ghost use Rattle.walks.specs.Ready.{Ready};
 ghost use Rattle.coordinates.specs.Points.{InTable, Points, Marks, OnAxes};
 ghost use Rattle.coordinates.specs.Entry.{wideFlag, boundaryFlag};
 ghost use Rattle.coordinates.specs.Stencil.{FarIn, stencilValue};
-ghost use Rattle.edgepoints.specs.Edge.{ruleOf, farBefore, farAfter, farOn, StraightFar, OrdinaryEnds, ClassedCorners, ClassedEnds, Flagged, ExactPoint};
+ghost use Rattle.edgepoints.specs.Edge.{ruleOf, farBefore, farAfter, farOn, StraightFar, ClassedCorners, ClassedEnds, Flagged, ExactPoint};
 use coordinates::Exact;
 use coordinates::Far;
 

@@ -1,9 +1,3 @@
 pub mod Rounded
 pub mod EdgeTable
 pub mod Faces
-pub mod Line
-pub mod FamilyTable
-pub mod FamilyLines
-pub mod Going
-pub mod PlainFamily
-pub mod FamilyPass

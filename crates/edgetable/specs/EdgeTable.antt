@@ -1,32 +1,27 @@
 -- The pass over the edges of a net with corners l and marks: the first points of p are the old ones, one for each mark.
 use mathlib.Core.Path.{_≡_}
-use mathlib.Core.Logic.{_⊎_}
 use mathlib.Core.List.{List}
-use Prim.Native.Nat.{ℕ, _+_, _-_, _*_, _≤_, _<_}
+use Prim.Native.Nat.{ℕ, _+_, _*_, _≤_, _<_}
 use lib.IntN.{ℤ, pos, natAbs, _*ℤ_}
 use lib.ListN.{length, getD, take, set}
 use Rattle.integers.specs.Within.{Within}
 use Rattle.rounding.specs.Rounding.{round}
 use Rattle.curve.specs.Weights.{Weights, tension}
 use Rattle.rings.specs.Scales.{virtualScale, edgeScale, coordinateRange, edgeRange}
-use Rattle.search.specs.Search.{count}
 use Rattle.topology.specs.Shape.{quads}
-use Rattle.topology.specs.HalfEdge.{from, mate, firstMet, edge}
+use Rattle.topology.specs.HalfEdge.{mate, edge}
 use Rattle.topology.specs.Manifold.{Manifold}
 use Rattle.refinedfaces.specs.Refined.{refinedVertices}
 use Rattle.nets.specs.Net.{axis}
-use Rattle.scheme.specs.Points.{innerRule}
 use Rattle.scheme.specs.Step.{refinedCoordinate}
-use Rattle.schemelaws.specs.Ordinary.{ordinaryValue}
 use Rattle.schemelaws.specs.Numerators.{edgeZ}
 use Rattle.halfedges.specs.Tables.{Connectivity}
 use Rattle.walks.specs.Ready.{Ready}
 use Rattle.classes.specs.Classes.{Classes}
 use Rattle.coordinates.specs.Points.{Points, Marks, putPoint, Written}
 use Rattle.coordinates.specs.Packed.{putThree, Holds}
-use Rattle.coordinates.specs.Stencil.{interiorValue}
 use Rattle.coordinates.specs.Entry.{wideFlag, entryOf, placeOf, unitOf}
-use Rattle.edgepoints.specs.Edge.{CornerOf, OrdinaryEnds, Flagged, ExactPoint}
+use Rattle.edgepoints.specs.Edge.{Flagged, ExactPoint}
 
 -- a stored numerator of an edge with this flag, rounded
 unfoldable pub roundedBy : Weights → ℕ → ℤ → ℤ
@@ -76,29 +71,6 @@ pub record Turn (t : ℕ) (l marks : List ℕ) (p : List ℤ) (w : List ℕ) (at
   pub room : h < mate quads l h → 3 * (length marks + e) + 3 ≤ length p
   pub exact : h < mate quads l h → 2 * length l + 6 * e + 6 ≤ length w
 
--- the edge of h is met first there, number e, and the tables have room for its point
-pub record Place (t : ℕ) (l marks : List ℕ) (p : List ℤ) (w : List ℕ) (h e : ℕ) : Type 0 where
-  pub low : t ≤ 4
-  pub ready : Ready l w
-  pub points : Points l (take (3 * length marks) p)
-  pub lt : h < length l
-  pub vertices : length marks ≤ length l
-  pub below : e ≤ length l
-  pub entries : 2 * length l ≤ length w
-  pub old : 3 * length marks ≤ length p
-  pub room : 3 * (length marks + e) + 3 ≤ length p
-  pub exact : 2 * length l + 6 * e + 6 ≤ length w
-
--- the edge of h is new and lies between ordinary vertices, on the line of the vertices o, p, q, r
-pub record Line (l : List ℕ) (h o p q r : ℕ) : Type 0 where
-  pub new : h < mate quads l h
-  pub ends : OrdinaryEnds l h
-  pub value : (weights : Weights) (e : ℕ → ℤ) → interiorValue weights e o p q r ≡ ordinaryValue weights l e h innerRule
-  pub in₀ : CornerOf l o
-  pub in₁ : CornerOf l p
-  pub in₂ : CornerOf l q
-  pub in₃ : CornerOf l r
-
 -- after it, with r edges met: the point of its edge went, rounded and exact, to the tables, and its entry; or the edge was met before, and has the entry of its mate
 pub data Turned (t : ℕ) (l marks : List ℕ) (h e r : ℕ) (p : List ℤ) (w : List ℕ) (p′ : List ℤ) (w′ : List ℕ) : Type 0 where
   met : (flag : ℕ) (x y z : ℤ) → h < mate quads l h → r ≡ e + 1 → Flagged l h flag → ExactPoint (tension t) flag (λ (a : ℕ). edgeZ (tension t) l marks (axis (take (3 * length marks) p) a) h) x y z
@@ -127,37 +99,3 @@ pub record Edges (t : ℕ) (l marks : List ℕ) (p₀ : List ℤ) (w₀ : List �
   pub behind : (k : ℕ) → 8 * length l ≤ k → getD w k 0 ≡ getD w₀ k 0
   pub entries : (g : ℕ) → g < h → Entry l g (entryOf (length l) w g)
   pub stored : (a g : ℕ) → a < 3 → g < h → StoredAt (tension t) (length l) w a (entryOf (length l) w g) (edgeAxis (tension t) l marks p₀ a g)
-
--- ---- families
--- the pass has gone on to h, with e edges met, whatever tables it began with
-pub record Going (t : ℕ) (l marks : List ℕ) (p : List ℤ) (w : List ℕ) (h e : ℕ) : Type 0 where
-  pub at : ℕ
-  pub initial : ℕ
-  pub p₀ : List ℤ
-  pub w₀ : List ℕ
-  pub round : Round t l marks p₀ w₀ at initial
-  pub done : Edges t l marks p₀ w₀ p w h e
-  pub counted : e ≡ count (firstMet quads l) h
-
--- it goes on from h with e edges to h′ with e′
-pub record Carries (t : ℕ) (l marks : List ℕ) (h e h′ e′ : ℕ) (p : List ℤ) (w : List ℕ) (p′ : List ℤ) (w′ : List ℕ) : Type 0 where
-  pub edges : (at initial : ℕ) (p₀ : List ℤ) (w₀ : List ℕ) → Round t l marks p₀ w₀ at initial → Edges t l marks p₀ w₀ p w h e → e ≡ count (firstMet quads l) h
-      → Edges t l marks p₀ w₀ p′ w′ h′ e′ × (e′ ≡ count (firstMet quads l) h′)
-
--- h is the first half of a side in the family from f on, between the vertices c and e, with d at the other end of the side
-pub record FirstHalf (l : List ℕ) (f h c e d : ℕ) : Type 0 where
-  pub lt : h + 3 < length l
-  pub after : f ≤ h
-  pub side : (mate quads l h < f) ⊎ (h < mate quads l h)
-  pub before : mate quads l (h + 3) + 3 < length l
-  pub line : h < mate quads l h → Line l h (from l (mate quads l (h + 3) + 3)) c e d
-
--- h is the second half of a side from c by e to d
-pub record LastHalf (l : List ℕ) (f h c e d : ℕ) : Type 0 where
-  pub lt : h < length l
-  pub after : f ≤ h
-  pub three : 3 ≤ h
-  pub side : (mate quads l h < f) ⊎ (h < mate quads l h)
-  pub next : mate quads l (h - 3) < length l
-  pub two : 2 ≤ mate quads l (h - 3)
-  pub line : h < mate quads l h → Line l h c e d (from l (mate quads l (h - 3) - 2))

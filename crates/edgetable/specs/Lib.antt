@@ -1,2 +1,1 @@
 pub mod EdgeTable
-pub mod PlainFamily

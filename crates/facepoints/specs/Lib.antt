@@ -1,3 +1,2 @@
 pub mod Faces
 pub mod Reading
-pub mod Family

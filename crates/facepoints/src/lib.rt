@@ -1,21 +1,15 @@
-// The points of all faces of a round, from the mates, the entries of the edges and their exact points in the work table.
+// The points of faces, from the mates, the entries of the edges and their exact points in the work table.
 ghost use mathlib.Core.Path.{_≡_};
-ghost use mathlib.Core.Bool.{true};
-ghost use Prim.Native.Nat.{_+_, _*_, _/_, _%_, _^_, _≤_, _<_};
+ghost use Prim.Native.Nat.{_+_, _*_, _/_, _^_, _≤_, _<_};
 ghost use lib.IntN.{pos, natAbs, _+ℤ_};
-ghost use lib.ListN.{length, getD, take};
+ghost use lib.ListN.{length, getD};
 ghost use Rattle.rounding.specs.Rounding.{round};
 ghost use Rattle.curve.specs.Weights.{tension};
 ghost use Rattle.rings.specs.Scales.{faceScale, edgeRange};
-ghost use Rattle.topology.specs.Shape.{quads};
-ghost use Rattle.refinedfaces.specs.Refined.{refined};
-ghost use Rattle.tables.specs.Tables.{filled, Written};
 ghost use Rattle.coordinates.specs.Points.{putPoint};
 ghost use Rattle.coordinates.specs.Entry.{entryOf, unitOf, exactAt};
-ghost use Rattle.roundfaces.specs.Faces.{refinedBy, FaceIn, FacesIn};
-ghost use Rattle.facepoints.specs.Faces.{EntryTable, FaceTable, beyondOf, farOf, directionOf, innerTwiceOf, fourInnerOf, faceRuleOf, faceValueOf, faceCoordinate, faceCoordinates};
+ghost use Rattle.facepoints.specs.Faces.{EntryTable, FaceTable, beyondOf, farOf, directionOf, innerTwiceOf, fourInnerOf, faceRuleOf, faceValueOf, faceCoordinate};
 ghost use Rattle.facepoints.specs.Reading.{Readable, PlainAt, PlainEdge, plainDirection, plainCoordinate};
-ghost use Rattle.facepoints.specs.Family.{FamilyTable, PlainSides, PlainFace, putFamily};
 
 // The entries of plain edges are smaller: inner edges whose points are kept over 64. So is every edge number.
 const WIDE: usize = 536870912;
@@ -32,7 +26,7 @@ pub enum FaceRule {
 }
 
 // The entry of the edge of h.
-fn entry(work: &[u32], n: usize, h: usize) -> usize
+pub fn entry(work: &[u32], n: usize, h: usize) -> usize
     requires { ⌜ EntryTable n (now work) × (h < n) ⌝ }
     ensures { λ r. ⌜ (r ≡ entryOf n (now (work .entry)) h) × (r < 2 ^ 32) ⌝ }
 {
@@ -48,7 +42,7 @@ fn mate(work: &[u32], n: usize, h: usize) -> usize
 }
 
 // The entry of the edge beyond the side h.
-fn beyond(work: &[u32], n: usize, h: usize) -> usize
+pub fn beyond(work: &[u32], n: usize, h: usize) -> usize
     requires { ⌜ EntryTable n (now work) × (h < n) × (getD (now work) h 0 < n) ⌝ }
     ensures { λ r. ⌜ (r ≡ entryOf n (now (work .entry)) (beyondOf (now (work .entry)) h)) × (r < 2 ^ 32) ⌝ }
 {
@@ -205,7 +199,7 @@ fn plain_on(work: &[u32], p: usize, q: usize, r: usize, s: usize, t: u32) -> i32
 }
 
 // Writes the point of face f by one direction alone, that of the plain edges p, q, r, s.
-fn plain_face(
+pub fn plain_face(
     out: &mut [i32],
     work: &[u32],
     n: usize,
@@ -242,7 +236,7 @@ fn plain_face(
 }
 
 // Writes the point of face f. Where all eight edges of both directions are plain, as the sums tell, one direction is enough.
-fn put_face(out: &mut [i32], work: &[u32], n: usize, f: usize, t: u32)
+pub fn put_face(out: &mut [i32], work: &[u32], n: usize, f: usize, t: u32)
     requires { ⌜ FaceTable t n (now work) × (4 * f < n) × (3 * f + 3 ≤ length (now out)) ⌝ }
     ensures { λ _. ⌜ now (out .exit) ≡ putPoint (now (out .entry)) f (faceCoordinate (tension t) n (now (work .entry)) 0 f) (faceCoordinate (tension t) n (now (work .entry)) 1 f) (faceCoordinate (tension t) n (now (work .entry)) 2 f) ⌝ }
 {
@@ -262,158 +256,4 @@ fn put_face(out: &mut [i32], work: &[u32], n: usize, f: usize, t: u32)
         }
     }
     general_face(&mut *out, work, n, f, t);
-}
-
-// Writes the point of face f, whose eight edges are plain, by the edges of its sides 0 and 2 and that beyond side 2.
-fn inner_face(
-    out: &mut [i32],
-    work: &[u32],
-    n: usize,
-    p: usize,
-    r: usize,
-    v: usize,
-    f: usize,
-    t: u32,
-)
-    requires { ⌜ FaceTable t n (now work) × PlainFace n (now work) f p r v × (3 * f + 3 ≤ length (now out)) ⌝ }
-    ensures { λ _. ⌜ now (out .exit) ≡ putPoint (now (out .entry)) f (faceCoordinate (tension t) n (now (work .entry)) 0 f) (faceCoordinate (tension t) n (now (work .entry)) 1 f) (faceCoordinate (tension t) n (now (work .entry)) 2 f) ⌝ }
-{
-    let o = beyond(work, n, 4 * f);
-    plain_face(&mut *out, work, n, o, p, r, v, f, t);
-}
-
-// Writes the points of the four faces of a plain family, the last first.
-fn family_points(
-    out: &mut [i32],
-    work: &[u32],
-    n: usize,
-    f: usize,
-    a0: usize,
-    a1: usize,
-    a2: usize,
-    a3: usize,
-    s0: usize,
-    s1: usize,
-    s2: usize,
-    s3: usize,
-    b0: usize,
-    b1: usize,
-    b2: usize,
-    b3: usize,
-    t: u32,
-)
-    requires { ⌜ FaceTable t n (now work) × (3 * f + 12 ≤ length (now out)) ⌝ }
-    requires { ⌜ PlainFace n (now work) f a0 s3 b2 × PlainFace n (now work) (f + 1) a1 s0 b3 × PlainFace n (now work) (f + 2) a2 s1 b0 × PlainFace n (now work) (f + 3) a3 s2 b1 ⌝ }
-    ensures { λ _. ⌜ now (out .exit) ≡ putFamily (faceCoordinate (tension t) n (now (work .entry))) (now (out .entry)) f ⌝ }
-{
-    inner_face(&mut *out, work, n, a3, s2, b1, f + 3, t);
-    inner_face(&mut *out, work, n, a2, s1, b0, f + 2, t);
-    inner_face(&mut *out, work, n, a1, s0, b3, f + 1, t);
-    inner_face(&mut *out, work, n, a0, s3, b2, f, t);
-}
-
-// Writes the points and the refined corners of the four faces of a plain family, the last first: the faces from f on.
-fn refine_family(
-    out: &mut [i32],
-    faces: &mut [u32],
-    work: &[u32],
-    n: usize,
-    v: usize,
-    edges: usize,
-    f: usize,
-    t: u32,
-)
-    requires { ⌜ FaceTable t n (now work) × FamilyTable n (now work) × PlainSides n (now work) (f / 4) × (f % 4 ≡ 0) ⌝ }
-    requires { ⌜ FaceIn n v edges f (now faces) (now work) × (4 * f + 16 ≤ n) × (3 * f + 12 ≤ length (now out)) ⌝ }
-    ensures { λ _. ⌜ now (out .exit) ≡ putFamily (faceCoordinate (tension t) n (now (work .entry))) (now (out .entry)) f ⌝ }
-    ensures { λ _. ⌜ Written (16 * f) (16 * f + 64) (refinedBy n v edges (now (faces .entry)) (now (work .entry))) (now (faces .entry)) (now (faces .exit)) ⌝ }
-{
-    let h = 4 * f;
-    let a0 = entry(work, n, h);
-    let s0 = entry(work, n, h + 1);
-    let b3 = entry(work, n, h + 3);
-    let a1 = entry(work, n, h + 4);
-    let s1 = entry(work, n, h + 5);
-    let b0 = entry(work, n, h + 7);
-    let a2 = entry(work, n, h + 8);
-    let s2 = entry(work, n, h + 9);
-    let b1 = entry(work, n, h + 11);
-    let a3 = entry(work, n, h + 12);
-    let s3 = entry(work, n, h + 13);
-    let b2 = entry(work, n, h + 15);
-    family_points(
-        &mut *out,
-        work,
-        n,
-        f,
-        a0,
-        a1,
-        a2,
-        a3,
-        s0,
-        s1,
-        s2,
-        s3,
-        b0,
-        b1,
-        b2,
-        b3,
-        t,
-    );
-    roundfaces::refine_face(&mut *faces, work, n, v, edges, f + 3);
-    roundfaces::refine_face(&mut *faces, work, n, v, edges, f + 2);
-    roundfaces::refine_face(&mut *faces, work, n, v, edges, f + 1);
-    roundfaces::refine_face(&mut *faces, work, n, v, edges, f);
-}
-
-// Whether the eight halves of the sides of the face that was split are plain, as their sum tells.
-fn plain_family(work: &[u32], n: usize, f: usize) -> bool
-    requires { ⌜ EntryTable n (now work) × (4 * f + 16 ≤ n) × (f % 4 ≡ 0) ⌝ }
-    ensures { λ r. ⌜ (r ≡ true → PlainSides n (now (work .entry)) (f / 4)) ⌝ }
-{
-    let h = 4 * f;
-    let s = entry(work, n, h)
-        + entry(work, n, h + 3)
-        + entry(work, n, h + 4)
-        + entry(work, n, h + 7);
-    let u = entry(work, n, h + 8)
-        + entry(work, n, h + 11)
-        + entry(work, n, h + 12)
-        + entry(work, n, h + 15);
-    s + u < WIDE
-}
-
-// Writes the points of all faces to `out`, and the refined corners over the corners, from the last face to the first; in a later round by families.
-pub fn face_points(
-    out: &mut [i32],
-    faces: &mut [u32],
-    work: &[u32],
-    n: usize,
-    v: usize,
-    edges: usize,
-    t: u32,
-    later: bool,
-)
-    requires { ⌜ FaceTable t n (now work) × FacesIn n v edges (now faces) (now work) × (3 * (n / 4) ≤ length (now out)) ⌝ }
-    requires { ⌜ (later ≡ true → FamilyTable n (now work)) ⌝ }
-    ensures { λ _. ⌜ now (out .exit) ≡ filled (faceCoordinates (tension t) n (now (work .entry))) (now (out .entry)) ⌝ }
-    ensures { λ _. ⌜ now (faces .exit) ≡ filled (refined quads v (take n (now (faces .entry)))) (now (faces .entry)) ⌝ }
-{
-    let mut f = n / 4;
-    while f > 0 {
-        let mut end = 0;
-        if later {
-            end = f - 4;
-            if plain_family(work, n, end) {
-                f = end;
-                refine_family(&mut *out, &mut *faces, work, n, v, edges, f, t);
-                continue;
-            }
-        }
-        while f > end {
-            f -= 1;
-            put_face(&mut *out, work, n, f, t);
-            roundfaces::refine_face(&mut *faces, work, n, v, edges, f);
-        }
-    }
 }

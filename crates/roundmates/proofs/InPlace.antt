@@ -9,8 +9,8 @@ use borrow.Author.Tests.{lt-ltb}
 use Rattle.search.proofs.Quarters.{below-four}
 use Rattle.topology.specs.Shape.{Shape, quads}
 use Rattle.topology.proofs.Shape.{four-sides}
-use Rattle.families.specs.Made.{Facing}
-use Rattle.families.proofs.Later.{next-other}
+use Rattle.refinedfaces.specs.Families.{Facing}
+use Rattle.refinedfaces.proofs.Families.{next-other}
 use Rattle.refinedfaces.specs.Mates.{refinedMate, refinedMates}
 use Rattle.tables.specs.Tables.{filled, putFour, Written}
 use Rattle.tables.proofs.Written.{written-as, written-face, Refining, refining-all}

@@ -6,7 +6,7 @@ use lib.ListN.{length, getD}
 use lib.Dec.{ltb}
 use Rattle.topology.specs.Shape.{quads}
 use Rattle.halfedges.specs.Tables.{Quadrilaterals}
-use Rattle.families.specs.Made.{Facing}
+use Rattle.refinedfaces.specs.Families.{Facing}
 
 -- the mate of side 0 of a refined face at a half-edge with the mate m, of n half-edges
 unfoldable pub firstMate : ℕ → ℕ → ℕ

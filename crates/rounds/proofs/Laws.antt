@@ -19,6 +19,8 @@ use Rattle.topology.specs.HalfEdge.{mate, edgeCount}
 use Rattle.topology.specs.Manifold.{Oriented}
 use Rattle.refinedfaces.specs.Refined.{refinedVertices, refined, refinedMarks}
 use Rattle.refinedfaces.specs.Mates.{refinedMates}
+use Rattle.refinedfaces.specs.Families.{AfterRound, Facing}
+use Rattle.refinedfaces.proofs.Families.{later-facing}
 use Rattle.scheme.specs.Step.{step}
 use Rattle.halfedges.specs.Tables.{Quadrilaterals, MateTable}
 use Rattle.halfedges.proofs.Tables.{mates-cong}
@@ -30,14 +32,11 @@ use Rattle.roundmates.proofs.Round.{mates-in, mated-refined, mates-rest}
 use Rattle.classes.specs.Classes.{Classes}
 use Rattle.coordinates.specs.Entry.{entryOf, edgeOf}
 use Rattle.facepoints.specs.Faces.{faceCoordinates, FaceTable}
-use Rattle.facepoints.specs.Family.{FamilyTable}
-use Rattle.families.specs.AfterRound.{AfterRound}
-use Rattle.families.specs.Made.{Facing}
-use Rattle.families.proofs.Later.{made-refined}
+use Rattle.familyfaces.specs.Family.{FamilyTable}
 use Rattle.letters.specs.Letters.{newLetter, Nameable, WrittenIf}
 use Rattle.edgetable.specs.EdgeTable.{Round, Edges}
 use Rattle.edgetable.proofs.Faces.{face-table, number-is, inner-is}
-use Rattle.edgetable.proofs.FamilyTable.{family-table}
+use Rattle.passes.proofs.FamilyTable.{family-table}
 use Rattle.rounds.proofs.Points.{face-room, points-made}
 use Rattle.rounds.specs.Round.{Current, Refines}
 use Rattle.nets.specs.Buffers.{Buffers, buffers, front}
@@ -108,9 +107,7 @@ module _ (t v n at initial : ℕ) (B : Buffers) (c : Current t v n at initial B)
 
     pub mates-later : AfterRound l → LaterIn n w′
     mates-later a =
-        let at : LaterIn (length l) w′ = record {
-          facing = λ q k. subst (Facing (length l) q) (sym (g .mates q k)) (subst (λ (l : List ℕ). q < length l → Facing (length l) q (mate quads l q)) (sym (a .is)) (made-refined quads (a .vertices) (a .before) (a .net .oriented) .facing q) k);
-        } in
+        let at : LaterIn (length l) w′ = record { facing = λ q k. subst (Facing (length l) q) (sym (g .mates q k)) (later-facing l a q k) } in
         subst (λ (j : ℕ). LaterIn j w′) corners at
 
     module _ (w″ : List ℕ) (h : w″ ≡ filled (refinedMates quads (take n w′)) w′) where

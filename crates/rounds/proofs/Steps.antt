@@ -26,7 +26,7 @@ use Rattle.scheme.specs.Step.{step, steps}
 use Rattle.schemelaws.specs.Nets.{Refinable}
 use Rattle.schemelaws.proofs.Steps.{step-faces, step-count, steps-count, refinable-steps, refinable-manifold}
 use Rattle.schemelaws.proofs.Growth.{steps-input}
-use Rattle.families.specs.AfterRound.{AfterRound}
+use Rattle.refinedfaces.specs.Families.{AfterRound}
 use Rattle.halfedges.specs.Tables.{MateTable}
 use Rattle.halfedges.proofs.Tables.{mates-cong}
 use Rattle.classes.specs.Classes.{RingSizes, Classes, Countable}

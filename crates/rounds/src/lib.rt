@@ -6,7 +6,7 @@ ghost use Prim.Native.Nat.{_*_, _^_};
 ghost use Rattle.nets.specs.Net.{frontNet};
 ghost use Rattle.nets.specs.Buffers.{buffers};
 ghost use lib.ListN.{take};
-ghost use Rattle.families.specs.AfterRound.{AfterRound};
+ghost use Rattle.refinedfaces.specs.Families.{AfterRound};
 ghost use Rattle.letters.specs.Letters.{newLetter, WrittenIf};
 ghost use Rattle.rounds.specs.Rounds.{Prepared, After, LettersFit, LettersAfter};
 
@@ -33,7 +33,7 @@ fn round(
         (buffers (now (points .exit)) (now (faces .exit)) (now (marks .exit)) (now (work .exit))) ⌝ }
     ensures { λ r. ⌜ WrittenIf «with_letters» v r (newLetter (take n (now (faces .entry))) (take v (now (marks .entry)))) (now (letters .entry)) (now (letters .exit)) ⌝ }
 {
-    let edges = edgetable::edge_points(
+    let edges = passes::edge_points(
         &mut *points,
         &faces[..n],
         &marks[..v],
@@ -54,7 +54,21 @@ fn round(
     let count = v + edges + n / 4;
     roundfaces::extend_marks(&mut *marks, v, count);
     let first = 3 * (v + edges);
-    facepoints::face_points(
+    // Two calls: the compiler then leaves the pass a function of its own, which takes fewer instructions.
+    if later {
+        passes::face_points(
+            &mut points[first..],
+            &mut *faces,
+            &*work,
+            n,
+            v,
+            edges,
+            t,
+            true,
+        );
+        return count;
+    }
+    passes::face_points(
         &mut points[first..],
         &mut *faces,
         &*work,
@@ -62,7 +76,7 @@ fn round(
         v,
         edges,
         t,
-        later,
+        false,
     );
     count
 }

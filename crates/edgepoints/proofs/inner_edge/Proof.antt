@@ -8,7 +8,7 @@ use mir.Val.{SFits}
 use mir.Facts.{toZ-ofZ}
 use Rattle.topology.specs.Shape.{quads}
 use Rattle.topology.specs.HalfEdge.{mate}
-use Rattle.edgepoints.specs.Edge.{OrdinaryEnds}
+use Rattle.schemelaws.specs.Ordinary.{OrdinaryEnds}
 use Rattle.edgepoints.proofs.Wide.{plain-point, wide-point}
 use Rattle.edgepoints.proofs.inner_edge.Statement.{statement}
 use Rattle.edgepoints.proofs.inner_edge.Tie as tie

@@ -1,2 +1,0 @@
-pub mod Made
-pub mod AfterRound

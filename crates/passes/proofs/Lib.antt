@@ -1,0 +1,2 @@
+pub mod FacePass
+pub mod FamilyTable
