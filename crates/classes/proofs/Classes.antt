@@ -55,7 +55,7 @@ module _ (l : List ℕ) (p : ℕ) where
       go (yes b) = let s = ring-size-boundary b in fanOfTwo b (omega arith)
       go (no b) = let c : boundaryFrom quads l p ≡ length l = omega (arith, boundaryFrom-le quads l p) in let s = ring-size-inner c in ringOfFour c (omega arith)
 
-  pub ordinary-four : Ordinary l p → ringSize l p ≡ 4
+  ordinary-four : Ordinary l p → ringSize l p ≡ 4
   ordinary-four (ringOfFour b n) = ring-size-inner b ∙ n
   ordinary-four (fanOfTwo b n) = let s = ring-size-boundary b in omega arith
 

@@ -1,6 +1,6 @@
 // The points of faces, from the mates, the entries of the edges and their exact points in the work table.
 ghost use mathlib.Core.Path.{_≡_};
-ghost use Prim.Native.Nat.{_+_, _*_, _/_, _^_, _≤_, _<_};
+ghost use Prim.Native.Nat.{_+_, _*_, _^_, _≤_, _<_};
 ghost use lib.IntN.{pos, natAbs, _+ℤ_};
 ghost use lib.ListN.{length, getD};
 ghost use Rattle.rounding.specs.Rounding.{round};

@@ -1,14 +1,13 @@
 -- The pass goes on.
-use mathlib.Core.Path.{_≡_, refl, sym, ap, _∙_, subst}
+use mathlib.Core.Path.{_≡_, sym, _∙_, subst}
 use mathlib.Core.List.{List}
-use Prim.Native.Nat.{ℕ, _+_, _*_, _≤_, _<_}
-use native.Mathlib.Omega.{arith}
+use Prim.Native.Nat.{ℕ, _+_, _<_}
 use lib.IntN.{ℤ}
-use lib.ListN.{length, getD, set}
+use lib.ListN.{length}
 use Rattle.topology.specs.Shape.{quads}
 use Rattle.topology.specs.HalfEdge.{mate}
-use Rattle.edgetable.specs.EdgeTable.{Turn, Turned, passed}
-use Rattle.familyedges.specs.Steps.{Place, Line, Going, Carries}
+use Rattle.edgetable.specs.EdgeTable.{Turn, Turned}
+use Rattle.familyedges.specs.Steps.{Place, Going, Carries}
 use Rattle.edgetable.proofs.EdgeTable.{turn-in, turned-edges, turned-count}
 
 module _ (t : ℕ) (l marks : List ℕ) where

@@ -1,5 +1,5 @@
 -- The point of a new edge between ordinary vertices, by four vertices in line.
-use mathlib.Core.Path.{_≡_, refl, sym, ap, _∙_}
+use mathlib.Core.Path.{_≡_, refl, _∙_}
 use mathlib.Core.List.{List}
 use Prim.Native.Nat.{ℕ, _*_, _^_, _≤_}
 use lib.IntN.{ℤ, natAbs}
@@ -8,7 +8,7 @@ use Rattle.rounding.specs.Rounding.{round}
 use Rattle.curve.specs.Weights.{tension}
 use Rattle.nets.specs.Net.{axis}
 use Rattle.schemelaws.specs.Numerators.{edgeZ}
-use Rattle.coordinates.specs.Points.{InTable, OnAxes, putPoint}
+use Rattle.coordinates.specs.Points.{InTable, OnAxes}
 use Rattle.coordinates.specs.Stencil.{interiorValue}
 use Rattle.coordinates.specs.Entry.{unitOf}
 use Rattle.edgepoints.specs.Edge.{Flagged, ExactPoint}

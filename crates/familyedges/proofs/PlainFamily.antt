@@ -1,5 +1,5 @@
 -- The plain family test gives all that the sixteen steps of a family ask. L are the corners that a round made of l.
-use mathlib.Core.Path.{_≡_, refl, sym, ap, _∙_, subst}
+use mathlib.Core.Path.{_≡_, sym, ap, _∙_, subst}
 use mathlib.Core.Logic.{_⊎_, inl, inr}
 use mathlib.Core.List.{List}
 use Prim.Native.Nat.{ℕ, _+_, _-_, _*_, _/_, _%_, _≤_, _<_}
@@ -117,7 +117,7 @@ module _ (v : ℕ) (l : List ℕ) (ok : Manifold quads v l) (fours : length l % 
         let c : h / 4 ≡ 4 * p / 4 = omega arith in
         ap (from L) (sym q) ∙ quad quads v l h k .from₂ ∙ ap (λ (x : ℕ). v + edgeCount quads l + x) c ∙ sym (quad quads v l (4 * p) b .from₂) ∙ ap (from L) a
 
-    pub plain-family : PlainFamily L (16 * p)
+    plain-family : PlainFamily L (16 * p)
     unfolding quads
     plain-family =
         let m₀ = inside₁ v l (ok .oriented) fours (4 * p) (16 * p + 1) (16 * p + 6) (omega arith) (omega arith) (omega arith) in

@@ -2,22 +2,20 @@
 use mathlib.Core.Path.{_≡_, refl, sym, ap, _∙_, subst}
 use mathlib.Core.Logic.{_⊎_, inl, inr}
 use mathlib.Core.List.{List}
-use Prim.Native.Nat.{ℕ, zero, suc, _+_, _-_, _*_, _/_, _%_, _≤_, _<_}
+use Prim.Native.Nat.{ℕ, zero, suc, _+_, _*_, _/_, _%_, _≤_, _<_}
 use native.Mathlib.Omega.{arith}
-use lib.IntN.{ℤ}
 use lib.ListN.{length, getD, take}
 use Rattle.topology.specs.Shape.{quads}
 use Rattle.topology.specs.Quads.{across}
-use Rattle.coordinates.specs.Entry.{wideFlag, boundaryFlag, entryOf}
+use Rattle.coordinates.specs.Entry.{wideFlag, entryOf}
 use Rattle.refinedfaces.specs.Refined.{corner}
 use Rattle.tables.specs.Tables.{Written}
 use Rattle.tables.proofs.Written.{Refining, refining-to}
 use Rattle.roundfaces.specs.Faces.{refinedBy, FaceIn, FacesIn}
 use Rattle.roundfaces.proofs.Faces.{corners-then, corners-from}
-use Rattle.refinedfaces.specs.Families.{Facing}
-use Rattle.facepoints.specs.Faces.{EntryTable, PlainTwice, AllPlain, beyondOf}
+use Rattle.facepoints.specs.Faces.{EntryTable, AllPlain, beyondOf}
 use Rattle.facepoints.proofs.Reading.{across-lt}
-use Rattle.familyfaces.specs.Family.{FamilyTable, PlainSides, PlainFace, putFamily}
+use Rattle.familyfaces.specs.Family.{FamilyTable, PlainSides, PlainFace}
 
 across-side : (m j : ℕ) → m % 4 + j ≡ 3 → (j ≡ 0) ⊎ (j ≡ 3) → (0 < across m % 4) × (across m % 4 < 3)
 unfolding across quads
@@ -39,16 +37,16 @@ module _ (n : ℕ) (w : List ℕ) (ok : EntryTable n w) (made : FamilyTable n w)
       made .inside (across (getD w g 0)) (across-lt n (getD w g 0) (ok .fours) m) (r .0) (r .1)
 
   -- beyond sides 1 and 2 lie halves of the sides of the same family
-  pub beyond-second : (f : ℕ) → 4 * f < n → beyondOf w (4 * f + 1) ≡ 4 * quads .next f
+  beyond-second : (f : ℕ) → 4 * f < n → beyondOf w (4 * f + 1) ≡ 4 * quads .next f
   unfolding beyondOf across quads
   beyond-second f k = ap across (made .second f k) ∙ omega arith
 
-  pub beyond-third : (f : ℕ) → 4 * f < n → beyondOf w (4 * f + 2) ≡ 4 * quads .prev f + 3
+  beyond-third : (f : ℕ) → 4 * f < n → beyondOf w (4 * f + 2) ≡ 4 * quads .prev f + 3
   unfolding beyondOf across quads
   beyond-third f k = ap across (made .third f k) ∙ omega arith
 
   module _ (p : ℕ) (sides : PlainSides n w p) where
-    pub family-plain : (f : ℕ) → 4 * p ≤ f → f < 4 * p + 4 → 4 * f < n → AllPlain n w f
+    family-plain : (f : ℕ) → 4 * p ≤ f → f < 4 * p + 4 → 4 * f < n → AllPlain n w f
     unfolding quads
     family-plain f a b k =
         let d = made .whole in
@@ -66,10 +64,10 @@ module _ (n : ℕ) (w : List ℕ) (ok : EntryTable n w) (made : FamilyTable n w)
         }
 
     -- what the code reads for the direction of side 0 of face f: the edge inside, and the half beyond it
-    pub inside-read : (f : ℕ) → 4 * f < n → (r : ℕ) → r ≡ entryOf n w (4 * quads .prev f + 1) → r ≡ entryOf n w (4 * f + 2)
+    inside-read : (f : ℕ) → 4 * f < n → (r : ℕ) → r ≡ entryOf n w (4 * quads .prev f + 1) → r ≡ entryOf n w (4 * f + 2)
     inside-read f k r e = e ∙ sym (made .shared f k)
 
-    pub beyond-read : (f : ℕ) → 4 * f < n → (r : ℕ) → r ≡ entryOf n w (4 * quads .prev f + 3) → r ≡ entryOf n w (beyondOf w (4 * f + 2))
+    beyond-read : (f : ℕ) → 4 * f < n → (r : ℕ) → r ≡ entryOf n w (4 * quads .prev f + 3) → r ≡ entryOf n w (beyondOf w (4 * f + 2))
     beyond-read f k r e = e ∙ ap (entryOf n w) (sym (beyond-third f k))
 
   -- face g of the family of the faces from f on, by the entries that were read
@@ -96,7 +94,7 @@ module _ (n : ℕ) (w : List ℕ) (ok : EntryTable n w) (made : FamilyTable n w)
     )
 
 -- the sum of the eight entries tells
-pub plain-sides : (n : ℕ) (w : List ℕ) (p a₀ b₃ a₁ b₀ a₂ b₁ a₃ b₂ : ℕ) → a₀ ≡ entryOf n w (16 * p) → b₃ ≡ entryOf n w (16 * p + 3) → a₁ ≡ entryOf n w (16 * p + 4) → b₀ ≡ entryOf n w (16 * p + 7)
+plain-sides : (n : ℕ) (w : List ℕ) (p a₀ b₃ a₁ b₀ a₂ b₁ a₃ b₂ : ℕ) → a₀ ≡ entryOf n w (16 * p) → b₃ ≡ entryOf n w (16 * p + 3) → a₁ ≡ entryOf n w (16 * p + 4) → b₀ ≡ entryOf n w (16 * p + 7)
     → a₂ ≡ entryOf n w (16 * p + 8) → b₁ ≡ entryOf n w (16 * p + 11) → a₃ ≡ entryOf n w (16 * p + 12) → b₂ ≡ entryOf n w (16 * p + 15)
     → a₀ + b₃ + a₁ + b₀ + (a₂ + b₁ + a₃ + b₂) < wideFlag → PlainSides n w p
 plain-sides n w p a₀ b₃ a₁ b₀ a₂ b₁ a₃ b₂ e₀ f₃ e₁ f₀ e₂ f₁ e₃ f₂ s = record { first = λ f a b. go f (f % 4) refl a b; last = λ f a b. at f (f % 4) refl a b }

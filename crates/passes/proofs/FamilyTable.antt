@@ -1,5 +1,5 @@
 -- In a net that a round made, what the edges leave in the work table is what families of faces ask for.
-use mathlib.Core.Path.{_≡_, refl, sym, ap, _∙_, subst}
+use mathlib.Core.Path.{_≡_, sym, ap, _∙_, subst}
 use mathlib.Core.List.{List}
 use Prim.Native.Nat.{ℕ, _+_, _*_, _%_, _<_}
 use native.Mathlib.Omega.{arith}
@@ -7,16 +7,15 @@ use lib.IntN.{ℤ}
 use lib.ListN.{length, getD}
 use Rattle.search.proofs.Quarters.{quarters}
 use Rattle.topology.specs.Shape.{quads}
-use Rattle.topology.specs.HalfEdge.{from, to, mate, edge, edgeCount}
+use Rattle.topology.specs.HalfEdge.{mate, edge, edgeCount}
 use Rattle.topology.proofs.Mates.{edge-mate}
 use Rattle.refinedfaces.specs.Refined.{refined}
-use Rattle.refinedfaces.proofs.Corners.{length-refined}
 use Rattle.refinedfaces.proofs.Mates.{mate₁, mate₂}
 use Rattle.refinedfaces.specs.Families.{AfterRound, Facing}
 use Rattle.refinedfaces.proofs.Families.{later-facing, later-length}
 use Rattle.schemelaws.specs.Ordinary.{OrdinaryEnds}
 use Rattle.schemelaws.proofs.Families.{spoke-plain, spoke-back}
-use Rattle.coordinates.specs.Entry.{wideFlag, entryOf}
+use Rattle.coordinates.specs.Entry.{entryOf}
 use Rattle.familyfaces.specs.Family.{FamilyTable}
 use Rattle.edgepoints.specs.Edge.{Flagged, plain, wide, boundary}
 use Rattle.edgetable.specs.EdgeTable.{Round, Entry, Edges}

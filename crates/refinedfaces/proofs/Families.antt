@@ -64,7 +64,7 @@ module _ (v : ℕ) (l : List ℕ) (ok : Oriented quads v l) (fours : length l % 
       go (yes b) = b
       go (no b) = let c = mate-le quads l h in let e = mate₀-none quads v l ok h k (omega arith) in let n = length-refined quads v l in let z : ⊥ = omega arith in absurd z
 
-  pub mate-last : (h : ℕ) → h < length l → mate quads L (4 * quads .next h + 3) ≡ 4 * mate quads l h
+  mate-last : (h : ℕ) → h < length l → mate quads L (4 * quads .next h + 3) ≡ 4 * mate quads l h
   mate-last h k = mate₃ quads v l ok (quads .next h) (ok .shape .next-lt h k) ∙ ap (λ (x : ℕ). 4 * mate quads l x) (ok .shape .prev-next h)
 
   -- sides 1 and 2 meet inside the family

@@ -43,7 +43,7 @@ fn refine_sides(work: &mut [u32], n: usize, f: usize)
 }
 
 // Refines the mates in place, from the last face to the first.
-pub fn refine_mates(work: &mut [u32], n: usize)
+fn refine_mates(work: &mut [u32], n: usize)
     requires { ⌜ MatesIn n (now work) ⌝ }
     ensures { λ _. ⌜ now (work .exit) ≡ filled (refinedMates quads (take n (now (work .entry)))) (now (work .entry)) ⌝ }
 {
@@ -108,7 +108,7 @@ fn refine_later(work: &mut [u32], n: usize, f: usize)
 }
 
 // Refines the mates of a net that a round made.
-pub fn refine_later_mates(work: &mut [u32], n: usize)
+fn refine_later_mates(work: &mut [u32], n: usize)
     requires { ⌜ MatesIn n (now work) × LaterIn n (now work) ⌝ }
     ensures { λ _. ⌜ now (work .exit) ≡ filled (refinedMates quads (take n (now (work .entry)))) (now (work .entry)) ⌝ }
 {

@@ -3,7 +3,7 @@
 use mathlib.Core.Path.{_≡_, refl, sym, ap, _∙_, subst}
 use mathlib.Core.Bool.{Bool, cond}
 use mathlib.Core.List.{List}
-use Prim.Native.Nat.{ℕ, zero, suc, _+_, _-_, _*_, _/_, _%_, _≤_, _<_}
+use Prim.Native.Nat.{ℕ, _+_, _-_, _*_, _<_}
 use native.Mathlib.Omega.{arith}
 use lib.IntN.{ℤ}
 use lib.ListN.{length}
@@ -11,19 +11,18 @@ use lib.Dec.{ltb, lit≤}
 use borrow.Author.Tests.{lt-ltb, le-ltb}
 use Rattle.search.specs.Search.{iterate}
 use Rattle.curve.specs.Weights.{Weights, interior, mirror}
-use Rattle.curve.proofs.Mirror.{interior-turned}
-use Rattle.topology.specs.Shape.{Shape, quads}
+use Rattle.topology.specs.Shape.{quads}
 use Rattle.topology.specs.HalfEdge.{from, to, mate, edge, edgeCount}
 use Rattle.topology.specs.Boundary.{boundaryFrom}
-use Rattle.topology.specs.Vertex.{valence, turn, turns, unturn, Ring}
-use Rattle.topology.specs.Manifold.{Oriented, Manifold}
-use Rattle.topology.proofs.Shape.{four-sides, face-prev}
+use Rattle.topology.specs.Vertex.{turn, turns, unturn, Ring}
+use Rattle.topology.specs.Manifold.{Manifold}
+use Rattle.topology.proofs.Shape.{four-sides}
 use Rattle.topology.proofs.Mates.{mate-is, mate-back}
 use Rattle.topology.proofs.Turn.{turn-inj, turn-from, turn-unturn, unturn-lt}
 use Rattle.refinedfaces.specs.Refined.{refinedVertices, refined}
-use Rattle.refinedfaces.proofs.Corners.{length-refined, quad, zones, oriented-refined}
+use Rattle.refinedfaces.proofs.Corners.{length-refined, quad, zones}
 use Rattle.refinedfaces.proofs.Manifold.{manifold-refined}
-use Rattle.refinedfaces.proofs.Mates.{mate₀, mate₀-none, mate₁, mate₂, mate₃}
+use Rattle.refinedfaces.proofs.Mates.{mate₀, mate₁, mate₂, mate₃}
 use Rattle.scheme.specs.Points.{innerRule}
 use Rattle.schemelaws.specs.Ordinary.{Ordinary, OrdinaryEnds, straight, ordinaryValue}
 use Rattle.schemelaws.proofs.Made.{made-ordinary, turn-ring, straight-read}
@@ -47,20 +46,20 @@ module _ (v : ℕ) (l : List ℕ) (ok : Manifold quads v l) where
     pub edge-ordinary : Ordinary L (from L (4 * h + 1))
     edge-ordinary = let q = quad quads v l h k in let z = zones quads v l (ok .oriented) h k in subst (Ordinary L) (sym (q .from₁)) (made-ordinary v l ok (v + edge quads l h) (omega arith) (omega arith))
 
-    pub face-ordinary : Ordinary L (from L (4 * h + 2))
+    face-ordinary : Ordinary L (from L (4 * h + 2))
     face-ordinary = let q = quad quads v l h k in let z = zones quads v l (ok .oriented) h k in subst (Ordinary L) (sym (q .from₂)) (made-ordinary v l ok (v + edgeCount quads l + quads .face h) (omega arith) (omega arith))
 
     -- the second half of the side h begins where the first ends, and ends at the next corner
-    pub last-from : from L (4 * quads .next h + 3) ≡ from L (4 * h + 1)
+    last-from : from L (4 * quads .next h + 3) ≡ from L (4 * h + 1)
     last-from = quad quads v l (quads .next h) k′ .from₃ ∙ ap (λ (x : ℕ). v + edge quads l x) (ok .oriented .shape .prev-next h) ∙ sym (quad quads v l h k .from₁)
 
-    pub last-to : to quads L (4 * quads .next h + 3) ≡ from L (4 * quads .next h)
+    last-to : to quads L (4 * quads .next h + 3) ≡ from L (4 * quads .next h)
     last-to = let q = quad quads v l (quads .next h) k′ in q .to₃ ∙ sym (q .from₀)
 
-    pub first-to : to quads L (4 * h) ≡ from L (4 * h + 1)
+    first-to : to quads L (4 * h) ≡ from L (4 * h + 1)
     first-to = let q = quad quads v l h k in q .to₀ ∙ sym (q .from₁)
 
-    pub spoke-to : to quads L (4 * h + 1) ≡ from L (4 * h + 2)
+    spoke-to : to quads L (4 * h + 1) ≡ from L (4 * h + 2)
     spoke-to = let q = quad quads v l h k in q .to₁ ∙ sym (q .from₂)
 
     -- ---- which edges are plain

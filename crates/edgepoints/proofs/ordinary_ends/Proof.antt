@@ -1,5 +1,5 @@
 -- `ordinary_ends` meets its contract. Assumes nothing.
-use mathlib.Core.Path.{_≡_, refl, sym, ap, _∙_}
+use mathlib.Core.Path.{refl, sym, ap, _∙_}
 use borrow.Author.Needs.{needs}
 use Rattle.search.proofs.Tests.{clash}
 use Rattle.classes.specs.Classes.{ordinaryBy}

@@ -1,10 +1,8 @@
 -- `family_steps` meets its contract. Assumes nothing.
-use mathlib.Core.Path.{_≡_, refl, sym, ap, _∙_, subst}
-use Prim.Native.Nat.{ℕ, _+_, _*_, _≤_, _<_}
+use mathlib.Core.Path.{sym}
+use Prim.Native.Nat.{_+_, _≤_, _<_}
 use native.Mathlib.Omega.{arith}
-use borrow.Author.Needs.{needs}
 use lib.ListN.{length}
-use Rattle.edgetable.specs.EdgeTable.{Turn}
 use Rattle.familyedges.specs.Steps.{Carries}
 use Rattle.familyedges.proofs.Going.{turn-now, going-on, carries-next, carries-lengths}
 use Rattle.familyedges.proofs.family_steps.Statement.{statement}

@@ -1,19 +1,17 @@
 -- `line_edge` meets its contract. Assumes nothing.
 use mathlib.Core.Path.{_≡_, refl, sym, ap, _∙_}
 use mathlib.Core.List.{List}
-use Prim.Native.Nat.{ℕ, _+_, _*_, _<_}
+use Prim.Native.Nat.{ℕ, _+_, _*_}
 use native.Mathlib.Omega.{arith}
 use native.Mathlib.Nat.{add-zero}
 use borrow.Author.Needs.{needs}
-use lib.ListN.{length, getD, set}
+use lib.ListN.{length, set}
 use lib.Seq.{length-take-le}
 use mir.Syntax.{w32, w64}
 use mir.Val.{SFits}
 use mir.Facts.{toZ-ofZ}
-use Rattle.coordinates.proofs.Packed.{length-put-three}
-use Rattle.coordinates.specs.Points.{putPoint}
 use Rattle.coordinates.specs.Packed.{putThree}
-use Rattle.edgetable.specs.EdgeTable.{roundedBy, met}
+use Rattle.edgetable.specs.EdgeTable.{met}
 use Rattle.edgetable.proofs.EdgeTable.{exact-small}
 use Rattle.coordinates.proofs.Points.{put-point-is}
 use Rattle.familyedges.proofs.Line.{line-in, line-exact, small₀, small₁, small₂, rounded-zero}

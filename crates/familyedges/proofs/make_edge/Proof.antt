@@ -1,11 +1,6 @@
 -- `make_edge` meets its contract. Assumes nothing.
-use mathlib.Core.Path.{_≡_, refl, sym, ap, _∙_, subst}
-use Prim.Native.Nat.{ℕ, _+_, _*_, _≤_, _<_}
-use native.Mathlib.Omega.{arith}
 use borrow.Author.Needs.{needs}
-use lib.ListN.{length, getD, set}
-use Rattle.edgetable.specs.EdgeTable.{passed, Turn}
-use Rattle.familyedges.proofs.Going.{turn-now, place-now, turned-carries}
+use Rattle.familyedges.proofs.Going.{place-now, turned-carries}
 use Rattle.familyedges.proofs.make_edge.Statement.{statement}
 use Rattle.familyedges.proofs.make_edge.Tie as tie
 

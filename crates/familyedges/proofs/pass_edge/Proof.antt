@@ -1,11 +1,11 @@
 -- `pass_edge` meets its contract. Assumes nothing.
-use mathlib.Core.Path.{_≡_, refl, sym, ap, _∙_, subst}
-use Prim.Native.Nat.{ℕ, _+_, _*_, _≤_, _<_}
+use mathlib.Core.Path.{refl, ap}
+use Prim.Native.Nat.{ℕ, _+_}
 use native.Mathlib.Omega.{arith}
 use borrow.Author.Needs.{needs}
 use lib.ListN.{length, getD, set}
 use Rattle.edgetable.specs.EdgeTable.{passed, Turn}
-use Rattle.familyedges.proofs.Going.{turn-now, place-now, turned-carries}
+use Rattle.familyedges.proofs.Going.{turn-now, turned-carries}
 use Rattle.familyedges.proofs.pass_edge.Statement.{statement}
 use Rattle.familyedges.proofs.pass_edge.Tie as tie
 

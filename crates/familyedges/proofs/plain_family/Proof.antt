@@ -1,8 +1,7 @@
 -- `plain_family` meets its contract. Assumes nothing.
-use mathlib.Core.Path.{_≡_, refl, sym, ap, _∙_}
-use Prim.Native.Nat.{ℕ, _+_, _*_, _≤_, _<_}
+use mathlib.Core.Path.{refl, sym, ap, _∙_}
+use Prim.Native.Nat.{_+_}
 use native.Mathlib.Omega.{arith}
-use borrow.Author.Needs.{needs}
 use Rattle.search.proofs.Tests.{clash}
 use Rattle.classes.specs.Classes.{ordinaryBy}
 use Rattle.familyedges.proofs.plain_family.Statement.{statement}

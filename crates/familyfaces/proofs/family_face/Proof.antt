@@ -1,7 +1,4 @@
 -- `family_face` meets its contract. Assumes nothing.
-use mathlib.Core.Path.{_≡_, refl, sym, ap, _∙_}
-use Prim.Native.Nat.{ℕ, _+_, _*_, _/_, _%_, _≤_, _<_}
-use native.Mathlib.Omega.{arith}
 use borrow.Author.Needs.{needs}
 use Rattle.facepoints.proofs.Plain.{regular-edges, put-regular}
 use Rattle.familyfaces.proofs.family_face.Statement.{statement}

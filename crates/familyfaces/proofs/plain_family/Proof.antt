@@ -1,7 +1,4 @@
 -- `plain_family` meets its contract. Assumes nothing.
-use mathlib.Core.Path.{_≡_, refl, sym, ap, _∙_}
-use Prim.Native.Nat.{ℕ, _+_, _*_, _/_, _%_, _≤_, _<_}
-use native.Mathlib.Omega.{arith}
 use borrow.Author.Needs.{needs}
 use Rattle.familyfaces.proofs.Family.{sides-of}
 use borrow.Author.Tests.{ltb-true}

@@ -1,9 +1,6 @@
 -- `refine_family` meets its contract. Assumes nothing.
-use mathlib.Core.Path.{_≡_, refl, sym, ap, _∙_}
-use Prim.Native.Nat.{ℕ, _+_, _*_, _/_, _%_, _≤_, _<_}
+use mathlib.Core.Path.{refl, _∙_}
 use native.Mathlib.Omega.{arith}
-use borrow.Author.Needs.{needs}
-use Rattle.familyfaces.specs.Family.{putFamily}
 use Rattle.familyfaces.proofs.Family.{plain-faces, face-other, family-corners}
 use Rattle.familyfaces.proofs.refine_family.Statement.{statement}
 use Rattle.familyfaces.proofs.refine_family.Tie as tie

@@ -1,36 +1,21 @@
 -- `edge_points` meets its contract. Assumes nothing.
 use mathlib.Core.Path.{_≡_, refl, ap, _∙_, subst}
-use mathlib.Core.Bool.{Bool, true, false}
-use mathlib.Core.Logic.{_⊎_, inl, inr}
-use mathlib.Core.List.{List}
+use mathlib.Core.Bool.{true}
+use mathlib.Core.Logic.{inl, inr}
 use Prim.Native.Nat.{ℕ, _+_, _-_, _%_, _≤_, _<_}
 use native.Mathlib.Omega.{arith}
 use lib.ListN.{length}
 use Rattle.search.specs.Search.{count}
-use Rattle.search.proofs.Tests.{clash}
 use Rattle.topology.specs.Shape.{quads}
 use Rattle.topology.specs.HalfEdge.{firstMet, edgeCount}
-use Rattle.refinedfaces.specs.Families.{AfterRound}
-use Rattle.refinedfaces.proofs.Families.{later-length}
 use Rattle.edgetable.specs.EdgeTable.{Edges}
-use Rattle.familyedges.specs.Steps.{Going, Carries}
-use Rattle.edgetable.proofs.EdgeTable.{edges-none, turn-in, turned-edges, turned-count, classed-of}
+use Rattle.familyedges.specs.Steps.{Carries}
+use Rattle.edgetable.proofs.EdgeTable.{edges-none, turn-in, classed-of}
 use Rattle.familyedges.proofs.Going.{carries-none, carries-then, turned-carries}
 use Rattle.familyedges.proofs.PlainFamily.{plain-later}
+use Rattle.passes.proofs.Turns.{cases, whole, edges-end}
 use Rattle.passes.proofs.edge_points.Statement.{statement}
 use Rattle.passes.proofs.edge_points.Tie as tie
-
-whole : (l : List ℕ) → AfterRound l → length l % 16 ≡ 0
-whole l m = let a = later-length l m in let b = m .fours in omega arith
-
--- where a turn ends
-ended : (later : Bool) (n h e : ℕ) → h < n → (later ≡ true → (h % 16 ≡ 0) × (n % 16 ≡ 0)) → ((later ≡ true) × (e ≡ h + 16)) ⊎ ((later ≡ false) × (e ≡ n)) → (h < e) × (later ≡ true → e % 16 ≡ 0) × (e ≤ n)
-ended later n h e g z (inl p) = let k = z (p .0) in let a = k .0 in let b = k .1 in let q = p .1 in (omega arith, (λ t. omega arith), omega arith)
-ended later n h e g z (inr p) = let q = p .1 in (omega arith, (λ t. clash later t (p .0)), omega arith)
-
-cases : {A B C : Type 0} → A ⊎ B → (A → C) → (B → C) → C
-cases (inl a) f g = f a
-cases (inr b) f g = g b
 
 abbrev Inv-loop2 : tie.InvT-loop2
 Inv-loop2 points₀ faces marks work₀ at initial t later n edges₀ h₀ end points work edges h =
@@ -69,7 +54,7 @@ add-end : tie.Need-add-end Inv-loop2 μ-loop2 Inv-loop μ-loop
 add-end c = omega arith
 
 loop2-holds : tie.Need-loop2-holds Inv-loop2 μ-loop2 Inv-loop μ-loop
-loop2-holds c = let s = c .before .before .before .before .before .before in let q = c .before .before .loop in let lt = c .before .loop-test .taken in let e = ended (s .args .later) (length (s .args .faces .now)) (q .h) (c .if1 .end) lt (λ t. (q .inv .1 t, whole (s .args .faces .now) (s .pre .1 t))) (cases (c .if1 .came) (λ x. inl (x .0 .taken, x .4)) (λ x. inr (x .0 .left, x .1))) in let a = e .0 in (omega arith, a, e .1, e .2, carries-none (s .args .t) (s .args .faces .now) (s .args .marks .now) _ _ _ _)
+loop2-holds c = let s = c .before .before .before .before .before .before in let q = c .before .before .loop in let lt = c .before .loop-test .taken in let e = edges-end (s .args .later) (length (s .args .faces .now)) (q .h) (c .if1 .end) lt (λ t. (q .inv .1 t, whole (s .args .faces .now) (s .pre .1 t))) (cases (c .if1 .came) (λ x. inl (x .0 .taken, x .4)) (λ x. inr (x .0 .left, x .1))) in let a = e .0 in (omega arith, a, e .1, e .2, carries-none (s .args .t) (s .args .faces .now) (s .args .marks .now) _ _ _ _)
 
 loop-less-2 : tie.Need-loop-less-2 Inv-loop2 μ-loop2 Inv-loop μ-loop
 loop-less-2 c = let s = c .before .before .before .before .before .before .before .before in let q = c .before .before .before .before .loop in let k = c .before .loop2 in let i = k .inv in let l = c .loop2-test .left in let a = i .0 in let b = i .1 in let d = i .3 in omega arith

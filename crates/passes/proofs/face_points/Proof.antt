@@ -1,13 +1,12 @@
 -- `face_points` meets its contract. Assumes nothing.
-use mathlib.Core.Path.{_≡_, refl, sym, ap, _∙_}
-use mathlib.Core.Bool.{Bool, true, false}
-use mathlib.Core.Logic.{_⊎_, inl, inr}
+use mathlib.Core.Path.{_≡_}
+use mathlib.Core.Bool.{true}
+use mathlib.Core.Logic.{inl, inr}
 use mathlib.Core.List.{List}
 use native.Mathlib.Omega.{arith}
 use Prim.Native.Nat.{ℕ, _+_, _-_, _*_, _/_, _%_, _≤_, _<_}
 use lib.IntN.{ℤ}
 use lib.ListN.{length, take}
-use Rattle.search.proofs.Tests.{clash}
 use Rattle.topology.specs.Shape.{quads}
 use Rattle.refinedfaces.specs.Refined.{corner}
 use Rattle.tables.proofs.Written.{Refining, refining-none, refining-next}
@@ -17,17 +16,9 @@ use Rattle.curve.specs.Weights.{tension}
 use Rattle.facepoints.specs.Faces.{faceCoordinate, faceCoordinates}
 use Rattle.passes.proofs.FacePass.{Writing, writing-none, writing-next, writing-four, writing-all}
 use Rattle.familyfaces.proofs.Family.{family-refining}
+use Rattle.passes.proofs.Turns.{cases, faces-end}
 use Rattle.passes.proofs.face_points.Statement.{statement}
 use Rattle.passes.proofs.face_points.Tie as tie
-
--- where a turn ends
-ended : (later : Bool) (f e : ℕ) → 0 < f → (later ≡ true → f % 4 ≡ 0) → (e ≡ f - 4) ⊎ ((later ≡ false) × (e ≡ 0)) → (e < f) × (later ≡ true → e % 4 ≡ 0)
-ended later f e g z (inl p) = (omega arith, λ t. let k = z t in omega arith)
-ended later f e g z (inr p) = let q = p .1 in (omega arith, λ t. clash later t (p .0))
-
-cases : {A B C : Type 0} → A ⊎ B → (A → C) → (B → C) → C
-cases (inl a) f g = f a
-cases (inr b) f g = g b
 
 abbrev Inv-loop2 : tie.InvT-loop2
 Inv-loop2 out₀ faces₀ work n v edges t later f₀ end out faces f =
@@ -63,7 +54,7 @@ loop-again : tie.Need-loop-again Inv-loop2 μ-loop2 Inv-loop μ-loop
 loop-again c = let s = c .before .before .before .before .before .before .before .before .before .before .before .before .before in let q = c .before .before .before .before .before .before .before .before .before .before .loop in let t = c .before .before .before .before .before .before .before .before .if1 .taken in let g = c .before .before .before .before .before .before .before .before .before .loop-test .taken in let z = q .inv .2 t in let e : q .f - 4 + 4 ≡ q .f = omega arith in let a = c .before .before .before .refine-family in (writing-four (faceCoordinate (tension (s .args .t)) (s .args .n) (s .args .work .now)) (s .args .n / 4) (s .args .out .now) (q .out) _ (q .f - 4) (q .f) (s .pre .0 .2) e (q .inv .0) (a .ensures .0), family-refining (s .args .n) (s .args .v) (s .args .edges) (s .args .faces .now) (s .args .work .now) (s .pre .0 .1) (q .faces) _ (q .f - 4) (q .f) e (q .inv .1) (a .kept .1 .0) (a .ensures .1), λ t. omega arith)
 
 loop2-holds : tie.Need-loop2-holds Inv-loop2 μ-loop2 Inv-loop μ-loop
-loop2-holds c = let s = c .before .before .before .before .before in let q = c .before .before .loop in let g = c .before .loop-test .taken in let z = ended (s .args .later) (q .f) (c .if1 .end) g (q .inv .2) (cases (c .if1 .came) (λ x. inl (x .3)) (λ x. inr (x .0 .left, x .1))) in let b = z .0 in (omega arith, b, z .1, (λ o b x. x), λ c k x. x)
+loop2-holds c = let s = c .before .before .before .before .before in let q = c .before .before .loop in let g = c .before .loop-test .taken in let z = faces-end (s .args .later) (q .f) (c .if1 .end) g (q .inv .2) (cases (c .if1 .came) (λ x. inl (x .3)) (λ x. inr (x .0 .left, x .1))) in let b = z .0 in (omega arith, b, z .1, (λ o b x. x), λ c k x. x)
 
 loop-less-2 : tie.Need-loop-less-2 Inv-loop2 μ-loop2 Inv-loop μ-loop
 loop-less-2 c = let s = c .before .before .before .before .before .before .before in let q = c .before .before .before .before .loop in let g = c .before .loop2 .inv .1 in let a = c .before .loop2 .inv .0 in let l = c .loop2-test .left in omega arith
