@@ -11,7 +11,7 @@ use lib.ListN.{length, getD, set}
 use lib.Seq.{getD-set-same, getD-set-other}
 use borrow.Author.Tests.{lt-ltb, le-ltb, eq-eqb, eqb-true}
 use Rattle.search.specs.Search.{count}
-use Rattle.search.proofs.Tests.{cond-elim, refuted}
+use Rattle.search.proofs.Tests.{cond-elim, refuted, clash}
 use Rattle.search.proofs.First.{first-before, first-holds}
 use Rattle.search.proofs.Count.{count-more, count-same, count-skip, count-none, count-mono}
 use Rattle.topology.specs.Shape.{quads}
@@ -26,7 +26,7 @@ use Rattle.tables.proofs.Laws.{same-front}
 use Rattle.halfedges.proofs.Tables.{mates-cong}
 use Rattle.refinedfaces.specs.Refined.{refinedVertices, refined}
 use Rattle.schemelaws.specs.Ordinary.{Ordinary, ringOfFour, fanOfTwo}
-use Rattle.schemelaws.proofs.Made.{made-ordinary, old-ordinary}
+use Rattle.schemelaws.proofs.Made.{made-ordinary, old-ordinary, ordinary-old}
 use Rattle.classes.specs.Classes.{ringSize, sizeAt, RingSizes, ordinaryBy, Classes, Countable, shareOf, CountedBelow}
 
 leaves-on : (l : List ℕ) (p h : ℕ) → from l h ≡ p → leaves l p h ≡ true
@@ -55,11 +55,15 @@ module _ (l : List ℕ) (p : ℕ) where
       go (yes b) = let s = ring-size-boundary b in fanOfTwo b (omega arith)
       go (no b) = let c : boundaryFrom quads l p ≡ length l = omega (arith, boundaryFrom-le quads l p) in let s = ring-size-inner c in ringOfFour c (omega arith)
 
+  ordinary-four : Ordinary l p → ringSize l p ≡ 4
+  ordinary-four (ringOfFour b n) = ring-size-inner b ∙ n
+  ordinary-four (fanOfTwo b n) = let s = ring-size-boundary b in omega arith
+
 -- ---- classes after a round
 -- the table is the same for the initial vertices
 pub classes-same : (v at initial : ℕ) (l w w′ : List ℕ) → at + initial ≤ length w′ → ((p : ℕ) → p < initial → getD w′ (at + p) 0 ≡ getD w (at + p) 0) → Classes v at initial l w → Classes v at initial l w′
 unfolding ordinaryBy
-classes-same v at initial l w w′ b f k = record { fewer = k .fewer; room = b; ordinary = λ p c e. k .ordinary p c (sym (same p (decLt p initial)) ∙ e) }
+classes-same v at initial l w w′ b f k = record { fewer = k .fewer; room = b; ordinary = λ p c e. k .ordinary p c (sym (same p (decLt p initial)) ∙ e); irregular = λ p c e. k .irregular p c (sym (same p (decLt p initial)) ∙ e) }
   where
     same : (p : ℕ) → Dec (p < initial) → ordinaryBy w′ at initial p ≡ ordinaryBy w at initial p
     same p (yes c) = let e = f p c in rw e
@@ -67,8 +71,12 @@ classes-same v at initial l w w′ b f k = record { fewer = k .fewer; room = b; 
 
 pub classes-refined : (v at initial : ℕ) (l w : List ℕ) → Manifold quads v l → Classes v at initial l w → Classes (refinedVertices quads v l) at initial (refined quads v l) w
 unfolding ordinaryBy
-classes-refined v at initial l w ok k = record { fewer = (let f = k .fewer in omega arith); room = k .room; ordinary = λ p c e. go p c e (decLt p v) }
+classes-refined v at initial l w ok k = record { fewer = (let f = k .fewer in omega arith); room = k .room; ordinary = λ p c e. go p c e (decLt p v); irregular = λ p c e o. no-go p e o (decLt p v) }
   where
+    no-go : (p : ℕ) → ordinaryBy w at initial p ≡ false → Ordinary (refined quads v l) p → Dec (p < v) → ⊥
+    no-go p e o (yes b) = k .irregular p b e (ordinary-old v l ok p b o)
+    no-go p e o (no b) = let f = k .fewer in let d = le-ltb p initial (omega arith) in clash (ordinaryBy w at initial p) (rw d) e
+
     go : (p : ℕ) → p < refinedVertices quads v l → ordinaryBy w at initial p ≡ true → Dec (p < v) → Ordinary (refined quads v l) p
     go p c e (yes b) = old-ordinary v l ok p b (k .ordinary p b e)
     go p c e (no b) = made-ordinary v l ok p (omega arith) c
@@ -122,6 +130,7 @@ classes-counted v at l w ok b r = record {
   fewer = omega arith;
   room = b;
   ordinary = λ p c e. let d = lt-ltb p v c in let x = eqb-true (sizeAt w (at + p)) 4 (rw d at e) in let y = r .sizes p c in let z = ring-size-few v l ok p c in four-ordinary l p (omega arith);
+  irregular = λ p c e o. let d = lt-ltb p v c in let y = r .sizes p c in let z = ordinary-four l p o in let x = eq-eqb (sizeAt w (at + p)) 4 (omega arith) in clash (ordinaryBy w at v p) (rw (d, x)) e;
 }
 
 pub counted-all : (v at : ℕ) (l w : List ℕ) → Manifold quads v l → CountedBelow v at l w (length l) → RingSizes v at l w

@@ -1,7 +1,7 @@
 -- Which vertices are ordinary, by the sizes of their rings: a table w has the ring size of vertex p of the net where refining begins, in 16 bits, at the place at + p.
 -- Vertices that rounds made are ordinary.
 use mathlib.Core.Path.{_≡_}
-use mathlib.Core.Bool.{Bool, true, cond}
+use mathlib.Core.Bool.{Bool, true, false, cond}
 use mathlib.Core.List.{List}
 use Prim.Native.Nat.{ℕ, _+_, _*_, _%_, _≤_, _<_}
 use lib.Dec.{ltb, eqb}
@@ -30,11 +30,12 @@ sizeAt w i = getD w i 0 % 65536
 unfoldable pub ordinaryBy : List ℕ → ℕ → ℕ → ℕ → Bool
 ordinaryBy w at initial p = cond (ltb p initial) (eqb (sizeAt w (at + p)) 4) true
 
--- of the v vertices of the net with corners l, those that the table says to be ordinary are
+-- of the v vertices of the net with corners l, those that the table says to be ordinary are, and the others are not
 pub record Classes (v at initial : ℕ) (l w : List ℕ) : Type 0 where
   pub fewer : initial ≤ v
   pub room : at + initial ≤ length w
   pub ordinary : (p : ℕ) → p < v → ordinaryBy w at initial p ≡ true → Ordinary l p
+  pub irregular : (p : ℕ) → p < v → ordinaryBy w at initial p ≡ false → Ordinary l p → ⊥
 
 -- ---- counting
 -- corners l of a manifold net of v vertices, and a table w with their mates in front and room for v numbers from `at` on

@@ -18,13 +18,13 @@ use Rattle.topology.proofs.Mates.{mate-is, mate-back}
 use Rattle.topology.proofs.Boundary.{along-on, back-on}
 use Rattle.nets.specs.Net.{marked}
 use Rattle.scheme.specs.Points.{insideSegment, startOfSegment, endOfSegment, wholeSegment, innerRule, edgeRule}
-use Rattle.schemelaws.specs.Ordinary.{Ordinary, straight, ordinaryValue}
+use Rattle.schemelaws.specs.Ordinary.{Ordinary, OrdinaryEnds, straight, ordinaryValue}
 use Rattle.schemelaws.proofs.Made.{straight-read}
 use Rattle.coordinates.specs.declared.Far.{Far}
 use Rattle.coordinates.specs.declared.Far.the-variants.{At, Nowhere}
 use Rattle.coordinates.specs.Points.{InTable, Points, OnAxes}
 use Rattle.coordinates.specs.Stencil.{FarIn, farValue, stencilValue, interiorValue}
-use Rattle.edgepoints.specs.Edge.{CornerOf, StraightFar, OrdinaryEnds}
+use Rattle.edgepoints.specs.Edge.{CornerOf, StraightFar}
 
 -- ---- the same values on the axes
 pub on-axes-as : (f g : ℕ → ℤ) (x y z : ℤ) → ((a : ℕ) → f a ≡ g a) → OnAxes f x y z → OnAxes g x y z

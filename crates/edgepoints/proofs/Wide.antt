@@ -25,7 +25,7 @@ use Rattle.topology.specs.Boundary.{along, back}
 use Rattle.topology.specs.Manifold.{Manifold}
 use Rattle.nets.specs.Net.{marked, axis}
 use Rattle.scheme.specs.Points.{EdgeRule, insideSegment, startOfSegment, endOfSegment, wholeSegment, innerRule, edgeRule}
-use Rattle.schemelaws.specs.Ordinary.{Ordinary, straight, ordinaryValue, ordinaryEdge}
+use Rattle.schemelaws.specs.Ordinary.{Ordinary, OrdinaryEnds, straight, ordinaryValue, ordinaryEdge}
 use Rattle.schemelaws.specs.Numerators.{virtualAtZ, edgeValueZ, edgeZ}
 use Rattle.schemelaws.proofs.FanOfTwo.{virtual-ordinary}
 use Rattle.schemelaws.proofs.Ties.{equals-virtualAt, edge-boundary}
@@ -38,7 +38,7 @@ use Rattle.coordinates.specs.Points.{Points, OnAxes}
 use Rattle.coordinates.specs.Entry.{wideFlag, boundaryFlag, unitOf}
 use Rattle.coordinates.specs.Stencil.{farValue, stencilValue}
 use Rattle.coordinates.proofs.Values.{axis-bound}
-use Rattle.edgepoints.specs.Edge.{farBefore, farAfter, farOn, StraightFar, OrdinaryEnds, ClassedCorners, Flagged, plain, wide, boundary, ExactEdge, ExactPoint}
+use Rattle.edgepoints.specs.Edge.{farBefore, farAfter, farOn, StraightFar, ClassedCorners, Flagged, plain, wide, boundary, ExactEdge, ExactPoint}
 use Rattle.edgepoints.proofs.Plain.{rule-inner, rule-boundary}
 
 -- ---- the end of a half-edge is a corner too
@@ -46,6 +46,11 @@ pub classed-end : (v : ℕ) (l : List ℕ) → Manifold quads v l → (w : List 
     → ordinaryBy w at initial (to quads l h) ≡ true → Ordinary l (to quads l h)
 unfolding to
 classed-end v l ok w at initial c h k e = c .ordinary (quads .next h) (ok .oriented .shape .next-lt h k) e
+
+pub irregular-end : (v : ℕ) (l : List ℕ) → Manifold quads v l → (w : List ℕ) (at initial : ℕ) → ClassedCorners at initial l w → (h : ℕ) → h < length l
+    → ordinaryBy w at initial (to quads l h) ≡ false → Ordinary l (to quads l h) → ⊥
+unfolding to
+irregular-end v l ok w at initial c h k e = c .irregular (quads .next h) (ok .oriented .shape .next-lt h k) e
 
 module _ (t : ℕ) (low : t ≤ 4) where
   -- ---- scaled coordinates
@@ -93,9 +98,9 @@ module _ (t : ℕ) (low : t ≤ 4) where
       unfolding unitOf
       wide-edge flag f a z e = record { value = ap (λ (i : ℕ). pos (unitOf (tension t) i) *ℤ z) f ∙ one-*ℤ z ∙ e; small = inner-in-range a h k m }
 
-      pub wide-point : (flag : ℕ) (x y z : ℤ) → (flag ≡ wideFlag) × OnAxes (λ (a : ℕ). edgeValueZ (tension t) l (axis points a) h innerRule) x y z
+      pub wide-point : (Ordinary l (from l h) → Ordinary l (to quads l h) → ⊥) → (flag : ℕ) (x y z : ℤ) → (flag ≡ wideFlag) × OnAxes (λ (a : ℕ). edgeValueZ (tension t) l (axis points a) h innerRule) x y z
           → Flagged l h flag × ExactPoint (tension t) flag (λ (a : ℕ). edgeValueZ (tension t) l (axis points a) h innerRule) x y z
-      wide-point flag x y z (f, p) = (wide m f, record { on₀ = wide-edge flag f 0 x (p .on₀); on₁ = wide-edge flag f 1 y (p .on₁); on₂ = wide-edge flag f 2 z (p .on₂) })
+      wide-point n flag x y z (f, p) = (wide m n f, record { on₀ = wide-edge flag f 0 x (p .on₀); on₁ = wide-edge flag f 1 y (p .on₁); on₂ = wide-edge flag f 2 z (p .on₂) })
 
     -- an inner edge between ordinary vertices
     module _ (h : ℕ) (o : OrdinaryEnds l h) where

@@ -1,6 +1,6 @@
 -- The exact point of one edge on the caller's tables.
 use mathlib.Core.Path.{_≡_}
-use mathlib.Core.Bool.{true, cond}
+use mathlib.Core.Bool.{Bool, true, false, cond}
 use mathlib.Core.List.{List}
 use Prim.Native.Nat.{ℕ, _+_, _≤_, _<_}
 use lib.IntN.{ℤ, pos, natAbs, _*ℤ_}
@@ -42,13 +42,6 @@ pub record CornerOf (l : List ℕ) (o : ℕ) : Type 0 where
   pub lt : at < length l
   pub is : from l at ≡ o
 
--- h is an inner half-edge between ordinary vertices
-pub record OrdinaryEnds (l : List ℕ) (h : ℕ) : Type 0 where
-  pub lt : h < length l
-  pub inner : mate quads l h < length l
-  pub start : Ordinary l (from l h)
-  pub end : Ordinary l (to quads l h)
-
 -- the far point beyond the ordinary vertex that the inner half-edge h leaves
 pub record StraightFar (l : List ℕ) (h : ℕ) (f : Far) : Type 0 where
   pub value : (e : ℕ → ℤ) → farValue e f (e (from l h)) (e (to quads l h)) ≡ straight l e h
@@ -58,15 +51,21 @@ pub record StraightFar (l : List ℕ) (h : ℕ) (f : Far) : Type 0 where
 abbrev pub farOn : (ℕ → ℤ) → Far → (p q : ℕ) → ℤ
 farOn e f p q = farValue e f (e p) (e q)
 
--- the corners of l that the classes in w, from `at` on, call ordinary are
+-- the corners of l that the classes in w, from `at` on, call ordinary are, and the others are not
 pub record ClassedCorners (at initial : ℕ) (l w : List ℕ) : Type 0 where
   pub room : at + initial ≤ length w
   pub ordinary : (h : ℕ) → h < length l → ordinaryBy w at initial (from l h) ≡ true → Ordinary l (from l h)
+  pub irregular : (h : ℕ) → h < length l → ordinaryBy w at initial (from l h) ≡ false → Ordinary l (from l h) → ⊥
 
--- the flag that the edge of h has. Open, and may differ between correct programs: whether an inner edge between ordinary vertices is wide
+-- r tells whether both ends of h are ordinary
+pub record ClassedEnds (l : List ℕ) (h : ℕ) (r : Bool) : Type 0 where
+  pub both : r ≡ true → Ordinary l (from l h) × Ordinary l (to quads l h)
+  pub not-both : r ≡ false → Ordinary l (from l h) → Ordinary l (to quads l h) → ⊥
+
+-- the flag that the edge of h has
 pub data Flagged (l : List ℕ) (h flag : ℕ) : Type 0 where
   plain : mate quads l h < length l → Ordinary l (from l h) → Ordinary l (to quads l h) → flag ≡ 0 → Flagged l h flag
-  wide : mate quads l h < length l → flag ≡ wideFlag → Flagged l h flag
+  wide : mate quads l h < length l → (Ordinary l (from l h) → Ordinary l (to quads l h) → ⊥) → flag ≡ wideFlag → Flagged l h flag
   boundary : mate quads l h ≡ length l → flag ≡ boundaryFlag → Flagged l h flag
 
 -- x is a coordinate of the point of an edge with this flag: X is the same over `edgeScale`

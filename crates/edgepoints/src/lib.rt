@@ -12,14 +12,14 @@ ghost use Rattle.topology.specs.HalfEdge.{from, to, mate};
 ghost use Rattle.topology.specs.Boundary.{OnBoundary, along, back};
 ghost use Rattle.scheme.specs.Points.{innerRule, edgeRule};
 ghost use Rattle.nets.specs.Net.{marked, axis};
-ghost use Rattle.schemelaws.specs.Ordinary.{Ordinary, ordinaryValue};
+ghost use Rattle.schemelaws.specs.Ordinary.{Ordinary, OrdinaryEnds, ordinaryValue};
 ghost use Rattle.schemelaws.specs.Numerators.{virtualAtZ, edgeValueZ, edgeZ};
 ghost use Rattle.halfedges.specs.Tables.{Quadrilaterals};
 ghost use Rattle.walks.specs.Ready.{Ready};
 ghost use Rattle.coordinates.specs.Points.{InTable, Points, Marks, OnAxes};
 ghost use Rattle.coordinates.specs.Entry.{wideFlag, boundaryFlag};
 ghost use Rattle.coordinates.specs.Stencil.{FarIn, stencilValue};
-ghost use Rattle.edgepoints.specs.Edge.{ruleOf, farBefore, farAfter, farOn, StraightFar, OrdinaryEnds, ClassedCorners, Flagged, ExactPoint};
+ghost use Rattle.edgepoints.specs.Edge.{ruleOf, farBefore, farAfter, farOn, StraightFar, ClassedCorners, ClassedEnds, Flagged, ExactPoint};
 use coordinates::Exact;
 use coordinates::Far;
 
@@ -275,6 +275,18 @@ fn wide_edge(
     }
 }
 
+// Whether both ends of h are ordinary.
+fn ordinary_ends(faces: &[u32], work: &[u32], at: usize, initial: usize, h: usize) -> bool
+    requires { ⌜ Ready (now faces) (now work) ⌝ }
+    requires { ⌜ ClassedCorners at initial (now faces) (now work) × (h < length (now faces)) ⌝ }
+    ensures { λ r. ⌜ ClassedEnds (now (faces .entry)) h r ⌝ }
+{
+    if classes::is_ordinary(work, at, initial, halfedges::start_of(faces, h)) {
+        return classes::is_ordinary(work, at, initial, halfedges::end_of(faces, h));
+    }
+    false
+}
+
 // The point on the inner edge of h, whose mate is m.
 fn inner_edge(
     points: &[i32],
@@ -291,16 +303,14 @@ fn inner_edge(
     requires { ⌜ (h < length (now faces)) × (m ≡ mate quads (now faces) h) × (m < length (now faces)) × (t ≤ 4) ⌝ }
     ensures { λ e. ⌜ Flagged (now (faces .entry)) h (e .flag) × ExactPoint (tension t) (e .flag) (λ (a : ℕ). edgeValueZ (tension t) (now (faces .entry)) (axis (now (points .entry)) a) h innerRule) (e .x) (e .y) (e .z) ⌝ }
 {
-    if classes::is_ordinary(work, at, initial, halfedges::start_of(faces, h)) {
-        if classes::is_ordinary(work, at, initial, halfedges::end_of(faces, h)) {
-            let e = plain_exact(points, faces, work, h, m, t);
-            return Edge {
-                x: e.x,
-                y: e.y,
-                z: e.z,
-                flag: 0,
-            };
-        }
+    if ordinary_ends(faces, work, at, initial, h) {
+        let e = plain_exact(points, faces, work, h, m, t);
+        return Edge {
+            x: e.x,
+            y: e.y,
+            z: e.z,
+            flag: 0,
+        };
     }
     wide_edge(points, faces, work, at, initial, h, m, t)
 }

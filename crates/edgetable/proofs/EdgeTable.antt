@@ -49,12 +49,12 @@ use Rattle.edgetable.specs.EdgeTable.{roundedBy, Small, oldAxis, refined
 module _ (l : List ℕ) (h flag : ℕ) where
   pub flag-fits : Flagged l h flag → flag ≤ boundaryFlag
   flag-fits (plain a b c e) = omega arith
-  flag-fits (wide a e) = omega arith
+  flag-fits (wide a o e) = omega arith
   flag-fits (boundary a e) = omega arith
 
   pub entry-edge : (e : ℕ) → e < wideFlag → Flagged l h flag → edgeOf (e + flag) ≡ e
   entry-edge e b (plain c d f g) = omega arith
-  entry-edge e b (wide c g) = omega arith
+  entry-edge e b (wide c o g) = omega arith
   entry-edge e b (boundary c g) = omega arith
 
   pub entry-place : (n e : ℕ) → e < wideFlag → Flagged l h flag → placeOf n (e + flag) ≡ 2 * n + 6 * e
@@ -66,12 +66,12 @@ flagged-mate : (l : List ℕ) (h flag : ℕ) → mate quads l h < length l → m
 flagged-mate l h flag m b k (plain a c d e) =
     let r = mate-is quads l h m in
     plain m (subst (Ordinary l) (r .end) d) (subst (Ordinary l) (r .start) c) e
-flagged-mate l h flag m b k (wide a e) = wide m e
+flagged-mate l h flag m b k (wide a o e) = let r = mate-is quads l h m in wide m (λ s t. o (subst (Ordinary l) (sym (r .start)) t) (subst (Ordinary l) (sym (r .end)) s)) e
 flagged-mate l h flag m b k (boundary a e) = let z : ⊥ = omega arith in absurd z
 
 -- ---- classes of corners
 pub classed-of : (l marks w : List ℕ) (at initial : ℕ) → Marks l marks → Classes (length marks) at initial l w → ClassedCorners at initial l w
-classed-of l marks w at initial m c = record { room = c .room; ordinary = λ h b e. c .ordinary (from l h) (m .room h b) e }
+classed-of l marks w at initial m c = record { room = c .room; ordinary = λ h b e. c .ordinary (from l h) (m .room h b) e; irregular = λ h b e. c .irregular (from l h) (m .room h b) e }
 
 module _ (t : ℕ) where
   -- ---- what makes a stored number one over `edgeScale`
@@ -79,13 +79,13 @@ module _ (t : ℕ) where
     pub flag-unit : Flagged l h flag → (flag ≡ wideFlag → ⊥) → unitOf (tension t) flag ≡ virtualScale (tension t)
     unfolding unitOf
     flag-unit (plain a b c e) n = ap (unitOf (tension t)) e
-    flag-unit (wide a e) n = absurd (n e)
+    flag-unit (wide a o e) n = absurd (n e)
     flag-unit (boundary a e) n = ap (unitOf (tension t)) e
 
     pub entry-unit : (e : ℕ) → e < wideFlag → Flagged l h flag → unitOf (tension t) (e + flag) ≡ unitOf (tension t) flag
     unfolding unitOf
     entry-unit e b (plain c d f g) = let x = lt-ltb (e + flag) wideFlag (omega arith) in let y = lt-ltb flag wideFlag (omega arith) in simp (x, y)
-    entry-unit e b (wide c g) =
+    entry-unit e b (wide c o g) =
         let x = le-ltb (e + flag) wideFlag (omega arith) in
         let y = le-ltb flag wideFlag (omega arith) in
         let u = lt-ltb (e + flag) boundaryFlag (omega arith) in
@@ -112,7 +112,7 @@ module _ (t : ℕ) where
   unit-cases : (l : List ℕ) (h flag : ℕ) → Flagged l h flag → (unitOf (tension t) flag ≡ 1) ⊎ (unitOf (tension t) flag ≡ virtualScale (tension t))
   unfolding unitOf
   unit-cases l h flag (plain a b c e) = inr (ap (unitOf (tension t)) e)
-  unit-cases l h flag (wide a e) = inl (ap (unitOf (tension t)) e)
+  unit-cases l h flag (wide a o e) = inl (ap (unitOf (tension t)) e)
   unit-cases l h flag (boundary a e) = inr (ap (unitOf (tension t)) e)
 
   number-small : (l : List ℕ) (h flag : ℕ) (X x : ℤ) → Flagged l h flag → ExactEdge (tension t) flag X x → natAbs x ≤ edgeRange (tension t)

@@ -40,7 +40,7 @@ module _ (l : List ℕ) (h entry : ℕ) (few : edge quads l h < wideFlag) (o : E
     where
       go : Flagged l h (o .flag) → ltb entry boundaryFlag ≡ ltb (mate quads l h) (length l)
       go (plain m a b e) = let q = o .is in lt-ltb entry boundaryFlag (omega arith) ∙ sym (lt-ltb (mate quads l h) (length l) m)
-      go (wide m e) = let q = o .is in lt-ltb entry boundaryFlag (omega arith) ∙ sym (lt-ltb (mate quads l h) (length l) m)
+      go (wide m x e) = let q = o .is in lt-ltb entry boundaryFlag (omega arith) ∙ sym (lt-ltb (mate quads l h) (length l) m)
       go (boundary m e) = let q = o .is in le-ltb entry boundaryFlag (omega arith) ∙ sym (le-ltb (mate quads l h) (length l) (omega arith))
 
   pub entry-plain : entry < wideFlag → (mate quads l h < length l) × Ordinary l (from l h) × Ordinary l (to quads l h)
@@ -48,7 +48,7 @@ module _ (l : List ℕ) (h entry : ℕ) (few : edge quads l h < wideFlag) (o : E
     where
       go : Flagged l h (o .flag) → (mate quads l h < length l) × Ordinary l (from l h) × Ordinary l (to quads l h)
       go (plain m a c e) = (m, a, c)
-      go (wide m e) = let q = o .is in let z : ⊥ = omega arith in absurd z
+      go (wide m x e) = let q = o .is in let z : ⊥ = omega arith in absurd z
       go (boundary m e) = let q = o .is in let z : ⊥ = omega arith in absurd z
 
 -- ---- conjunctions

@@ -1,4 +1,4 @@
-// The pass over the edges of a round: each edge is numbered as it is met, its exact point goes to the work table, its rounded point behind the old ones.
+// An edge in the tables of a round: it is numbered as it is met, its exact point goes to the work table, its rounded point behind the old ones.
 ghost use mathlib.Core.Path.{_≡_};
 ghost use Prim.Native.Nat.{_+_, _*_, _^_, _≤_};
 ghost use lib.IntN.{natAbs};
@@ -6,17 +6,15 @@ ghost use lib.ListN.{length};
 ghost use Rattle.rounding.specs.Rounding.{round};
 ghost use Rattle.curve.specs.Weights.{tension};
 ghost use Rattle.rings.specs.Scales.{edgeScale, edgeRange};
-ghost use Rattle.topology.specs.Shape.{quads};
-ghost use Rattle.topology.specs.HalfEdge.{edgeCount};
 ghost use Rattle.coordinates.specs.Points.{putPoint};
-ghost use Rattle.edgetable.specs.EdgeTable.{roundedBy, Small, Turn, Turned, Round, Edges};
+ghost use Rattle.edgetable.specs.EdgeTable.{roundedBy, Small, Turn, Turned};
 use coordinates::Exact;
 use edgepoints::Edge;
 
 const WIDE: u32 = 536870912;
 
 // A coordinate over 64, rounded.
-fn rounded_plain(z: i64) -> i32
+pub fn rounded_plain(z: i64) -> i32
     requires { ⌜ natAbs z ≤ 2 ^ 33 ⌝ }
     ensures { λ r. ⌜ r ≡ round z 64 ⌝ }
 {
@@ -58,7 +56,7 @@ fn put_rounded(points: &mut [i32], i: usize, e: Edge, t: u32)
 }
 
 // Makes the point of the edge of half-edge h if the edge is first met there, where `edges` are met before; the answer is how many are met then.
-fn edge_side(
+pub fn edge_side(
     points: &mut [i32],
     faces: &[u32],
     marks: &[u8],
@@ -91,38 +89,4 @@ fn edge_side(
     coordinates::store_exact(&mut *work, 2 * n + 6 * edges, x);
     work[n + h] = edges as u32 + e.flag;
     edges + 1
-}
-
-// Makes the points of all edges; the answer is their number.
-pub fn edge_points(
-    points: &mut [i32],
-    faces: &[u32],
-    marks: &[u8],
-    work: &mut [u32],
-    at: usize,
-    initial: usize,
-    t: u32,
-) -> usize
-    requires { ⌜ Round t (now faces) (now marks) (now points) (now work) at initial ⌝ }
-    ensures { λ r. ⌜ r ≡ edgeCount quads (now (faces .entry)) ⌝ }
-    ensures { λ r. ⌜ Edges t (now (faces .entry)) (now (marks .entry)) (now (points .entry)) (now (work .entry)) (now (points .exit)) (now (work .exit)) (length (now (faces .entry))) (edgeCount quads (now (faces .entry))) ⌝ }
-{
-    let n = faces.len();
-    let mut edges = 0;
-    let mut h = 0;
-    while h < n {
-        edges = edge_side(
-            &mut *points,
-            faces,
-            marks,
-            &mut *work,
-            at,
-            initial,
-            h,
-            edges,
-            t,
-        );
-        h += 1;
-    }
-    edges
 }

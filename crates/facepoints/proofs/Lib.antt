@@ -1,4 +1,3 @@
 pub mod Reading
 pub mod Directions
 pub mod Plain
-pub mod Pass

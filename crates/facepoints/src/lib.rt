@@ -1,18 +1,14 @@
-// The points of all faces of a round, from the mates, the entries of the edges and their exact points in the work table.
+// The points of faces, from the mates, the entries of the edges and their exact points in the work table.
 ghost use mathlib.Core.Path.{_≡_};
-ghost use Prim.Native.Nat.{_+_, _*_, _/_, _^_, _≤_, _<_};
+ghost use Prim.Native.Nat.{_+_, _*_, _^_, _≤_, _<_};
 ghost use lib.IntN.{pos, natAbs, _+ℤ_};
-ghost use lib.ListN.{length, getD, take};
+ghost use lib.ListN.{length, getD};
 ghost use Rattle.rounding.specs.Rounding.{round};
 ghost use Rattle.curve.specs.Weights.{tension};
 ghost use Rattle.rings.specs.Scales.{faceScale, edgeRange};
-ghost use Rattle.topology.specs.Shape.{quads};
-ghost use Rattle.refinedfaces.specs.Refined.{refined};
-ghost use Rattle.tables.specs.Tables.{filled};
 ghost use Rattle.coordinates.specs.Points.{putPoint};
 ghost use Rattle.coordinates.specs.Entry.{entryOf, unitOf, exactAt};
-ghost use Rattle.roundfaces.specs.Faces.{FacesIn};
-ghost use Rattle.facepoints.specs.Faces.{EntryTable, FaceTable, beyondOf, farOf, directionOf, innerTwiceOf, fourInnerOf, faceRuleOf, faceValueOf, faceCoordinate, faceCoordinates};
+ghost use Rattle.facepoints.specs.Faces.{EntryTable, FaceTable, beyondOf, farOf, directionOf, innerTwiceOf, fourInnerOf, faceRuleOf, faceValueOf, faceCoordinate};
 ghost use Rattle.facepoints.specs.Reading.{Readable, PlainAt, PlainEdge, plainDirection, plainCoordinate};
 
 // The entries of plain edges are smaller: inner edges whose points are kept over 64. So is every edge number.
@@ -30,7 +26,7 @@ pub enum FaceRule {
 }
 
 // The entry of the edge of h.
-fn entry(work: &[u32], n: usize, h: usize) -> usize
+pub fn entry(work: &[u32], n: usize, h: usize) -> usize
     requires { ⌜ EntryTable n (now work) × (h < n) ⌝ }
     ensures { λ r. ⌜ (r ≡ entryOf n (now (work .entry)) h) × (r < 2 ^ 32) ⌝ }
 {
@@ -46,7 +42,7 @@ fn mate(work: &[u32], n: usize, h: usize) -> usize
 }
 
 // The entry of the edge beyond the side h.
-fn beyond(work: &[u32], n: usize, h: usize) -> usize
+pub fn beyond(work: &[u32], n: usize, h: usize) -> usize
     requires { ⌜ EntryTable n (now work) × (h < n) × (getD (now work) h 0 < n) ⌝ }
     ensures { λ r. ⌜ (r ≡ entryOf n (now (work .entry)) (beyondOf (now (work .entry)) h)) × (r < 2 ^ 32) ⌝ }
 {
@@ -203,7 +199,7 @@ fn plain_on(work: &[u32], p: usize, q: usize, r: usize, s: usize, t: u32) -> i32
 }
 
 // Writes the point of face f by one direction alone, that of the plain edges p, q, r, s.
-fn plain_face(
+pub fn plain_face(
     out: &mut [i32],
     work: &[u32],
     n: usize,
@@ -240,7 +236,7 @@ fn plain_face(
 }
 
 // Writes the point of face f. Where all eight edges of both directions are plain, as the sums tell, one direction is enough.
-fn put_face(out: &mut [i32], work: &[u32], n: usize, f: usize, t: u32)
+pub fn put_face(out: &mut [i32], work: &[u32], n: usize, f: usize, t: u32)
     requires { ⌜ FaceTable t n (now work) × (4 * f < n) × (3 * f + 3 ≤ length (now out)) ⌝ }
     ensures { λ _. ⌜ now (out .exit) ≡ putPoint (now (out .entry)) f (faceCoordinate (tension t) n (now (work .entry)) 0 f) (faceCoordinate (tension t) n (now (work .entry)) 1 f) (faceCoordinate (tension t) n (now (work .entry)) 2 f) ⌝ }
 {
@@ -260,26 +256,4 @@ fn put_face(out: &mut [i32], work: &[u32], n: usize, f: usize, t: u32)
         }
     }
     general_face(&mut *out, work, n, f, t);
-}
-
-// Writes the points of all faces to `out`, and the refined corners over the corners, from the last face to the first.
-pub fn face_points(
-    out: &mut [i32],
-    faces: &mut [u32],
-    work: &[u32],
-    n: usize,
-    v: usize,
-    edges: usize,
-    t: u32,
-)
-    requires { ⌜ FaceTable t n (now work) × FacesIn n v edges (now faces) (now work) × (3 * (n / 4) ≤ length (now out)) ⌝ }
-    ensures { λ _. ⌜ now (out .exit) ≡ filled (faceCoordinates (tension t) n (now (work .entry))) (now (out .entry)) ⌝ }
-    ensures { λ _. ⌜ now (faces .exit) ≡ filled (refined quads v (take n (now (faces .entry)))) (now (faces .entry)) ⌝ }
-{
-    let mut f = n / 4;
-    while f > 0 {
-        f -= 1;
-        put_face(&mut *out, work, n, f, t);
-        roundfaces::refine_face(&mut *faces, work, n, v, edges, f);
-    }
 }

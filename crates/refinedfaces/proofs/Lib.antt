@@ -8,3 +8,4 @@ pub mod Tables
 pub mod Examples
 pub mod Marks
 pub mod Edges
+pub mod Families

@@ -1,2 +1,3 @@
 pub mod Refined
 pub mod Mates
+pub mod Families

@@ -16,7 +16,7 @@ use Rattle.refinedfaces.specs.Refined.{corner, refined}
 use Rattle.tables.specs.Tables.{filled, putFour, Written}
 use Rattle.roundfaces.specs.Faces.{cornerBy, refinedBy, FaceIn, FacesIn}
 use Rattle.edgenumbers.proofs.Net.{edge-le}
-use Rattle.tables.proofs.Written.{written-as, written-face, Refining, refining-all}
+use Rattle.tables.proofs.Written.{written-then, written-as, written-face, Refining, refining-all}
 
 -- the numbers that a face's corners and edges give
 module _ (n v count f : ℕ) (c w : List ℕ) where
@@ -51,6 +51,17 @@ module _ (n v count f : ℕ) (c w : List ℕ) where
 pub side-le : (n v count f : ℕ) (c w : List ℕ) (i : ℕ) → i < 4 → FaceIn n v count f c w → edgeOf (getD w (n + 4 * f + i) 0) ≤ n
 side-le n v count f c w i b ok = let e = side n v count f c w i in let r = ok .lt in rw e (ok .below (4 * f + i) (omega arith))
 
+-- one face after another, the last first: the corners of those before are still there
+pub corners-then : (n v count a b e : ℕ) (w c c₁ c₂ : List ℕ) → a ≤ b → b ≤ e → Written b e (refinedBy n v count c w) c c₁ → Written a b (refinedBy n v count c₁ w) c₁ c₂ → Written a e (refinedBy n v count c w) c c₂
+unfolding cornerBy
+corners-then n v count a b e w c c₁ c₂ h k x y =
+    written-then a b e (refinedBy n v count c w) c c₁ c₂ h k x
+    (written-as a b (refinedBy n v count c₁ w) (refinedBy n v count c w) c₁ c₂ (λ i l g. at i (x .before (i / 4) (omega arith)) (i % 4) (omega arith)) y)
+  where
+    at : (i : ℕ) → getD c₁ (i / 4) 0 ≡ getD c (i / 4) 0 → (j : ℕ) → j < 4
+        → cornerBy quads v count (λ (h : ℕ). getD c₁ h 0) (λ (h : ℕ). edgeOf (entryOf n w h)) (i / 4) j ≡ cornerBy quads v count (λ (h : ℕ). getD c h 0) (λ (h : ℕ). edgeOf (entryOf n w h)) (i / 4) j
+    at i p = below-four (λ j. cornerBy quads v count (λ (h : ℕ). getD c₁ h 0) (λ (h : ℕ). edgeOf (entryOf n w h)) (i / 4) j ≡ cornerBy quads v count (λ (h : ℕ). getD c h 0) (λ (h : ℕ). edgeOf (entryOf n w h)) (i / 4) j) p refl refl refl
+
 -- ---- the faces of a net, from the last to the first
 corner-by : (S : Shape) (v : ℕ) (l : List ℕ) (c e : ℕ → ℕ) (h : ℕ) → c h ≡ from l h → e h ≡ edge S l h → e (S .prev h) ≡ edge S l (S .prev h) → (j : ℕ) → j < 4
     → cornerBy S v (edgeCount S l) c e h j ≡ corner S v l h j
@@ -84,6 +95,18 @@ module _ (n v count : ℕ) (faces w : List ℕ) (ok : FacesIn n v count faces w)
   corners-as c c′ f p x y =
       let b = x .le in
       written-as (16 * (f - 1)) (16 * (f - 1) + 16) _ _ c c′ (λ k h g. rw (ok .counted) (corner-by quads v l (λ (h : ℕ). getD c h 0) (λ (h : ℕ). edgeOf (entryOf n w h)) (k / 4)
+      (x .written .before (k / 4) (omega arith) ∙ sym (getD-take n faces (k / 4) 0 (omega arith)))
+      (ok .numbered (k / 4) (omega arith))
+      (ok .numbered (quads .prev (k / 4)) (omega arith)) (k % 4) (omega arith))) y
+
+  -- so are those of the faces from f on
+  pub corners-from : (c c′ : List ℕ) (f e : ℕ) → Refining n (λ (k : ℕ). corner quads v (take n faces) (k / 4) (k % 4)) faces c e
+      → Written (16 * f) (16 * e) (refinedBy n v count c w) c c′
+      → Written (16 * f) (16 * e) (λ (k : ℕ). corner quads v (take n faces) (k / 4) (k % 4)) c c′
+  unfolding l from quads
+  corners-from c c′ f e x y =
+      let b = x .le in
+      written-as (16 * f) (16 * e) _ _ c c′ (λ k h g. rw (ok .counted) (corner-by quads v l (λ (h : ℕ). getD c h 0) (λ (h : ℕ). edgeOf (entryOf n w h)) (k / 4)
       (x .written .before (k / 4) (omega arith) ∙ sym (getD-take n faces (k / 4) 0 (omega arith)))
       (ok .numbered (k / 4) (omega arith))
       (ok .numbered (quads .prev (k / 4)) (omega arith)) (k % 4) (omega arith))) y

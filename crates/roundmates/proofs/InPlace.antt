@@ -1,17 +1,20 @@
 -- Laws of mates refined in place.
-use mathlib.Core.Path.{_≡_, refl, sym, _∙_}
+use mathlib.Core.Path.{_≡_, refl, sym, _∙_, subst}
 use mathlib.Core.List.{List}
 use Prim.Native.Nat.{ℕ, _+_, _-_, _*_, _/_, _%_, _≤_, _<_}
 use native.Mathlib.Omega.{arith}
 use lib.ListN.{length, getD, take}
 use lib.Seq.{length-take-le, getD-take}
+use borrow.Author.Tests.{lt-ltb}
 use Rattle.search.proofs.Quarters.{below-four}
 use Rattle.topology.specs.Shape.{Shape, quads}
 use Rattle.topology.proofs.Shape.{four-sides}
+use Rattle.refinedfaces.specs.Families.{Facing}
+use Rattle.refinedfaces.proofs.Families.{next-other}
 use Rattle.refinedfaces.specs.Mates.{refinedMate, refinedMates}
 use Rattle.tables.specs.Tables.{filled, putFour, Written}
 use Rattle.tables.proofs.Written.{written-as, written-face, Refining, refining-all}
-use Rattle.roundmates.specs.Mates.{firstMate, SidesIn, MatesIn}
+use Rattle.roundmates.specs.Mates.{firstMate, SidesIn, MatesIn, FacingSides, LaterIn}
 
 -- one face
 module _ (n f : ℕ) (w : List ℕ) where
@@ -73,3 +76,14 @@ module _ (n : ℕ) (w : List ℕ) (ok : MatesIn n w) where
       let r = ok .room in
       let m = length-take-le n w (omega arith) in
       rw m (refining-all n (λ (k : ℕ). refinedMate quads n (λ (h : ℕ). getD (take n w) h 0) (k / 4) (k % 4)) w u f r z x)
+
+-- ---- in a net that a round made
+-- the mates of face f - 1 are still the old ones
+pub sides-facing : (n : ℕ) (w : List ℕ) → LaterIn n w → (u : List ℕ) (f : ℕ) → 0 < f → Refining n (λ (k : ℕ). refinedMate quads n (λ (h : ℕ). getD (take n w) h 0) (k / 4) (k % 4)) w u f
+    → FacingSides n (f - 1) u
+sides-facing n w ok u f p x = let b = x .le in record { facing = λ g a c. subst (Facing n g) (sym (x .written .before g (omega arith))) (ok .facing g (omega arith)) }
+
+-- sides 1 and 2
+pub first-inner : (n g m : ℕ) → Facing n g m → 0 < g % 4 → g % 4 < 3 → firstMate n m ≡ 4 * m + 7
+unfolding firstMate
+first-inner n g m ok a b = let i = ok .inner a b in let t = lt-ltb m n i in rw t (next-other n g m ok i a)

@@ -6,6 +6,7 @@ use lib.ListN.{length, getD}
 use lib.Dec.{ltb}
 use Rattle.topology.specs.Shape.{quads}
 use Rattle.halfedges.specs.Tables.{Quadrilaterals}
+use Rattle.refinedfaces.specs.Families.{Facing}
 
 -- the mate of side 0 of a refined face at a half-edge with the mate m, of n half-edges
 unfoldable pub firstMate : ℕ → ℕ → ℕ
@@ -23,3 +24,10 @@ pub record MatesIn (n : ℕ) (w : List ℕ) : Type 0 where
   pub sides : Quadrilaterals n
   pub room : 4 * n ≤ length w
   pub below : (g : ℕ) → g < n → getD w g 0 ≤ n
+
+-- the mates of face f, and all mates, lie as after a round
+pub record FacingSides (n f : ℕ) (w : List ℕ) : Type 0 where
+  pub facing : (g : ℕ) → 4 * f ≤ g → g < 4 * f + 4 → Facing n g (getD w g 0)
+
+pub record LaterIn (n : ℕ) (w : List ℕ) : Type 0 where
+  pub facing : (g : ℕ) → g < n → Facing n g (getD w g 0)

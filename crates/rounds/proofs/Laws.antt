@@ -19,20 +19,24 @@ use Rattle.topology.specs.HalfEdge.{mate, edgeCount}
 use Rattle.topology.specs.Manifold.{Oriented}
 use Rattle.refinedfaces.specs.Refined.{refinedVertices, refined, refinedMarks}
 use Rattle.refinedfaces.specs.Mates.{refinedMates}
+use Rattle.refinedfaces.specs.Families.{AfterRound, Facing}
+use Rattle.refinedfaces.proofs.Families.{later-facing}
 use Rattle.scheme.specs.Step.{step}
 use Rattle.halfedges.specs.Tables.{Quadrilaterals, MateTable}
 use Rattle.halfedges.proofs.Tables.{mates-cong}
 use Rattle.schemelaws.proofs.Steps.{refinable-manifold, step-faces, step-marks, step-count}
 use Rattle.roundfaces.specs.Faces.{extended, FacesIn}
 use Rattle.roundfaces.proofs.Round.{vertices-refined, marks-refined, marks-cong}
-use Rattle.roundmates.specs.Mates.{MatesIn}
+use Rattle.roundmates.specs.Mates.{MatesIn, LaterIn}
 use Rattle.roundmates.proofs.Round.{mates-in, mated-refined, mates-rest}
 use Rattle.classes.specs.Classes.{Classes}
 use Rattle.coordinates.specs.Entry.{entryOf, edgeOf}
 use Rattle.facepoints.specs.Faces.{faceCoordinates, FaceTable}
+use Rattle.familyfaces.specs.Family.{FamilyTable}
 use Rattle.letters.specs.Letters.{newLetter, Nameable, WrittenIf}
 use Rattle.edgetable.specs.EdgeTable.{Round, Edges}
 use Rattle.edgetable.proofs.Faces.{face-table, number-is, inner-is}
+use Rattle.passes.proofs.FamilyTable.{family-table}
 use Rattle.rounds.proofs.Points.{face-room, points-made}
 use Rattle.rounds.specs.Round.{Current, Refines}
 use Rattle.nets.specs.Buffers.{Buffers, buffers, front}
@@ -100,6 +104,11 @@ module _ (t v n at initial : ℕ) (B : Buffers) (c : Current t v n at initial B)
         let e = corners in
         let r = c .roomWork in
         subst (λ (j : ℕ). MatesIn j w′) e (mates-in l w′ sides (omega arith) g)
+
+    pub mates-later : AfterRound l → LaterIn n w′
+    mates-later a =
+        let at : LaterIn (length l) w′ = record { facing = λ q k. subst (Facing (length l) q) (sym (g .mates q k)) (later-facing l a q k) } in
+        subst (λ (j : ℕ). LaterIn j w′) corners at
 
     module _ (w″ : List ℕ) (h : w″ ≡ filled (refinedMates quads (take n w′)) w′) where
       pub mates-next : MateTable (step (tension t) old .faces) w″
@@ -173,6 +182,9 @@ module _ (t v n at initial : ℕ) (B : Buffers) (c : Current t v n at initial B)
 
     pub face-ready : FaceTable t n w₁
     face-ready = subst (λ (k : ℕ). FaceTable t k w₁) corners (face-table t l mk points w at initial ready p₁ w₁ done)
+
+    pub family-ready : AfterRound l → FamilyTable n w₁
+    family-ready a = subst (λ (k : ℕ). FamilyTable k w₁) corners (family-table t l mk points w at initial ready p₁ w₁ done a)
 
     pub net-ready : (count : ℕ) → count ≡ edgeCount quads l → FacesIn n v count faces w₁
     net-ready count h =

@@ -2,7 +2,7 @@
 use mathlib.Core.Path.{_≡_, refl, sym, ap, _∙_, subst}
 use mathlib.Core.Bool.{Bool}
 use mathlib.Core.List.{List}
-use Prim.Native.Nat.{ℕ, suc, _+_, _*_, _^_, _≤_, _<_}
+use Prim.Native.Nat.{ℕ, zero, suc, _+_, _*_, _^_, _≤_, _<_}
 use native.Mathlib.Nat.{pow-suc, pow-le-pow-right, mul-le-mul-left, one-le-pow, mul-assoc, mul-comm}
 use native.Mathlib.Omega.{arith}
 use lib.IntN.{ℤ}
@@ -26,19 +26,20 @@ use Rattle.scheme.specs.Step.{step, steps}
 use Rattle.schemelaws.specs.Nets.{Refinable}
 use Rattle.schemelaws.proofs.Steps.{step-faces, step-count, steps-count, refinable-steps, refinable-manifold}
 use Rattle.schemelaws.proofs.Growth.{steps-input}
+use Rattle.refinedfaces.specs.Families.{AfterRound}
 use Rattle.halfedges.specs.Tables.{MateTable}
 use Rattle.halfedges.proofs.Tables.{mates-cong}
 use Rattle.classes.specs.Classes.{RingSizes, Classes, Countable}
 use Rattle.classes.proofs.Classes.{classes-counted, classes-same, classes-refined}
 use Rattle.refinedfaces.specs.Mates.{refinedMates}
-use Rattle.roundmates.specs.Mates.{MatesIn}
+use Rattle.roundmates.specs.Mates.{MatesIn, LaterIn}
 use Rattle.origins.specs.Origins.{letterOf, originFrom}
 use Rattle.origins.proofs.Named.{origin-kept, origin-new}
 use Rattle.letters.specs.Letters.{newLetter, WrittenIf}
 use Rattle.rounds.specs.Round.{Current, Refines}
 use Rattle.nets.specs.Buffers.{Buffers, buffers, front}
 use Rattle.rounds.specs.Rounds.{Prepared, After, LettersAfter}
-use Rattle.rounds.proofs.Laws.{count-le, count-is, mates-ready, mates-next, mates-past}
+use Rattle.rounds.proofs.Laws.{count-le, count-is, mates-ready, mates-later, mates-next, mates-past}
 
 -- a list at the front of a table of its length is the whole
 filled-self : {A : Type 0} (n : ℕ) (d : List A) → n ≤ length d → d ≡ filled (take n d) d
@@ -52,6 +53,15 @@ next-size n i =
 
 pub again : (n i c : ℕ) → c ≡ n * 4 ^ i → c * 4 ≡ n * 4 ^ (i + 1)
 again n i c e = let g = next-size n i in omega arith
+
+-- after the first round the net is one that a round made
+steps-later : (t : ℕ) (m : Net) → Refinable m → (i : ℕ) → 0 < i → AfterRound (steps (tension t) i m .faces)
+unfolding steps
+steps-later t m ok zero h = let z : ⊥ = omega arith in absurd z
+steps-later t m ok (suc i) h =
+    let old : Net = steps (tension t) i m in
+    let r = refinable-steps (tension t) m ok i in
+    record { vertices = length (old .marks); before = old .faces; net = refinable-manifold old r; fours = r .fours; is = step-faces (tension t) old }
 
 -- the tables with another work table
 abbrev withWork : Buffers → List ℕ → Buffers
@@ -146,6 +156,9 @@ module _ (t k v n last : ℕ) (B : Buffers) (ok : Prepared t k v n last B) where
         (ap (take (3 * r)) (a .newPoints) ∙ take-filled _ points (3 * r) (omega arith))
         (ap (take (n * 4 ^ i)) (a .newFaces) ∙ take-filled _ faces (n * 4 ^ i) (a .corners))
         (ap (take r) (a .newMarks) ∙ take-filled _ marks r (a .count))
+
+    pub later-net : 0 < i → AfterRound (take (n * 4 ^ i) faces₁)
+    later-net h = subst (λ (x : Net). AfterRound (x .faces)) (sym front-is) (steps-later t m (ok .refinable) i h)
 
     module _ (h : i ≤ k) where
       reached : n * 4 ^ i ≤ n * 4 ^ k
@@ -261,6 +274,9 @@ module _ (t k v n last : ℕ) (B : Buffers) (ok : Prepared t k v n last B) where
 
         pub ready-mates : MatesIn (n * 4 ^ i) w₂
         ready-mates = mates-ready t r (n * 4 ^ i) (8 * last) v B₁ current w₂ z (e .mated)
+
+        pub later-mates : 0 < i → LaterIn (n * 4 ^ i) w₂
+        later-mates q = mates-later t r (n * 4 ^ i) (8 * last) v B₁ current w₂ z (e .mated) (later-net q)
 
         module _ (w₃ : List ℕ) (y : length w₃ ≡ length w₂) (d : w₃ ≡ filled (refinedMates quads (take (n * 4 ^ i) w₂)) w₂) where
           pub after-mates : After t (i + 1) v n r₂ B (withWork B₂ w₃)

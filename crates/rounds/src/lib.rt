@@ -1,9 +1,12 @@
 // Rounds in the caller's tables: the net at their front is refined in place.
+ghost use mathlib.Core.Path.{_≡_};
+ghost use mathlib.Core.Bool.{true};
 ghost use Rattle.rounds.specs.Round.{Current, Refines};
 ghost use Prim.Native.Nat.{_*_, _^_};
 ghost use Rattle.nets.specs.Net.{frontNet};
 ghost use Rattle.nets.specs.Buffers.{buffers};
 ghost use lib.ListN.{take};
+ghost use Rattle.refinedfaces.specs.Families.{AfterRound};
 ghost use Rattle.letters.specs.Letters.{newLetter, WrittenIf};
 ghost use Rattle.rounds.specs.Rounds.{Prepared, After, LettersFit, LettersAfter};
 
@@ -21,14 +24,16 @@ fn round(
     at: usize,
     initial: usize,
     t: u32,
+    later: bool,
 ) -> usize
     requires { ⌜ Current t v n at initial (buffers (now points) (now faces) (now marks) (now work)) ⌝ }
     requires { ⌜ LettersFit «with_letters» (4 * n) (now letters) ⌝ }
+    requires { ⌜ (later ≡ true → AfterRound (take n (now faces))) ⌝ }
     ensures { λ r. ⌜ Refines t v n r (buffers (now (points .entry)) (now (faces .entry)) (now (marks .entry)) (now (work .entry)))
         (buffers (now (points .exit)) (now (faces .exit)) (now (marks .exit)) (now (work .exit))) ⌝ }
     ensures { λ r. ⌜ WrittenIf «with_letters» v r (newLetter (take n (now (faces .entry))) (take v (now (marks .entry)))) (now (letters .entry)) (now (letters .exit)) ⌝ }
 {
-    let edges = edgetable::edge_points(
+    let edges = passes::edge_points(
         &mut *points,
         &faces[..n],
         &marks[..v],
@@ -36,6 +41,7 @@ fn round(
         at,
         initial,
         t,
+        later,
     );
     letters::name_points(
         with_letters,
@@ -48,7 +54,30 @@ fn round(
     let count = v + edges + n / 4;
     roundfaces::extend_marks(&mut *marks, v, count);
     let first = 3 * (v + edges);
-    facepoints::face_points(&mut points[first..], &mut *faces, &*work, n, v, edges, t);
+    // Two calls: the compiler then leaves the pass a function of its own, which takes fewer instructions.
+    if later {
+        passes::face_points(
+            &mut points[first..],
+            &mut *faces,
+            &*work,
+            n,
+            v,
+            edges,
+            t,
+            true,
+        );
+        return count;
+    }
+    passes::face_points(
+        &mut points[first..],
+        &mut *faces,
+        &*work,
+        n,
+        v,
+        edges,
+        t,
+        false,
+    );
     count
 }
 
@@ -94,12 +123,13 @@ pub fn rounds(
             at,
             v,
             t,
+            i > 0,
         );
         i += 1;
         if i == k {
             return count;
         }
-        roundmates::refine_mates(&mut *work, corners);
+        roundmates::next_mates(&mut *work, corners, i > 1);
         corners *= 4;
     }
     count

@@ -13,6 +13,7 @@ pub mod Beyond
 pub mod FanOfTwo
 pub mod Plain
 pub mod Made
+pub mod Families
 pub mod OneDirection
 pub mod Directions
 pub mod OrdinarySizes

@@ -19,6 +19,13 @@ pub data Ordinary (l : List ℕ) (q : ℕ) : Type 0 where
   ringOfFour : boundaryFrom quads l q ≡ length l → valence l q ≡ 4 → Ordinary l q
   fanOfTwo : boundaryFrom quads l q < length l → valence l q ≡ 2 → Ordinary l q
 
+-- h is an inner half-edge between ordinary vertices
+pub record OrdinaryEnds (l : List ℕ) (h : ℕ) : Type 0 where
+  pub lt : h < length l
+  pub inner : mate quads l h < length l
+  pub start : Ordinary l (from l h)
+  pub end : Ordinary l (to quads l h)
+
 -- what the virtual point on an inner edge h is at an ordinary vertex P that h leaves for Q: the neighbour straight across, or Q mirrored at P where there is none
 unfoldable pub straight : List ℕ → (ℕ → ℤ) → ℕ → ℤ
 straight l p h =

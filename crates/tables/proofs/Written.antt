@@ -19,7 +19,7 @@ written-none a f w = record {
 }
 
 -- first from b on, then up to b
-written-then : (a b e : ℕ) (f : ℕ → ℕ) (w w₁ w₂ : List ℕ) → a ≤ b → b ≤ e → Written b e f w w₁ → Written a b f w₁ w₂ → Written a e f w w₂
+pub written-then : (a b e : ℕ) (f : ℕ → ℕ) (w w₁ w₂ : List ℕ) → a ≤ b → b ≤ e → Written b e f w w₁ → Written a b f w₁ w₂ → Written a e f w w₂
 written-then a b e f w w₁ w₂ ab be x y = record {
   before = λ k h. y .before k h ∙ x .before k (omega arith);
   inside = λ k h g. go k h g (decLt k b);
@@ -144,6 +144,16 @@ module _ (n : ℕ) (g : ℕ → ℕ) (w : List ℕ) where
         le = omega arith;
         kept = k ∙ x .kept;
         written = written-then (16 * (f - 1)) (16 * (f - 1) + 16) (4 * n) g w u u′ (omega arith) (omega arith) (rw e at (x .written)) y;
+      }
+
+  -- several faces together
+  pub refining-to : (u u′ : List ℕ) (f e : ℕ) → f ≤ e → Refining n g w u e → length u′ ≡ length u → Written (16 * f) (16 * e) g u u′ → Refining n g w u′ f
+  refining-to u u′ f e h x k y =
+      let b = x .le in
+      record {
+        le = omega arith;
+        kept = k ∙ x .kept;
+        written = written-then (16 * f) (16 * e) (4 * n) g w u u′ (omega arith) (omega arith) (x .written) y;
       }
 
   pub refining-all : (u : List ℕ) (f : ℕ) → 4 * n ≤ length w → f ≤ 0 → Refining n g w u f → u ≡ filled (tabulate (4 * n) g) w

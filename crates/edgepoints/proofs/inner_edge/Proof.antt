@@ -1,5 +1,4 @@
 -- `inner_edge` meets its contract. Assumes nothing.
-use mathlib.Core.Path.{sym, ap, _∙_}
 use Prim.Native.Nat.{_<_}
 use native.Mathlib.Omega.{arith}
 use borrow.Author.Needs.{needs}
@@ -9,59 +8,37 @@ use mir.Val.{SFits}
 use mir.Facts.{toZ-ofZ}
 use Rattle.topology.specs.Shape.{quads}
 use Rattle.topology.specs.HalfEdge.{mate}
-use Rattle.classes.specs.Classes.{ordinaryBy}
-use Rattle.edgepoints.specs.Edge.{OrdinaryEnds}
-use Rattle.edgepoints.proofs.Wide.{plain-point, wide-point, classed-end}
+use Rattle.schemelaws.specs.Ordinary.{OrdinaryEnds}
+use Rattle.edgepoints.proofs.Wide.{plain-point, wide-point}
 use Rattle.edgepoints.proofs.inner_edge.Statement.{statement}
 use Rattle.edgepoints.proofs.inner_edge.Tie as tie
 
 inner : (s : tie.Start) → mate quads (s .args .faces .now) (s .args .h) < length (s .args .faces .now)
 inner s = let e = s .pre .1 .1 .1 in let b = s .pre .1 .1 .2 in omega arith
 
-ends : (c : tie.Then2) → (let s = c .before .before .before .before .before .before .before .before in OrdinaryEnds (s .args .faces .now) (s .args .h))
+ends : (c : tie.Then1) → (let s = c .before .before .before .before in OrdinaryEnds (s .args .faces .now) (s .args .h))
 ends c =
-    let y = c .before in
-    let q = y .before in
-    let i = q .before in
-    let x = i .before in
-    let p = x .before in
-    let s = p .before .before .before in
-    let classed = s .pre .1 .0 .1 in
-    let by = ordinaryBy (s .args .work .now) (s .args .at) (s .args .initial) in
-    let e = ap by (sym (p .start-of .ensures)) ∙ sym (x .is-ordinary .ensures) ∙ i .if1 .taken in
-    let f = ap by (sym (q .end-of .ensures)) ∙ sym (y .is-ordinary2 .ensures) ∙ c .if2 .taken in
-    record {
-      lt = s .pre .1 .1 .0;
-      inner = inner s;
-      start = classed .ordinary _ (s .pre .1 .1 .0) e;
-      end = classed-end (s .pre .0 .vertices) _ (s .pre .0 .net) _ _ _ classed _ (s .pre .1 .1 .0) f;
-    }
+    let x = c .before in
+    let s = x .before .before .before in
+    let o = x .ordinary-ends .ensures .both (c .if1 .taken) in
+    record { lt = s .pre .1 .1 .0; inner = inner s; start = o .0; end = o .1 }
 
 fits : (e : tie.After-plain-exact) → SFits w64 (e .plain-exact .result .x) × SFits w64 (e .plain-exact .result .y) × SFits w64 (e .plain-exact .result .z)
 fits e = let k = e .plain-exact .ok in (search (needs, k), search (needs, k), search (needs, k .1 .1))
 
-start-of-requires : tie.Need-start-of-requires
-start-of-requires c κs = search needs
-
-is-ordinary-requires : tie.Need-is-ordinary-requires
-is-ordinary-requires c κs = search needs
-
-end-of-requires : tie.Need-end-of-requires
-end-of-requires c κs = search needs
-
-is-ordinary-requires-2 : tie.Need-is-ordinary-requires-2
-is-ordinary-requires-2 c κs = search needs
+ordinary-ends-requires : tie.Need-ordinary-ends-requires
+ordinary-ends-requires c κs = search needs
 
 plain-exact-requires : tie.Need-plain-exact-requires
 plain-exact-requires c κs =
-    let s = c .before .before .before .before .before .before .before .before in
+    let s = c .before .before .before .before in
     (s .pre .0, (s .pre .1 .0 .0, ends c, s .pre .1 .1 .1, s .pre .1 .1 .3))
 
 returns : tie.Need-returns
 returns c =
     let e = c .before in
     let i = e .before in
-    let s = i .before .before .before .before .before .before .before .before in
+    let s = i .before .before .before .before in
     let r = e .plain-exact .result in
     let f₁ : SFits w64 (r .x) = fits e .0 in
     let f₂ : SFits w64 (r .y) = fits e .1 in
@@ -73,18 +50,17 @@ wide-edge-requires c κs = search needs
 
 returns-2 : tie.Need-returns-2
 returns-2 c =
-    let s = c .before .before .before .before .before .before in
+    let i = c .before in
+    let x = i .before in
+    let s = x .before .before .before in
     let r = c .wide-edge .result in
-    wide-point (s .args .t) (s .pre .1 .1 .3) (s .pre .0 .vertices) _ (s .pre .0 .net) (s .args .points .now) (s .pre .1 .0 .0) _ (s .pre .1 .1 .0) (inner s) (r .flag) (r .x) (r .y) (r .z) (c .wide-edge .ensures)
+    wide-point (s .args .t) (s .pre .1 .1 .3) (s .pre .0 .vertices) _ (s .pre .0 .net) (s .args .points .now) (s .pre .1 .0 .0) _ (s .pre .1 .1 .0) (inner s) (x .ordinary-ends .ensures .not-both (i .if1 .left)) (r .flag) (r .x) (r .y) (r .z) (c .wide-edge .ensures)
 
 pub inner-edge-spec : {M : Type 1} → statement M
 inner-edge-spec =
     tie.close
     (tie.spec
-    start-of-requires
-    is-ordinary-requires
-    end-of-requires
-    is-ordinary-requires-2
+    ordinary-ends-requires
     plain-exact-requires
     returns
     wide-edge-requires

@@ -1,7 +1,8 @@
 -- `rounds::rounds` meets its contract: before each round the mates and the classes are those of its net. Assumes nothing.
 use mathlib.Core.Path.{_≡_, refl, sym, _∙_, subst}
-use Prim.Native.Nat.{ℕ, _+_, _-_, _*_, _^_, _≤_}
+use Prim.Native.Nat.{ℕ, _+_, _-_, _*_, _^_, _≤_, _<_}
 use native.Mathlib.Omega.{arith}
+use borrow.Author.Tests.{ltb-true}
 use lib.ListN.{length, take}
 use Rattle.letters.specs.Letters.{newLetter, WrittenIf}
 use Rattle.halfedges.specs.Tables.{MateTable}
@@ -12,7 +13,7 @@ use Rattle.nets.specs.Net.{frontNet}
 use Rattle.rounds.specs.Round.{Current, Refines}
 use Rattle.nets.specs.Buffers.{Buffers, buffers}
 use Rattle.rounds.specs.Rounds.{Prepared, After, LettersAfter}
-use Rattle.rounds.proofs.Steps.{again, sized, after-none, letters-none, letters-next, mated-none, classes-none, corners-room, corners-length, countable, prepared-classes, after-classes, kept-points, kept-faces, kept-marks, current, after-next, ready-mates, after-mates, mated-next, classes-next}
+use Rattle.rounds.proofs.Steps.{again, sized, after-none, letters-none, letters-next, mated-none, classes-none, corners-room, corners-length, countable, prepared-classes, after-classes, kept-points, kept-faces, kept-marks, later-net, current, after-next, ready-mates, later-mates, after-mates, mated-next, classes-next}
 use Rattle.rounds.proofs.rounds.Statement.{statement}
 use Rattle.rounds.proofs.rounds.Tie as tie
 
@@ -148,7 +149,7 @@ round-requires c κs =
     let e : h .corners ≡ s .args .n * 4 ^ h .i = h .inv .1 in
     let r = sized (s .args .t) (s .args .k) (s .args .v) (s .args .n) (s .args .last) (given s) (s .pre .0) (h .i) (y .loop-test .taken) in
     let l = h .inv .6 in
-    rw e (open-round y, λ a. omega (arith, s .pre .1 a))
+    rw e (open-round y, ((λ a. omega (arith, s .pre .1 a)), λ g. later-net (s .args .t) (s .args .k) (s .args .v) (s .args .n) (s .args .last) (tables (counted x)) (ready (counted x)) (h .i) (h .count) (held x) (h .inv .2) (ltb-true _ _ g)))
 
 add-i : tie.Need-add-i Inv-loop μ-loop
 add-i c = let y = turn (c .before .before .before .before .before .before .before .before .before) in let b = y .loop-test .taken in let q = start (y .before) .pre .0 .few in omega arith
@@ -190,18 +191,20 @@ returns-2 c =
     let e : x .loop .i + 1 ≡ start x .args .k = let t = c .if2 .taken in omega arith in
     (since (counted x) (x .loop .i + 1) (z .round .result) (made z) e (done z), rw (sym e) (lettered z))
 
-refine-mates-requires : tie.Need-refine-mates-requires Inv-loop μ-loop
-refine-mates-requires c κs =
+next-mates-requires : tie.Need-next-mates-requires Inv-loop μ-loop
+next-mates-requires c κs =
     let z = c .before .before .before .before .before .before .before .before .before .before .before in
     let x = top z in
     let s = start x in
     let h = x .loop in
     let e : h .corners ≡ s .args .n * 4 ^ h .i = h .inv .1 in
-    rw e (ready-mates (s .args .t) (s .args .k) (s .args .v) (s .args .n) (s .args .last) (tables (counted x)) (ready (counted x)) (h .i) (h .count) (held x) (h .inv .2) (h .inv .3) (h .inv .4) (turn z .loop-test .taken) _ (made z)
-    (refined z) (z .round .kept .1 .1 .1 .1 .1 .0))
+    rw e (
+      ready-mates (s .args .t) (s .args .k) (s .args .v) (s .args .n) (s .args .last) (tables (counted x)) (ready (counted x)) (h .i) (h .count) (held x) (h .inv .2) (h .inv .3) (h .inv .4) (turn z .loop-test .taken) _ (made z) (refined z) (z .round .kept .1 .1 .1 .1 .1 .0),
+      λ g. later-mates (s .args .t) (s .args .k) (s .args .v) (s .args .n) (s .args .last) (tables (counted x)) (ready (counted x)) (h .i) (h .count) (held x) (h .inv .2) (h .inv .3) (h .inv .4) (turn z .loop-test .taken) _ (made z) (refined z) (z .round .kept .1 .1 .1 .1 .1 .0) (let l : 1 < h .i + 1 = ltb-true 1 (h .i + 1) g in omega arith),
+    )
 
 -- after the mates are refined
-abbrev rounded : tie.After-refine-mates Inv-loop μ-loop → tie.After-round Inv-loop μ-loop
+abbrev rounded : tie.After-next-mates Inv-loop μ-loop → tie.After-round Inv-loop μ-loop
 rounded t = t .before .before .before .before .before .before .before .before .before .before .before .before
 
 mul-corners : tie.Need-mul-corners Inv-loop μ-loop
@@ -223,10 +226,10 @@ loop-again c =
     let s = start x in
     let h = x .loop in
     let e : h .corners ≡ s .args .n * 4 ^ h .i = h .inv .1 in
-    let d = rw e at (t .refine-mates .ensures) in
+    let d = rw e at (t .next-mates .ensures) in
     let b = turn z .loop-test .taken in
     let k = z .round .kept .1 .1 .1 .1 .1 .0 in
-    let y = t .refine-mates .kept .0 in (
+    let y = t .next-mates .kept .0 in (
       omega arith,
       again (s .args .n) (h .i) _ e,
       after-mates (s .args .t) (s .args .k) (s .args .v) (s .args .n) (s .args .last) (tables (counted x)) (ready (counted x)) (h .i) (h .count) (held x) (h .inv .2) (h .inv .3) (h .inv .4) b _ (made z) (refined z) k _ y d,
@@ -291,7 +294,7 @@ rounds-spec =
     same-length-4
     same-length-5
     returns-2
-    refine-mates-requires
+    next-mates-requires
     mul-corners
     loop-less
     loop-again

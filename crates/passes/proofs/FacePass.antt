@@ -1,5 +1,5 @@
 -- The loop over faces: points written over the front of a table, from the last to the first. Assumes nothing.
-use mathlib.Core.Path.{_≡_, refl, sym, ap, _∙_}
+use mathlib.Core.Path.{_≡_, refl, sym, ap, _∙_, subst}
 use mathlib.Core.List.{List}
 use Prim.Native.Nat.{ℕ, zero, suc, _+_, _-_, _*_, _/_, _%_, _≤_, _<_}
 use native.Mathlib.Decide.{decLt}
@@ -12,6 +12,7 @@ use Rattle.lists.proofs.Tabulate.{length-tabulate, getD-tabulate}
 use Rattle.lists.proofs.Parts.{joined}
 use Rattle.tables.specs.Tables.{filled}
 use Rattle.coordinates.specs.Points.{putPoint}
+use Rattle.familyfaces.specs.Family.{putFamily}
 
 -- ---- one point
 length-point : (t : List ℤ) (i : ℕ) (x y z : ℤ) → length (putPoint t i x y z) ≡ length t
@@ -68,6 +69,26 @@ module _ (G : ℕ → ℕ → ℤ) (m : ℕ) (o : List ℤ) where
           let i : f - 1 ≡ k / 3 = omega arith in
           point-same (λ (a : ℕ). G a (f - 1)) t (f - 1) (omega arith) k (k % 3) (omega arith) (omega arith) ∙ ap (G (k % 3)) i
       at k h g (no l) = point-other t (f - 1) (G 0 (f - 1)) (G 1 (f - 1)) (G 2 (f - 1)) k (omega arith) ∙ x .points k (omega arith) g
+
+  writing-step : (t t′ : List ℤ) (f : ℕ) → 3 * m ≤ length o → Writing t (f + 1) → t′ ≡ putPoint t f (G 0 f) (G 1 f) (G 2 f) → Writing t′ f
+  writing-step t t′ f b x p =
+      let e : f + 1 - 1 ≡ f = omega arith in
+      subst (Writing t′) e (writing-next t t′ (f + 1) (omega arith) b x (subst (λ (i : ℕ). t′ ≡ putPoint t i (G 0 i) (G 1 i) (G 2 i)) (sym e) p))
+
+  -- the four points of a family
+  pub writing-four : (t t′ : List ℤ) (f e : ℕ) → 3 * m ≤ length o → f + 4 ≡ e → Writing t e → t′ ≡ putFamily G t f → Writing t′ f
+  unfolding putFamily
+  writing-four t t′ f e b q x p =
+      let t₁ : List ℤ = putPoint t (f + 3) (G 0 (f + 3)) (G 1 (f + 3)) (G 2 (f + 3)) in
+      let t₂ : List ℤ = putPoint t₁ (f + 2) (G 0 (f + 2)) (G 1 (f + 2)) (G 2 (f + 2)) in
+      let t₃ : List ℤ = putPoint t₂ (f + 1) (G 0 (f + 1)) (G 1 (f + 1)) (G 2 (f + 1)) in
+      let e₃ : e ≡ f + 3 + 1 = omega arith in
+      let e₂ : f + 3 ≡ f + 2 + 1 = omega arith in
+      let e₁ : f + 2 ≡ f + 1 + 1 = omega arith in
+      let x₁ : Writing t₁ (f + 3) = writing-step t t₁ (f + 3) b (subst (Writing t) e₃ x) refl in
+      let x₂ : Writing t₂ (f + 2) = writing-step t₁ t₂ (f + 2) b (subst (Writing t₁) e₂ x₁) refl in
+      let x₃ : Writing t₃ (f + 1) = writing-step t₂ t₃ (f + 1) b (subst (Writing t₂) e₁ x₂) refl in
+      writing-step t₃ t′ f b x₃ p
 
   pub writing-all : (t : List ℤ) (f : ℕ) → f ≤ 0 → 3 * m ≤ length o → Writing t f → t ≡ filled (tabulate (3 * m) (λ (k : ℕ). G (k % 3) (k / 3))) o
   unfolding filled

@@ -1,0 +1,4 @@
+pub mod Line
+pub mod Lines
+pub mod Going
+pub mod PlainFamily

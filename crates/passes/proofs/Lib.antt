@@ -1,0 +1,3 @@
+pub mod FacePass
+pub mod FamilyTable
+pub mod Turns
