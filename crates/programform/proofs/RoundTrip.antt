@@ -31,7 +31,7 @@ use Rattle.splitting.proofs.Growth.{start-within}
 use Rattle.splitting.proofs.Room.{refinable-vertices-le}
 use Rattle.outcome.proofs.Accepted.{accepted-drawn, accepted-refinable}
 use Rattle.outcome.proofs.Counts.{corners-grown, start-corners}
-use Rattle.textform.specs.Form.{Vertex, Face, Net, parsed}
+use Rattle.textform.specs.Form.{Vertex, Face, parsed}
 use Rattle.textform.specs.Written.{VertexFits, FaceFits, Each, NetFits}
 use Rattle.textform.specs.Text.{netText}
 use Rattle.textform.proofs.Back.{net-back}
