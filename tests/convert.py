@@ -1,5 +1,5 @@
 #!/usr/bin/env python3
-"""Tests tools/convert.py, and the cure that README.md names for line ends and a byte order mark. The exit status is 1 if a check fails."""
+"""Tests tools/convert.py, and the cure that docs/FORMS.md names for line ends and a byte order mark. The exit status is 1 if a check fails."""
 import pathlib
 import re
 import subprocess
@@ -218,7 +218,7 @@ def both_ways():
 
 
 def cures(folder):
-    form = (ROOT / "README.md").read_text(encoding="utf-8")
+    form = (ROOT / "docs/FORMS.md").read_text(encoding="utf-8")
     command = re.search(r"^    (sed -i .*) net\.txt$", form, re.M)[1]
     for kind, sample in ("text", SAMPLE), ("net", HATCH_NET):
         bare = sample.replace("\n", "\r\n")

@@ -111,6 +111,11 @@ for name, text in texts.items():
     for pattern, due, least in LIMITS:
         hold(name, pattern, text, due, least if name.endswith("gedrovit.h") else 0)
 
+# ---- the script
+SCRIPT = running(read("refine"))
+hold("refine", r"longest=N most_faces=N most_vertices=N", SCRIPT, [(TEXT, PROGRAM_G, PROGRAM_V)])
+hold("refine", r"N bytes, N vertices, N refined faces, 0 to N rounds. The call that makers build in serves N refined", SCRIPT, [(TEXT, PROGRAM_V, PROGRAM_G, ROUNDS, G)])
+
 # ---- the overshoot of the cushion, at 100 counts to a millimetre
 CUSHION = re.findall(r"^tension (\d): .*, (\d+) beyond .*, (\d+) above ", read("tests/package/tension.out"), re.M)
 for tension, outline, top in CUSHION:
@@ -119,7 +124,7 @@ for tension, outline, top in CUSHION:
 
 # ---- the table of refusals: a table with rows 1 to 12. Rows have these numbers, and no other ones of four digits or more
 ROWS = {1: {ROUNDS}, 3: {V, F, G}, 5: {COORDINATE}, 11: {RING_LEAST, RING, FAN}, 13: {TEXT}, 14: set(SIDES), 15: {TALLY}, 16: {TENSION}}
-ALSO = {4: {PROGRAM_V}}
+ALSO = {4: {PROGRAM_V, G}}
 documents = [ROOT / "README.md", *sorted(ROOT.glob("docs/*.md"))]
 tables = [table for path in documents for table in re.findall(r"(?:^\|.*\n)+", path.read_text(encoding="utf-8"), re.M)]
 tables = [dict(re.findall(r"^\| *(\d+) *\|(.*)", table, re.M)) for table in tables]
