@@ -73,6 +73,17 @@ no_kit() {
     ! env PATH="$scratch/no-kit/bin" "$(command -v make)" -C "$scratch/no-kit" >"$scratch/said" 2>&1 && cat "$scratch/said" && grep -q 'Rattle kit, whose command rt was not found' "$scratch/said"
 }
 
+# What make offers: its help names every target, a target that is none is an error, and nothing is made of a script by its name.
+targets() {
+    local target
+    make_package help >"$scratch/help" && grep -q LIBDIR "$scratch/help" || return
+    for target in $(sed -n 's/^\.PHONY: all \(.*\) always$/\1/p' "$root/Makefile"); do
+        grep -q "^make .*\b$target\b" "$scratch/help" || { echo "no help on $target"; return 1; }
+    done
+    diff <(printf './test.sh\n') <(make_package -n check) && diff <(printf './test.sh\n') <(make_package -n test) \
+        && ! make_package -n tools/pictures >"$scratch/said" 2>&1 && grep -q 'No rule to make target' "$scratch/said" && [ ! -e "$root/test" ]
+}
+
 # The archive defines no names but its own, and needs nothing but the C library's memory functions.
 symbols() {
     diff <(printf 'gedrovit_%s\n' check refine sizes_for version "version_${version//./_}") <(nm -g --defined-only -j "$prefix/lib/libgedrovit.a" | grep -v ':$' | grep . | LC_ALL=C sort -u) \
@@ -336,6 +347,7 @@ check "headers alone, in C11 and C++17" headers_alone
 check "make install" installed_files
 check "make install with DESTDIR, make uninstall" staged_files
 check "make without the kit" no_kit
+check "what make offers" targets
 check "symbols of the archive" symbols
 check "one version everywhere" versions
 check "numbers in definitions, headers and documents" python3 "$root/tests/package/numbers.py"

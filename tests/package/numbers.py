@@ -116,6 +116,13 @@ SCRIPT = running(read("refine"))
 hold("refine", r"longest=N most_faces=N most_vertices=N", SCRIPT, [(TEXT, PROGRAM_G, PROGRAM_V)])
 hold("refine", r"N bytes, N vertices, N refined faces, 0 to N rounds. The call that makers build in serves N refined", SCRIPT, [(TEXT, PROGRAM_V, PROGRAM_G, ROUNDS, G)])
 
+# ---- the converter
+LINES = re.findall(r"(?m)^([A-Z_, ]+) = ([\d_, ]+)$", read("tools/convert.py"))
+CONSTANTS = {name: int(value) for names, values in LINES for name, value in zip(names.split(", "), values.split(", "))}
+KNOWN = {"LIMIT": COORDINATE, "BYTES": TEXT, "VERTICES": PROGRAM_V, "REFINED": PROGRAM_G, "CALL_VERTICES": V, "CALL_FACES": F, "CALL_REFINED": G,
+         "LEAST_SIDES": SIDES[0], "MOST_SIDES": SIDES[1], "MOST_ROUNDS": ROUNDS}
+faults += [f"tools/convert.py: {name} is not {value}" for name, value in KNOWN.items() if CONSTANTS.get(name) != value]
+
 # ---- the overshoot of the cushion, at 100 counts to a millimetre
 CUSHION = re.findall(r"^tension (\d): .*, (\d+) beyond .*, (\d+) above ", read("tests/package/tension.out"), re.M)
 for tension, outline, top in CUSHION:
