@@ -39,10 +39,10 @@ run() {
 run "documents agree with the tree" python3 tests/documents.py
 run "reference implementation" cargo test --offline --quiet --manifest-path tests/Cargo.toml
 run "program against the reference" python3 tests/program.py
+run "archive for C" rt staticlib capi
 run "the script ./refine" python3 tests/script.py
 run "the converter" python3 tests/convert.py
 run "examples and pictures" python3 tests/pictures.py
-run "archive for C" rt staticlib capi
 run "against the reference through the C interface" cargo run --release --offline --quiet --manifest-path tests/differential/Cargo.toml
 run "calls from C under sanitizers and valgrind" bash tests/sanitize.sh
 run "the package for makers" bash tests/package.sh

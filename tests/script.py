@@ -1,6 +1,6 @@
 #!/usr/bin/env python3
 """Tests the script ./refine: inputs, outputs, exit status, messages, links and folders, and what a first build shows;
-then what the README shows of it, and the links of the documents.
+then every command that README.md shows, the texts that docs/FORMS.md shows, and the links of the documents.
 
 The exit status is 1 if a check fails.
 """
@@ -281,6 +281,37 @@ def documents():
     check('the OBJ text of FORMS.md', run(REFINE, input=b''.join(shown[4:5])), 0, b''.join(shown[5:]))
 
 
+def readme(folder):
+    """Every command that README.md shows, in a folder that looks like a clone; the answer that stands after one is its beginning. Those that take long are named."""
+    page, clone = (ROOT / 'README.md').read_text(encoding='utf-8'), folder / 'clone'
+    clone.mkdir()
+    for path in ROOT.iterdir():
+        if path.name != '.git':
+            (clone / path.name).symlink_to(path)
+    run('make', '-C', ROOT, timeout=1200)
+    done = None
+    for kind, text in re.findall(r'```(\w*)\n(.*?)```', page, re.S):
+        if kind == 'c':
+            (clone / 'square.c').write_text(text)
+            strict = ['cc', '-std=c11', '-Wall', '-Wextra', '-Werror', '-pedantic', '-fsyntax-only', '-I', ROOT / 'package/include', 'square.c']
+            check('the C of README.md', run(*strict, cwd=clone), 0)
+        elif kind == 'sh' and ('pkg-config' not in text or shutil.which('pkg-config')):
+            done = run('bash', '-ec', text, cwd=clone)
+            check(f'README.md: {text}', done, 0, done.stdout, done.stderr.decode())
+        elif not kind and not done.stdout.decode().startswith(text):
+            faults.append(f'README.md shows another answer than {done.stdout[:200]}')
+    if done.stdout.decode().strip() != re.search(r'It prints `(.*?)`', page)[1] and shutil.which('pkg-config'):
+        faults.append(f'the C of README.md prints {done.stdout}')
+    if (clone / 'refined.obj').read_text().count('\nf ') != 256:
+        faults.append('README.md: another refined.obj')
+    for command in re.findall(r'`((?:\./\w+|make|tools/\S+|bench/\S+) ?[^`]*)`', page):
+        if command in ('make check', './test.sh', 'bench/run.sh'):
+            check(command, run('bash', '-c', f'test -x {command}' if '/' in command else f'{command} -n', cwd=clone), 0, b'' if '/' in command else b'./test.sh\n')
+        elif ' ' in command:
+            done = run('bash', '-c', command, cwd=clone)
+            check(f'README.md: {command}', done, 0, done.stdout, done.stderr.decode())
+
+
 def anchors(page):
     """The names by which the headings of a page are linked."""
     return {re.sub(r'[^\w -]', '', heading).lower().replace(' ', '-') for heading in re.findall(r'^#+ (.*)$', page, re.M)}
@@ -290,7 +321,7 @@ def main():
     with tempfile.TemporaryDirectory() as name:
         folder = pathlib.Path(name)
         run(REFINE, timeout=1200)  # so that no check meets a build of the true program
-        for part in inputs, outputs, uses, refusals, builds:
+        for part in inputs, outputs, uses, refusals, builds, readme:
             part(folder)
         terminals()
         documents()

@@ -106,7 +106,7 @@ LIMITS = [
     (r"more than N bytes", [(TEXT,)], 0),
 ]
 texts = {str(path.relative_to(ROOT)): running(path.read_text(encoding="utf-8"))
-         for path in [HEADER, ROOT / "package/include/gedrovit.hpp", ROOT / "README.md", *sorted(RUST.glob("src/*.rs")), *sorted(ROOT.glob("docs/*.md"))]}
+         for path in [HEADER, ROOT / "package/include/gedrovit.hpp", *sorted(ROOT.glob("*.md")), *sorted(RUST.glob("src/*.rs")), *sorted(ROOT.glob("docs/*.md"))]}
 for name, text in texts.items():
     for pattern, due, least in LIMITS:
         hold(name, pattern, text, due, least if name.endswith("gedrovit.h") else 0)
@@ -132,7 +132,7 @@ for tension, outline, top in CUSHION:
 # ---- the table of refusals: a table with rows 1 to 12. Rows have these numbers, and no other ones of four digits or more
 ROWS = {1: {ROUNDS}, 3: {V, F, G}, 5: {COORDINATE}, 11: {RING_LEAST, RING, FAN}, 13: {TEXT}, 14: set(SIDES), 15: {TALLY}, 16: {TENSION}}
 ALSO = {4: {PROGRAM_V, G}}
-documents = [ROOT / "README.md", *sorted(ROOT.glob("docs/*.md"))]
+documents = [*sorted(ROOT.glob("*.md")), *sorted(ROOT.glob("docs/*.md"))]
 tables = [table for path in documents for table in re.findall(r"(?:^\|.*\n)+", path.read_text(encoding="utf-8"), re.M)]
 tables = [dict(re.findall(r"^\| *(\d+) *\|(.*)", table, re.M)) for table in tables]
 tables = [table for table in tables if all(str(number) in table for number in range(1, 13))]
