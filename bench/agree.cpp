@@ -1,5 +1,5 @@
-// Compares the proved call with both forms of the straightforward one, at every tension, without letters and with them: the nets of the benchmark and small
-// nets of every kind.
+// Compares the proved calls, the check and the refining one, with both forms of the straightforward one, at every tension, without letters and with them: the
+// nets of the benchmark and small nets of every kind.
 // The exit status is 1 on the first difference.
 #include "implementations.hpp"
 #include "samples.hpp"
@@ -14,11 +14,12 @@ namespace {
 constexpr int SAMPLES = 1000;
 constexpr uint32_t MOST_ROUNDS = 6;
 
-// Whether a call gives this answer, with the net that was expected, and with its letters where it is to.
+bool same(Verdict a, Verdict b) { return a.reason == b.reason && a.place == b.place; }
+
+// Whether both calls give this answer, with the net that was expected, and with its letters where it is to.
 bool agrees(Implementation &one, const Net &net, uint32_t rounds, bool with_letters, const Straight &expected, Verdict due)
 {
-    Verdict verdict = one.refine(net, rounds, with_letters);
-    return verdict.reason == due.reason && verdict.place == due.place &&
+    return same(one.check(net, rounds), due) && same(one.refine(net, rounds, with_letters), due) &&
            (due.reason != 0 || (one.gave(expected.refined) && (!with_letters || one.gave_letters(expected.letters))));
 }
 
@@ -67,6 +68,13 @@ void compare(Implementations &implementations, Straight &expected, bench_kind ki
         }
 }
 
+// A net that is only checked.
+void compare_check(Implementations &implementations, Straight &expected, bench_kind kind)
+{
+    BenchmarkNet made(kind);
+    agreed(implementations, expected, made.net, 0, made.name);
+}
+
 // What the samples have shown.
 struct Coverage {
     using Counts = std::array<int, 13>;
@@ -112,7 +120,7 @@ int main()
     Implementations implementations;
     Straight expected("expected", false);
     for (int kind = 0; kind < KIND_COUNT; kind++)
-        compare(implementations, expected, static_cast<bench_kind>(kind));
+        (kind < REFINED_COUNT ? compare : compare_check)(implementations, expected, static_cast<bench_kind>(kind));
     Coverage coverage;
     samples::Generator generator(1);
     for (int i = 0; i < SAMPLES; i++) {
@@ -123,6 +131,6 @@ int main()
     if (!coverage.is_whole())
         return std::fprintf(stderr, "the samples do not show every refusal, ring, fan, side count and letter\n"), 1;
     std::printf("%d nets after every round, and %d small nets: %d refined (rings of 3 to 8, fans of 1 to 6, faces of 3 to 8 sides, every letter), %d refused "
-                "(5 to 12); all at tensions 0 to 4, and refused at 5 (16)\n",
-                KIND_COUNT, SAMPLES, coverage.reasons[0], SAMPLES - coverage.reasons[0]);
+                "(5 to 12); all at tensions 0 to 4, and refused at 5 (16); the check of these, and of %d more nets\n",
+                REFINED_COUNT, SAMPLES, coverage.reasons[0], SAMPLES - coverage.reasons[0], KIND_COUNT - REFINED_COUNT);
 }

@@ -14,6 +14,7 @@ class Implementation {
 public:
     explicit Implementation(const char *n) : name(n) {}
     virtual ~Implementation() = default;
+    virtual Verdict check(const Net &net, uint32_t rounds) = 0;
     // With letters or without.
     virtual Verdict refine(const Net &net, uint32_t rounds, bool with_letters) = 0;
     // Whether the last call gave this net, and whether these letters.
@@ -27,13 +28,19 @@ class Product : public Implementation {
 public:
     Product() : Implementation("gedrovit") {}
 
+    Verdict check(const Net &net, uint32_t rounds) override
+    {
+        gedrovit_finding found = gedrovit_check(rounds, &net.points.data()->x, 3 * net.points.size(), net.corners.data(), net.corners.size(), sides_of(net),
+                                                net.sides.size(), net.marks.data(), net.marks.size(), net.tension, vertices.size(), faces.size(),
+                                                marks.size(), true, letters.size(), work.data(), work.size());
+        return {found.reason, found.place};
+    }
+
     Verdict refine(const Net &net, uint32_t rounds, bool with_letters) override
     {
-        const bool splits = !net.sides.empty();
         tally.points = 0;
-        last = gedrovit_refine(&tally, rounds, &net.points.data()->x, 3 * net.points.size(), net.corners.data(), net.corners.size(),
-                               splits ? net.sides.data() : net.marks.data(), net.sides.size(), net.marks.data(), net.marks.size(), net.tension,
-                               vertices.data(), vertices.size(), faces.data(), faces.size(), marks.data(), marks.size(), with_letters, letters.data(),
+        last = gedrovit_refine(&tally, rounds, &net.points.data()->x, 3 * net.points.size(), net.corners.data(), net.corners.size(), sides_of(net),
+                               net.sides.size(), net.marks.data(), net.marks.size(), net.tension, vertices.data(), vertices.size(), faces.data(), faces.size(), marks.data(), marks.size(), with_letters, letters.data(),
                                letters.size(), work.data(), work.size());
         return {last.reason, last.place};
     }
@@ -52,6 +59,9 @@ public:
     }
 
 private:
+    // Without side counts any pointer that is not null.
+    static const uint8_t *sides_of(const Net &net) { return net.sides.empty() ? net.marks.data() : net.sides.data(); }
+
     gedrovit_report last = {};
     gedrovit_tally tally = {};
     std::vector<int32_t> vertices = std::vector<int32_t>(12 * MOST_REFINED, 1);
@@ -63,6 +73,8 @@ private:
 class Straight : public Implementation {
 public:
     Straight(const char *n, bool carries) : Implementation(n), refiner(carries) {}
+
+    Verdict check(const Net &net, uint32_t) override { return refiner.check(net); }
 
     Verdict refine(const Net &net, uint32_t rounds, bool with_letters) override
     {
@@ -91,7 +103,7 @@ struct Implementations {
     std::array<Implementation *, 3> all = {&product, &rebuilt, &carried};
 };
 
-// One of the nets whose refinement is measured.
+// One of the nets that are measured.
 struct BenchmarkNet {
     explicit BenchmarkNet(bench_kind kind)
     {

@@ -74,12 +74,12 @@ inline void count(int row, const Calls &calls)
 }
 
 // `prepare` gives no calls for a row that is not to be measured.
-inline int measure(int argc, char **argv, const std::function<Calls(bench_row)> &prepare)
+inline int measure(int argc, char **argv, int row_count, bench_row (*row)(int), const std::function<Calls(bench_row)> &prepare)
 {
     const std::string mode = argc == 2 ? argv[1] : "";
     if (mode != "time" && mode != "count")
         return std::fprintf(stderr, "usage: %s time | count\n", argv[0]), 2;
-    for (int i = 0; i < ROW_COUNT; i++) {
+    for (int i = 0; i < row_count; i++) {
         const Calls calls = prepare(row(i));
         if (!calls.each.empty())
             (mode == "time" ? print_times : count)(i, calls);

@@ -1,4 +1,4 @@
-/* The nets of the benchmark and the rows that are measured, for C and C++. */
+/* The nets of the benchmark and the rows that are measured. */
 #ifndef BENCH_NETS_H
 #define BENCH_NETS_H
 
@@ -108,7 +108,62 @@ static inline void add_trapezoid(struct bench_net *net)
     }
 }
 
-enum bench_kind { GRID_8, GRID_64, CUBE, RINGS, STRIP, FANS, TRIANGLES, KIND_COUNT };
+/* All faces round two vertices, which are opposite corners of each. In a ring each face shares its other corners with the next and the one before. */
+static inline void add_two_hubs(struct bench_net *net, uint32_t faces, int ring)
+{
+    net->vertex_count = 2 + (ring ? faces : 2 * faces);
+    for (uint32_t i = 0; i < faces; i++)
+        ring ? add_face(net, 0, 2 + i, 1, 2 + (i + 1) % faces) : add_face(net, 0, 2 + 2 * i, 1, 3 + 2 * i);
+}
+
+/* All faces round one vertex, as an open fan. */
+static inline void add_fan(struct bench_net *net, uint32_t faces)
+{
+    net->vertex_count = 2 * faces + 2;
+    for (uint32_t i = 0; i < faces; i++)
+        add_face(net, 0, 2 * i + 1, 2 * i + 2, 2 * i + 3);
+}
+
+/* Numbers below a bound, always the same. */
+static inline uint32_t next_number(uint32_t *state, uint32_t bound)
+{
+    *state = *state * 1664525u + 1013904223u;
+    return (*state >> 16) % bound;
+}
+
+/* As many faces as there may be, each with one of 16 vertices at its first corner, one of 16 others at its second, and so on. */
+static inline void add_random_faces(struct bench_net *net)
+{
+    uint32_t state = 1;
+    net->vertex_count = 64, net->corner_count = 4 * MOST_FACES;
+    for (uint32_t i = 0; i < 4 * MOST_FACES; i++)
+        net->corners[i] = next_number(&state, 16) + 16 * (i % 4);
+}
+
+/* Gives the vertices other numbers; the faces stay in their order. */
+static inline void shuffle_vertices(struct bench_net *net)
+{
+    static struct bench_net old;
+    static uint32_t numbers[MOST_VERTICES];
+    uint32_t state = 1;
+    old = *net;
+    for (uint32_t v = 0; v < net->vertex_count; v++) {
+        uint32_t other = next_number(&state, v + 1);
+        numbers[v] = numbers[other], numbers[other] = v;
+    }
+    for (uint32_t v = 0; v < net->vertex_count; v++) {
+        memcpy(net->vertices + 3 * numbers[v], old.vertices + 3 * v, 3 * sizeof(int32_t));
+        net->marks[numbers[v]] = old.marks[v];
+    }
+    for (size_t i = 0; i < net->corner_count; i++)
+        net->corners[i] = numbers[old.corners[i]];
+}
+
+/* Those that are refined, then those that are only checked. */
+enum bench_kind {
+    GRID_8, GRID_64, CUBE, RINGS, STRIP, FANS, TRIANGLES, REFINED_COUNT,
+    GRID_SHUFFLED = REFINED_COUNT, TWO_HUBS, HUB_RING, HUB_FAN, RANDOM_FACES, KIND_COUNT
+};
 
 static inline void make_net(struct bench_net *net, enum bench_kind kind)
 {
@@ -120,6 +175,11 @@ static inline void make_net(struct bench_net *net, enum bench_kind kind)
     case STRIP: start_net(net, "strip"), add_grid(net, 4095, 1, 250); break;
     case FANS: start_net(net, "fans of six"), add_pieces(net, 170, 1); break;
     case TRIANGLES: start_net(net, "triangles"), add_trapezoid(net); break;
+    case GRID_SHUFFLED: start_net(net, "64 x 63 grid, shuffled"), add_grid(net, 64, 63, 1000), shuffle_vertices(net); break;
+    case TWO_HUBS: start_net(net, "two hubs in all faces"), add_two_hubs(net, 4090, 0); break;
+    case HUB_RING: start_net(net, "ring round two hubs"), add_two_hubs(net, MOST_FACES, 1); break;
+    case HUB_FAN: start_net(net, "fan round a hub"), add_fan(net, MOST_FACES - 1); break;
+    case RANDOM_FACES: start_net(net, "random corners"), add_random_faces(net); break;
     case KIND_COUNT: break;
     }
 }
@@ -131,9 +191,9 @@ struct bench_row {
     int letters;
 };
 
-enum { ROW_COUNT = 27 };
+enum { ROW_COUNT = 27, CHECK_ROW_COUNT = 14 };
 
-static inline struct bench_row row(int which)
+static inline struct bench_row refine_row(int which)
 {
     static const struct bench_row rows[ROW_COUNT] = {
         {GRID_8, 0, 4, 0},    {GRID_8, 1, 4, 0},    {GRID_8, 6, 4, 0},    {GRID_8, 6, 4, 1},    {GRID_8, 6, 2, 0},    {GRID_64, 1, 4, 0},
@@ -141,6 +201,14 @@ static inline struct bench_row row(int which)
         {CUBE, 6, 2, 0},      {RINGS, 1, 4, 0},     {RINGS, 3, 4, 0},     {RINGS, 3, 4, 1},     {RINGS, 3, 2, 0},     {STRIP, 1, 4, 0},
         {STRIP, 3, 4, 0},     {FANS, 1, 4, 0},      {FANS, 3, 4, 0},      {TRIANGLES, 0, 4, 0}, {TRIANGLES, 1, 4, 0}, {TRIANGLES, 1, 2, 0},
         {TRIANGLES, 3, 4, 0}, {TRIANGLES, 3, 4, 1}, {TRIANGLES, 3, 2, 0}};
+    return rows[which];
+}
+
+static inline struct bench_row check_row(int which)
+{
+    static const struct bench_row rows[CHECK_ROW_COUNT] = {
+        {GRID_8, 0, 4, 0}, {GRID_8, 6, 4, 0},    {GRID_64, 0, 4, 0},       {GRID_64, 3, 4, 0},  {CUBE, 0, 4, 0},     {RINGS, 0, 4, 0},   {STRIP, 0, 4, 0},
+        {FANS, 0, 4, 0},   {TRIANGLES, 0, 4, 0}, {GRID_SHUFFLED, 0, 4, 0}, {TWO_HUBS, 0, 4, 0}, {HUB_RING, 0, 4, 0}, {HUB_FAN, 0, 4, 0}, {RANDOM_FACES, 0, 4, 0}};
     return rows[which];
 }
 

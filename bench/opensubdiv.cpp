@@ -78,4 +78,4 @@ Calls prepare(bench_row row)
 
 }
 
-int main(int argc, char **argv) { return measure(argc, argv, prepare); }
+int main(int argc, char **argv) { return measure(argc, argv, ROW_COUNT, refine_row, prepare); }

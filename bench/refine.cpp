@@ -28,5 +28,5 @@ int main(int argc, char **argv)
             calls.each.push_back({one->name, [=] { one->refine(made.net, row.rounds, with_letters); }});
         return calls;
     };
-    return measure(argc, argv, prepare);
+    return measure(argc, argv, ROW_COUNT, refine_row, prepare);
 }

@@ -252,15 +252,20 @@ void Refiner::step(Net &net)
     net.marks.resize(net.points.size());
 }
 
-// The check leaves the adjacency for the first round, unless the net is split.
-Verdict Refiner::refine(const Net &net, uint32_t rounds, Net &refined, std::vector<char> *letters)
+// Leaves the adjacency for the first round, unless the net is split.
+Verdict Refiner::check(const Net &net)
 {
     if (net.tension > MOST_TENSION)
         return {16, 0};
-    bool splits = !net.sides.empty();
-    Verdict verdict = splits ? drawn.check(net) : adjacency.check(net);
+    return net.sides.empty() ? adjacency.check(net) : drawn.check(net);
+}
+
+Verdict Refiner::refine(const Net &net, uint32_t rounds, Net &refined, std::vector<char> *letters)
+{
+    Verdict verdict = check(net);
     if (verdict.reason != 0)
         return verdict;
+    bool splits = !net.sides.empty();
     if (splits)
         split(net, refined);
     else

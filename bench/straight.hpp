@@ -121,7 +121,9 @@ private:
 class Refiner {
 public:
     explicit Refiner(bool carry) : carries(carry) {}
-    // The refined net, with a letter for each of its vertices if a table for them is given, unless there is refusal 16 or one from 5 to 12.
+    // Refusal 16, then 5 to 12.
+    Verdict check(const Net &net);
+    // The refined net, with a letter for each of its vertices if a table for them is given, unless there is a refusal.
     Verdict refine(const Net &net, uint32_t rounds, Net &refined, std::vector<char> *letters);
 
 private:

@@ -8,7 +8,8 @@ import sys
 
 PRODUCT = "gedrovit"
 MEASURES = {"count": "instructions", "time": "nanoseconds"}
-HEADS = {"rebuilt": "anew", "carried": "carried", "whole": "whole", "positions": "positions"}
+CALLS = {"refine": [PRODUCT, "rebuilt", "carried"], "check": [PRODUCT, "check"], "opensubdiv": ["whole", "positions"]}
+HEADS = {"rebuilt": "anew"}
 
 
 def read(lines):
@@ -39,7 +40,7 @@ def print_table(measure, calls, compilers, values, rows):
     ratios = PRODUCT in calls
     head = f"{MEASURES[measure]} for each refined face".ljust(51) + ("Gedrovit".rjust(11) if ratios else "")
     for compiler, call in others:
-        head += f"{compiler} {HEADS[call]}".rjust(16) + ("ratio".rjust(7) if ratios else "")
+        head += f"{compiler} {HEADS.get(call, call)}".rjust(16) + ("ratio".rjust(7) if ratios else "")
     print(head)
     for row, (faces, rounds, name) in sorted(rows.items()):
         line = f"{name:<29}{rounds:>2} round{'s' if rounds != 1 else ' '}{faces:>12,}".ljust(51)
@@ -54,7 +55,7 @@ def print_table(measure, calls, compilers, values, rows):
 
 def main():
     values, rows = read(sys.stdin)
-    calls = ["whole", "positions"] if sys.argv[1] == "opensubdiv" else [PRODUCT, "rebuilt", "carried"]
+    calls = CALLS[sys.argv[1]]
     compilers = list(dict.fromkeys(compiler for _, compiler, _, _ in values))
     for measure in MEASURES:
         if any(key[0] == measure for key in values):

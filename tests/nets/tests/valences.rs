@@ -4,9 +4,10 @@ use std::collections::BTreeSet;
 
 use nets::case::Expected;
 use nets::rng::Rng;
-use nets::valences::{Hub, Numbered, ROWS, any_call, row_call, row_net};
+use nets::valences::{Change, Hub, ROWS, any_call, row_call, row_net};
 use reference::call::Outcome;
 use reference::refusal::check_net;
+use reference::topology::Topology;
 
 #[test]
 fn rows_get_their_refusals() {
@@ -20,17 +21,18 @@ fn rows_get_their_refusals() {
         assert_eq!([reason, place], refusal, "{row:?}");
         reasons.insert(reason);
     }
-    assert_eq!(reasons, [3, 10, 11].into());
+    assert_eq!(reasons, [3, 8, 9, 10, 11].into());
 }
 
 #[test]
 fn the_hub_is_in_all_faces_and_first_or_last() {
     for row in ROWS {
-        let (_, faces, numbered, ..) = row;
+        let (hub, faces, changes, ..) = row;
         let net = row_net(row);
-        let hub = match numbered {
-            Numbered::First => 0,
-            Numbered::Last => net.points.len() - 1,
+        let hub = match changes {
+            [] if hub != Hub::AnyCorners => 0,
+            [Change::FirstToLast] => net.points.len() - 1,
+            _ => continue,
         };
         let at_hub = net.corners().filter(|&corner| corner as usize == hub);
         assert_eq!(at_hub.count(), faces as usize, "{row:?}");
@@ -54,14 +56,50 @@ fn the_largest_have_these_counts() {
         (Hub::FourAndRing, 4_096, 8_192),
         (Hub::RingAndFour, 4_096, 8_192),
         (Hub::TwoAndRing, 4_096, 8_192),
+        (Hub::ThreeFans, 4_096, 4_103),
+        (Hub::Petals, 2_730, 8_191),
+        (Hub::TwoHubs, 4_095, 8_192),
+        (Hub::TwoHubs, 4_096, 8_194),
+        (Hub::FourHubs, 512, 2_052),
+        (Hub::AnyCorners, 4_096, 64),
         (Hub::TriangleWheel, 1_365, 1_366),
         (Hub::TriangleFan, 1_365, 1_367),
     ] {
         let net = hub.net(faces);
         assert_eq!(net.points.len(), vertices, "{hub:?}");
-        let sides = if hub.has_sides() { 3 } else { 4 };
-        assert!(net.faces.iter().all(|face| face.len() == sides), "{hub:?}");
+        let has_sides = |face: &Vec<u32>| face.len() == hub.sides();
+        assert!(net.faces.iter().all(has_sides), "{hub:?}");
     }
+}
+
+#[test]
+fn a_repeated_side_is_repeated_once() {
+    for row in ROWS {
+        let (hub, _, changes, ..) = row;
+        let Some(&Change::Repeated(face, side)) = changes.last() else {
+            continue;
+        };
+        let net = row_net(row);
+        let (last, earlier) = net.faces.split_last().expect("faces");
+        let ends = |face: &[u32], side: usize| [0, 1].map(|i| face[(side + i) % face.len()]);
+        let repeated = ends(last, hub.sides() - 1);
+        assert_eq!(repeated, ends(&earlier[face], side), "{row:?}");
+        assert!(Topology::new(earlier).is_ok(), "{row:?}");
+    }
+}
+
+#[test]
+fn isolated_vertices_make_up_for_shared_corners() {
+    let mut met = BTreeSet::new();
+    for row in ROWS {
+        let (.., changes, _, [_, place]) = row;
+        let net = row_net(row);
+        if let [Change::Isolated(vertex), ..] = changes {
+            assert_eq!(*vertex, place, "{row:?}");
+            met.insert(net.points.len() - net.corners().count());
+        }
+    }
+    assert_eq!(met, [0, 1].into());
 }
 
 /// Nothing but the number of faces is a reason in wheels and fans.
@@ -88,5 +126,7 @@ fn drawn_calls_get_their_refusals() {
             met.insert((case.sides.is_empty(), refusal.reason));
         }
     }
-    assert_eq!(met, [(true, 10), (true, 11), (false, 11)].into());
+    let plain = [9, 10, 11].map(|reason| (true, reason));
+    let with_sides = [9, 11].map(|reason| (false, reason));
+    assert_eq!(met, plain.into_iter().chain(with_sides).collect());
 }
