@@ -27,6 +27,7 @@ mkdir -p target/stamp
 for crate in ${CRATES:-lists search gedrovit}; do
     seq 300
     mkdir -p target/rlib/$crate.rlib
+    mktemp >/dev/null
     [ $crate != search ] || sleep ${PAUSE:-0}
     sleep 0.1
     touch target/stamp/$crate
@@ -236,16 +237,18 @@ def stopped_build(tree, environment):
     for crate in 'search', 'gedrovit':
         (tree / 'target/stamp' / crate).unlink()
     before = {path for path in tree.rglob('*') if path.name != 'refine.log' and path.stem not in ('search', 'gedrovit')}
+    temporary = tree.parent / 'temporary'
+    temporary.mkdir()
     child, screen = pty.fork()
     if child == 0:
-        os.execve(tree / 'refine', ['refine', NET], {**environment, 'PAUSE': '37.125'})
+        os.execve(tree / 'refine', ['refine', NET], {**environment, 'PAUSE': '37.125', 'TMPDIR': str(temporary)})
     shown = b''
     while b'1 of 3' not in shown:
         shown += os.read(screen, 4096)
     os.write(screen, b'\x03')
     shown = rest_of(screen)
     status = os.waitstatus_to_exitcode(os.waitpid(child, 0)[1])
-    left = {path for path in tree.rglob('*') if path.name != 'gedrovit' and path.stem != 'gedrovit'}
+    left = {path for path in tree.rglob('*') if path.stem != 'gedrovit'} | set(temporary.iterdir())
     if status != 130 or 'are proved are kept' not in shown or shown.count('\n') != 1:
         faults.append(f'Ctrl-C while building: status {status}, showed {shown!r}')
     if left != before or runs(b'sleep\x0037.125'):
