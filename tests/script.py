@@ -130,7 +130,7 @@ def refusals(folder):
         faults.append(f'stored texts have the refusals {sorted(stored)}')
     check('--strict with a net', run(REFINE, '--strict', NET), 0, ANSWER)
     (folder / 'long').write_bytes(b'1\n' * 20000)
-    for name, done in ('file', run(REFINE, folder / 'long')), ('pipe', shell(f'cat {folder}/long | {{}}')):
+    for name, done in ('file', run(REFINE, folder / 'long')), ('pipe', shell(f'cat {folder}/long | {{}}')), ('file beside others', shell(f'{{}} {folder}/long 8</dev/zero')):
         check(f'a long {name}', done, 0, b'refusal place\n13 0\n', 'refine: the text has 40000 bytes; at most 32768 are read\n')
     check('a pipe without end', shell('yes | {}'), 0, b'refusal place\n13 0\n', 'refine: refusal 13: ')
     for text, asked in (TEXT.replace(b'4 1 1', b'4 1 5'), '1024 refined faces, from 1 in 5 rounds, and 4 vertices'), (b'# rounds 6\n' + b'v 0 0 0\n' * 9 + b'f 1 2 3 4\n' * 2, '8192 refined faces, from 2 in 6 rounds, and 9 vertices'):
