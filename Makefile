@@ -3,9 +3,15 @@
 #   make                       builds the archive, if it is missing or older than its sources
 #   make install PREFIX=DIR    puts headers, archive, pkg-config and CMake files into DIR, by default /usr/local; DESTDIR goes before DIR
 #   make uninstall PREFIX=DIR  removes them
+#   make check                 runs the whole test, ./test.sh; make test does too
 #   make clean                 removes the archive and what install generated; what rt knows of the proofs stays
+#   make help                  says this
 #
 # LIBDIR is the folder of the archive, by default PREFIX/lib; it may be given relative to PREFIX, as lib64 or lib/x86_64-linux-gnu.
+
+# No rules but those below: make's own would write a file test from test.sh.
+MAKEFLAGS += --no-builtin-rules
+.SUFFIXES:
 
 PREFIX ?= /usr/local
 LIBDIR ?= lib
@@ -23,7 +29,7 @@ sources := crates.txt $(shell find $(foreach crate,$(crates),$(wildcard crates/$
 all: $(archive)
 
 $(archive): $(sources)
-	@command -v rt >/dev/null || { echo "make: the archive is built by the Rattle kit, whose command rt was not found; kit.txt names the kit" >&2; exit 1; }
+	@command -v rt >/dev/null || { echo "make: the archive is built by the Rattle kit, whose command rt was not found; kit.txt has the kit's name and checksum" >&2; exit 1; }
 	@echo "building $@: the proofs are checked first, which takes some minutes" >&2
 	rt staticlib capi
 
@@ -42,10 +48,16 @@ uninstall:
 	rm -f "$(include_to)/gedrovit.h" "$(include_to)/gedrovit.hpp" "$(lib_to)/libgedrovit.a" "$(lib_to)/pkgconfig/gedrovit.pc"
 	rm -rf "$(lib_to)/cmake/gedrovit"
 
+check test:
+	./test.sh
+
+help:
+	@sed -n 's/^#   //p; s/^# \(LIBDIR\)/\1/p' Makefile
+
 clean:
 	rm -rf target/package $(archive)
 
 always:
 
-.PHONY: all install uninstall clean always
+.PHONY: all install uninstall check test help clean always
 .DELETE_ON_ERROR:

@@ -1,5 +1,5 @@
 #!/usr/bin/env python3
-"""Makes the example nets NAME.txt beside this file, or compares them with --check. Lengths here are millimetres; one count is 0.01 mm."""
+"""Makes the example nets beside this file, or compares them with --check. Lengths here are millimetres; one count is 0.01 mm."""
 import argparse
 import itertools
 import math
@@ -50,7 +50,7 @@ def bottom():
     return grid([KEEL, between(KEEL, CHINE, BOTTOM, 1 / 2), CHINE])
 
 
-def panel():
+def wing_rows():
     """The wing: a quarter round from the arch to the outline, with its front end drawn in."""
     def across(share, inward, arch, outline):
         x, z = ((1 - share) * a + share * b for a, b in zip(arch, outline))
@@ -59,7 +59,39 @@ def panel():
 
     arch, outline = ([*rear, *((-x, z) for x, z in reversed(rear[:-1]))] for rear in (ARCH, OUTLINE))
     quarter = [(0, 0), (0.7, 0.3), (1, 1)]
-    return grid([[across(*step, a, b) for a, b in zip(arch, outline)] for step in quarter])
+    return [[across(*step, a, b) for a, b in zip(arch, outline)] for step in quarter]
+
+
+def panel():
+    return grid(wing_rows())
+
+
+def normal(corners):
+    """The direction that a face looks in, of length 1."""
+    (a, b, c), (d, e, f) = ([q - p for p, q in zip(corners[0], corners[i])] for i in (1, 2))
+    across = (b * f - c * e, c * d - a * f, a * e - b * d)
+    return [value / math.sqrt(sum(v * v for v in across)) for value in across]
+
+
+def sheet(name, rows, before):
+    """One object of an OBJ file; so many vertices and faces stand before it."""
+    height, width = len(rows), len(rows[0])
+    points = [[round(100 * value) / 100 for value in point] for row in rows for point in row]
+    faces = [(a, a + 1, a + width + 1, a + width) for r in range(height - 1) for a in range(r * width, r * width + width - 1)]
+    yield f"o {name}"
+    yield from ("v " + " ".join(f"{value:.6f}" for value in point) for point in points)
+    yield from (f"vt {c / (width - 1):.6f} {r / (height - 1):.6f}" for r in range(height) for c in range(width))
+    yield from ("vn " + " ".join(f"{value:.4f}" for value in normal([points[v] for v in face])) for face in faces)
+    yield from ("usemtl sheet", "s off")
+    yield from ("f " + " ".join(f"{before[0] + v + 1}/{before[0] + v + 1}/{before[1] + f + 1}" for v in face) for f, face in enumerate(faces))
+
+
+def wing():
+    """The same wing as a modelling program writes it: in millimetres, as two objects that both have the points between them."""
+    rows = wing_rows()
+    rear, front = [row[:5] for row in rows], [row[4:] for row in rows]
+    lines = ["# a coach wing in two sheets, in millimetres", "mtllib wing.mtl", *sheet("Rear", rear, (0, 0)), *sheet("Front", front, (15, 8))]
+    return "".join(line + "\r\n" for line in lines)
 
 
 def dome():
@@ -79,14 +111,29 @@ def dome():
     return text([point(i / 3, j / 2, k / 2) for i, j, k in numbers], marks, faces)
 
 
-def hatch(marked=True):
+def hatch_rows():
     """A hatch cover of two by two faces with a crown."""
-    return grid([[(x, y, 80 if (x, y) == (450, 300) else 0) for x in (0, 450, 900)] for y in (0, 300, 600)], 3, marked)
+    return [[(x, y, 80 if (x, y) == (450, 300) else 0) for x in (0, 450, 900)] for y in (0, 300, 600)]
+
+
+def hatch():
+    return grid(hatch_rows(), 3)
 
 
 def unmarked():
     """The same hatch cover without corner marks."""
-    return hatch(marked=False)
+    return grid(hatch_rows(), 3, marked=False)
+
+
+def fin():
+    """The hatch cover with a fin on it: an edge of three faces, which is refused."""
+    points = sum(hatch_rows(), []) + [(450, 0, 260), (450, 300, 340)]
+    return text(points, [], [(0, 1, 4, 3), (1, 2, 5, 4), (3, 4, 7, 6), (4, 5, 8, 7), (1, 4, 10, 9)])
+
+
+def turned():
+    """The hatch cover with a face that runs the other way than its neighbours, which is refused."""
+    return text(sum(hatch_rows(), []), [], [(0, 1, 4, 3), (1, 2, 5, 4), (3, 4, 7, 6), (4, 7, 8, 5)])
 
 
 def main():
@@ -94,8 +141,9 @@ def main():
     options.add_argument("--check", action="store_true", help="compare the stored nets with what would be made, and write nothing")
     check = options.parse_args().check
     stale = []
-    for make in (panel, topside, bottom, dome, hatch, unmarked):
-        path, made = pathlib.Path(__file__).resolve().with_name(f"{make.__name__}.txt"), make().encode("ascii")
+    for make in (panel, topside, bottom, dome, hatch, unmarked, fin, turned, wing):
+        ending = "obj" if make is wing else "txt"
+        path, made = pathlib.Path(__file__).resolve().with_name(f"{make.__name__}.{ending}"), make().encode("ascii")
         if not check:
             path.write_bytes(made)
         elif not path.is_file() or path.read_bytes() != made:

@@ -1,5 +1,5 @@
 #!/usr/bin/env python3
-"""Tests tools/convert.py, and the cure that README.md names for line ends and a byte order mark. The exit status is 1 if a check fails."""
+"""Tests tools/convert.py, and the cure that docs/FORMS.md names for line ends and a byte order mark. The exit status is 1 if a check fails."""
 import pathlib
 import re
 import subprocess
@@ -166,9 +166,11 @@ def convert(*words, text=""):
     return subprocess.run([sys.executable, ROOT / "tools/convert.py", *words], input=data, capture_output=True, timeout=60)
 
 
-def gives(name, wanted, *words, text):
+def gives(name, wanted, *words, text, said=" vertices, "):
+    """The whole result, and a part of what is said of it; the last line counts the net, but for a warning after it."""
     done = convert(*words, text=text)
-    if done.returncode or done.stderr or done.stdout.decode() != wanted:
+    told = done.stderr.decode().splitlines()
+    if done.returncode or said not in done.stderr.decode() or " corner mark" not in "".join(told[-2:]) or done.stdout.decode() != wanted:
         faults.append(f"{name}: status {done.returncode}, {done.stderr.decode()}{done.stdout[:300]}")
 
 
@@ -199,7 +201,7 @@ def both_ways():
         net = convert("obj", "--scale", "32", text=text).stdout.decode()
         gives("text to OBJ and back", text, "text", "--scale=32", "--rounds", rounds, *wish, text=net)
         gives("a text stays", text, "text", text=text)
-        if wish or "\np " in net:
+        if wish or "\n# corner " in net:
             fails("the OBJ form has none, write text instead", "net", text=text)
         else:
             gives("text to the OBJ form and back", text, "text", text=convert("net", text=text).stdout)
@@ -218,7 +220,7 @@ def both_ways():
 
 
 def cures(folder):
-    form = (ROOT / "README.md").read_text(encoding="utf-8")
+    form = (ROOT / "docs/FORMS.md").read_text(encoding="utf-8")
     command = re.search(r"^    (sed -i .*) net\.txt$", form, re.M)[1]
     for kind, sample in ("text", SAMPLE), ("net", HATCH_NET):
         bare = sample.replace("\n", "\r\n")
@@ -246,7 +248,7 @@ def scales():
             faults.append(f"{words} become {done}")
     gives("decimals in a text", SAMPLE, "text", "--scale=10", text=SAMPLE.replace("16 ", "1.6 "))
     inch = convert("obj", "--scale=2540", text=SAMPLE.replace("16 16 0", "1270 -2541 0"))
-    fails("line 5: a coordinate without a last decimal", "obj", "--scale=2540", text=SAMPLE.replace("16 0 0", "1 0 0"))
+    fails("lines 5 to 7: a coordinate without a last decimal", "obj", "--scale=2540", text=SAMPLE.replace("16 0 0", "1 0 0"))
     if inch.returncode == 0:
         faults.append("-2541/2540 has been written as a decimal")
 
@@ -282,11 +284,95 @@ def obj_form():
     gives("the empty net from the OBJ form", empty, "text", text="# rounds 3\n")
     answer = (CASES / "paper-square-unmarked.out").read_text(encoding="ascii")
     gives("an answer by the OBJ form", convert("text", "--rounds=3", text=answer).stdout.decode(), "text", text=convert("net", "--rounds=3", text=answer).stdout)
-    fails("line 4: a vertex with a corner mark", "net", text=SAMPLE)
+    fails("lines 4 to 7: a vertex with a corner mark", "net", text=SAMPLE)
     fails("line 2: a vertex with a corner mark", "net", text=f"{net}p 2\n")
     fails("line 1: letters are asked for", "net", text=(CASES / "rule-grid-3-3.txt").read_text(encoding="ascii"))
     for option in "--letters", "--corners":
-        fails("are for text", "net", option, text=net, status=2)
+        fails("is for text", "net", option, text=net, status=2)
+
+
+def marks():
+    """Marks go out as a comment, or on request as a line `p`, and come back from both."""
+    for words, line in ((), "\n# corner 1 2 3 4\n"), (("--points",), "\np 1 2 3 4\n"):
+        net = convert("obj", *words, text=SAMPLE).stdout.decode()
+        if line not in net or net.count("corner") + net.count("p ") != 1:
+            faults.append(f"marks are written as {net}")
+        gives("marks there and back", SAMPLE, "text", "--rounds=1", text=net)
+    gives("a comment on corners", SAMPLE.replace("16 0 1", "16 0 0").replace("0 0 1", "0 0 0").replace("16 0 0 1", "16 0 0 0"), "text", "--rounds=1",
+          text="# corner of a room\n# corners 1 2\n#corner 1\n" + convert("obj", text=SAMPLE).stdout.decode().replace("# corner 1 2 3 4", "# corner"), said="0 corner marks")
+    fails("line 6: a mark on a point that is no vertex", "text", text=square(0, 1, 2, 3) + "# corner 2 5\n")
+
+
+def all_faults():
+    """Every fault with its lines, those that are alike in one line."""
+    done = convert("text", text="v 0 0 0\nv 1 x 0\nv 1 1\nhello\nv 9999999 0 0\nf 1 2\n" + "f 1 2 3\n" * 3 + "f 1 2 3 9\nf 1 2 3\np 7\nf 1 2 3 4 1 2\n")
+    wanted = ["line 2: x is not a decimal number", "line 3: a vertex has three coordinates", "line 4: 'hello' is no word of an OBJ file of points and faces",
+              "line 5: a coordinate of 9,999,999 counts, beyond 1,048,576; see --scale", "line 6: a face of 2 corners",
+              "lines 7 to 9, 11: a face of 3 corners, which neither form has; the call that makers build in takes it, with side counts (docs/MAKERS.md)",
+              "line 10: a corner that is no vertex", "line 12: a mark on a point that is no vertex",
+              "line 13: a face of 6 corners, which neither form has; the call that makers build in takes it, with side counts (docs/MAKERS.md); --cut makes quadrilaterals of it"]
+    if done.returncode != 1 or done.stdout or done.stderr.decode().splitlines() != [f"convert.py: -: {line}" for line in wanted]:
+        faults.append(f"the faults of a file: {done.stderr.decode()}")
+    fails("lines 4, 6: a mark is 0 or 1", "text", text=SAMPLE.replace("0 0 0 1", "0 0 0 2").replace("16 16 0 1", "16 16 0 3"))
+    fails("line 9: a line is missing", "text", text=SAMPLE.replace("0 0 0 1", "0 0 0 2")[:-8])
+    fails("a face of 9 corners, which neither form has; nor does the call that makers build in take it\n", "text", "--cut", text=square(0, 1, 2, 3).replace("1 2 3 4", "1 2 3 4 1 2 3 4 1"))
+
+
+def turns():
+    """Faces of one piece run alike; edges of three faces and pieces with one side are told."""
+    panel = "".join(f"v {x} {y} 0\n" for y in range(3) for x in range(3))
+    faces = [[1, 2, 5, 4], [2, 3, 6, 5], [4, 5, 8, 7], [5, 6, 9, 8]]
+    for wrong in (1,), (2, 3), (1, 2, 3):
+        text = panel + "".join("f {} {} {} {}\n".format(*(face[:1] + face[:0:-1] if n in wrong else face)) for n, face in enumerate(faces))
+        gives("turned faces", convert("net", text=panel + "".join("f {} {} {} {}\n".format(*face) for face in faces)).stdout.decode(), "net", "--turn", text=text, said=f" {len(wrong)} face")
+        if refine(convert("net", "--turn", text=text).stdout).startswith(b"refusal") or not refine(convert("net", text=text).stdout).startswith(b"refusal place\n9 "):
+            faults.append(f"--turn does not cure {wrong}")
+    fin = panel + "v 1 0 1\nv 1 1 1\n" + "".join("f {} {} {} {}\n".format(*face) for face in faces + [[2, 5, 11, 10]])
+    gives("an edge of three faces", convert("net", text=fin).stdout.decode(), "net", "--turn", text=fin, said="lines 12 to 13, 16: 3 faces at one edge, vertices 1 and 4; ./refine refuses it by 9\n")
+    band = "".join(f"v {x} {y} {x * x}\n" for x in range(5) for y in range(2)) + "".join(f"f {a} {a + 1} {a + 3} {a + 2}\n" for a in (1, 3, 5, 7)) + "f 9 10 1 2\n"
+    gives("a band with one side", convert("net", "--turn", text=band).stdout.decode(), "net", "--turn", text=band, said="two faces of a piece with one side alone")
+
+
+def cuts():
+    """Faces of six sides and eight become two and three quadrilaterals with the same outline."""
+    for n, wanted in (4, ["1 2 3 4"]), (6, ["1 2 5 6", "2 3 4 5"]), (8, ["1 2 7 8", "2 3 6 7", "3 4 5 6"]):
+        ring = "".join(f"v {x} {x * x} 0\n" for x in range(n))
+        gives(f"a face of {n} sides", "# rounds 2\n" + ring + "".join(f"f {face}\n" for face in wanted), "net", "--cut", text=f"{ring}f {' '.join(map(str, range(1, n + 1)))}\n")
+    for n in 3, 5, 7:
+        fails(f"line {n + 1}: a face of {n} corners, which neither form has; the call", "net", "--cut", text="v 0 0 0\n" * n + f"f {' '.join(map(str, range(1, n + 1)))}\n")
+
+
+def grid(wide, tall):
+    rows = "".join(f"v {x} {y} 0\n" for y in range(tall + 1) for x in range(wide + 1))
+    return rows + "".join(f"f {a} {a + 1} {a + wide + 2} {a + wide + 1}\n" for y in range(tall) for x in range(wide) for a in [y * (wide + 1) + x + 1])
+
+
+def sizes():
+    """How many faces there are, and a warning exactly where ./refine does not serve them."""
+    for wide, tall, rounds, warning in (
+            (16, 16, 0, ""), (4, 4, 2, ""), (5, 4, 2, "320 refined faces (256 at most); what does: --rounds 1 or the call that makers build in (docs/MAKERS.md)"),
+            (40, 30, 0, "1,200 refined faces (256 at most), 1,271 vertices (1,024 at most)"), (1, 600, 0, "600 refined faces (256 at most), 1,202 vertices (1,024 at most); what does: the call"),
+            (60, 60, 6, "what does: the call that makers build in with fewer rounds (docs/MAKERS.md)"), (61, 277, 0, "bytes (32,768 at most); what does: nothing here")):
+        done = convert("text", f"--rounds={rounds}", text=grid(wide, tall))
+        told = done.stderr.decode()
+        first = f"{(wide + 1) * (tall + 1):,} vertices, {wide * tall:,} faces, 0 corner marks; {wide * tall * 4 ** rounds:,} refined faces after {rounds} round"
+        if done.returncode or first not in told or warning not in told or bool(warning) != ("warning: ./refine does not serve" in told):
+            faults.append(f"{wide} by {tall} faces, {rounds} rounds: {told}")
+        if (refine(done.stdout)[:7] == b"refusal") != bool(warning):
+            faults.append(f"{wide} by {tall} faces, {rounds} rounds: the warning is wrong")
+    gives("seven rounds", "# rounds 7\n" + square(0, 1, 2, 3), "net", text="# rounds 7\n" + square(0, 1, 2, 3), said="does not serve 7 rounds")
+
+
+def other_files(folder):
+    """PLY, and the map from places to lines."""
+    header = "ply\nformat ascii 1.0\nelement vertex 4\nproperty double x\nproperty double y\nproperty double z\n{}element face 1\nproperty list uchar int vertex_indices\nend_header\n"
+    gives("PLY", header.format("property uchar corner\n") + "0 0 0 1\n0.16 0 0 1\n0.16 0.16 0 1\n0 0.16 0 1\n4 0 1 2 3\n", "ply", "--scale=100", text=SAMPLE)
+    gives("PLY without marks", header.format("") + "0 0 0\n16 0 0\n16 16 0\n0 16 0\n4 0 1 2 3\n", "ply", text=SAMPLE.replace(" corner", "").replace("0 1\n", "0\n"))
+    gives("a map", JOINED, "text", "--scale=100", "--rounds=1", "--weld", "--drop", "--corners", f"--map={folder}/map", text=APART)
+    lines = ["vertex 0 line 1", "vertex 1 line 2 6", "vertex 2 line 3 9", "vertex 3 line 4", "vertex 4 line 7", "vertex 5 line 8", "face 0 line 10", "face 1 line 11"]
+    if (folder / "map").read_text().splitlines() != lines:
+        faults.append(f"the map: {(folder / 'map').read_text()}")
+    fails("No such file", "text", f"--map={folder}/nowhere/map", text=SAMPLE)
 
 
 def refusals():
@@ -315,17 +401,19 @@ def refusals():
     fails("line 4: a vertex has 5 words", "obj", text=lettered.replace("0 0 0 1 V", "0 0 0 1"))
     fails("line 4: a mark is 0 or 1", "obj", text=lettered.replace("0 0 0 1 V", "0 0 0 2 V"))
     for text in CUBE, HATCH_NET:
-        fails("only that is written as OBJ", "obj", text=text)
+        fails("only that is written for other programs", "obj", text=text)
+        fails("only that is written for other programs", "ply", text=text)
     fails("No such file", "text", "nowhere", text="")
     fails("Is a directory", "text", "/", text="")
-    for words in ("ply",), ("text", "--scale=0"), ("text", "--scale=x"), ("text", "--rounds=7"), ("obj", "--weld"), ("obj", "--letters"), ("obj", "--rounds=1"), (), ("text", "a", "b"):
+    for words in ("stl",), ("text", "--points"), ("ply", "--points"), ("ply", "--turn"), ("obj", "--map=x"), ("text", "--scale=0"), ("text", "--scale=x"), ("text", "--rounds=7"), ("obj", "--weld"), ("obj", "--letters"), ("obj", "--rounds=1"), (), ("text", "a", "b"):
         fails("usage", *words, text=SAMPLE, status=2)
 
 
 def main():
     with tempfile.TemporaryDirectory() as name:
         cures(pathlib.Path(name))
-    for part in both_ways, scales, nets, obj_form, refusals:
+        other_files(pathlib.Path(name))
+    for part in both_ways, scales, nets, obj_form, marks, all_faults, turns, cuts, sizes, refusals:
         part()
     print(*faults, sep="\n", end="\n" if faults else "")
     sys.exit(1 if faults else 0)

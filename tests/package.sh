@@ -73,6 +73,17 @@ no_kit() {
     ! env PATH="$scratch/no-kit/bin" "$(command -v make)" -C "$scratch/no-kit" >"$scratch/said" 2>&1 && cat "$scratch/said" && grep -q 'Rattle kit, whose command rt was not found' "$scratch/said"
 }
 
+# What make offers: its help names every target, a target that is none is an error, and nothing is made of a script by its name.
+targets() {
+    local target
+    make_package help >"$scratch/help" && grep -q LIBDIR "$scratch/help" || return
+    for target in $(sed -n 's/^\.PHONY: all \(.*\) always$/\1/p' "$root/Makefile"); do
+        grep -q "^make .*\b$target\b" "$scratch/help" || { echo "no help on $target"; return 1; }
+    done
+    diff <(printf './test.sh\n') <(make_package -n check) && diff <(printf './test.sh\n') <(make_package -n test) \
+        && ! make_package -n tools/pictures >"$scratch/said" 2>&1 && grep -q 'No rule to make target' "$scratch/said" && [ ! -e "$root/test" ]
+}
+
 # The archive defines no names but its own, and needs nothing but the C library's memory functions.
 symbols() {
     diff <(printf 'gedrovit_%s\n' check refine sizes_for version "version_${version//./_}") <(nm -g --defined-only -j "$prefix/lib/libgedrovit.a" | grep -v ':$' | grep . | LC_ALL=C sort -u) \
@@ -332,10 +343,29 @@ rust_guard() {
         && ! rust GEDROVIT_LIB_DIR="$scratch/rust" cargo test --no-run --test calls 2>"$scratch/said" && grep "gedrovit_version_${version//./_}" "$scratch/said"
 }
 
+# The crate's example answers the text in a file as ./refine does, and says why a net is refused.
+rust_example() {
+    local example=$root/target/cargo/debug/examples/refine_text nets=$root/examples
+    rust GEDROVIT_LIB_DIR="$prefix/lib" cargo build --quiet --example refine_text && cmp <("$root/refine" "$nets/panel.txt") <("$example" "$nets/panel.txt") \
+        && ! "$example" "$nets/fin.txt" 2>"$scratch/said" && diff <(echo 'refine_text: refusal 9 at face 4: a side runs as a side of an earlier face does') "$scratch/said"
+}
+
+# A copy of the crate alone: its tests pass, those that need the repository are skipped, and nothing is warned of.
+rust_outside() {
+    cp -r "$root/package/rust" "$scratch/crate" && ! GEDROVIT_LIB_DIR=$prefix/lib CARGO_TARGET_DIR=$scratch/crate-target cargo test --offline --locked --manifest-path "$scratch/crate/Cargo.toml" 2>&1 \
+        | tee "$scratch/said" | grep -E '^(warning|error|test result: FAILED)' && grep -q '0 passed; 0 failed; 4 ignored' "$scratch/said" || ! cat "$scratch/said"
+}
+
+# What would be packed has licence, guide and example.
+rust_packed() {
+    rust GEDROVIT_LIB_DIR="$prefix/lib" cargo package --list --allow-dirty >"$scratch/said" && diff <(grep -xE 'LICENSE|README.md|examples/refine_text.rs' "$scratch/said" | LC_ALL=C sort) <(printf '%s\n' LICENSE README.md examples/refine_text.rs)
+}
+
 check "headers alone, in C11 and C++17" headers_alone
 check "make install" installed_files
 check "make install with DESTDIR, make uninstall" staged_files
 check "make without the kit" no_kit
+check "what make offers" targets
 check "symbols of the archive" symbols
 check "one version everywhere" versions
 check "numbers in definitions, headers and documents" python3 "$root/tests/package/numbers.py"
@@ -355,6 +385,9 @@ check "Rust crate: another version's archive" rust_guard
 check "Rust crate: tests" rust GEDROVIT_LIB_DIR="$prefix/lib" cargo test --quiet
 check "Rust crate: archive of the repository" rust_links "$root/package/rust/../../target/staticlib"
 check "Rust crate: no archive" rust_refused
+check "Rust crate: the example" rust_example
+check "Rust crate: outside the repository" rust_outside
+check "Rust crate: what is packed" rust_packed
 if have pkg-config; then
     check "Rust crate: archive by pkg-config" rust_links "$prefix/lib" PKG_CONFIG_PATH="$prefix/lib/pkgconfig"
     check "examples by pkg-config" by_pkg_config

@@ -15,7 +15,9 @@ import xml.etree.ElementTree
 ROOT = pathlib.Path(__file__).resolve().parent.parent
 REFINE = os.environ.get("REFINE", "./refine")
 MARKS = {"panel": 4, "topside": 4, "bottom": 4, "dome": 3, "hatch": 4, "unmarked": 0}
-DRAWN = {"panel": 16 + 256, "seam": 25 + 400, "extraordinary": 16 + 256, "corners": 256 + 256, "skylight": 11 + 160}
+DRAWN = {"panel": 16 + 256, "seam": 25 + 400, "extraordinary": 16 + 256, "corners": 256 + 256, "skylight": 11 + 160,
+         "letters": 16 + 256, "apart": 25 + 400, "fin": 5, "turned": 4}
+REFUSED = {"fin": "9 4", "turned": "9 3"}
 DIAGRAMS = ["numbering", "split", "boundary", "extrapolated", "virtual", "face"]
 SVG = "{http://www.w3.org/2000/svg}"
 DRAW = [sys.executable, "tools/draw.py"]
@@ -80,6 +82,14 @@ def example_faults():
                 yield f"{name} has {sum(net.marks)} marks"
             if extraordinary(net) != ([3] if name == "dome" else []):
                 yield f"{name} has extraordinary vertices of valence {extraordinary(net)}"
+
+
+    for name, refusal in REFUSED.items():
+        if run("sh", "-c", REFINE, text=example(name)).stdout != f"refusal place\n{refusal}\n":
+            yield f"{name} is not refused by {refusal}"
+    wing = run(sys.executable, "tools/convert.py", "text", "--scale=100", "--weld", "--corners", "examples/wing.obj").stdout
+    if sorted(parse(refined(wing)).points) != sorted(parse(refined(example("panel"))).points):
+        yield "wing.obj and panel.txt get different points"
 
 
 def seam_faults():
@@ -169,6 +179,29 @@ def symbol_faults(folder):
             yield f"draw.py {words} shows {drawn.count('<use')} vertices of a cube and not {seen}"
 
 
+def alone_faults(folder):
+    """A net alone: a text, an answer, an OBJ file of any program; its letters; the place of a refusal."""
+    (folder / "hatch.out").write_text(refined(example("hatch").replace("rounds\n", "rounds rule\n")), encoding="ascii")
+    (folder / "mixed.obj").write_text("v 0 0 0\r\nv 1.5 0 0\r\nv 1.5 1 0.25\r\nv 0 1 0\r\nv 2 .5 0\r\nvn 0 0 1\r\nf 1 2 3 4\r\nf 2//1 5//1 3//1\r\n", encoding="ascii")
+    for file, faces in ("examples/panel.txt", 16), (folder / "hatch.out", 256), ("examples/wing.obj", 16), ("examples/unmarked.obj", 4), (folder / "mixed.obj", 2), ("examples/fin.txt", 5):
+        drawn = run(*DRAW, "--view=0,0,1", file)
+        if drawn.returncode or drawn.stdout.count(" fill=\"#") - drawn.stdout.count("<circle") - drawn.stdout.count("<rect") != faces:
+            yield f"draw.py {file}: {drawn.stderr}"
+    pair = [run(*DRAW, "--refine", REFINE, f"examples/unmarked.{ending}").stdout for ending in ("obj", "txt")]
+    if pair[0] != pair[1] or not pair[0]:
+        yield "draw.py draws unmarked.obj and unmarked.txt differently"
+    letters = collections.Counter(line.split()[4] for line in (folder / "hatch.out").read_text().splitlines() if line.count(" ") == 4)
+    letters.pop("rule")
+    for words in [folder / "hatch.out"], ["--refine", REFINE, "examples/hatch.txt"]:
+        drawn = run(*DRAW, "--view=0,0,1", "--letters", *words).stdout
+        seen = {letter: drawn.count(f'<use href="#{letter}"') - 1 for letter in letters}
+        if seen != letters or len(letters) < 6:
+            yield f"draw.py --letters {words} shows {seen} and not {letters}"
+    for words, symbol in (["--face=4"], 'class="m" d="M'), (["--vertex=9"], '<use href="#m"'), (["--vertex=0", "--face=0"], "face 0</text>"):
+        if run(*DRAW, *words, "examples/fin.txt").stdout.count(symbol) < 1:
+            yield f"draw.py {words} marks nothing"
+
+
 def grid_text(points, step, width, height, place):
     """The text of a wavy grid of faces with sides of `step`; `place` has the number of each point."""
     rows = [f"{x * 100} {y * 100} {(x - width // 2) * (x - width // 2) * (y - height // 3) // 400}" for x, y in points]
@@ -204,16 +237,24 @@ def refusals(folder):
     (folder / "none.txt").write_text("vertices faces rounds\n0 0 0\nx y z\na b c d\n", encoding="ascii")
     (folder / "cut.txt").write_text("refusal place\n", encoding="ascii")
     (folder / "bytes.txt").write_bytes(b"\xff\xfe")
+    (folder / "no.obj").write_text("hello\n", encoding="ascii")
     yield 1, "refused, number and place 1 0", ["--refine", REFINE, folder / "seven.txt"]
     yield 1, "cut.txt: refused", [panel, folder / "cut.txt"]
     for name in ("short", "beyond", "empty", "none"):
         yield 1, f"{name}.txt: not the text of a net", [panel, folder / f"{name}.txt"]
-    yield 1, "ascii", ["--refine", REFINE, folder / "bytes.txt"]
+    yield 1, "bytes.txt: line 1: ", [folder / "bytes.txt"]
+    yield 1, "no.obj: line 1: 'hello' is no word", [folder / "no.obj"]
+    yield 1, "no face 5", ["--face=5", "examples/fin.txt"]
+    yield 1, "no vertex 11", ["--vertex=11", "examples/fin.txt"]
+    yield 1, "has no letters", ["--letters", panel]
+    yield 2, "a number from 0 is wanted", ["--face=x", panel]
+    yield 2, "--apart wants two nets", ["--apart=1,0,0", panel]
+    yield 2, "are for drawn nets", ["--beside", "--face=1", "--refine", REFINE, panel, dome]
     yield 1, "No such file", ["--refine", REFINE, folder / "missing.txt"]
     yield 1, "No such file", ["--refine", folder / "missing", panel]
     yield 1, "non-zero exit status", ["--refine", "false", panel]
     yield 1, "does not begin with the drawn vertices", [panel, dome]
-    yield 2, "one or two nets", [panel]
+    yield 2, "one or two nets", [panel, panel, panel]
     yield 2, "one or two nets", ["--refine", REFINE, panel, dome, panel]
     yield 2, "--beside wants two nets", ["--refine", REFINE, "--beside", panel]
     for view in ("0,0,0", "1,2", "1,2,x", "1.5", "1.5,0,1", "-0,0,0", ""):
@@ -242,7 +283,7 @@ def failing_faults(folder):
 def main():
     with tempfile.TemporaryDirectory() as name:
         folder = pathlib.Path(name)
-        groups = [example_faults(), seam_faults(), picture_faults(), same_picture_faults(folder), symbol_faults(folder), large_faults(folder), failing_faults(folder)]
+        groups = [example_faults(), seam_faults(), picture_faults(), same_picture_faults(folder), symbol_faults(folder), alone_faults(folder), large_faults(folder), failing_faults(folder)]
         faults = [fault for group in groups for fault in group]
     print(*faults, sep="\n", end="\n" if faults else "")
     sys.exit(1 if faults else 0)

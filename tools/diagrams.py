@@ -244,9 +244,10 @@ def ring(picture):
     picture.points("v", across)
     for i, (end_point, corner) in enumerate(zip(ends, corners)):
         picture.word(mix((1.2, end_point), (-0.2, centre)), f"l{i}", y=5)
-        picture.word(mix((1.16, corner), (-0.16, centre)), f"k{i}", y=24 if i == 2 else 5)
+        inward = i == 2  # the virtual point lies beyond that corner
+        picture.word(mix((0.78, corner), (0.22, centre)) if inward else mix((1.16, corner), (-0.16, centre)), f"k{i}", y=5)
     picture.word(centre, "P", 16, -8)
-    picture.word(across, "v", y=-12)
+    picture.word(across, "v", x=-16, y=5)
     picture.caption("a ring of five, edge towards l0")
 
 

@@ -21,6 +21,10 @@ picture panel 1,-3,1 examples/panel.txt
 picture seam -6,-5,-1 examples/topside.txt examples/bottom.txt
 picture extraordinary 4,3,2 examples/dome.txt
 picture corners 0,-2,5 --beside examples/hatch.txt examples/unmarked.txt
+picture letters 1,-3,1 --letters examples/panel.txt
+picture apart -6,-5,-1 --apart=0,0,-40000 examples/topside.txt examples/bottom.txt
+python3 tools/draw.py --view=2,-3,2 --face 4 examples/fin.txt >"$made/fin.svg"
+python3 tools/draw.py --view=2,-3,3 --face 3 examples/turned.txt >"$made/turned.svg"
 python3 tools/skylight.py --refine "${REFINE:-./refine}" >"$made/skylight.svg"
 for name in $(python3 tools/diagrams.py --list); do
     python3 tools/diagrams.py "$name" >"$made/$name.svg"

@@ -57,7 +57,7 @@ def main():
     options.add_argument("--refine", metavar="COMMAND", required=True, help=argparse.SUPPRESS)
     points, faces = skylight()
     try:
-        refined = draw.parse(draw.run(options.parse_args().refine, text(*split(points, faces))), "the split net, refined")
+        refined = draw.parse(draw.run(options.parse_args().refine, text(*split(points, faces)).encode()).decode(), "the split net, refined")
     except (OSError, ValueError, subprocess.CalledProcessError) as error:
         sys.exit(f"skylight.py: {error}")
     drawn = draw.Net(points, [v < len(RIM) for v in range(len(points))], faces, [], draw.boundary(faces))

@@ -31,9 +31,20 @@ fn main() {
         );
         exit(1);
     };
+    tell_of_repository();
     println!("cargo:rerun-if-changed={}", archive(folder, name).display());
     println!("cargo:rustc-link-search=native={}", folder.display());
     println!("cargo:rustc-link-lib=static={name}");
+}
+
+/// Sets `repository` where the header stands beside this crate, for the tests that read it.
+fn tell_of_repository() {
+    println!("cargo:rustc-check-cfg=cfg(repository)");
+    let header = Path::new(env!("CARGO_MANIFEST_DIR")).join("../include/gedrovit.h");
+    if header.is_file() {
+        println!("cargo:rerun-if-changed={}", header.display());
+        println!("cargo:rustc-cfg=repository");
+    }
 }
 
 fn target(property: &str) -> String {

@@ -106,10 +106,22 @@ LIMITS = [
     (r"more than N bytes", [(TEXT,)], 0),
 ]
 texts = {str(path.relative_to(ROOT)): running(path.read_text(encoding="utf-8"))
-         for path in [HEADER, ROOT / "package/include/gedrovit.hpp", ROOT / "README.md", *sorted(RUST.glob("src/*.rs")), *sorted(ROOT.glob("docs/*.md"))]}
+         for path in [HEADER, ROOT / "package/include/gedrovit.hpp", *sorted(ROOT.glob("*.md")), *sorted(RUST.glob("src/*.rs")), *sorted(ROOT.glob("docs/*.md"))]}
 for name, text in texts.items():
     for pattern, due, least in LIMITS:
         hold(name, pattern, text, due, least if name.endswith("gedrovit.h") else 0)
+
+# ---- the script
+SCRIPT = running(read("refine"))
+hold("refine", r"longest=N most_faces=N most_vertices=N", SCRIPT, [(TEXT, PROGRAM_G, PROGRAM_V)])
+hold("refine", r"N bytes, N vertices, N refined faces, 0 to N rounds. The call that makers build in serves N refined", SCRIPT, [(TEXT, PROGRAM_V, PROGRAM_G, ROUNDS, G)])
+
+# ---- the converter
+LINES = re.findall(r"(?m)^([A-Z_, ]+) = ([\d_, ]+)$", read("tools/convert.py"))
+CONSTANTS = {name: int(value) for names, values in LINES for name, value in zip(names.split(", "), values.split(", "))}
+KNOWN = {"LIMIT": COORDINATE, "BYTES": TEXT, "VERTICES": PROGRAM_V, "REFINED": PROGRAM_G, "CALL_VERTICES": V, "CALL_FACES": F, "CALL_REFINED": G,
+         "LEAST_SIDES": SIDES[0], "MOST_SIDES": SIDES[1], "MOST_ROUNDS": ROUNDS}
+faults += [f"tools/convert.py: {name} is not {value}" for name, value in KNOWN.items() if CONSTANTS.get(name) != value]
 
 # ---- the overshoot of the cushion, at 100 counts to a millimetre
 CUSHION = re.findall(r"^tension (\d): .*, (\d+) beyond .*, (\d+) above ", read("tests/package/tension.out"), re.M)
@@ -119,8 +131,8 @@ for tension, outline, top in CUSHION:
 
 # ---- the table of refusals: a table with rows 1 to 12. Rows have these numbers, and no other ones of four digits or more
 ROWS = {1: {ROUNDS}, 3: {V, F, G}, 5: {COORDINATE}, 11: {RING_LEAST, RING, FAN}, 13: {TEXT}, 14: set(SIDES), 15: {TALLY}, 16: {TENSION}}
-ALSO = {4: {PROGRAM_V}}
-documents = [ROOT / "README.md", *sorted(ROOT.glob("docs/*.md"))]
+ALSO = {4: {PROGRAM_V, G}}
+documents = [*sorted(ROOT.glob("*.md")), *sorted(ROOT.glob("docs/*.md"))]
 tables = [table for path in documents for table in re.findall(r"(?:^\|.*\n)+", path.read_text(encoding="utf-8"), re.M)]
 tables = [dict(re.findall(r"^\| *(\d+) *\|(.*)", table, re.M)) for table in tables]
 tables = [table for table in tables if all(str(number) in table for number in range(1, 13))]
