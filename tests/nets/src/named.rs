@@ -44,6 +44,10 @@ named_cases! {
         Ends = "ends",
         /// Fans of every two sizes joined by a boundary edge.
         Rim = "rim",
+        /// A face with a neighbour on every side and regular corners, each
+        /// neighbour before or after it; the same with an irregular corner, and
+        /// without one neighbour.
+        Inside = "inside",
         /// Faces of 3 to 8 sides.
         Polygons = "polygons",
     }
@@ -71,6 +75,7 @@ impl Family {
             Family::Diagonal => diagonal(),
             Family::Ends => ends(),
             Family::Rim => rims(),
+            Family::Inside => inside(),
             Family::Polygons => return polygons(),
         };
         nets.into_iter()
@@ -393,6 +398,34 @@ fn rims() -> Nets {
         (name, drop_unused_vertices(net))
     };
     pairs.map(joined).collect()
+}
+
+/// The middle of a grid, with its neighbours before and after it in every
+/// manner; a face with one irregular corner and two layers round it; the middle
+/// of a larger grid without the neighbour on one side.
+fn inside() -> Nets {
+    let neighbours = [1, 5, 7, 3];
+    let mut nets = Vec::new();
+    for manner in 0..16 {
+        let is_before = |side: usize| manner >> side & 1 == 1;
+        let some = |wanted: bool| (0..4).filter(move |&side| is_before(side) == wanted);
+        let before = some(true).map(|side| neighbours[side]);
+        let after = some(false).map(|side| neighbours[side]);
+        let order = before.chain([4]).chain(after).chain([0, 2, 6, 8]);
+        let grid = shapes::grid(3, 3);
+        let faces = order.map(|face: usize| grid.faces[face]).collect();
+        nets.push((format!("before-{manner:04b}"), Net { faces, ..grid }));
+    }
+    for valence in [3, 5, 6, 7, 8] {
+        let name = format!("corner-{valence}");
+        nets.push((name, shapes::patch([valence, 4, 4, 4], 2)));
+    }
+    for (side, face) in [7, 13, 17, 11].into_iter().enumerate() {
+        let mut net = shapes::grid(5, 5);
+        net.faces.remove(face);
+        nets.push((format!("without-{side}"), net));
+    }
+    nets
 }
 
 /// Faces of every number of sides: alone, two of them, round a vertex, and in
