@@ -126,13 +126,25 @@ module _ (v : ℕ) (l : List ℕ) (ok : Manifold quads v l) (fours : length l % 
         let m₃ = inside₂ v l (ok .oriented) fours (4 * p) (16 * p + 2) (16 * p + 13) (omega arith) (omega arith) (omega arith) in
         record {
           first₀ = first-half p (4 * p) (omega arith) (omega arith) h₀ (16 * p) (16 * p + 4) (omega arith) (omega arith) (at (4 * p + 3) (quads .prev (4 * p)) (omega arith) h₃) (test .corner₀);
-          first₁ = let e : 16 * p + 4 + 1 ≡ 16 * p + 5 = omega arith in subst (λ (x : ℕ). FirstHalf L (16 * p) (16 * p + 4) (from L (16 * p + 4)) (from L x) (from L (16 * p + 8))) e (first-half p (4 * p + 1) (omega arith) (omega arith) h₁ (16 * p + 4) (16 * p + 8) (omega arith) (omega arith) (at (4 * p) (quads .prev (4 * p + 1)) (omega arith) h₀) (test .corner₁));
-          first₂ = let e : 16 * p + 8 + 1 ≡ 16 * p + 9 = omega arith in subst (λ (x : ℕ). FirstHalf L (16 * p) (16 * p + 8) (from L (16 * p + 8)) (from L x) (from L (16 * p + 12))) e (first-half p (4 * p + 2) (omega arith) (omega arith) h₂ (16 * p + 8) (16 * p + 12) (omega arith) (omega arith) (at (4 * p + 1) (quads .prev (4 * p + 2)) (omega arith) h₁) (test .corner₂));
-          first₃ = let e : 16 * p + 12 + 1 ≡ 16 * p + 13 = omega arith in subst (λ (x : ℕ). FirstHalf L (16 * p) (16 * p + 12) (from L (16 * p + 12)) (from L x) (from L (16 * p))) e (first-half p (4 * p + 3) (omega arith) (omega arith) h₃ (16 * p + 12) (16 * p) (omega arith) (omega arith) (at (4 * p + 2) (quads .prev (4 * p + 3)) (omega arith) h₂) (test .corner₃));
+          first₁ =
+              let e : 16 * p + 4 + 1 ≡ 16 * p + 5 = omega arith in
+              subst (λ (x : ℕ). FirstHalf L (16 * p) (16 * p + 4) (from L (16 * p + 4)) (from L x) (from L (16 * p + 8))) e (first-half p (4 * p + 1) (omega arith) (omega arith) h₁ (16 * p + 4) (16 * p + 8) (omega arith) (omega arith) (at (4 * p) (quads .prev (4 * p + 1)) (omega arith) h₀) (test .corner₁));
+          first₂ =
+              let e : 16 * p + 8 + 1 ≡ 16 * p + 9 = omega arith in
+              subst (λ (x : ℕ). FirstHalf L (16 * p) (16 * p + 8) (from L (16 * p + 8)) (from L x) (from L (16 * p + 12))) e (first-half p (4 * p + 2) (omega arith) (omega arith) h₂ (16 * p + 8) (16 * p + 12) (omega arith) (omega arith) (at (4 * p + 1) (quads .prev (4 * p + 2)) (omega arith) h₁) (test .corner₂));
+          first₃ =
+              let e : 16 * p + 12 + 1 ≡ 16 * p + 13 = omega arith in
+              subst (λ (x : ℕ). FirstHalf L (16 * p) (16 * p + 12) (from L (16 * p + 12)) (from L x) (from L (16 * p))) e (first-half p (4 * p + 3) (omega arith) (omega arith) h₃ (16 * p + 12) (16 * p) (omega arith) (omega arith) (at (4 * p + 2) (quads .prev (4 * p + 3)) (omega arith) h₂) (test .corner₃));
           last₀ = last-half p (4 * p) (omega arith) (omega arith) h₀ (16 * p + 7) (16 * p) (16 * p + 4) (omega arith) (omega arith) (omega arith) (at (4 * p + 1) (quads .next (4 * p)) (omega arith) h₁) (test .corner₁);
-          last₁ = let e : 16 * p + 4 + 1 ≡ 16 * p + 5 = omega arith in subst (λ (x : ℕ). LastHalf L (16 * p) (16 * p + 11) (from L (16 * p + 4)) (from L x) (from L (16 * p + 8))) e (last-half p (4 * p + 1) (omega arith) (omega arith) h₁ (16 * p + 11) (16 * p + 4) (16 * p + 8) (omega arith) (omega arith) (omega arith) (at (4 * p + 2) (quads .next (4 * p + 1)) (omega arith) h₂) (test .corner₂));
-          last₂ = let e : 16 * p + 8 + 1 ≡ 16 * p + 9 = omega arith in subst (λ (x : ℕ). LastHalf L (16 * p) (16 * p + 15) (from L (16 * p + 8)) (from L x) (from L (16 * p + 12))) e (last-half p (4 * p + 2) (omega arith) (omega arith) h₂ (16 * p + 15) (16 * p + 8) (16 * p + 12) (omega arith) (omega arith) (omega arith) (at (4 * p + 3) (quads .next (4 * p + 2)) (omega arith) h₃) (test .corner₃));
-          last₃ = let e : 16 * p + 12 + 1 ≡ 16 * p + 13 = omega arith in subst (λ (x : ℕ). LastHalf L (16 * p) (16 * p + 3) (from L (16 * p + 12)) (from L x) (from L (16 * p))) e (last-half p (4 * p + 3) (omega arith) (omega arith) h₃ (16 * p + 3) (16 * p + 12) (16 * p) (omega arith) (omega arith) (omega arith) (at (4 * p) (quads .next (4 * p + 3)) (omega arith) h₀) (test .corner₀));
+          last₁ =
+              let e : 16 * p + 4 + 1 ≡ 16 * p + 5 = omega arith in
+              subst (λ (x : ℕ). LastHalf L (16 * p) (16 * p + 11) (from L (16 * p + 4)) (from L x) (from L (16 * p + 8))) e (last-half p (4 * p + 1) (omega arith) (omega arith) h₁ (16 * p + 11) (16 * p + 4) (16 * p + 8) (omega arith) (omega arith) (omega arith) (at (4 * p + 2) (quads .next (4 * p + 1)) (omega arith) h₂) (test .corner₂));
+          last₂ =
+              let e : 16 * p + 8 + 1 ≡ 16 * p + 9 = omega arith in
+              subst (λ (x : ℕ). LastHalf L (16 * p) (16 * p + 15) (from L (16 * p + 8)) (from L x) (from L (16 * p + 12))) e (last-half p (4 * p + 2) (omega arith) (omega arith) h₂ (16 * p + 15) (16 * p + 8) (16 * p + 12) (omega arith) (omega arith) (omega arith) (at (4 * p + 3) (quads .next (4 * p + 2)) (omega arith) h₃) (test .corner₃));
+          last₃ =
+              let e : 16 * p + 12 + 1 ≡ 16 * p + 13 = omega arith in
+              subst (λ (x : ℕ). LastHalf L (16 * p) (16 * p + 3) (from L (16 * p + 12)) (from L x) (from L (16 * p))) e (last-half p (4 * p + 3) (omega arith) (omega arith) h₃ (16 * p + 3) (16 * p + 12) (16 * p) (omega arith) (omega arith) (omega arith) (at (4 * p) (quads .next (4 * p + 3)) (omega arith) h₀) (test .corner₀));
           spoke₀ = spoke (4 * p) (16 * p) (16 * p + 1) (16 * p + 9) (omega arith) h₀ (omega arith) (omega arith) (omega arith) (let m = m₀ in omega arith);
           spoke₁ = subst (λ (y : ℕ). Line L (16 * p + 5) (from L (mate quads L (16 * p + 4) - 1)) (from L (16 * p + 5)) y (from L (16 * p + 13))) (points-same (4 * p + 1) (16 * p + 6) (omega arith) (omega arith) (omega arith)) (let e : 16 * p + 4 + 1 ≡ 16 * p + 5 = omega arith in let f : 16 * p + 4 + 2 ≡ 16 * p + 6 = omega arith in subst (λ (x : ℕ). Line L (16 * p + 5) (from L (mate quads L (16 * p + 4) - 1)) (from L (16 * p + 5)) (from L x) (from L (16 * p + 13))) f (subst (λ (x : ℕ). Line L (16 * p + 5) (from L (mate quads L (16 * p + 4) - 1)) (from L x) (from L (16 * p + 4 + 2)) (from L (16 * p + 13))) e (spoke (4 * p + 1) (16 * p + 4) (16 * p + 5) (16 * p + 13) (omega arith) h₁ (omega arith) (omega arith) (omega arith) (let m = m₁ in omega arith))));
           spoke₂ = subst (λ (y : ℕ). Line L (16 * p + 9) (from L (mate quads L (16 * p + 8) - 1)) (from L (16 * p + 9)) y (from L (16 * p + 1))) (points-same (4 * p + 2) (16 * p + 10) (omega arith) (omega arith) (omega arith)) (let e : 16 * p + 8 + 1 ≡ 16 * p + 9 = omega arith in let f : 16 * p + 8 + 2 ≡ 16 * p + 10 = omega arith in subst (λ (x : ℕ). Line L (16 * p + 9) (from L (mate quads L (16 * p + 8) - 1)) (from L (16 * p + 9)) (from L x) (from L (16 * p + 1))) f (subst (λ (x : ℕ). Line L (16 * p + 9) (from L (mate quads L (16 * p + 8) - 1)) (from L x) (from L (16 * p + 8 + 2)) (from L (16 * p + 1))) e (spoke (4 * p + 2) (16 * p + 8) (16 * p + 9) (16 * p + 1) (omega arith) h₂ (omega arith) (omega arith) (omega arith) (let m = m₂ in omega arith))));

@@ -47,10 +47,14 @@ module _ (t : ℕ) (l marks : List ℕ) (p₀ : List ℤ) (w₀ : List ℕ) (at 
   number-is h k o = entry-number l h (entryOf n w h) o (done .entries h k)
 
   second-mate : (f : ℕ) → 4 * f < n → mate quads l (4 * f + 1) ≡ 4 * quads .next f + 2
-  second-mate f k = let d = later-length l made in at-refined (λ (l : List ℕ). mate quads l (4 * f + 1) ≡ 4 * quads .next f + 2) (mate₁ quads (made .vertices) (made .before) (made .net .oriented) f (omega arith))
+  second-mate f k =
+      let d = later-length l made in
+      at-refined (λ (l : List ℕ). mate quads l (4 * f + 1) ≡ 4 * quads .next f + 2) (mate₁ quads (made .vertices) (made .before) (made .net .oriented) f (omega arith))
 
   third-mate : (f : ℕ) → 4 * f < n → mate quads l (4 * f + 2) ≡ 4 * quads .prev f + 1
-  third-mate f k = let d = later-length l made in at-refined (λ (l : List ℕ). mate quads l (4 * f + 2) ≡ 4 * quads .prev f + 1) (mate₂ quads (made .vertices) (made .before) (made .net .oriented) f (omega arith))
+  third-mate f k =
+      let d = later-length l made in
+      at-refined (λ (l : List ℕ). mate quads l (4 * f + 2) ≡ 4 * quads .prev f + 1) (mate₂ quads (made .vertices) (made .before) (made .net .oriented) f (omega arith))
 
   inside-plain : (g : ℕ) → g < n → 0 < g % 4 → g % 4 < 3 → OrdinaryEnds l g
   inside-plain g k a b =

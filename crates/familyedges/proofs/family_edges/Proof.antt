@@ -1,5 +1,6 @@
 -- `family_edges` meets its contract. Assumes nothing.
-use mathlib.Core.Path.{ap, _∙_}
+use mathlib.Core.Path.{_≡_, ap, _∙_}
+use mathlib.Core.List.{List}
 use Prim.Native.Nat.{ℕ, _+_, _-_, _≤_, _<_}
 use native.Mathlib.Omega.{arith}
 use borrow.Author.Needs.{needs}
@@ -76,52 +77,132 @@ start-of-requires-9 : tie.Need-start-of-requires-9
 start-of-requires-9 c κs = let s = c .before .before .before .before .before .before .before .before .before .before .before in let k = few s in omega arith
 
 mate-side-requires : tie.Need-mate-side-requires
-mate-side-requires c κs = let s = c .before .before .before .before .before .before .before .before .before .before .before .before .before in let k = few s in (turn s .ready .table, omega arith)
+mate-side-requires c κs =
+    let s = c .before .before .before .before .before .before .before .before .before .before .before .before .before in
+    let k = few s in
+    (turn s .ready .table, omega arith)
 
 sub-start-of : tie.Need-sub-start-of
-sub-start-of c = let s = c .before .before .before .before .before .before .before .before .before .before .before .before .before .before in let e = c .mate-side .ensures in let m = mates s .0 in omega arith
+sub-start-of c =
+    let s = c .before .before .before .before .before .before .before .before .before .before .before .before .before .before in
+    let e = c .mate-side .ensures in
+    let m = mates s .0 in
+    omega arith
 
 start-of-requires-10 : tie.Need-start-of-requires-10
-start-of-requires-10 c κs = let s = c .before .before .before .before .before .before .before .before .before .before .before .before .before .before in let e = c .mate-side .ensures in let m = mates s .0 in omega arith
+start-of-requires-10 c κs =
+    let s = c .before .before .before .before .before .before .before .before .before .before .before .before .before .before in
+    let e = c .mate-side .ensures in
+    let m = mates s .0 in
+    omega arith
 
 add-mate-side : tie.Need-add-mate-side
-add-mate-side c = let s = c .before .before .before .before .before .before .before .before .before .before .before .before .before .before .before .before in let k = few s in record { fits = omega arith }
+add-mate-side c =
+    let s = c .before .before .before .before .before .before .before .before .before .before .before .before .before .before .before .before in
+    let k = few s in
+    record { fits = omega arith }
 
 mate-side-requires-2 : tie.Need-mate-side-requires-2
-mate-side-requires-2 c κs = let s = c .before .before .before .before .before .before .before .before .before .before .before .before .before .before .before .before in let k = few s in (turn s .ready .table, omega arith)
+mate-side-requires-2 c κs =
+    let s = c .before .before .before .before .before .before .before .before .before .before .before .before .before .before .before .before in
+    let k = few s in
+    (turn s .ready .table, omega arith)
 
 sub-start-of-2 : tie.Need-sub-start-of-2
-sub-start-of-2 c = let s = c .before .before .before .before .before .before .before .before .before .before .before .before .before .before .before .before .before in let e = c .mate-side2 .ensures in let m = mates s .1 in omega arith
+sub-start-of-2 c =
+    let s = c .before .before .before .before .before .before .before .before .before .before .before .before .before .before .before .before .before in
+    let e = c .mate-side2 .ensures in
+    let m = mates s .1 in
+    omega arith
 
 start-of-requires-11 : tie.Need-start-of-requires-11
-start-of-requires-11 c κs = let s = c .before .before .before .before .before .before .before .before .before .before .before .before .before .before .before .before .before in let e = c .mate-side2 .ensures in let m = mates s .1 in omega arith
+start-of-requires-11 c κs =
+    let s = c .before .before .before .before .before .before .before .before .before .before .before .before .before .before .before .before .before in
+    let e = c .mate-side2 .ensures in
+    let m = mates s .1 in
+    omega arith
 
 add-mate-side-2 : tie.Need-add-mate-side-2
-add-mate-side-2 c = let s = c .before .before .before .before .before .before .before .before .before .before .before .before .before .before .before .before .before .before .before in let k = few s in record { fits = omega arith }
+add-mate-side-2 c =
+    let s = c .before .before .before .before .before .before .before .before .before .before .before .before .before .before .before .before .before .before .before in
+    let k = few s in
+    record { fits = omega arith }
 
 mate-side-requires-3 : tie.Need-mate-side-requires-3
-mate-side-requires-3 c κs = let s = c .before .before .before .before .before .before .before .before .before .before .before .before .before .before .before .before .before .before .before in let k = few s in (turn s .ready .table, omega arith)
+mate-side-requires-3 c κs =
+    let s = c .before .before .before .before .before .before .before .before .before .before .before .before .before .before .before .before .before .before .before in
+    let k = few s in
+    (turn s .ready .table, omega arith)
 
 sub-start-of-3 : tie.Need-sub-start-of-3
-sub-start-of-3 c = let s = c .before .before .before .before .before .before .before .before .before .before .before .before .before .before .before .before .before .before .before .before in let e = c .mate-side3 .ensures in let m = mates s .2 in omega arith
+sub-start-of-3 c =
+    let s = c .before .before .before .before .before .before .before .before .before .before .before .before .before .before .before .before .before .before .before .before in
+    let e = c .mate-side3 .ensures in
+    let m = mates s .2 in
+    omega arith
 
 start-of-requires-12 : tie.Need-start-of-requires-12
-start-of-requires-12 c κs = let s = c .before .before .before .before .before .before .before .before .before .before .before .before .before .before .before .before .before .before .before .before in let e = c .mate-side3 .ensures in let m = mates s .2 in omega arith
+start-of-requires-12 c κs =
+    let s = c .before .before .before .before .before .before .before .before .before .before .before .before .before .before .before .before .before .before .before .before in
+    let e = c .mate-side3 .ensures in
+    let m = mates s .2 in
+    omega arith
 
 add-mate-side-3 : tie.Need-add-mate-side-3
-add-mate-side-3 c = let s = c .before .before .before .before .before .before .before .before .before .before .before .before .before .before .before .before .before .before .before .before .before .before in let k = few s in record { fits = omega arith }
+add-mate-side-3 c =
+    let s = c .before .before .before .before .before .before .before .before .before .before .before .before .before .before .before .before .before .before .before .before .before .before in
+    let k = few s in
+    record { fits = omega arith }
 
 mate-side-requires-4 : tie.Need-mate-side-requires-4
-mate-side-requires-4 c κs = let s = c .before .before .before .before .before .before .before .before .before .before .before .before .before .before .before .before .before .before .before .before .before .before in let k = few s in (turn s .ready .table, omega arith)
+mate-side-requires-4 c κs =
+    let s = c .before .before .before .before .before .before .before .before .before .before .before .before .before .before .before .before .before .before .before .before .before .before in
+    let k = few s in
+    (turn s .ready .table, omega arith)
 
 sub-start-of-4 : tie.Need-sub-start-of-4
-sub-start-of-4 c = let s = c .before .before .before .before .before .before .before .before .before .before .before .before .before .before .before .before .before .before .before .before .before .before .before in let e = c .mate-side4 .ensures in let m = mates s .3 in omega arith
+sub-start-of-4 c =
+    let s = c .before .before .before .before .before .before .before .before .before .before .before .before .before .before .before .before .before .before .before .before .before .before .before in
+    let e = c .mate-side4 .ensures in
+    let m = mates s .3 in
+    omega arith
 
 start-of-requires-13 : tie.Need-start-of-requires-13
-start-of-requires-13 c κs = let s = c .before .before .before .before .before .before .before .before .before .before .before .before .before .before .before .before .before .before .before .before .before .before .before in let e = c .mate-side4 .ensures in let m = mates s .3 in omega arith
+start-of-requires-13 c κs =
+    let s = c .before .before .before .before .before .before .before .before .before .before .before .before .before .before .before .before .before .before .before .before .before .before .before in
+    let e = c .mate-side4 .ensures in
+    let m = mates s .3 in
+    omega arith
+
+far : (l : List ℕ) (o x m : ℕ) → o ≡ from l (x - 1) → x ≡ m → o ≡ from l (m - 1)
+far l o x m a e = a ∙ ap (λ (y : ℕ). from l (y - 1)) e
 
 family-steps-requires : tie.Need-family-steps-requires
-family-steps-requires c κs = let s = c .before .before .before .before .before .before .before .before .before .before .before .before .before .before .before .before .before .before .before .before .before .before .before .before .before .before in (s .pre .0, family-of _ _ _ _ _ _ _ _ _ _ _ _ _ _ _ (s .pre .1) (c .before .before .before .before .before .before .before .before .before .before .before .before .before .before .before .before .before .before .before .before .before .before .start-of .ensures) (c .before .before .before .before .before .before .before .before .before .before .before .before .before .before .before .before .before .before .before .before .before .start-of2 .ensures) (c .before .before .before .before .before .before .before .before .before .before .before .before .before .before .before .before .before .before .before .before .start-of3 .ensures) (c .before .before .before .before .before .before .before .before .before .before .before .before .before .before .before .before .before .before .before .start-of4 .ensures) (c .before .before .before .before .before .before .before .before .before .before .before .before .before .before .before .before .before .before .start-of5 .ensures) (c .before .before .before .before .before .before .before .before .before .before .before .before .before .before .before .before .before .start-of6 .ensures) (c .before .before .before .before .before .before .before .before .before .before .before .before .before .before .before .before .start-of7 .ensures) (c .before .before .before .before .before .before .before .before .before .before .before .before .before .before .before .start-of8 .ensures) (c .before .before .before .before .before .before .before .before .before .before .before .before .before .before .start-of9 .ensures) (c .before .before .before .before .before .before .before .before .before .before .before .start-of10 .ensures ∙ ap (λ (x : ℕ). from (s .args .faces .now) (x - 1)) (c .before .before .before .before .before .before .before .before .before .before .before .before .mate-side .ensures)) (c .before .before .before .before .before .before .before .before .start-of11 .ensures ∙ ap (λ (x : ℕ). from (s .args .faces .now) (x - 1)) (c .before .before .before .before .before .before .before .before .before .mate-side2 .ensures)) (c .before .before .before .before .before .start-of12 .ensures ∙ ap (λ (x : ℕ). from (s .args .faces .now) (x - 1)) (c .before .before .before .before .before .before .mate-side3 .ensures)) (c .before .before .start-of13 .ensures ∙ ap (λ (x : ℕ). from (s .args .faces .now) (x - 1)) (c .before .before .before .mate-side4 .ensures)))
+family-steps-requires c κs =
+    let y₃ = c .before .before in
+    let x₃ = y₃ .before in
+    let y₂ = x₃ .before .before in
+    let x₂ = y₂ .before in
+    let y₁ = x₂ .before .before in
+    let x₁ = y₁ .before in
+    let y₀ = x₁ .before .before in
+    let x₀ = y₀ .before in
+    let e₃ = x₀ .before .before in
+    let e₂ = e₃ .before in
+    let e₁ = e₂ .before in
+    let e₀ = e₁ .before in
+    let c₃ = e₀ .before in
+    let c₂ = c₃ .before in
+    let c₁ = c₂ .before in
+    let c₀ = c₁ .before in
+    let f = c₀ .before in
+    let s = f .before .before .before .before in (
+      s .pre .0,
+      family-of _ _ _ _ _ _ _ _ _ _ _ _ _ _ _ (s .pre .1) (f .start-of .ensures) (c₀ .start-of2 .ensures) (c₁ .start-of3 .ensures) (c₂ .start-of4 .ensures) (c₃ .start-of5 .ensures)
+          (e₀ .start-of6 .ensures) (e₁ .start-of7 .ensures) (e₂ .start-of8 .ensures) (e₃ .start-of9 .ensures)
+          (far _ _ _ _ (y₀ .start-of10 .ensures) (x₀ .mate-side .ensures)) (far _ _ _ _ (y₁ .start-of11 .ensures) (x₁ .mate-side2 .ensures))
+          (far _ _ _ _ (y₂ .start-of12 .ensures) (x₂ .mate-side3 .ensures)) (far _ _ _ _ (y₃ .start-of13 .ensures) (x₃ .mate-side4 .ensures)),
+    )
 
 same-length : tie.Need-same-length
 same-length c = search needs

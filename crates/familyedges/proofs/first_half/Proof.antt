@@ -26,22 +26,61 @@ mate-side-requires : tie.Need-mate-side-requires
 mate-side-requires c κs = let s = c .before .before .before .before in (turn s .ready .table, lt s)
 
 add-entry : tie.Need-add-entry
-add-entry c = let s = c .before .before .before .before .before .before in let k = turn s .ready .table .sides .few in let j = turn s .entries in let l = lt s in let a = s .pre .1 .after in let m = c .if1 .taken in record { fits = omega arith }
+add-entry c =
+    let s = c .before .before .before .before .before .before in
+    let k = turn s .ready .table .sides .few in
+    let j = turn s .entries in
+    let l = lt s in
+    let a = s .pre .1 .after in
+    let m = c .if1 .taken in
+    record { fits = omega arith }
 
 mul-entry : tie.Need-mul-entry
-mul-entry c = let s = c .before .before .before .before .before .before in let k = turn s .ready .table .sides .few in let j = turn s .entries in let l = lt s in let a = s .pre .1 .after in let m = c .if1 .taken in record { fits = omega arith }
+mul-entry c =
+    let s = c .before .before .before .before .before .before in
+    let k = turn s .ready .table .sides .few in
+    let j = turn s .entries in
+    let l = lt s in
+    let a = s .pre .1 .after in
+    let m = c .if1 .taken in
+    record { fits = omega arith }
 
 slice-read-entry : tie.Need-slice-read-entry
-slice-read-entry c = let s = c .before .before .before .before .before .before .before in let k = turn s .ready .table .sides .few in let j = turn s .entries in let l = lt s in let a = s .pre .1 .after in let m = c .before .if1 .taken in omega arith
+slice-read-entry c =
+    let s = c .before .before .before .before .before .before .before in
+    let k = turn s .ready .table .sides .few in
+    let j = turn s .entries in
+    let l = lt s in
+    let a = s .pre .1 .after in
+    let m = c .before .if1 .taken in
+    omega arith
 
 add-work : tie.Need-add-work
-add-work c = let s = c .before .before .before .before .before .before .before in let k = turn s .ready .table .sides .few in let j = turn s .entries in let l = lt s in let a = s .pre .1 .after in record { fits = omega arith }
+add-work c =
+    let s = c .before .before .before .before .before .before .before in
+    let k = turn s .ready .table .sides .few in
+    let j = turn s .entries in
+    let l = lt s in
+    let a = s .pre .1 .after in
+    record { fits = omega arith }
 
 mul-work : tie.Need-mul-work
-mul-work c = let s = c .before .before .before .before .before .before .before in let k = turn s .ready .table .sides .few in let j = turn s .entries in let l = lt s in let a = s .pre .1 .after in record { fits = omega arith }
+mul-work c =
+    let s = c .before .before .before .before .before .before .before in
+    let k = turn s .ready .table .sides .few in
+    let j = turn s .entries in
+    let l = lt s in
+    let a = s .pre .1 .after in
+    record { fits = omega arith }
 
 slice-write-work : tie.Need-slice-write-work
-slice-write-work c = let s = c .before .before .before .before .before .before .before in let k = turn s .ready .table .sides .few in let j = turn s .entries in let l = lt s in let a = s .pre .1 .after in omega arith
+slice-write-work c =
+    let s = c .before .before .before .before .before .before .before in
+    let k = turn s .ready .table .sides .few in
+    let j = turn s .entries in
+    let l = lt s in
+    let a = s .pre .1 .after in
+    omega arith
 
 same-length : tie.Need-same-length
 same-length c = search needs
@@ -58,13 +97,27 @@ returns c =
     (passed (omega arith) refl refl (ap (λ (m : ℕ). set (s .args .work .now) (length (s .args .faces .now) + s .args .h) (getD (s .args .work .now) (length (s .args .faces .now) + m) 0)) e))
 
 add-mate-side : tie.Need-add-mate-side
-add-mate-side c = let s = c .before .before .before .before .before .before .before in let k = turn s .ready .table .sides .few in let j = turn s .entries in let l = lt s in let a = s .pre .1 .after in record { fits = omega arith }
+add-mate-side c =
+    let s = c .before .before .before .before .before .before .before in
+    let k = turn s .ready .table .sides .few in
+    let j = turn s .entries in
+    let l = lt s in
+    let a = s .pre .1 .after in
+    record { fits = omega arith }
 
 mate-side-requires-2 : tie.Need-mate-side-requires-2
 mate-side-requires-2 c κs = let s = c .before .before .before .before .before .before .before in (turn s .ready .table, s .pre .1 .lt)
 
 add-start-of : tie.Need-add-start-of
-add-start-of c = let s = c .before .before .before .before .before .before .before .before in let k = turn s .ready .table .sides .few in let j = turn s .entries in let l = lt s in let a = s .pre .1 .after in let e = c .mate-side2 .ensures in let y = s .pre .1 .before in record { fits = omega arith }
+add-start-of c =
+    let s = c .before .before .before .before .before .before .before .before in
+    let k = turn s .ready .table .sides .few in
+    let j = turn s .entries in
+    let l = lt s in
+    let a = s .pre .1 .after in
+    let e = c .mate-side2 .ensures in
+    let y = s .pre .1 .before in
+    record { fits = omega arith }
 
 start-of-requires : tie.Need-start-of-requires
 start-of-requires c κs = let s = c .before .before .before .before .before .before .before .before in let e = c .mate-side2 .ensures in let y = s .pre .1 .before in omega arith
@@ -88,7 +141,9 @@ same-length-3 : tie.Need-same-length-3
 same-length-3 c = search needs
 
 returns-2 : tie.Need-returns-2
-returns-2 c = let s = c .before .before .before .before .before .before .before .before .before .before .before .before .before .before .before in turned-carries _ _ _ _ _ _ _ _ _ _ (lt s) (c .before .before .before .line-edge .ensures)
+returns-2 c =
+    let s = c .before .before .before .before .before .before .before .before .before .before .before .before .before .before .before in
+    turned-carries _ _ _ _ _ _ _ _ _ _ (lt s) (c .before .before .before .line-edge .ensures)
 
 pub first-half-spec : {M : Type 1} → statement M
 first-half-spec =

@@ -26,22 +26,61 @@ mate-side-requires : tie.Need-mate-side-requires
 mate-side-requires c κs = let s = c .before .before .before .before in (turn s .ready .table, lt s)
 
 add-entry : tie.Need-add-entry
-add-entry c = let s = c .before .before .before .before .before .before in let k = turn s .ready .table .sides .few in let j = turn s .entries in let l = lt s in let a = s .pre .1 .after in let m = c .if1 .taken in record { fits = omega arith }
+add-entry c =
+    let s = c .before .before .before .before .before .before in
+    let k = turn s .ready .table .sides .few in
+    let j = turn s .entries in
+    let l = lt s in
+    let a = s .pre .1 .after in
+    let m = c .if1 .taken in
+    record { fits = omega arith }
 
 mul-entry : tie.Need-mul-entry
-mul-entry c = let s = c .before .before .before .before .before .before in let k = turn s .ready .table .sides .few in let j = turn s .entries in let l = lt s in let a = s .pre .1 .after in let m = c .if1 .taken in record { fits = omega arith }
+mul-entry c =
+    let s = c .before .before .before .before .before .before in
+    let k = turn s .ready .table .sides .few in
+    let j = turn s .entries in
+    let l = lt s in
+    let a = s .pre .1 .after in
+    let m = c .if1 .taken in
+    record { fits = omega arith }
 
 slice-read-entry : tie.Need-slice-read-entry
-slice-read-entry c = let s = c .before .before .before .before .before .before .before in let k = turn s .ready .table .sides .few in let j = turn s .entries in let l = lt s in let a = s .pre .1 .after in let m = c .before .if1 .taken in omega arith
+slice-read-entry c =
+    let s = c .before .before .before .before .before .before .before in
+    let k = turn s .ready .table .sides .few in
+    let j = turn s .entries in
+    let l = lt s in
+    let a = s .pre .1 .after in
+    let m = c .before .if1 .taken in
+    omega arith
 
 add-work : tie.Need-add-work
-add-work c = let s = c .before .before .before .before .before .before .before in let k = turn s .ready .table .sides .few in let j = turn s .entries in let l = lt s in let a = s .pre .1 .after in record { fits = omega arith }
+add-work c =
+    let s = c .before .before .before .before .before .before .before in
+    let k = turn s .ready .table .sides .few in
+    let j = turn s .entries in
+    let l = lt s in
+    let a = s .pre .1 .after in
+    record { fits = omega arith }
 
 mul-work : tie.Need-mul-work
-mul-work c = let s = c .before .before .before .before .before .before .before in let k = turn s .ready .table .sides .few in let j = turn s .entries in let l = lt s in let a = s .pre .1 .after in record { fits = omega arith }
+mul-work c =
+    let s = c .before .before .before .before .before .before .before in
+    let k = turn s .ready .table .sides .few in
+    let j = turn s .entries in
+    let l = lt s in
+    let a = s .pre .1 .after in
+    record { fits = omega arith }
 
 slice-write-work : tie.Need-slice-write-work
-slice-write-work c = let s = c .before .before .before .before .before .before .before in let k = turn s .ready .table .sides .few in let j = turn s .entries in let l = lt s in let a = s .pre .1 .after in omega arith
+slice-write-work c =
+    let s = c .before .before .before .before .before .before .before in
+    let k = turn s .ready .table .sides .few in
+    let j = turn s .entries in
+    let l = lt s in
+    let a = s .pre .1 .after in
+    omega arith
 
 same-length : tie.Need-same-length
 same-length c = search needs
@@ -88,7 +127,9 @@ same-length-3 : tie.Need-same-length-3
 same-length-3 c = search needs
 
 returns-2 : tie.Need-returns-2
-returns-2 c = let s = c .before .before .before .before .before .before .before .before .before .before .before .before .before .before .before in turned-carries _ _ _ _ _ _ _ _ _ _ (lt s) (c .before .before .before .line-edge .ensures)
+returns-2 c =
+    let s = c .before .before .before .before .before .before .before .before .before .before .before .before .before .before .before in
+    turned-carries _ _ _ _ _ _ _ _ _ _ (lt s) (c .before .before .before .line-edge .ensures)
 
 pub last-half-spec : {M : Type 1} → statement M
 last-half-spec =

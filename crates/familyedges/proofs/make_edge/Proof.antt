@@ -14,7 +14,9 @@ same-length-2 : tie.Need-same-length-2
 same-length-2 c = search needs
 
 returns : tie.Need-returns
-returns c = let s = c .before .before .before .before .before .before .before .before .before in turned-carries _ _ _ _ _ _ _ _ _ _ (s .pre .1 .ends .lt) (c .before .before .before .line-edge .ensures)
+returns c =
+    let s = c .before .before .before .before .before .before .before .before .before in
+    turned-carries _ _ _ _ _ _ _ _ _ _ (s .pre .1 .ends .lt) (c .before .before .before .line-edge .ensures)
 
 pub make-edge-spec : {M : Type 1} → statement M
 make-edge-spec = tie.close (tie.spec line-edge-requires same-length same-length-2 returns)

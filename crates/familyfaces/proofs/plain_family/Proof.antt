@@ -75,7 +75,9 @@ add-result : tie.Need-add-result
 add-result c = search needs
 
 returns : tie.Need-returns
-returns c = let s = c .before .before .before .before .before .before .before .before .before in λ t. sides-of _ _ _ _ _ _ _ _ _ _ _ (s .pre .2) (c .before .before .before .before .before .before .before .entry .ensures .0) (c .before .before .before .before .before .before .entry2 .ensures .0) (c .before .before .before .before .before .entry3 .ensures .0) (c .before .before .before .before .entry4 .ensures .0) (c .before .before .before .entry5 .ensures .0) (c .before .before .entry6 .ensures .0) (c .before .entry7 .ensures .0) (c .entry8 .ensures .0) (ltb-true _ _ t)
+returns c =
+    let s = c .before .before .before .before .before .before .before .before .before in
+    λ t. sides-of _ _ _ _ _ _ _ _ _ _ _ (s .pre .2) (c .before .before .before .before .before .before .before .entry .ensures .0) (c .before .before .before .before .before .before .entry2 .ensures .0) (c .before .before .before .before .before .entry3 .ensures .0) (c .before .before .before .before .entry4 .ensures .0) (c .before .before .before .entry5 .ensures .0) (c .before .before .entry6 .ensures .0) (c .before .entry7 .ensures .0) (c .entry8 .ensures .0) (ltb-true _ _ t)
 
 pub plain-family-spec : {M : Type 1} → statement M
 plain-family-spec =

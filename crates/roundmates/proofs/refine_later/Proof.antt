@@ -105,7 +105,11 @@ add-put-four-6 : tie.Need-add-put-four-6
 add-put-four-6 c = omega arith
 
 mul-put-four-2 : tie.Need-mul-put-four-2
-mul-put-four-2 c = let m = c .before .before .before .before .before .before in let s = m .before .before .before .before .before .before .before .before in let b = below s 1 (omega arith) in omega arith
+mul-put-four-2 c =
+    let m = c .before .before .before .before .before .before in
+    let s = m .before .before .before .before .before .before .before .before in
+    let b = below s 1 (omega arith) in
+    omega arith
 
 put-four-requires-2 : tie.Need-put-four-requires-2
 put-four-requires-2 c κs = omega arith
@@ -120,7 +124,11 @@ add-put-four-9 : tie.Need-add-put-four-9
 add-put-four-9 c = omega arith
 
 mul-put-four-3 : tie.Need-mul-put-four-3
-mul-put-four-3 c = let m = c .before .before .before .before .before .before .before .before .before .before in let s = m .before .before .before .before .before .before .before .before in let b = s .pre .0 .below (4 * s .args .f) (omega arith) (omega arith) in omega arith
+mul-put-four-3 c =
+    let m = c .before .before .before .before .before .before .before .before .before .before in
+    let s = m .before .before .before .before .before .before .before .before in
+    let b = s .pre .0 .below (4 * s .args .f) (omega arith) (omega arith) in
+    omega arith
 
 put-four-requires-3 : tie.Need-put-four-requires-3
 put-four-requires-3 c κs = omega arith
@@ -132,7 +140,11 @@ add-put-four-11 : tie.Need-add-put-four-11
 add-put-four-11 c = omega arith
 
 mul-put-four-4 : tie.Need-mul-put-four-4
-mul-put-four-4 c = let m = c .before .before .before .before .before .before .before .before .before .before .before .before .before .before in let s = m .before .before .before .before .before .before .before .before in let b = below s 3 (omega arith) in omega arith
+mul-put-four-4 c =
+    let m = c .before .before .before .before .before .before .before .before .before .before .before .before .before .before in
+    let s = m .before .before .before .before .before .before .before .before in
+    let b = below s 3 (omega arith) in
+    omega arith
 
 put-four-requires-4 : tie.Need-put-four-requires-4
 put-four-requires-4 c κs = omega arith

@@ -27,28 +27,38 @@ slice-reshare-prefix-edge-points : tie.Need-slice-reshare-prefix-edge-points
 slice-reshare-prefix-edge-points c = let s = c .before .before .before .before .before in omega (arith, s .pre .0 .roomFaces)
 
 slice-aggregate-edge-points : tie.Need-slice-aggregate-edge-points
-slice-aggregate-edge-points c = let s = c .before .before .before .before .before .before in sym (corners (s .args .t) (s .args .v) (s .args .n) (s .args .at) (s .args .initial) (tables s) (s .pre .0))
+slice-aggregate-edge-points c =
+    let s = c .before .before .before .before .before .before in
+    sym (corners (s .args .t) (s .args .v) (s .args .n) (s .args .at) (s .args .initial) (tables s) (s .pre .0))
 
 slice-reshare-prefix-edge-points-2 : tie.Need-slice-reshare-prefix-edge-points-2
 slice-reshare-prefix-edge-points-2 c = let s = c .before .before .before .before .before .before in omega (arith, s .pre .0 .roomMarks, s .pre .0 .vertices)
 
 slice-aggregate-edge-points-2 : tie.Need-slice-aggregate-edge-points-2
-slice-aggregate-edge-points-2 c = let s = c .before .before .before .before .before .before .before in sym (marked (s .args .t) (s .args .v) (s .args .n) (s .args .at) (s .args .initial) (tables s) (s .pre .0))
+slice-aggregate-edge-points-2 c =
+    let s = c .before .before .before .before .before .before .before in
+    sym (marked (s .args .t) (s .args .v) (s .args .n) (s .args .at) (s .args .initial) (tables s) (s .pre .0))
 
 edge-points-requires : tie.Need-edge-points-requires
-edge-points-requires c κs = let s = c .before .before .before .before .before .before .before .before in (ready (s .args .t) (s .args .v) (s .args .n) (s .args .at) (s .args .initial) (tables s) (s .pre .0), s .pre .1 .1)
+edge-points-requires c κs =
+    let s = c .before .before .before .before .before .before .before .before in
+    (ready (s .args .t) (s .args .v) (s .args .n) (s .args .at) (s .args .initial) (tables s) (s .pre .0), s .pre .1 .1)
 
 slice-reshare-prefix-name-points : tie.Need-slice-reshare-prefix-name-points
 slice-reshare-prefix-name-points c = let s = start (c .before .before .before .before) in omega (arith, s .pre .0 .roomFaces)
 
 slice-aggregate-name-points : tie.Need-slice-aggregate-name-points
-slice-aggregate-name-points c = let s = start (c .before .before .before .before .before) in sym (corners (s .args .t) (s .args .v) (s .args .n) (s .args .at) (s .args .initial) (tables s) (s .pre .0))
+slice-aggregate-name-points c =
+    let s = start (c .before .before .before .before .before) in
+    sym (corners (s .args .t) (s .args .v) (s .args .n) (s .args .at) (s .args .initial) (tables s) (s .pre .0))
 
 slice-reshare-prefix-name-points-2 : tie.Need-slice-reshare-prefix-name-points-2
 slice-reshare-prefix-name-points-2 c = let s = start (c .before .before .before .before .before) in omega (arith, s .pre .0 .roomMarks, s .pre .0 .vertices)
 
 slice-aggregate-name-points-2 : tie.Need-slice-aggregate-name-points-2
-slice-aggregate-name-points-2 c = let s = start (c .before .before .before .before .before .before) in sym (marked (s .args .t) (s .args .v) (s .args .n) (s .args .at) (s .args .initial) (tables s) (s .pre .0))
+slice-aggregate-name-points-2 c =
+    let s = start (c .before .before .before .before .before .before) in
+    sym (marked (s .args .t) (s .args .v) (s .args .n) (s .args .at) (s .args .initial) (tables s) (s .pre .0))
 
 name-points-requires : tie.Need-name-points-requires
 name-points-requires c κs =
@@ -61,10 +71,20 @@ abbrev edged : tie.After-name-points → tie.After-edge-points
 edged y = y .before .before .before .before .before .before .before .before
 
 add-count : tie.Need-add-count
-add-count c = let x = c .before .before .before .before .before .before .before .before .before .before in let k = few x in let s = start x in let q = s .pre .0 .small in omega arith
+add-count c =
+    let x = c .before .before .before .before .before .before .before .before .before .before in
+    let k = few x in
+    let s = start x in
+    let q = s .pre .0 .small in
+    omega arith
 
 add-count-2 : tie.Need-add-count-2
-add-count-2 c = let x = c .before .before .before .before .before .before .before .before .before .before in let k = few x in let s = start x in let q = s .pre .0 .small in omega arith
+add-count-2 c =
+    let x = c .before .before .before .before .before .before .before .before .before .before in
+    let k = few x in
+    let s = start x in
+    let q = s .pre .0 .small in
+    omega arith
 
 extend-marks-requires : tie.Need-extend-marks-requires
 extend-marks-requires c κs =
@@ -76,10 +96,20 @@ extend-marks-requires c κs =
     (omega arith, omega arith)
 
 add-first : tie.Need-add-first
-add-first c = let x = c .before .before .before .before .before .before .before .before .before .before .before .before .before .before in let k = few x in let s = start x in let q = s .pre .0 .small in omega arith
+add-first c =
+    let x = c .before .before .before .before .before .before .before .before .before .before .before .before .before .before in
+    let k = few x in
+    let s = start x in
+    let q = s .pre .0 .small in
+    omega arith
 
 mul-first : tie.Need-mul-first
-mul-first c = let x = c .before .before .before .before .before .before .before .before .before .before .before .before .before .before in let k = few x in let s = start x in let q = s .pre .0 .small in omega arith
+mul-first c =
+    let x = c .before .before .before .before .before .before .before .before .before .before .before .before .before .before in
+    let k = few x in
+    let s = start x in
+    let q = s .pre .0 .small in
+    omega arith
 
 -- before the faces
 abbrev passed : tie.After-slice-known7 → tie.After-edge-points
@@ -89,10 +119,16 @@ mul-face-points : tie.Need-mul-face-points
 mul-face-points c = let x = passed (c .before) in let k = few x in let s = start x in let q = s .pre .0 .small in omega arith
 
 sub-face-points : tie.Need-sub-face-points
-sub-face-points c = let x = passed (c .before) in let s = start x in part-start (s .args .t) (s .args .v) (s .args .n) (s .args .at) (s .args .initial) (tables s) (s .pre .0) _ _ (x .edge-points .ensures .1) _ (x .edge-points .ensures .0)
+sub-face-points c =
+    let x = passed (c .before) in
+    let s = start x in
+    part-start (s .args .t) (s .args .v) (s .args .n) (s .args .at) (s .args .initial) (tables s) (s .pre .0) _ _ (x .edge-points .ensures .1) _ (x .edge-points .ensures .0)
 
 part-face-points-start : tie.Need-part-face-points-start
-part-face-points-start c = let x = passed (c .before) in let s = start x in part-start (s .args .t) (s .args .v) (s .args .n) (s .args .at) (s .args .initial) (tables s) (s .pre .0) _ _ (x .edge-points .ensures .1) _ (x .edge-points .ensures .0)
+part-face-points-start c =
+    let x = passed (c .before) in
+    let s = start x in
+    part-start (s .args .t) (s .args .v) (s .args .n) (s .args .at) (s .args .initial) (tables s) (s .pre .0) _ _ (x .edge-points .ensures .1) _ (x .edge-points .ensures .0)
 
 part-face-points-end : tie.Need-part-face-points-end
 part-face-points-end c = search needs
@@ -143,10 +179,16 @@ mul-face-points-2 : tie.Need-mul-face-points-2
 mul-face-points-2 c = let x = passed (c .before) in let k = few x in let s = start x in let q = s .pre .0 .small in omega arith
 
 sub-face-points-2 : tie.Need-sub-face-points-2
-sub-face-points-2 c = let x = passed (c .before) in let s = start x in part-start (s .args .t) (s .args .v) (s .args .n) (s .args .at) (s .args .initial) (tables s) (s .pre .0) _ _ (x .edge-points .ensures .1) _ (x .edge-points .ensures .0)
+sub-face-points-2 c =
+    let x = passed (c .before) in
+    let s = start x in
+    part-start (s .args .t) (s .args .v) (s .args .n) (s .args .at) (s .args .initial) (tables s) (s .pre .0) _ _ (x .edge-points .ensures .1) _ (x .edge-points .ensures .0)
 
 part-face-points-start-2 : tie.Need-part-face-points-start-2
-part-face-points-start-2 c = let x = passed (c .before) in let s = start x in part-start (s .args .t) (s .args .v) (s .args .n) (s .args .at) (s .args .initial) (tables s) (s .pre .0) _ _ (x .edge-points .ensures .1) _ (x .edge-points .ensures .0)
+part-face-points-start-2 c =
+    let x = passed (c .before) in
+    let s = start x in
+    part-start (s .args .t) (s .args .v) (s .args .n) (s .args .at) (s .args .initial) (tables s) (s .pre .0) _ _ (x .edge-points .ensures .1) _ (x .edge-points .ensures .0)
 
 part-face-points-end-2 : tie.Need-part-face-points-end-2
 part-face-points-end-2 c = search needs

@@ -115,10 +115,14 @@ mul-at : tie.Need-mul-at Inv-loop μ-loop
 mul-at c = let s = c .before .before .before .before .before in let z = s .pre .0 .size in let e = s .pre .0 .final in omega arith
 
 slice-reshare-prefix-count-ring-sizes : tie.Need-slice-reshare-prefix-count-ring-sizes Inv-loop μ-loop
-slice-reshare-prefix-count-ring-sizes c = let s = c .before .before .before .before .before in corners-room (s .args .t) (s .args .k) (s .args .v) (s .args .n) (s .args .last) (given s) (s .pre .0)
+slice-reshare-prefix-count-ring-sizes c =
+    let s = c .before .before .before .before .before in
+    corners-room (s .args .t) (s .args .k) (s .args .v) (s .args .n) (s .args .last) (given s) (s .pre .0)
 
 slice-aggregate-count-ring-sizes : tie.Need-slice-aggregate-count-ring-sizes Inv-loop μ-loop
-slice-aggregate-count-ring-sizes c = let s = c .before .before .before .before .before .before in sym (corners-length (s .args .t) (s .args .k) (s .args .v) (s .args .n) (s .args .last) (given s) (s .pre .0))
+slice-aggregate-count-ring-sizes c =
+    let s = c .before .before .before .before .before .before in
+    sym (corners-length (s .args .t) (s .args .k) (s .args .v) (s .args .n) (s .args .last) (given s) (s .pre .0))
 
 count-ring-sizes-requires : tie.Need-count-ring-sizes-requires Inv-loop μ-loop
 count-ring-sizes-requires c κs =
@@ -152,7 +156,11 @@ round-requires c κs =
     rw e (open-round y, ((λ a. omega (arith, s .pre .1 a)), λ g. later-net (s .args .t) (s .args .k) (s .args .v) (s .args .n) (s .args .last) (tables (counted x)) (ready (counted x)) (h .i) (h .count) (held x) (h .inv .2) (ltb-true _ _ g)))
 
 add-i : tie.Need-add-i Inv-loop μ-loop
-add-i c = let y = turn (c .before .before .before .before .before .before .before .before .before) in let b = y .loop-test .taken in let q = start (y .before) .pre .0 .few in omega arith
+add-i c =
+    let y = turn (c .before .before .before .before .before .before .before .before .before) in
+    let b = y .loop-test .taken in
+    let q = start (y .before) .pre .0 .few in
+    omega arith
 
 same-length : tie.Need-same-length Inv-loop μ-loop
 same-length c =
