@@ -202,6 +202,8 @@ def builds(folder):
     if len((tree / 'target/refine.log').read_text().splitlines()) != 903:
         faults.append('the log of the build has other lines')
     check('a second run', run(tree / 'refine', NET, env=environment), 0, TEXT)
+    refusal = b'refusal place\n9 4\n'
+    check('a refusal without the documents', run(tree / 'refine', input=refusal, env=environment), 0, refusal, 'refine: refusal 9, place 4\n')
     os.utime(tree / 'crates.txt')
     first = subprocess.Popen([tree / 'refine', NET], env=environment, stdout=subprocess.PIPE, stderr=subprocess.PIPE)
     first.stderr.readline()
