@@ -123,10 +123,6 @@ module _ (w : List ℕ) (i : ℕ) (x y z : ℤ) where
       ∙ put-other (put w i x) (i + 2) j y (λ e. omega arith) (λ e. omega arith)
       ∙ put-other w i j x (λ e. omega arith) (λ e. omega arith)
 
-  pub put-three-kept : (j : ℕ) (u : ℤ) → (j + 2 ≤ i) ⊎ (i + 6 ≤ j) → Holds w j u → Holds (putThree w i x y z) j u
-  put-three-kept j u (inl h) = holds-kept w (putThree w i x y z) j u (put-three-other j (inl (omega arith))) (put-three-other (j + 1) (inl (omega arith)))
-  put-three-kept j u (inr h) = holds-kept w (putThree w i x y z) j u (put-three-other j (inr (omega arith))) (put-three-other (j + 1) (inr (omega arith)))
-
   module _ (room : i + 6 ≤ length w) where
     pub put-three-first : natAbs x < 2 ^ 55 → Holds (putThree w i x y z) i x
     unfolding putThree

@@ -1,12 +1,12 @@
 -- Laws of tables of points. Assumes nothing.
-use mathlib.Core.Path.{_≡_, refl, sym, ap, ap₂, _∙_}
+use mathlib.Core.Path.{_≡_, sym, ap, ap₂, _∙_}
 use mathlib.Core.List.{List, _++_}
 use Prim.Native.Nat.{ℕ, _+_, _*_, _/_, _%_, _≤_}
 use native.Mathlib.Omega.{arith}
 use lib.IntN.{ℤ}
 use lib.ListN.{length, set, drop, take, length-set}
 use Rattle.lists.specs.Tabulate.{tabulate}
-use Rattle.lists.proofs.Tabulate.{write-none, write-three}
+use Rattle.lists.proofs.Tabulate.{write-three}
 use lib.Seq.{take-set-le}
 use Rattle.coordinates.specs.Points.{putPoint, Written}
 
@@ -47,9 +47,6 @@ module _ (G : ℕ → ℕ → ℤ) where
       ∙ ap (λ (x : ℤ). set (set (set (tabulate (3 * i) F ++ drop (3 * i) o) (3 * i) (F (3 * i))) (3 * i + 1) (F (3 * i + 1))) (3 * i + 2) x) c
       ∙ write-three F o (3 * i) (omega arith)
       ∙ ap (λ (k : ℕ). tabulate k F ++ drop k o) n
-
-  pub written-none : (o : List ℤ) → Written G o o 0
-  written-none o = record { kept = refl; points = write-none (λ (k : ℕ). G (k % 3) (k / 3)) o }
 
   pub written-next : (o t t′ : List ℤ) (i : ℕ) → 3 * i + 3 ≤ length o → Written G o t i → t′ ≡ putPoint t i (G 0 i) (G 1 i) (G 2 i) → Written G o t′ (i + 1)
   written-next o t t′ i h x e = record {

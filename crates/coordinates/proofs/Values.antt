@@ -15,7 +15,6 @@ use Rattle.rings.specs.Scales.{coordinateRange}
 use Rattle.nets.specs.Net.{axis}
 use Rattle.coordinates.specs.declared.Far.{Far}
 use Rattle.coordinates.specs.declared.Far.the-variants.{At, Nowhere}
-use Rattle.coordinates.specs.Points.{OnAxes}
 use Rattle.coordinates.specs.Stencil.{farValue, stencilValue}
 
 pub wide-fits : (x : ℤ) → SFits w32 x → SFits w64 x
@@ -38,7 +37,3 @@ pub stencil-read : (w : Weights) (t : List ℤ) (a : ℕ) (o : Far) (p q : ℕ) 
     → u ≡ farValue (axis t a) o x y → v ≡ farValue (axis t a) r y x → n ≡ stencilValue w (axis t a) o p q r
 unfolding stencilValue
 stencil-read w t a o p q r n u x y v e ex ey eu ev = cc
-
--- a value on each axis
-pub on-axes : (f : ℕ → ℤ) (x y z : ℤ) → x ≡ f 0 → y ≡ f 1 → z ≡ f 2 → OnAxes f x y z
-on-axes f x y z a b c = record { on₀ = a; on₁ = b; on₂ = c }

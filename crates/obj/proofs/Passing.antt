@@ -9,7 +9,6 @@ use lib.Seq.{sets, length-sets}
 use Rattle.decimalform.specs.Decimal.{found, bad}
 use Rattle.decimal.proofs.Reading.{says-at, took-at}
 use Rattle.decimalform.proofs.Writing.{sets-after}
-use Rattle.textform.specs.Bytes.{bytes}
 use Rattle.textform.specs.Form.{Vertex, Face, Rows, rows, oneMore}
 use Rattle.readingform.specs.Loaded.{coordinates, marksOf, cornersOf}
 use Rattle.reading.proofs.Lines.{rows-length, rows-bad, rows-next, Passed, passed-none, passed-bad, passed-more}

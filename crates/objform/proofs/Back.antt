@@ -14,7 +14,7 @@ use Rattle.textform.specs.Text.{texts}
 use Rattle.textform.specs.Written.{Each, PointFits}
 use Rattle.textform.proofs.Back.{ends, natural-field, point-back}
 use Rattle.objform.specs.Form.{Item, vertex, face, comment, mapped, skipTo, skipPart, named, corner, readCorners, readComment, readItem, readRounds, verticesIn, facesIn, netOf, parseItems, parseObj}
-use Rattle.objform.specs.Text.{Part, none, slash, Corner, TextLine, vertexLine, faceLine, commentLine, partText, cornerText, lineText, roundsText, objText, Without, PartFits, CornerFits, LineFits, itemOf, itemsOf, Writes, plain, plainFaces, plainLines, CornersFit, ObjFits, ObjBack}
+use Rattle.objform.specs.Text.{Part, none, slash, Corner, TextLine, vertexLine, faceLine, commentLine, partText, cornerText, lineText, roundsText, objText, Without, PartFits, CornerFits, LineFits, itemOf, itemsOf, Writes, plainFaces, plainLines, CornersFit, ObjFits, ObjBack}
 use Rattle.objform.proofs.Net.{item-none}
 use Rattle.objform.proofs.Examples as examples
 

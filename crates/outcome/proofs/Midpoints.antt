@@ -1,6 +1,6 @@
 -- At tension 0 edges get their midpoints. Assumes nothing.
 use mathlib.Core.Path.{_≡_, sym, ap, _∙_, subst}
-use Prim.Native.Nat.{ℕ, suc, _+_, _<_}
+use Prim.Native.Nat.{ℕ, _+_, _<_}
 use native.Mathlib.Numerals.{add-one}
 use native.Mathlib.Omega.{arith}
 use lib.ListN.{length}
@@ -11,8 +11,8 @@ use Rattle.schemelaws.specs.Nets.{Refinable}
 use Rattle.schemelaws.proofs.Steps.{refinable-steps}
 use Rattle.schemelaws.proofs.Midpoints.{step-midpoints}
 use Rattle.splitting.specs.Splitting.{sideMidpoint, startNet}
-use Rattle.outcome.specs.Outcome.{Request, callOf}
-use Rattle.outcome.specs.SharedSegment.{AcceptedFor, netAfter}
+use Rattle.outcome.specs.Outcome.{callOf}
+use Rattle.outcome.specs.SharedSegment.{netAfter}
 use Rattle.outcome.specs.Midpoints.{AtMidpoint, PlainMidpoints}
 use Rattle.outcome.proofs.Accepted.{accepted-verdict, accepted-refinable, accepted-after}
 use Rattle.outcome.proofs.Tally.{accepted-for-fewer}

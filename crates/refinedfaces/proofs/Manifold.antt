@@ -86,15 +86,6 @@ quads-refined v l w = let n = length-refined quads v l in omega arith
 -- ---- any number of rounds
 
 module _ (v : ℕ) (l : List ℕ) where
-  pub length-after : (k : ℕ) → length (cornersAfter k v l) ≡ 4 ^ k * length l
-  unfolding cornersAfter
-  length-after zero = omega arith
-  length-after (suc k) =
-      let e = length-refined quads (verticesAfter k v l) (cornersAfter k v l) in
-      let i = length-after k in
-      let p : 4 ^ suc k ≡ 4 * 4 ^ k = omega arith in
-      rw p (omega arith)
-
   pub whole-after : length l % 4 ≡ 0 → (k : ℕ) → length (cornersAfter k v l) % 4 ≡ 0
   unfolding cornersAfter
   whole-after w zero = w

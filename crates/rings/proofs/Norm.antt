@@ -4,7 +4,7 @@ use mathlib.Core.Path.{_≡_, refl, sym, ap, ap₂, subst, _∙_}
 use mathlib.Core.Bool.{Bool, cond}
 use mathlib.Core.List.{[], _∷_}
 use Prim.Native.Nat.{ℕ, zero, suc, _+_, _-_, _*_, _/_, _≤_, _<_}
-use native.Mathlib.Nat.{add-mul, mul-add, zero-add, suc-add, mul-assoc, mul-left-comm, one-mul, mul-le-mul, mul-le-mul-left, mul-le-mul-right, le-refl, le-of-eq}
+use native.Mathlib.Nat.{add-mul, mul-add, mul-assoc, mul-left-comm, one-mul, mul-le-mul, mul-le-mul-left, mul-le-mul-right, le-refl}
 use native.Mathlib.Omega.{arith}
 use lib.Dec.{eqb, leb, leb→le}
 use lib.IntN.{ℤ, pos, natAbs, _+ℤ_, _-ℤ_, _*ℤ_}
@@ -24,13 +24,6 @@ use Rattle.rings.proofs.Ties.{over-valence}
 abbrev pub total : ℕ → (ℕ → ℕ) → ℕ
 total zero f = 0
 total (suc n) f = total n f + f n
-
-total-more : (f : ℕ → ℕ) (m e : ℕ) → total m f ≤ total (e + m) f
-total-more f m zero = le-of-eq (ap (λ (i : ℕ). total i f) (sym (zero-add m)))
-total-more f m (suc e) = let h = total-more f m e in subst (λ (i : ℕ). total m f ≤ total i f) (sym (suc-add e m)) (omega arith)
-
-pub total-monotone : (f : ℕ → ℕ) (m n : ℕ) → m ≤ n → total m f ≤ total n f
-total-monotone f m n h = let e : n - m + m ≡ n = omega arith in subst (λ (i : ℕ). total m f ≤ total i f) e (total-more f m (n - m))
 
 total-scaled : (a b : ℕ) (f g : ℕ → ℕ) → ((d : ℕ) → a * f d ≤ b * g d) → (n : ℕ) → a * total n f ≤ b * total n g
 total-scaled a b f g h zero = omega arith

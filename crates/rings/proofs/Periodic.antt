@@ -2,8 +2,8 @@
 use mathlib.Core.Path.{_≡_, refl, sym, ap, ap₂, _∙_}
 use mathlib.Core.Bool.{Bool, cond}
 use mathlib.Core.List.{[], _∷_}
-use Prim.Native.Nat.{ℕ, zero, suc, _+_, _*_, _/_, _%_, _≤_, _<_}
-use native.Mathlib.Nat.{zero-add, add-assoc, add-mod-right, suc-mul, mod-add-div'}
+use Prim.Native.Nat.{ℕ, zero, suc, _+_, _≤_, _<_}
+use native.Mathlib.Nat.{zero-add, add-assoc, add-mod-right}
 use native.Mathlib.Decide.{ℕ-discrete}
 use native.Mathlib.Omega.{arith}
 use borrow.Author.Tests.{eq-eqb, ne-eqb}
@@ -22,14 +22,6 @@ module _ {A : Type 0} (n : ℕ) (f : ℕ → A) where
 
   pub turned : (j : ℕ) → Periodic n f → Periodic n (λ (d : ℕ). f (j + d))
   turned j r = record { again = λ i. sym (ap f (add-assoc j i n)) ∙ r .again (j + i) }
-
-  again-times : Periodic n f → (q i : ℕ) → f (i + q * n) ≡ f i
-  again-times r zero i = let e : i + 0 * n ≡ i = omega arith in ap f e
-  again-times r (suc q) i = ap f (ap (λ (t : ℕ). i + t) (suc-mul q n) ∙ sym (add-assoc i (q * n) n)) ∙ r .again (i + q * n) ∙ again-times r q i
-
-  -- counted modulo n it is itself
-  pub wrap-same : Periodic n f → (i : ℕ) → wrap n f i ≡ f i
-  wrap-same r i = sym (again-times r (i / n) (i % n)) ∙ ap f (mod-add-div' i n)
 
 pub periodic-sub : (n : ℕ) (f g : ℕ → ℤ) → Periodic n f → Periodic n g → Periodic n (λ (d : ℕ). f d -ℤ g d)
 periodic-sub n f g r s = record { again = λ i. ap₂ _-ℤ_ (r .again i) (s .again i) }

@@ -6,10 +6,10 @@ use Prim.Native.Nat.{ℕ, _+_, _-_, _*_, _/_, _≤_, _<_}
 use native.Mathlib.Nat.{mul-assoc, mul-comm, mul-one}
 use native.Mathlib.Omega.{arith}
 use lib.Dec.{eqb, eqb→eq}
-use lib.IntN.{ℤ, pos, _+ℤ_, _-ℤ_, _*ℤ_}
+use lib.IntN.{ℤ, pos, _+ℤ_, _*ℤ_}
 use Rattle.lists.proofs.Table.{below-at}
 use Rattle.integers.specs.Sum.{sum}
-use Rattle.integers.proofs.Polynomial.{var, lit, _⊞_, _⊟_, _⊠_, same}
+use Rattle.integers.proofs.Polynomial.{var, lit, _⊠_, same}
 use Rattle.curve.specs.Weights.{Weights, scale, interior, endEdge, singleEdge}
 use Rattle.curve.specs.Curve.{rounded}
 use Rattle.fractions.specs.Fraction.{Fraction, whole, _×ᶠ_, toWhole, Equals}
@@ -63,12 +63,6 @@ module _ (w : Weights) (some : 0 < scale w) where
   pub equals-inner : (P Q : ℤ) {vP vQ : Fraction} {zP zQ : ℤ} → Equals vP zP (virtualScale w) → Equals vQ zQ (virtualScale w)
       → Equals (innerEdge w (whole P) (whole Q) vP vQ) (innerEdgeZ w P Q zP zQ) (edgeScale w)
   equals-inner P Q i j = equals-interior i (whole-over (virtualScale w) P) (whole-over (virtualScale w) Q) j
-
--- the form that the code computes
-pub inner-form : (w : Weights) (P Q zP zQ : ℤ) → innerEdgeZ w P Q zP zQ ≡ pos (w .near * virtualScale w) *ℤ (P +ℤ Q) -ℤ pos (w .far) *ℤ (zP +ℤ zQ)
-inner-form w P Q zP zQ =
-    same (var 0 ⊠ (var 1 ⊠ var 3 ⊞ var 1 ⊠ var 4) ⊟ var 2 ⊠ (var 5 ⊞ var 6)) (var 0 ⊠ var 1 ⊠ (var 3 ⊞ var 4) ⊟ var 2 ⊠ (var 5 ⊞ var 6))
-    (pos (w .near) ∷ pos (virtualScale w) ∷ pos (w .far) ∷ P ∷ Q ∷ zP ∷ zQ ∷ []) refl
 
 -- the mean of both directions
 pub equals-mean : {x y : Fraction} {a b : ℤ} {D : ℕ} → Equals x a D → Equals y b D → Equals (midpoint x y) (a +ℤ b) (2 * D)

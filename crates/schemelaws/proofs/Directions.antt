@@ -21,12 +21,11 @@ use Rattle.topology.proofs.Rings.{ring-mates, ring-turns}
 use Rattle.topology.proofs.Faces.{share-one}
 use Rattle.scheme.specs.Points.{edgePoint, direction}
 use Rattle.topology.specs.Quads.{across, beyond}
-use Rattle.schemelaws.specs.Numerators.{edgeZ, directionZ}
 use Rattle.schemelaws.specs.Agreement.{Inside, SideOf, Leaves, Regular, FourBeyond}
 use Rattle.schemelaws.proofs.Vertices.{ring-of, ring-ge}
 use Rattle.schemelaws.proofs.Ties.{next-side, prev-side}
 use Rattle.schemelaws.proofs.Beyond.{next-across, across-next, opposite-across, two-turns, third-neighbour}
-use Rattle.schemelaws.proofs.OneDirection.{directions-agree, directions-beyond}
+use Rattle.schemelaws.proofs.OneDirection.{directions-agree}
 
 module _ (v : ℕ) (l : List ℕ) (ok : Manifold quads v l) (f : ℕ) (reg : Regular l f) where
   module _ (h : ℕ) (s : SideOf l f h) where
@@ -162,10 +161,6 @@ module _ (w : Weights) (near : 0 < w .near) (apart : 0 < scale w) (v : ℕ) (l m
   -- "both directions agree exactly"
   pub both-directions : Same (direction w l (edgePoint w l marks p) (4 * f)) (direction w l (edgePoint w l marks p) (4 * f + 1))
   both-directions = directions-agree w near apart v l marks ok p f (regular-beyond v l ok f reg) k
-
-  -- in the numerators over `directionScale`
-  pub directions-same : directionZ w l (edgeZ w l marks p) (4 * f) ≡ directionZ w l (edgeZ w l marks p) (4 * f + 1)
-  directions-same = directions-beyond w near apart v l marks ok p f (regular-beyond v l ok f reg) k
 
 -- Paper 02: "State the rules once for all t, and keep the agreement of both directions."
 pub both-directions-at : (t v : ℕ) (l marks : List ℕ) → Manifold quads v l → (p : ℕ → ℤ) (f : ℕ) → f < quads .faces (length l) → Regular l f

@@ -3,7 +3,7 @@
 -- end rule that starts there, between two fans of two the midpoint. At any weights; assumes a manifold net.
 use mathlib.Core.Path.{_≡_, refl, sym, ap, ap₂, _∙_, subst}
 use mathlib.Core.List.{List, [], _∷_}
-use Prim.Native.Nat.{ℕ, _+_, _*_, _≤_, _<_}
+use Prim.Native.Nat.{ℕ, _+_, _*_, _<_}
 use native.Mathlib.Nat.{mul-one}
 use native.Mathlib.Decide.{decLt}
 use native.Mathlib.Omega.{arith}
@@ -14,19 +14,16 @@ use borrow.Author.Tests.{lt-ltb, le-ltb}
 use Rattle.search.specs.Search.{iterate}
 use Rattle.integers.specs.Sum.{sum}
 use Rattle.integers.proofs.Polynomial.{var, lit, _⊞_, _⊟_, _⊠_, same}
-use Rattle.curve.specs.Weights.{Weights, scale, interior, endEdge, singleEdge, mirror}
-use Rattle.curve.proofs.Mirror.{end-mirrored, single-mirrored, interior-turned}
+use Rattle.curve.specs.Weights.{Weights, scale, interior, mirror}
 use Rattle.fractions.specs.Fraction.{whole, Equals}
-use Rattle.fractions.proofs.Laws.{toWhole-equals, equals-whole, equals-cong, equals-reduced}
-use Rattle.rounding.specs.Rounding.{round}
+use Rattle.fractions.proofs.Laws.{equals-whole, equals-cong, equals-reduced}
 use Rattle.rings.specs.Ring.{wrap}
 use Rattle.rings.specs.Scales.{extrapolatedScale}
-use Rattle.rings.proofs.Scales.{edgeScale-some}
 use Rattle.rings.proofs.Periodic.{wrap-periodic}
 use Rattle.rings.proofs.Ties.{straight-across}
 use Rattle.rules.proofs.Ties.{whole-over, equals-interior}
 use Rattle.topology.specs.Shape.{quads}
-use Rattle.topology.specs.HalfEdge.{from, to, mate, edge}
+use Rattle.topology.specs.HalfEdge.{from, to, mate}
 use Rattle.topology.specs.Boundary.{boundaryFrom}
 use Rattle.topology.specs.Vertex.{valence, turn, turns, Ring}
 use Rattle.topology.specs.Manifold.{Manifold}
@@ -35,12 +32,10 @@ use Rattle.topology.proofs.Mates.{mate-is, mate-back}
 use Rattle.scheme.specs.Rings.{fanNeighbour, fanCorner, ringVirtual, fanVirtual, virtualAt}
 use Rattle.topology.specs.Quads.{oppositeCorner, fanEnd, fanPlace}
 use Rattle.scheme.specs.Points.{edgePoint}
-use Rattle.scheme.specs.Step.{refinedCoordinate}
 use Rattle.schemelaws.specs.Numerators.{extrapolatedAtZ, fanNeighbourZ, fanCornerZ, ringNeighbourZ, ringCornerZ}
 use Rattle.schemelaws.specs.Ordinary.{Ordinary, ringOfFour, fanOfTwo, straight, ordinaryValue, ordinaryEdge}
 use Rattle.schemelaws.proofs.Vertices.{ring-of, place-at, place-inner, neighbours-periodic, corners-periodic}
-use Rattle.schemelaws.proofs.Ties.{equals-fanNeighbour, equals-fanCorner, inner-rule, point-inner, equals-boundary, equals-edge}
-use Rattle.schemelaws.proofs.Coordinates.{refined-edge}
+use Rattle.schemelaws.proofs.Ties.{equals-fanNeighbour, equals-fanCorner, inner-rule, point-inner, equals-boundary}
 
 -- ---- what lies straight across, by the kind of the vertex
 module _ (l : List ℕ) (p : ℕ → ℤ) (h : ℕ) where
@@ -139,11 +134,6 @@ module _ (w : Weights) (near : 0 < w .near) (apart : 0 < scale w) (v : ℕ) (l m
           (equals-interior w apart (virtual-ordinary w near v l ok p h k m (f m .0)) (equals-whole (p (from l h))) (equals-whole (p (to quads l h))) (virtual-ordinary w near v l ok p (mate quads l h) m (rw b k) o)))
       go (no m) = equals-boundary w l marks p h m apart
 
-  -- the new coordinate, from either half-edge: rounded over the scale
-  pub coordinate-ordinary : refinedCoordinate w v l marks p (v + edge quads l h) ≡ round (ordinaryEdge w l marks p h) (scale w)
-  coordinate-ordinary =
-      refined-edge w near apart v l marks ok p h k ∙ sym (toWhole-equals (edgeScale-some w near apart) (equals-edge w near apart v l marks ok p h k)) ∙ toWhole-equals apart edge-ordinary
-
 -- ---- the stencil of an inner edge, by its ends; the fractions are those at paper 01's weights
 module _ (w : Weights) (l marks : List ℕ) (p : ℕ → ℤ) (h : ℕ) (m : mate quads l h < length l) where
   abbrev P : ℤ
@@ -169,21 +159,3 @@ module _ (w : Weights) (l marks : List ℕ) (p : ℕ → ℤ) (h : ℕ) (m : mat
     -- ring and ring
     pub stencil-ring-ring : boundaryFrom quads l (from l h) ≡ length l → ordinaryEdge w l marks p h ≡ interior w before P Q after
     stencil-ring-ring b = ordinary-inner w l marks p h m ∙ ap₂ (λ (x y : ℤ). interior w x P Q y) (straight-ring l p h b) after-ring
-
-    -- fan and ring
-    pub stencil-fan-ring : 2 * w .far ≤ w .near → boundaryFrom quads l (from l h) < length l → ordinaryEdge w l marks p h ≡ endEdge w P Q after
-    stencil-fan-ring i b = ordinary-inner w l marks p h m ∙ ap₂ (λ (x y : ℤ). interior w x P Q y) (straight-fan l p h b) after-ring ∙ sym (end-mirrored w i P Q after)
-
-  module _ (fan : boundaryFrom quads l (to quads l h) < length l) where
-    after-fan : straight l p (mate quads l h) ≡ mirror Q P
-    after-fan =
-        straight-fan l p (mate quads l h) (subst (λ (q : ℕ). boundaryFrom quads l q < length l) (sym end-at) fan)
-        ∙ ap₂ (λ (a b : ℕ). mirror (p a) (p b)) end-at (mate-is quads l h m .end)
-
-    -- ring and fan
-    pub stencil-ring-fan : 2 * w .far ≤ w .near → boundaryFrom quads l (from l h) ≡ length l → ordinaryEdge w l marks p h ≡ endEdge w Q P before
-    stencil-ring-fan i b = ordinary-inner w l marks p h m ∙ ap₂ (λ (x y : ℤ). interior w x P Q y) (straight-ring l p h b) after-fan ∙ interior-turned w before P Q (mirror Q P) ∙ sym (end-mirrored w i Q P before)
-
-    -- fan and fan
-    pub stencil-fan-fan : w .far ≤ w .near → boundaryFrom quads l (from l h) < length l → ordinaryEdge w l marks p h ≡ singleEdge w P Q
-    stencil-fan-fan i b = ordinary-inner w l marks p h m ∙ ap₂ (λ (x y : ℤ). interior w x P Q y) (straight-fan l p h b) after-fan ∙ sym (single-mirrored w i P Q)

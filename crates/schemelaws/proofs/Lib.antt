@@ -16,7 +16,5 @@ pub mod Made
 pub mod Families
 pub mod OneDirection
 pub mod Directions
-pub mod OrdinarySizes
-pub mod OrdinaryFaces
 pub mod OldPoints
 pub mod Midpoints

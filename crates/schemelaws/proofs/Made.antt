@@ -24,7 +24,7 @@ use Rattle.topology.proofs.Boundary.{ring-boundaryFrom, fan-boundaryFrom}
 use Rattle.refinedfaces.specs.Refined.{refinedVertices, refined, verticesAfter, cornersAfter}
 use Rattle.refinedfaces.proofs.Corners.{length-refined, oriented-refined}
 use Rattle.refinedfaces.proofs.Rings.{ring-refined, fan-refined, edge-ring, edge-fan, face-ring}
-use Rattle.refinedfaces.proofs.Manifold.{valence-old, manifold-after, vertices-after-ge}
+use Rattle.refinedfaces.proofs.Manifold.{valence-old, manifold-after}
 use Rattle.topology.specs.Quads.{fanPlace}
 use Rattle.schemelaws.specs.Ordinary.{Ordinary, ringOfFour, fanOfTwo, straight}
 use Rattle.schemelaws.proofs.Vertices.{ring-of, fan-at, place-at, place-inner}
@@ -46,17 +46,6 @@ module _ (v : ℕ) (l : List ℕ) (ok : Manifold quads v l) where
 
   fine : Oriented quads (refinedVertices quads v l) L
   fine = oriented-refined quads v l (ok .oriented)
-
-  -- the point of an inner edge, of a boundary edge, of a face
-  pub made-inner : (h : ℕ) → h < length l → mate quads l h < length l → (boundaryFrom quads L (v + edge quads l h) ≡ length L) × (valence L (v + edge quads l h) ≡ 4)
-  made-inner h k m =
-      let r = edge-ring quads v l (ok .oriented) h k m in
-      (ring-boundaryFrom quads (refinedVertices quads v l) L fine _ _ 4 r, ring-valence quads (refinedVertices quads v l) L fine _ _ 4 r)
-
-  pub made-boundary : (h : ℕ) → h < length l → mate quads l h ≡ length l → (boundaryFrom quads L (v + edge quads l h) ≡ 4 * quads .next h + 3) × (valence L (v + edge quads l h) ≡ 2)
-  made-boundary h k m =
-      let r = edge-fan quads v l (ok .oriented) h k m in
-      (fan-boundaryFrom quads (refinedVertices quads v l) L fine _ _ 2 r, fan-valence quads (refinedVertices quads v l) L fine _ _ 2 r)
 
   pub made-face : (h : ℕ) → h < length l → Ring quads L (v + edgeCount quads l + quads .face h) (4 * h + 2) 4
   unfolding quads
@@ -109,20 +98,6 @@ module _ (v : ℕ) (l : List ℕ) (ok : Manifold quads v l) where
       go f (yes c) = old-ordinary (verticesAfter k v l) (cornersAfter k v l) (manifold-after v l ok k) i c (f c)
       go f (no c) = made-ordinary (verticesAfter k v l) (cornersAfter k v l) (manifold-after v l ok k) i (omega arith) b
 
-  pub old-after : (k i : ℕ) → i < v → Ordinary l i → Ordinary (cornersAfter k v l) i
-  unfolding cornersAfter
-  old-after zero i b o = o
-  old-after (suc k) i b o =
-      let n = vertices-after-ge v l k in
-      old-ordinary (verticesAfter k v l) (cornersAfter k v l) (manifold-after v l ok k) i (omega arith) (old-after k i b o)
-
-  pub after-old : (k i : ℕ) → i < v → Ordinary (cornersAfter k v l) i → Ordinary l i
-  unfolding cornersAfter
-  after-old zero i b o = o
-  after-old (suc k) i b o =
-      let n = vertices-after-ge v l k in
-      after-old k i b (ordinary-old (verticesAfter k v l) (cornersAfter k v l) (manifold-after v l ok k) i (omega arith) o)
-
 -- ---- one mate tells: that of the side before an inner half-edge h, which is the turn of h
 module _ (v : ℕ) (l : List ℕ) (ok : Manifold quads v l) (h : ℕ) (k : h < length l) (m : mate quads l h < length l) where
   -- an inner half-edge that leaves a fan of two is its last
@@ -146,10 +121,6 @@ module _ (v : ℕ) (l : List ℕ) (ok : Manifold quads v l) (h : ℕ) (k : h < l
   pub turn-ring : Ordinary l (from l h) → turn quads l h < length l → (boundaryFrom quads l (from l h) ≡ length l) × (valence l (from l h) ≡ 4)
   turn-ring (ringOfFour b n) t = (b, n)
   turn-ring (fanOfTwo b n) t = let e = fan-ends b n in let z : ⊥ = omega arith in absurd z
-
-  pub turn-fan : Ordinary l (from l h) → turn quads l h ≡ length l → (boundaryFrom quads l (from l h) < length l) × (valence l (from l h) ≡ 2)
-  turn-fan (ringOfFour b n) t = let e = ring-goes-on b in let z : ⊥ = omega arith in absurd z
-  turn-fan (fanOfTwo b n) t = (b, n)
 
   -- so what the code reads: with g the mate of the side before h, the start of the side before g, or Q mirrored at P if there is no g
   pub straight-read : (p : ℕ → ℤ) → Ordinary l (from l h)

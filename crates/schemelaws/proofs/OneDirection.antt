@@ -2,32 +2,28 @@
 -- corners. So one direction is enough where all eight edges of both are inner and have ordinary ends: then no end is a fan. Nothing is asked of edges that join two
 -- opposite corners. Assumes a manifold net.
 use mathlib.Core.Path.{_≡_, refl, sym, ap, ap₂, _∙_, subst}
-use mathlib.Core.Bool.{true}
-use mathlib.Core.List.{List, [], _∷_}
+use mathlib.Core.List.{List, []}
 use Prim.Native.Nat.{ℕ, zero, suc, _+_, _-_, _*_, _%_, _≤_, _<_}
-use native.Mathlib.Nat.{add-comm, mul-one, mul-pos}
+use native.Mathlib.Nat.{add-comm, mul-one}
 use native.Mathlib.Omega.{arith}
 use lib.Dec.{lit≤}
-use lib.IntN.{ℤ, pos, _+ℤ_, _*ℤ_}
+use lib.IntN.{ℤ}
 use lib.ListN.{length}
 use borrow.Author.Tests.{lt-ltb, le-ltb}
 use Rattle.search.specs.Search.{iterate}
 use Rattle.search.proofs.Quarters.{below-four}
 use Rattle.search.proofs.Iterate.{iterate-add}
-use Rattle.integers.proofs.Polynomial.{var, lit, _⊞_, _⊠_, same}
-use Rattle.rounding.specs.Rounding.{round}
-use Rattle.curve.specs.Weights.{Weights, scale, interior}
+use Rattle.curve.specs.Weights.{Weights, scale}
 use Rattle.fractions.specs.Fraction.{Fraction, whole, Equals, Same}
-use Rattle.fractions.proofs.Laws.{toWhole-equals, equals-whole, equals-cong, equals-one, equals-same}
+use Rattle.fractions.proofs.Laws.{equals-whole, equals-cong, equals-one, equals-same}
 use Rattle.rings.specs.Ring.{Periodic}
 use Rattle.rings.specs.RingWeights.{virtualZ}
 use Rattle.rings.proofs.Virtual.{virtual-turned}
 use Rattle.rings.proofs.Ties.{equals-virtual}
-use Rattle.rules.specs.Rules.{midpoint, innerEdge, directionTwo}
-use Rattle.rules.proofs.Ties.{equals-interior}
+use Rattle.rules.specs.Rules.{innerEdge, directionTwo}
 use Rattle.rules.proofs.Directions.{Corner, both-directions}
 use Rattle.topology.specs.Shape.{quads}
-use Rattle.topology.specs.HalfEdge.{from, to, mate, edgeCount}
+use Rattle.topology.specs.HalfEdge.{from, to, mate}
 use Rattle.topology.specs.Boundary.{boundaryFrom}
 use Rattle.topology.specs.Vertex.{valence, turn, turns, Ring}
 use Rattle.topology.specs.Manifold.{Manifold}
@@ -38,32 +34,18 @@ use Rattle.topology.proofs.Rings.{ring-mates, ring-turns}
 use Rattle.topology.proofs.Boundary.{boundaryFrom-none}
 use Rattle.scheme.specs.Rings.{ringVirtual, virtualAt}
 use Rattle.topology.specs.Quads.{oppositeCorner, across, beyond}
-use Rattle.scheme.specs.Points.{edgePoint, direction, inner, fourInner, bothInner, faceRule, faceValue, facePoint}
-use Rattle.scheme.specs.Step.{refinedCoordinate}
+use Rattle.scheme.specs.Points.{edgePoint, direction}
 use Rattle.schemelaws.specs.Agreement.{SideOf, FourBeyond, EightOrdinary}
-use Rattle.schemelaws.specs.Ordinary.{ordinaryEdge}
 use Rattle.schemelaws.specs.Numerators.{edgeZ, directionZ}
 use Rattle.schemelaws.proofs.Vertices.{comes-round, ring-of, ring-ge}
-use Rattle.schemelaws.proofs.Ties.{point-inner, across-lt, side₀-lt, side₁-lt, side₀, side₁, next-side, prev-side, across-side, equals-direction}
-use Rattle.schemelaws.proofs.Coordinates.{refined-face-at}
+use Rattle.schemelaws.proofs.Ties.{point-inner, across-lt, side₀-lt, side₁-lt, side₀, next-side, prev-side, equals-direction}
 use Rattle.schemelaws.proofs.Beyond.{prev-across, next-across, across-next, last-neighbour, start-straight, third-neighbour, end-straight}
-use Rattle.schemelaws.proofs.FanOfTwo.{virtual-neighbour, edge-ordinary}
+use Rattle.schemelaws.proofs.FanOfTwo.{virtual-neighbour}
 use Rattle.schemelaws.proofs.Made.{turn-ring}
 
 -- ---- fractions of one value
 same-cong : {a b a′ b′ : Fraction} → a ≡ a′ → b ≡ b′ → Same a b → Same a′ b′
 same-cong {a} {b} {a′} {b′} x y r = subst (λ (c : Fraction). Same c b′) x (subst (λ (c : Fraction). Same a c) y r)
-
--- the mean of two that are the same
-same-mean : {x y : Fraction} → Same x y → Same (midpoint x y) x
-unfolding midpoint
-same-mean {x} {y} r = record {
-  left = mul-pos (mul-pos (r .left) (r .right)) (lit≤ tt);
-  right = r .left;
-  same =
-      ap (λ (t : ℤ). (x .num *ℤ pos (y .den) +ℤ t) *ℤ pos (x .den)) (sym (r .same))
-      ∙ same ((var 0 ⊠ var 1 ⊞ var 0 ⊠ var 1) ⊠ var 2) (var 0 ⊠ (var 2 ⊠ var 1 ⊠ lit (pos 2))) (x .num ∷ pos (y .den) ∷ pos (x .den) ∷ []) refl;
-}
 
 -- ---- the virtual point at an inner vertex, from its ring over 1
 module _ (l : List ℕ) (p : ℕ → ℤ) where
@@ -148,17 +130,6 @@ module _ (v : ℕ) (l : List ℕ) (ok : Manifold quads v l) (f : ℕ) (reg : Fou
 
   two-lt : (h : ℕ) → SideOf l f h → turns quads l 2 (quads .next h) < length l
   two-lt h s = let i = next-side v l ok f h s in let c = three (quads .next h) i in ring (quads .next h) i .walk .inside 2 (omega arith)
-
-  -- both directions have four inner edges
-  four-inner : (h : ℕ) → SideOf l f h → fourInner l h ≡ true
-  unfolding fourInner inner
-  four-inner h s =
-      let u = across-side v l ok f h s in
-      rw (lt-ltb (mate quads l h) (length l) (mated h s), lt-ltb (mate quads l (across h)) (length l) (mated (across h) u), lt-ltb (mate quads l (beyond l h)) (length l) (beyond-inner h s), lt-ltb (mate quads l (beyond l (across h))) (length l) (beyond-inner (across h) u))
-
-  pub both-inner : f < quads .faces (length l) → faceRule l f ≡ bothInner
-  unfolding faceRule
-  both-inner k = rw (four-inner (4 * f) (side₀ l f k), four-inner (4 * f + 1) (side₁ l f k))
 
 -- ---- the law, at a side
 module _ (w : Weights) (near : 0 < w .near) (apart : 0 < scale w) (v : ℕ) (l marks : List ℕ) (ok : Manifold quads v l) (p : ℕ → ℤ) (f : ℕ) (reg : FourBeyond l f) where
@@ -257,11 +228,6 @@ module _ (w : Weights) (near : 0 < w .near) (apart : 0 < scale w) (v : ℕ) (l m
     pub directions-agree : Same (direction w l E (4 * f)) (direction w l E (4 * f + 1))
     directions-agree = same-cong refl (ap (direction w l E) (four-sides f .next₀)) (agree-at (4 * f) (side₀ l f k))
 
-    -- the face point is its first direction
-    pub face-direction : Same (facePoint w l marks p f) (direction w l E (4 * f))
-    unfolding facePoint faceValue
-    face-direction = rw (both-inner v l ok f reg k) (same-mean directions-agree)
-
     -- in the numerators over `directionScale`
     pub directions-beyond : directionZ w l (edgeZ w l marks p) (4 * f) ≡ directionZ w l (edgeZ w l marks p) (4 * f + 1)
     directions-beyond =
@@ -319,32 +285,3 @@ module _ (v : ℕ) (l : List ℕ) (ok : Manifold quads v l) (f : ℕ) (all : Eig
     endInside = λ g s. end-four′ g s .0;
     endFour = λ g s. end-four′ g s .1;
   }
-
--- ---- what the code computes: one direction of numerators over the scale, rounded over its square
-module _ (w : Weights) (near : 0 < w .near) (apart : 0 < scale w) (v : ℕ) (l marks : List ℕ) (ok : Manifold quads v l) (p : ℕ → ℤ) (f : ℕ) (k : f < quads .faces (length l)) (all : EightOrdinary l f) where
-  abbrev O : ℕ → ℤ
-  O = ordinaryEdge w l marks p
-
-  abbrev pub oneDirection : ℤ
-  oneDirection = interior w (O (beyond l (4 * f))) (O (4 * f)) (O (across (4 * f))) (O (beyond l (across (4 * f))))
-
-  tied-side : (g : ℕ) → SideOf l f g → Equals (edgePoint w l marks p g) (O g) (scale w)
-  unfolding to
-  tied-side g s = edge-ordinary w near apart v l marks ok p g (s .lt) (λ m. (all .corner g s, all .corner (quads .next g) (next-side v l ok f g s)))
-
-  tied-beyond : (g : ℕ) → SideOf l f g → Equals (edgePoint w l marks p (beyond l g)) (O (beyond l g)) (scale w)
-  unfolding beyond
-  tied-beyond g s = edge-ordinary w near apart v l marks ok p (across (mate quads l g)) (across-lt v l ok (mate quads l g) (all .inner g s)) (λ m. (all .start g s, all .end g s))
-
-  pub direction-ordinary : Equals (direction w l (edgePoint w l marks p) (4 * f)) oneDirection (scale w * scale w)
-  direction-ordinary =
-      let s = side₀ l f k in
-      let u = across-side v l ok f (4 * f) s in
-      subst (λ (x : Fraction). Equals x oneDirection (scale w * scale w)) (sym (direction-two w near apart v l marks ok p f (eight-beyond v l ok f all) (4 * f) s u))
-      (equals-interior w apart (tied-beyond (4 * f) s) (tied-side (4 * f) s) (tied-side (across (4 * f)) u) (tied-beyond (across (4 * f)) u))
-
-  pub face-ordinary : Equals (facePoint w l marks p f) oneDirection (scale w * scale w)
-  face-ordinary = equals-same (face-direction w near apart v l marks ok p f (eight-beyond v l ok f all) k) direction-ordinary
-
-  pub face-rounded : refinedCoordinate w v l marks p (v + edgeCount quads l + f) ≡ round oneDirection (scale w * scale w)
-  face-rounded = refined-face-at w v l marks p f ∙ toWhole-equals (mul-pos apart apart) face-ordinary

@@ -9,7 +9,7 @@ use lib.ListN.{length}
 use Rattle.integers.proofs.Polynomial.{var, lit, _⊟_, _⊠_, same}
 use Rattle.curve.specs.Weights.{Weights, scale}
 use Rattle.curve.proofs.Distance.{Tame, tame-end}
-use Rattle.rings.specs.Scales.{extrapolatedScale, valenceScale, virtualScale, edgeScale, faceScale, coordinateRange, extrapolatedRange, virtualRange, edgeRange, directionRange}
+use Rattle.rings.specs.Scales.{extrapolatedScale, valenceScale, virtualScale, edgeScale, faceScale, coordinateRange, virtualRange, edgeRange}
 use Rattle.topology.specs.Shape.{quads}
 use Rattle.topology.specs.HalfEdge.{mate}
 use Rattle.topology.specs.Boundary.{boundaryFrom}
@@ -85,9 +85,6 @@ face-size w tame v l marks ok p B small f k =
 
 -- ---- the ranges of what the code stores, from coordinates within `coordinateRange`
 module _ (v : ℕ) (l : List ℕ) (ok : Manifold quads v l) (p : ℕ → ℤ) (small : (x : ℕ) → x < v → natAbs (p x) ≤ coordinateRange) where
-  pub extrapolated-range : (P : ℕ) → boundaryFrom quads l P < length l → natAbs (extrapolatedAtZ l p P) ≤ extrapolatedRange
-  extrapolated-range P b = let r = extrapolatedAt-size v l ok p coordinateRange small P b in omega arith
-
   module _ (w : Weights) (tame : Tame w) where
     pub virtual-range : (h : ℕ) → h < length l → mate quads l h < length l → natAbs (virtualAtZ w l p h) ≤ virtualRange w
     virtual-range h k m = let r = virtualAt-size w tame v l ok p coordinateRange small h k m in omega arith
@@ -98,9 +95,3 @@ module _ (v : ℕ) (l : List ℕ) (ok : Manifold quads v l) (p : ℕ → ℤ) (s
 
     pub edge-range : (marks : List ℕ) (h : ℕ) → h < length l → natAbs (edgeZ w l marks p h) ≤ edgeRange w
     edge-range marks h k = let r = edge-size w tame v l ok p coordinateRange small marks h k in let s = sixths in omega arith
-
-    pub direction-range : (marks : List ℕ) (h : ℕ) → h < length l → natAbs (directionZ w l (edgeZ w l marks p) h) ≤ directionRange w
-    direction-range marks h k =
-        let a = tame .apart in
-        let q : 5 * tame .quarter ≡ scale w / 4 * 5 = omega arith in
-        subst (λ (t : ℕ). natAbs (directionZ w l (edgeZ w l marks p) h) ≤ t * edgeRange w) q (direction-size w tame v l ok (edgeZ w l marks p) (edgeRange w) (edge-range marks) h k)

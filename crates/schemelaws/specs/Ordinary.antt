@@ -12,7 +12,6 @@ use Rattle.topology.specs.HalfEdge.{from, to, mate}
 use Rattle.topology.specs.Boundary.{boundaryFrom, along, back}
 use Rattle.topology.specs.Vertex.{valence, turns}
 use Rattle.scheme.specs.Points.{EdgeRule, insideSegment, startOfSegment, endOfSegment, wholeSegment, innerRule, edgeRule}
-use Rattle.topology.specs.Quads.{beyond}
 
 -- a full ring of four, or a fan of two
 pub data Ordinary (l : List ℕ) (q : ℕ) : Type 0 where
@@ -42,8 +41,3 @@ ordinaryValue w l p h innerRule = interior w (straight l p h) (p (from l h)) (p 
 
 unfoldable pub ordinaryEdge : Weights → List ℕ → List ℕ → (ℕ → ℤ) → ℕ → ℤ
 ordinaryEdge w l marks p h = ordinaryValue w l p h (edgeRule l marks h)
-
--- no edge of the two directions of f is inner with an end that is not ordinary; boundary edges may be among them
-pub record NoneIrregular (l : List ℕ) (f : ℕ) : Type 0 where
-  pub side : (g : ℕ) → g < length l → quads .face g ≡ f → mate quads l g < length l → Ordinary l (from l g) × Ordinary l (to quads l g)
-  pub further : (g : ℕ) → g < length l → quads .face g ≡ f → mate quads l g < length l → mate quads l (beyond l g) < length l → Ordinary l (from l (beyond l g)) × Ordinary l (to quads l (beyond l g))

@@ -1,7 +1,6 @@
 -- The split, computed: a triangle, a square and a pentagon. Assumes nothing.
 use mathlib.Core.Path.{_≡_, refl}
 use mathlib.Core.List.{List, [], _∷_}
-use Prim.Native.Nat.{ℕ}
 use lib.IntN.{ℤ, pos, negsuc}
 use Rattle.lists.specs.Tabulate.{tabulate}
 use Rattle.search.specs.Search.{firstFrom, first, count, iterate}

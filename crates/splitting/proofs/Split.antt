@@ -17,7 +17,7 @@ use Rattle.refinedfaces.specs.Refined.{refinedVertices, refined, refinedMarks}
 use Rattle.refinedfaces.proofs.Corners.{length-refined}
 use Rattle.refinedfaces.proofs.Manifold.{unrefused-refined}
 use Rattle.refinedfaces.proofs.Marks.{length-marks, mark-old, no-6-refined, no-12-refined}
-use Rattle.nets.specs.Net.{Net, ControlNet, controlNet, plain, drawnTables, axis}
+use Rattle.nets.specs.Net.{Net, ControlNet, controlNet, drawnTables, axis}
 use Rattle.schemelaws.specs.Nets.{Refinable}
 use Rattle.splitting.specs.Splitting.{splitCoordinate, split, startNet}
 use Rattle.splitting.specs.Drawn.{Drawn}
@@ -101,9 +101,6 @@ module _ (m : ControlNet) (ok : Drawn m) where
       record { threes = ok .threes; fours = ok .sided .fours e; no6 = ok .no6; no7to11 = rw q at (ok .no7to11); no12 = rw q at (ok .no12) }
 
 -- ---- the net where refining begins
-pub start-plain : (m : Net) → startNet (plain m) ≡ m
-unfolding startNet
-start-plain m = refl
 
 pub start-none : (m : ControlNet) → length (m .sides) ≡ 0 → startNet m ≡ drawnTables m
 unfolding startNet
