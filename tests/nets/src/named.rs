@@ -416,11 +416,11 @@ fn inside() -> Nets {
         let faces = order.map(|face: usize| grid.faces[face]).collect();
         nets.push((format!("before-{manner:04b}"), Net { faces, ..grid }));
     }
-    for valence in [3, 5, 6, 7, 8] {
+    for valence in [3, 5] {
         let name = format!("corner-{valence}");
         nets.push((name, shapes::patch([valence, 4, 4, 4], 2)));
     }
-    for (side, face) in [7, 13, 17, 11].into_iter().enumerate() {
+    for (side, face) in [(0, 7), (3, 11)] {
         let mut net = shapes::grid(5, 5);
         net.faces.remove(face);
         nets.push((format!("without-{side}"), net));
