@@ -44,36 +44,34 @@ module _ (v : ℕ) (l : List ℕ) (ok : Manifold quads v l) (fours : length l % 
         go (older a b) = inl b
         go (newer a b) = inr (omega arith)
 
-    first-half : (g j : ℕ) → 4 * h ≡ g → 4 * quads .next h ≡ j → mate quads l (quads .prev h) < length l → Ordinary L (from L g) → FirstHalf L (16 * p) g (from L g) (from L (g + 1)) (from L j)
-    first-half g j eg ej mp o =
+    first-half : (g i j : ℕ) → 4 * h ≡ g → 4 * h + 1 ≡ i → 4 * quads .next h ≡ j → mate quads l (quads .prev h) < length l → Ordinary L (from L g) → FirstHalf L (16 * p) g (from L g) (from L i) (from L j)
+    first-half g i j eg ei ej mp o =
         let y = round.mate₃ quads v l (ok .oriented) h k in
         let d = n in
-        subst (λ (j : ℕ). FirstHalf L (16 * p) g (from L g) (from L (g + 1)) (from L j)) ej
-        (subst (λ (g : ℕ). Ordinary L (from L g) → FirstHalf L (16 * p) g (from L g) (from L (g + 1)) (from L (4 * quads .next h))) eg
-        (λ o. record { lt = omega arith; after = omega arith; side = first-side; before = omega arith; line = λ new. first-line v l ok h k m mp o new }) o)
+        let c : Ordinary L (from L (4 * h)) = rw eg o in
+        rw (sym eg, sym ei, sym ej) (record { lt = omega arith; after = omega arith; side = first-side; before = omega arith; line = λ new. first-line v l ok h k m mp c new })
 
-    last-half : (g i j : ℕ) → 4 * quads .next h + 3 ≡ g → 4 * h ≡ i → 4 * quads .next h ≡ j → mate quads l (quads .next h) < length l → Ordinary L (from L j) → LastHalf L (16 * p) g (from L i) (from L (i + 1)) (from L j)
+    last-half : (g c i j : ℕ) → 4 * quads .next h + 3 ≡ g → 4 * h ≡ c → 4 * h + 1 ≡ i → 4 * quads .next h ≡ j → mate quads l (quads .next h) < length l → Ordinary L (from L j)
+        → LastHalf L (16 * p) g (from L c) (from L i) (from L j)
     unfolding quads
-    last-half g i j eg ei ej mn o =
+    last-half g c i j eg ec ei ej mn o =
         let d = n in
         let b = ok .oriented .shape .next-lt h k in
         let z = round.mate₀ quads v l (ok .oriented) (quads .next h) b mn in
-        let c = ok .oriented .shape .next-lt (mate quads l (quads .next h)) mn in
-        let q : 4 * quads .next h ≡ 4 * quads .next h + 3 - 3 = omega arith in
+        let x = ok .oriented .shape .next-lt (mate quads l (quads .next h)) mn in
+        let q : 4 * quads .next h + 3 - 3 ≡ 4 * quads .next h = omega arith in
         let two : 2 ≤ mate quads L (4 * quads .next h) = omega arith in
         let some : mate quads L (4 * quads .next h) < length L = omega arith in
-        subst (λ (g : ℕ). LastHalf L (16 * p) g (from L i) (from L (i + 1)) (from L j)) eg
-        (subst (λ (i : ℕ). LastHalf L (16 * p) (4 * quads .next h + 3) (from L i) (from L (i + 1)) (from L j)) ei
-        (subst (λ (j : ℕ). Ordinary L (from L j) → LastHalf L (16 * p) (4 * quads .next h + 3) (from L (4 * h)) (from L (4 * h + 1)) (from L j)) ej
-        (λ o. record {
+        let a : Ordinary L (from L (4 * quads .next h)) = rw ej o in
+        rw (sym eg, sym ec, sym ei, sym ej) (record {
           lt = omega arith;
           after = omega arith;
           three = omega arith;
           side = last-side;
-          next = subst (λ (x : ℕ). mate quads L x < length L) q some;
-          two = subst (λ (x : ℕ). 2 ≤ mate quads L x) q two;
-          line = λ new. subst (λ (x : ℕ). Line L (4 * quads .next h + 3) (from L (4 * h)) (from L (4 * h + 1)) (from L (4 * quads .next h)) (from L (mate quads L x - 2))) q (last-line v l ok h k m mn o new);
-        }) o))
+          next = rw q some;
+          two = rw q two;
+          line = λ new. rw q (last-line v l ok h k m mn a new);
+        })
 
   -- ---- the family of face p
   module _ (p : ℕ) (b : 4 * p < length l) (test : FamilyTest L (16 * p)) where
@@ -95,27 +93,21 @@ module _ (v : ℕ) (l : List ℕ) (ok : Manifold quads v l) (fours : length l % 
     at : (i j : ℕ) → i ≡ j → mate quads l i < length l → mate quads l j < length l
     at i j e m = subst (λ (x : ℕ). mate quads l x < length l) e m
 
-    spoke : (h g i j : ℕ) → h < length l → mate quads l h < length l → 4 * h ≡ g → g + 1 ≡ i → 4 * quads .next (quads .next h) + 1 ≡ j → i < mate quads L i
-        → Line L i (from L (mate quads L g - 1)) (from L (g + 1)) (from L (g + 2)) (from L j)
-    spoke h g i j k m eg ei ej new =
-        subst (λ (j : ℕ). Line L i (from L (mate quads L g - 1)) (from L (g + 1)) (from L (g + 2)) (from L j)) ej
-        (subst (λ (i : ℕ). i < mate quads L i → Line L i (from L (mate quads L g - 1)) (from L (g + 1)) (from L (g + 2)) (from L (4 * quads .next (quads .next h) + 1))) ei
-        (subst (λ (g : ℕ). g + 1 < mate quads L (g + 1) → Line L (g + 1) (from L (mate quads L g - 1)) (from L (g + 1)) (from L (g + 2)) (from L (4 * quads .next (quads .next h) + 1))) eg (spoke-line v l ok h k m)) new)
-
-    back : (h g i j : ℕ) → h < length l → mate quads l h < length l → 4 * h ≡ g → 4 * quads .next h + 2 ≡ i → 4 * quads .next (quads .next h) + 1 ≡ j → i < mate quads L i
-        → Line L i (from L (mate quads L g - 1)) (from L (g + 1)) (from L (g + 2)) (from L j)
-    back h g i j k m eg ei ej new =
-        subst (λ (j : ℕ). Line L i (from L (mate quads L g - 1)) (from L (g + 1)) (from L (g + 2)) (from L j)) ej
-        (subst (λ (g : ℕ). Line L i (from L (mate quads L g - 1)) (from L (g + 1)) (from L (g + 2)) (from L (4 * quads .next (quads .next h) + 1))) eg
-        (subst (λ (i : ℕ). i < mate quads L i → Line L i (from L (mate quads L (4 * h) - 1)) (from L (4 * h + 1)) (from L (4 * h + 2)) (from L (4 * quads .next (quads .next h) + 1))) ei (back-line v l ok h k m) new))
-
     -- the four faces meet in one point
-    points-same : (h g : ℕ) → h < length l → h / 4 ≡ p → 4 * h + 2 ≡ g → from L g ≡ from L (16 * p + 2)
+    same-point : (h : ℕ) → h < length l → h / 4 ≡ p → from L (4 * h + 2) ≡ from L (16 * p + 2)
     unfolding quads
-    points-same h g k e q =
+    same-point h k e =
         let a : 4 * (4 * p) + 2 ≡ 16 * p + 2 = omega arith in
         let c : h / 4 ≡ 4 * p / 4 = omega arith in
-        ap (from L) (sym q) ∙ quad quads v l h k .from₂ ∙ ap (λ (x : ℕ). v + edgeCount quads l + x) c ∙ sym (quad quads v l (4 * p) b .from₂) ∙ ap (from L) a
+        quad quads v l h k .from₂ ∙ ap (λ (x : ℕ). v + edgeCount quads l + x) c ∙ sym (quad quads v l (4 * p) b .from₂) ∙ ap (from L) a
+
+    spoke : (h g i j : ℕ) → h < length l → h / 4 ≡ p → mate quads l h < length l → 4 * h ≡ g → 4 * h + 1 ≡ i → 4 * quads .next (quads .next h) + 1 ≡ j → i < mate quads L i
+        → Line L i (from L (mate quads L g - 1)) (from L i) (from L (16 * p + 2)) (from L j)
+    spoke h g i j k e m eg ei ej new = rw (sym eg, sym ei, sym ej, sym (same-point h k e)) (spoke-line v l ok h k m (rw ei new))
+
+    back : (h g a i j : ℕ) → h < length l → h / 4 ≡ p → mate quads l h < length l → 4 * h ≡ g → 4 * h + 1 ≡ a → 4 * quads .next h + 2 ≡ i → 4 * quads .next (quads .next h) + 1 ≡ j → i < mate quads L i
+        → Line L i (from L (mate quads L g - 1)) (from L a) (from L (16 * p + 2)) (from L j)
+    back h g a i j k e m eg ea ei ej new = rw (sym eg, sym ea, sym ei, sym ej, sym (same-point h k e)) (back-line v l ok h k m (rw ei new))
 
     plain-family : PlainFamily L (16 * p)
     unfolding quads
@@ -125,30 +117,18 @@ module _ (v : ℕ) (l : List ℕ) (ok : Manifold quads v l) (fours : length l % 
         let m₂ = inside₁ v l (ok .oriented) fours (4 * p + 2) (16 * p + 9) (16 * p + 14) (omega arith) (omega arith) (omega arith) in
         let m₃ = inside₂ v l (ok .oriented) fours (4 * p) (16 * p + 2) (16 * p + 13) (omega arith) (omega arith) (omega arith) in
         record {
-          first₀ = first-half p (4 * p) (omega arith) (omega arith) h₀ (16 * p) (16 * p + 4) (omega arith) (omega arith) (at (4 * p + 3) (quads .prev (4 * p)) (omega arith) h₃) (test .corner₀);
-          first₁ =
-              let e : 16 * p + 4 + 1 ≡ 16 * p + 5 = omega arith in
-              subst (λ (x : ℕ). FirstHalf L (16 * p) (16 * p + 4) (from L (16 * p + 4)) (from L x) (from L (16 * p + 8))) e (first-half p (4 * p + 1) (omega arith) (omega arith) h₁ (16 * p + 4) (16 * p + 8) (omega arith) (omega arith) (at (4 * p) (quads .prev (4 * p + 1)) (omega arith) h₀) (test .corner₁));
-          first₂ =
-              let e : 16 * p + 8 + 1 ≡ 16 * p + 9 = omega arith in
-              subst (λ (x : ℕ). FirstHalf L (16 * p) (16 * p + 8) (from L (16 * p + 8)) (from L x) (from L (16 * p + 12))) e (first-half p (4 * p + 2) (omega arith) (omega arith) h₂ (16 * p + 8) (16 * p + 12) (omega arith) (omega arith) (at (4 * p + 1) (quads .prev (4 * p + 2)) (omega arith) h₁) (test .corner₂));
-          first₃ =
-              let e : 16 * p + 12 + 1 ≡ 16 * p + 13 = omega arith in
-              subst (λ (x : ℕ). FirstHalf L (16 * p) (16 * p + 12) (from L (16 * p + 12)) (from L x) (from L (16 * p))) e (first-half p (4 * p + 3) (omega arith) (omega arith) h₃ (16 * p + 12) (16 * p) (omega arith) (omega arith) (at (4 * p + 2) (quads .prev (4 * p + 3)) (omega arith) h₂) (test .corner₃));
-          last₀ = last-half p (4 * p) (omega arith) (omega arith) h₀ (16 * p + 7) (16 * p) (16 * p + 4) (omega arith) (omega arith) (omega arith) (at (4 * p + 1) (quads .next (4 * p)) (omega arith) h₁) (test .corner₁);
-          last₁ =
-              let e : 16 * p + 4 + 1 ≡ 16 * p + 5 = omega arith in
-              subst (λ (x : ℕ). LastHalf L (16 * p) (16 * p + 11) (from L (16 * p + 4)) (from L x) (from L (16 * p + 8))) e (last-half p (4 * p + 1) (omega arith) (omega arith) h₁ (16 * p + 11) (16 * p + 4) (16 * p + 8) (omega arith) (omega arith) (omega arith) (at (4 * p + 2) (quads .next (4 * p + 1)) (omega arith) h₂) (test .corner₂));
-          last₂ =
-              let e : 16 * p + 8 + 1 ≡ 16 * p + 9 = omega arith in
-              subst (λ (x : ℕ). LastHalf L (16 * p) (16 * p + 15) (from L (16 * p + 8)) (from L x) (from L (16 * p + 12))) e (last-half p (4 * p + 2) (omega arith) (omega arith) h₂ (16 * p + 15) (16 * p + 8) (16 * p + 12) (omega arith) (omega arith) (omega arith) (at (4 * p + 3) (quads .next (4 * p + 2)) (omega arith) h₃) (test .corner₃));
-          last₃ =
-              let e : 16 * p + 12 + 1 ≡ 16 * p + 13 = omega arith in
-              subst (λ (x : ℕ). LastHalf L (16 * p) (16 * p + 3) (from L (16 * p + 12)) (from L x) (from L (16 * p))) e (last-half p (4 * p + 3) (omega arith) (omega arith) h₃ (16 * p + 3) (16 * p + 12) (16 * p) (omega arith) (omega arith) (omega arith) (at (4 * p) (quads .next (4 * p + 3)) (omega arith) h₀) (test .corner₀));
-          spoke₀ = spoke (4 * p) (16 * p) (16 * p + 1) (16 * p + 9) (omega arith) h₀ (omega arith) (omega arith) (omega arith) (let m = m₀ in omega arith);
-          spoke₁ = subst (λ (y : ℕ). Line L (16 * p + 5) (from L (mate quads L (16 * p + 4) - 1)) (from L (16 * p + 5)) y (from L (16 * p + 13))) (points-same (4 * p + 1) (16 * p + 6) (omega arith) (omega arith) (omega arith)) (let e : 16 * p + 4 + 1 ≡ 16 * p + 5 = omega arith in let f : 16 * p + 4 + 2 ≡ 16 * p + 6 = omega arith in subst (λ (x : ℕ). Line L (16 * p + 5) (from L (mate quads L (16 * p + 4) - 1)) (from L (16 * p + 5)) (from L x) (from L (16 * p + 13))) f (subst (λ (x : ℕ). Line L (16 * p + 5) (from L (mate quads L (16 * p + 4) - 1)) (from L x) (from L (16 * p + 4 + 2)) (from L (16 * p + 13))) e (spoke (4 * p + 1) (16 * p + 4) (16 * p + 5) (16 * p + 13) (omega arith) h₁ (omega arith) (omega arith) (omega arith) (let m = m₁ in omega arith))));
-          spoke₂ = subst (λ (y : ℕ). Line L (16 * p + 9) (from L (mate quads L (16 * p + 8) - 1)) (from L (16 * p + 9)) y (from L (16 * p + 1))) (points-same (4 * p + 2) (16 * p + 10) (omega arith) (omega arith) (omega arith)) (let e : 16 * p + 8 + 1 ≡ 16 * p + 9 = omega arith in let f : 16 * p + 8 + 2 ≡ 16 * p + 10 = omega arith in subst (λ (x : ℕ). Line L (16 * p + 9) (from L (mate quads L (16 * p + 8) - 1)) (from L (16 * p + 9)) (from L x) (from L (16 * p + 1))) f (subst (λ (x : ℕ). Line L (16 * p + 9) (from L (mate quads L (16 * p + 8) - 1)) (from L x) (from L (16 * p + 8 + 2)) (from L (16 * p + 1))) e (spoke (4 * p + 2) (16 * p + 8) (16 * p + 9) (16 * p + 1) (omega arith) h₂ (omega arith) (omega arith) (omega arith) (let m = m₂ in omega arith))));
-          spoke₃ = subst (λ (y : ℕ). Line L (16 * p + 2) (from L (mate quads L (16 * p + 12) - 1)) (from L (16 * p + 13)) y (from L (16 * p + 5))) (points-same (4 * p + 3) (16 * p + 14) (omega arith) (omega arith) (omega arith)) (let e : 16 * p + 12 + 1 ≡ 16 * p + 13 = omega arith in let f : 16 * p + 12 + 2 ≡ 16 * p + 14 = omega arith in subst (λ (x : ℕ). Line L (16 * p + 2) (from L (mate quads L (16 * p + 12) - 1)) (from L (16 * p + 13)) (from L x) (from L (16 * p + 5))) f (subst (λ (x : ℕ). Line L (16 * p + 2) (from L (mate quads L (16 * p + 12) - 1)) (from L x) (from L (16 * p + 12 + 2)) (from L (16 * p + 5))) e (back (4 * p + 3) (16 * p + 12) (16 * p + 2) (16 * p + 5) (omega arith) h₃ (omega arith) (omega arith) (omega arith) (let m = m₃ in omega arith))));
+          first₀ = first-half p (4 * p) (omega arith) (omega arith) h₀ (16 * p) (16 * p + 1) (16 * p + 4) (omega arith) (omega arith) (omega arith) (at (4 * p + 3) (quads .prev (4 * p)) (omega arith) h₃) (test .corner₀);
+          first₁ = first-half p (4 * p + 1) (omega arith) (omega arith) h₁ (16 * p + 4) (16 * p + 5) (16 * p + 8) (omega arith) (omega arith) (omega arith) (at (4 * p) (quads .prev (4 * p + 1)) (omega arith) h₀) (test .corner₁);
+          first₂ = first-half p (4 * p + 2) (omega arith) (omega arith) h₂ (16 * p + 8) (16 * p + 9) (16 * p + 12) (omega arith) (omega arith) (omega arith) (at (4 * p + 1) (quads .prev (4 * p + 2)) (omega arith) h₁) (test .corner₂);
+          first₃ = first-half p (4 * p + 3) (omega arith) (omega arith) h₃ (16 * p + 12) (16 * p + 13) (16 * p) (omega arith) (omega arith) (omega arith) (at (4 * p + 2) (quads .prev (4 * p + 3)) (omega arith) h₂) (test .corner₃);
+          last₀ = last-half p (4 * p) (omega arith) (omega arith) h₀ (16 * p + 7) (16 * p) (16 * p + 1) (16 * p + 4) (omega arith) (omega arith) (omega arith) (omega arith) (at (4 * p + 1) (quads .next (4 * p)) (omega arith) h₁) (test .corner₁);
+          last₁ = last-half p (4 * p + 1) (omega arith) (omega arith) h₁ (16 * p + 11) (16 * p + 4) (16 * p + 5) (16 * p + 8) (omega arith) (omega arith) (omega arith) (omega arith) (at (4 * p + 2) (quads .next (4 * p + 1)) (omega arith) h₂) (test .corner₂);
+          last₂ = last-half p (4 * p + 2) (omega arith) (omega arith) h₂ (16 * p + 15) (16 * p + 8) (16 * p + 9) (16 * p + 12) (omega arith) (omega arith) (omega arith) (omega arith) (at (4 * p + 3) (quads .next (4 * p + 2)) (omega arith) h₃) (test .corner₃);
+          last₃ = last-half p (4 * p + 3) (omega arith) (omega arith) h₃ (16 * p + 3) (16 * p + 12) (16 * p + 13) (16 * p) (omega arith) (omega arith) (omega arith) (omega arith) (at (4 * p) (quads .next (4 * p + 3)) (omega arith) h₀) (test .corner₀);
+          spoke₀ = spoke (4 * p) (16 * p) (16 * p + 1) (16 * p + 9) (omega arith) (omega arith) h₀ (omega arith) (omega arith) (omega arith) (let m = m₀ in omega arith);
+          spoke₁ = spoke (4 * p + 1) (16 * p + 4) (16 * p + 5) (16 * p + 13) (omega arith) (omega arith) h₁ (omega arith) (omega arith) (omega arith) (let m = m₁ in omega arith);
+          spoke₂ = spoke (4 * p + 2) (16 * p + 8) (16 * p + 9) (16 * p + 1) (omega arith) (omega arith) h₂ (omega arith) (omega arith) (omega arith) (let m = m₂ in omega arith);
+          spoke₃ = back (4 * p + 3) (16 * p + 12) (16 * p + 13) (16 * p + 2) (16 * p + 5) (omega arith) (omega arith) h₃ (omega arith) (omega arith) (omega arith) (omega arith) (let m = m₃ in omega arith);
           back₀ = inside₂ v l (ok .oriented) fours (4 * p + 1) (16 * p + 6) (16 * p + 1) (omega arith) (omega arith) (omega arith);
           back₁ = inside₂ v l (ok .oriented) fours (4 * p + 2) (16 * p + 10) (16 * p + 5) (omega arith) (omega arith) (omega arith);
           back₂ = inside₂ v l (ok .oriented) fours (4 * p + 3) (16 * p + 14) (16 * p + 9) (omega arith) (omega arith) (omega arith);
@@ -160,24 +140,7 @@ pub family-of : (l : List ℕ) (h f c₀ c₁ c₂ c₃ e₀ e₁ e₂ e₃ f₀
     → e₀ ≡ from l (h + 1) → e₁ ≡ from l (h + 5) → e₂ ≡ from l (h + 9) → e₃ ≡ from l (h + 13)
     → f₀ ≡ from l (mate quads l h - 1) → f₁ ≡ from l (mate quads l (h + 4) - 1) → f₂ ≡ from l (mate quads l (h + 8) - 1) → f₃ ≡ from l (mate quads l (h + 12) - 1)
     → FamilyOf l h f c₀ c₁ c₂ c₃ e₀ e₁ e₂ e₃ f₀ f₁ f₂ f₃
-family-of l h f c₀ c₁ c₂ c₃ e₀ e₁ e₂ e₃ f₀ f₁ f₂ f₃ x a b₀ b₁ b₂ b₃ d₀ d₁ d₂ d₃ g₀ g₁ g₂ g₃ = record {
-  first₀ = rw (b₀, d₀, b₁) (x .first₀);
-  first₁ = rw (b₁, d₁, b₂) (x .first₁);
-  first₂ = rw (b₂, d₂, b₃) (x .first₂);
-  first₃ = rw (b₃, d₃, b₀) (x .first₃);
-  last₀ = rw (b₀, d₀, b₁) (x .last₀);
-  last₁ = rw (b₁, d₁, b₂) (x .last₁);
-  last₂ = rw (b₂, d₂, b₃) (x .last₂);
-  last₃ = rw (b₃, d₃, b₀) (x .last₃);
-  spoke₀ = rw (g₀, d₀, a, d₂) (x .spoke₀);
-  spoke₁ = rw (g₁, d₁, a, d₃) (x .spoke₁);
-  spoke₂ = rw (g₂, d₂, a, d₀) (x .spoke₂);
-  spoke₃ = rw (g₃, d₃, a, d₁) (x .spoke₃);
-  back₀ = x .back₀;
-  back₁ = x .back₁;
-  back₂ = x .back₂;
-  back₃ = x .back₃;
-}
+family-of l h f c₀ c₁ c₂ c₃ e₀ e₁ e₂ e₃ f₀ f₁ f₂ f₃ x a b₀ b₁ b₂ b₃ d₀ d₁ d₂ d₃ g₀ g₁ g₂ g₃ = rw (a, b₀, b₁, b₂, b₃, d₀, d₁, d₂, d₃, g₀, g₁, g₂, g₃) x
 
 pub mates-some : (l : List ℕ) (h : ℕ) → PlainFamily l h → ((2 ≤ mate quads l h) × (mate quads l h < length l)) × ((2 ≤ mate quads l (h + 4)) × (mate quads l (h + 4) < length l))
     × ((2 ≤ mate quads l (h + 8)) × (mate quads l (h + 8) < length l)) × ((2 ≤ mate quads l (h + 12)) × (mate quads l (h + 12) < length l))

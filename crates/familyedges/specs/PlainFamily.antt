@@ -19,26 +19,7 @@ pub record FamilyTest (l : List ℕ) (h : ℕ) : Type 0 where
   pub corner₂ : Ordinary l (from l (h + 8))
   pub corner₃ : Ordinary l (from l (h + 12))
 
--- what its sixteen steps ask
-pub record PlainFamily (l : List ℕ) (h : ℕ) : Type 0 where
-  pub first₀ : FirstHalf l h h (from l h) (from l (h + 1)) (from l (h + 4))
-  pub first₁ : FirstHalf l h (h + 4) (from l (h + 4)) (from l (h + 5)) (from l (h + 8))
-  pub first₂ : FirstHalf l h (h + 8) (from l (h + 8)) (from l (h + 9)) (from l (h + 12))
-  pub first₃ : FirstHalf l h (h + 12) (from l (h + 12)) (from l (h + 13)) (from l h)
-  pub last₀ : LastHalf l h (h + 7) (from l h) (from l (h + 1)) (from l (h + 4))
-  pub last₁ : LastHalf l h (h + 11) (from l (h + 4)) (from l (h + 5)) (from l (h + 8))
-  pub last₂ : LastHalf l h (h + 15) (from l (h + 8)) (from l (h + 9)) (from l (h + 12))
-  pub last₃ : LastHalf l h (h + 3) (from l (h + 12)) (from l (h + 13)) (from l h)
-  pub spoke₀ : Line l (h + 1) (from l (mate quads l h - 1)) (from l (h + 1)) (from l (h + 2)) (from l (h + 9))
-  pub spoke₁ : Line l (h + 5) (from l (mate quads l (h + 4) - 1)) (from l (h + 5)) (from l (h + 2)) (from l (h + 13))
-  pub spoke₂ : Line l (h + 9) (from l (mate quads l (h + 8) - 1)) (from l (h + 9)) (from l (h + 2)) (from l (h + 1))
-  pub spoke₃ : Line l (h + 2) (from l (mate quads l (h + 12) - 1)) (from l (h + 13)) (from l (h + 2)) (from l (h + 5))
-  pub back₀ : mate quads l (h + 6) ≡ h + 1
-  pub back₁ : mate quads l (h + 10) ≡ h + 5
-  pub back₂ : mate quads l (h + 14) ≡ h + 9
-  pub back₃ : mate quads l (h + 13) ≡ h + 2
-
--- the same with the vertices that the code read
+-- what its sixteen steps ask: f is the point of the face that was split, c₀ to c₃ are its corners, e₀ to e₃ the points of its sides, f₀ to f₃ those of the faces beyond them
 pub record FamilyOf (l : List ℕ) (h f c₀ c₁ c₂ c₃ e₀ e₁ e₂ e₃ f₀ f₁ f₂ f₃ : ℕ) : Type 0 where
   pub first₀ : FirstHalf l h h c₀ e₀ c₁
   pub first₁ : FirstHalf l h (h + 4) c₁ e₁ c₂
@@ -56,3 +37,8 @@ pub record FamilyOf (l : List ℕ) (h f c₀ c₁ c₂ c₃ e₀ e₁ e₂ e₃ 
   pub back₁ : mate quads l (h + 10) ≡ h + 5
   pub back₂ : mate quads l (h + 14) ≡ h + 9
   pub back₃ : mate quads l (h + 13) ≡ h + 2
+
+abbrev pub PlainFamily : List ℕ → ℕ → Type 0
+PlainFamily l h =
+    FamilyOf l h (from l (h + 2)) (from l h) (from l (h + 4)) (from l (h + 8)) (from l (h + 12)) (from l (h + 1)) (from l (h + 5)) (from l (h + 9)) (from l (h + 13))
+    (from l (mate quads l h - 1)) (from l (mate quads l (h + 4) - 1)) (from l (mate quads l (h + 8) - 1)) (from l (mate quads l (h + 12) - 1))
