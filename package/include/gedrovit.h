@@ -162,6 +162,7 @@
  *   - The pointer to the record of new points is non-null and aligned too, in every function.
  *   - Each table has the length that you state, in bytes at most PTRDIFF_MAX.
  *   - No output and no work table overlaps another table of the call, and the record overlaps none.
+ *   - `with_letters` is 0 or 1. A bool of C or C++ is; a byte that another language passes must be.
  *
  *
  * What a call does not do
