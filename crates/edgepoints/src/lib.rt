@@ -17,7 +17,7 @@ ghost use Rattle.schemelaws.specs.Numerators.{virtualAtZ, edgeValueZ, edgeZ};
 ghost use Rattle.halfedges.specs.Tables.{Quadrilaterals};
 ghost use Rattle.walks.specs.Ready.{Ready};
 ghost use Rattle.coordinates.specs.Points.{InTable, Points, Marks, OnAxes};
-ghost use Rattle.coordinates.specs.Entry.{wideFlag, boundaryFlag};
+ghost use Rattle.edgeentries.specs.Entry.{wideFlag, boundaryFlag};
 ghost use Rattle.coordinates.specs.Stencil.{FarIn, stencilValue};
 ghost use Rattle.edgepoints.specs.Edge.{ruleOf, farBefore, farAfter, farOn, StraightFar, ClassedCorners, ClassedEnds, Flagged, ExactPoint};
 use coordinates::Exact;

@@ -38,10 +38,10 @@ use Rattle.walks.specs.Ready.{Ready}
 use Rattle.classes.specs.Classes.{Classes}
 use Rattle.classes.proofs.Classes.{classes-same}
 use Rattle.coordinates.specs.Points.{Points, Marks, putPoint, Written}
-use Rattle.coordinates.specs.Packed.{putThree, Holds}
-use Rattle.coordinates.specs.Entry.{wideFlag, boundaryFlag, entryOf, edgeOf, placeOf, unitOf}
+use Rattle.edgeentries.specs.Packed.{putThree, Holds}
+use Rattle.edgeentries.specs.Entry.{wideFlag, boundaryFlag, entryOf, edgeOf, placeOf, unitOf}
 use Rattle.coordinates.proofs.Points.{take-point, written-next}
-use Rattle.coordinates.proofs.Packed.{holds-kept, length-put-three, put-three-other, put-three-first, put-three-second, put-three-third}
+use Rattle.edgeentries.proofs.Packed.{holds-kept, length-put-three, put-three-other, put-three-first, put-three-second, put-three-third}
 use Rattle.edgepoints.specs.Edge.{ClassedCorners, Flagged, plain, wide, boundary, ExactEdge, ExactPoint}
 use Rattle.edgetable.specs.EdgeTable.{roundedBy, Small, oldAxis, refinedAxis, edgeAxis, Round, Turn, Turned, met, passed, Entry, StoredAt, Edges}
 

@@ -19,8 +19,8 @@ use Rattle.halfedges.specs.Tables.{Connectivity}
 use Rattle.walks.specs.Ready.{Ready}
 use Rattle.classes.specs.Classes.{Classes}
 use Rattle.coordinates.specs.Points.{Points, Marks, putPoint, Written}
-use Rattle.coordinates.specs.Packed.{putThree, Holds}
-use Rattle.coordinates.specs.Entry.{wideFlag, entryOf, placeOf, unitOf}
+use Rattle.edgeentries.specs.Packed.{putThree, Holds}
+use Rattle.edgeentries.specs.Entry.{wideFlag, entryOf, placeOf, unitOf}
 use Rattle.edgepoints.specs.Edge.{Flagged, ExactPoint}
 
 -- a stored numerator of an edge with this flag, rounded

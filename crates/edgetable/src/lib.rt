@@ -86,7 +86,7 @@ pub fn edge_side(
         y: e.y,
         z: e.z,
     };
-    coordinates::store_exact(&mut *work, 2 * n + 6 * edges, x);
+    edgeentries::store_exact(&mut *work, 2 * n + 6 * edges, x);
     work[n + h] = edges as u32 + e.flag;
     edges + 1
 }

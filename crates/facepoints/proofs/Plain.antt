@@ -23,9 +23,9 @@ use Rattle.rings.proofs.Tension.{edge-range-at}
 use Rattle.rings.specs.Scales.{virtualScale, faceScale}
 use Rattle.topology.specs.Quads.{across}
 use Rattle.coordinates.specs.Points.{putPoint}
-use Rattle.coordinates.specs.Packed.{biasedAt, packedAt}
-use Rattle.coordinates.proofs.Packed.{biased-packed}
-use Rattle.coordinates.specs.Entry.{wideFlag, boundaryFlag, entryOf, placeOf, exactAt, exactOf}
+use Rattle.edgeentries.specs.Packed.{biasedAt, packedAt}
+use Rattle.edgeentries.proofs.Packed.{biased-packed}
+use Rattle.edgeentries.specs.Entry.{wideFlag, boundaryFlag, entryOf, placeOf, exactAt, exactOf}
 use Rattle.facepoints.specs.declared.FaceRule.{FaceRule}
 use Rattle.facepoints.specs.Faces.{FaceTable, PlainTwice, AllPlain, beyondOf, farOf, directionOf, innerTwiceOf, fourInnerOf, faceValueOf, faceCoordinate}
 use Rattle.facepoints.specs.Reading.{PlainAt, PlainEdge, plainDirection, plainCoordinate}

@@ -13,8 +13,8 @@ use Rattle.rings.proofs.Tension.{edge-range-le}
 use Rattle.rings.specs.Scales.{virtualScale, edgeRange}
 use Rattle.topology.specs.Shape.{quads}
 use Rattle.topology.specs.Quads.{across}
-use Rattle.coordinates.specs.Packed.{packedAt}
-use Rattle.coordinates.specs.Entry.{wideFlag, boundaryFlag, entryOf, placeOf, unitOf, exactAt, exactOf}
+use Rattle.edgeentries.specs.Packed.{packedAt}
+use Rattle.edgeentries.specs.Entry.{wideFlag, boundaryFlag, entryOf, placeOf, unitOf, exactAt, exactOf}
 use Rattle.facepoints.specs.Faces.{FaceTable}
 use Rattle.facepoints.specs.Reading.{Readable}
 

@@ -6,8 +6,8 @@ use lib.ListN.{length, getD}
 use Rattle.rounding.specs.Rounding.{round}
 use Rattle.curve.specs.Weights.{Weights, tension, scale, interior}
 use Rattle.rings.specs.Scales.{edgeRange}
-use Rattle.coordinates.specs.Packed.{packedAt}
-use Rattle.coordinates.specs.Entry.{edgeOf, placeOf, exactAt}
+use Rattle.edgeentries.specs.Packed.{packedAt}
+use Rattle.edgeentries.specs.Entry.{edgeOf, placeOf, exactAt}
 
 -- coordinate a of the exact point of an entry can be read
 pub record Readable (t n : ℕ) (w : List ℕ) (a entry : ℕ) : Type 0 where

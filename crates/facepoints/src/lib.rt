@@ -7,7 +7,7 @@ ghost use Rattle.rounding.specs.Rounding.{round};
 ghost use Rattle.curve.specs.Weights.{tension};
 ghost use Rattle.rings.specs.Scales.{faceScale, edgeRange};
 ghost use Rattle.coordinates.specs.Points.{putPoint};
-ghost use Rattle.coordinates.specs.Entry.{entryOf, unitOf, exactAt};
+ghost use Rattle.edgeentries.specs.Entry.{entryOf, unitOf, exactAt};
 ghost use Rattle.facepoints.specs.Faces.{EntryTable, FaceTable, beyondOf, farOf, directionOf, innerTwiceOf, fourInnerOf, faceRuleOf, faceValueOf, faceCoordinate};
 ghost use Rattle.facepoints.specs.Reading.{Readable, PlainAt, PlainEdge, plainDirection, plainCoordinate};
 
@@ -68,7 +68,7 @@ fn exact_on(work: &[u32], n: usize, e: usize, a: usize, t: u32) -> i64
     requires { ⌜ Readable t n (now work) a e ⌝ }
     ensures { λ r. ⌜ r ≡ exactAt (tension t) n (now (work .entry)) a e ⌝ }
 {
-    let z = coordinates::load(work, 2 * n + 6 * (e % WIDE) + 2 * a);
+    let z = edgeentries::load(work, 2 * n + 6 * (e % WIDE) + 2 * a);
     unit(e, t) * z
 }
 
@@ -189,10 +189,10 @@ fn plain_on(work: &[u32], p: usize, q: usize, r: usize, s: usize, t: u32) -> i32
     ensures { λ z. ⌜ z ≡ plainDirection (tension t) (now (work .entry)) p q r s ⌝ }
 {
     let z = curve::four_point(
-        coordinates::load_biased(work, p),
-        coordinates::load_biased(work, q),
-        coordinates::load_biased(work, r),
-        coordinates::load_biased(work, s),
+        edgeentries::load_biased(work, p),
+        edgeentries::load_biased(work, q),
+        edgeentries::load_biased(work, r),
+        edgeentries::load_biased(work, s),
         t,
     );
     rounding::round_shift(z - 4611686155866341376, 2048, 12) as i32

@@ -37,7 +37,7 @@ fn line_edge(
     let y = edgetable::rounded_plain(e.y);
     let z = edgetable::rounded_plain(e.z);
     coordinates::put_point(&mut *points, v + edges, x, y, z);
-    coordinates::store_exact(&mut *work, 2 * n + 6 * edges, e);
+    edgeentries::store_exact(&mut *work, 2 * n + 6 * edges, e);
     work[n + h] = edges as u32;
     edges + 1
 }

@@ -17,7 +17,7 @@ use Rattle.topology.proofs.Mates.{mate-le, mate-back, edge-lt, edge-onto}
 use Rattle.refinedfaces.specs.Refined.{refinedVertices}
 use Rattle.tables.specs.Tables.{Written}
 use Rattle.scheme.specs.Points.{edgeRule, fourInner}
-use Rattle.coordinates.specs.Entry.{wideFlag, boundaryFlag, entryOf}
+use Rattle.edgeentries.specs.Entry.{wideFlag, boundaryFlag, entryOf}
 use Rattle.origins.specs.Origins.{madeBy, letterOf, edgeCase}
 use Rattle.letters.specs.Letters.{newLetter, faceLetter, Touches, onEdge, inFace, inFarFace, PutRight, Nameable}
 use Rattle.letters.proofs.Letters.{four-by, face-by, across-face, across-lt, across-twice, face-named, boundary-named, inner-named}

@@ -9,7 +9,7 @@ ghost use Rattle.topology.specs.HalfEdge.{from, to, mate, edgeCount};
 ghost use Rattle.refinedfaces.specs.Refined.{refinedVertices};
 ghost use Rattle.scheme.specs.Points.{edgeRule, fourInner};
 ghost use Rattle.halfedges.specs.Tables.{Quadrilaterals, Connectivity};
-ghost use Rattle.coordinates.specs.Entry.{boundaryFlag};
+ghost use Rattle.edgeentries.specs.Entry.{boundaryFlag};
 ghost use Rattle.origins.specs.Origins.{madeBy, letterOf, edgeCase};
 ghost use Rattle.letters.specs.Letters.{startLetter, newLetter, faceLetter, PutRight, Nameable, WrittenIf};
 use edgepoints::EdgeRule;

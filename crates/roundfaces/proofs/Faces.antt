@@ -11,7 +11,7 @@ use Rattle.topology.specs.Shape.{Shape, quads}
 use Rattle.topology.specs.HalfEdge.{from, edgeCount, edge}
 use Rattle.topology.proofs.Shape.{four-sides}
 use Rattle.topology.proofs.Mates.{edges-le}
-use Rattle.coordinates.specs.Entry.{entryOf, edgeOf}
+use Rattle.edgeentries.specs.Entry.{entryOf, edgeOf}
 use Rattle.refinedfaces.specs.Refined.{corner, refined}
 use Rattle.tables.specs.Tables.{filled, putFour, Written}
 use Rattle.roundfaces.specs.Faces.{cornerBy, refinedBy, FaceIn, FacesIn}

@@ -11,9 +11,9 @@ use mir.Val.{SFits}
 use mir.Facts.{toZ-ofZ}
 use Rattle.topology.specs.Shape.{quads}
 use Rattle.topology.specs.HalfEdge.{mate}
-use Rattle.coordinates.proofs.Packed.{length-put-three}
+use Rattle.edgeentries.proofs.Packed.{length-put-three}
 use Rattle.coordinates.specs.Points.{putPoint}
-use Rattle.coordinates.specs.Packed.{putThree}
+use Rattle.edgeentries.specs.Packed.{putThree}
 use Rattle.curve.specs.Weights.{tension}
 use Rattle.edgetable.specs.EdgeTable.{roundedBy, met, passed}
 use Rattle.edgetable.proofs.EdgeTable.{small-of, classed-of, flag-fits, exact-small}

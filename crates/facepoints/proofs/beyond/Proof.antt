@@ -3,7 +3,7 @@ use borrow.Author.Needs.{needs}
 use native.Mathlib.Omega.{arith}
 use mathlib.Core.Path.{ap, _∙_}
 use Rattle.topology.specs.Quads.{across}
-use Rattle.coordinates.specs.Entry.{entryOf}
+use Rattle.edgeentries.specs.Entry.{entryOf}
 use Rattle.facepoints.specs.Faces.{beyondOf}
 use Rattle.facepoints.proofs.Reading.{across-lt}
 use Rattle.facepoints.proofs.beyond.Statement.{statement}

@@ -10,7 +10,7 @@ use mir.Facts.{toZ-ofZ}
 use Rattle.curve.specs.Weights.{tension}
 use Rattle.rings.proofs.Tension.{edge-range-le}
 use Rattle.rings.specs.Scales.{edgeRange}
-use Rattle.coordinates.specs.Entry.{exactOf}
+use Rattle.edgeentries.specs.Entry.{exactOf}
 use Rattle.facepoints.proofs.Reading.{across-lt, readable, exact-of, exact-small}
 use Rattle.facepoints.proofs.Directions.{far-size, direction-read}
 use Rattle.facepoints.proofs.direction_on.Statement.{statement}

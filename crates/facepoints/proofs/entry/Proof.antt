@@ -3,7 +3,7 @@ use borrow.Author.Needs.{needs}
 use native.Mathlib.Omega.{arith}
 use Prim.Native.Nat.{_+_}
 use mathlib.Core.Path.{refl}
-use Rattle.coordinates.specs.Entry.{entryOf}
+use Rattle.edgeentries.specs.Entry.{entryOf}
 use Rattle.facepoints.proofs.entry.Statement.{statement}
 use Rattle.facepoints.proofs.entry.Tie as tie
 

@@ -6,7 +6,7 @@ use mir.Val.{SFits}
 use mir.Facts.{toZ-ofZ}
 use mathlib.Core.Path.{_≡_}
 use lib.IntN.{_*ℤ_}
-use Rattle.coordinates.specs.Entry.{placeOf, exactAt}
+use Rattle.edgeentries.specs.Entry.{placeOf, exactAt}
 use Rattle.curve.specs.Weights.{tension}
 use Rattle.facepoints.proofs.Reading.{exact-fits, exact-read}
 use Rattle.facepoints.proofs.exact_on.Statement.{statement}

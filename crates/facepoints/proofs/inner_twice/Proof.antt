@@ -4,7 +4,7 @@ use native.Mathlib.Omega.{arith}
 use mathlib.Core.Path.{sym, ap, _∙_}
 use Prim.Native.Nat.{ℕ}
 use lib.Dec.{ltb}
-use Rattle.coordinates.specs.Entry.{boundaryFlag}
+use Rattle.edgeentries.specs.Entry.{boundaryFlag}
 use Rattle.facepoints.proofs.Directions.{inner-mated, inner-none}
 use Rattle.facepoints.proofs.inner_twice.Statement.{statement}
 use Rattle.facepoints.proofs.inner_twice.Tie as tie

@@ -10,7 +10,7 @@ use lib.Seq.{length-take-le}
 use mir.Syntax.{w32, w64}
 use mir.Val.{SFits}
 use mir.Facts.{toZ-ofZ}
-use Rattle.coordinates.specs.Packed.{putThree}
+use Rattle.edgeentries.specs.Packed.{putThree}
 use Rattle.edgetable.specs.EdgeTable.{met}
 use Rattle.edgetable.proofs.EdgeTable.{exact-small}
 use Rattle.coordinates.proofs.Points.{put-point-is}

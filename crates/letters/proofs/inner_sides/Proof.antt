@@ -6,7 +6,7 @@ use native.Mathlib.Omega.{arith}
 use borrow.Author.Tests.{ltb-true}
 use lib.ListN.{getD}
 use Rattle.search.proofs.Tests.{clash}
-use Rattle.coordinates.specs.Entry.{boundaryFlag}
+use Rattle.edgeentries.specs.Entry.{boundaryFlag}
 use Rattle.letters.proofs.Letters.{four-in-turn}
 use borrow.Author.Needs.{needs}
 use Rattle.letters.proofs.inner_sides.Statement.{statement}
