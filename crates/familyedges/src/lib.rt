@@ -37,91 +37,8 @@ fn line_edge(
     let y = edgetable::rounded_plain(e.y);
     let z = edgetable::rounded_plain(e.z);
     coordinates::put_point(&mut *points, v + edges, x, y, z);
-    edgeentries::store_exact(&mut *work, 2 * n + 6 * edges, e);
-    work[n + h] = edges as u32;
+    edgeentries::store_edge(&mut *work, n, h, edges, 0, e);
     edges + 1
-}
-
-// The first half of a side of a plain family from f on, from c to e, where the side goes on to d.
-fn first_half(
-    points: &mut [i32],
-    faces: &[u32],
-    marks: &[u8],
-    work: &mut [u32],
-    f: usize,
-    h: usize,
-    edges: usize,
-    c: usize,
-    e: usize,
-    d: usize,
-    t: u32,
-) -> usize
-    requires { ⌜ Going t (now faces) (now marks) (now points) (now work) h edges × FirstHalf (now faces) f h c e d ⌝ }
-    ensures { λ r. ⌜ Carries t (now (faces .entry)) (now (marks .entry)) h edges (h + 1) r (now (points .entry)) (now (work .entry)) (now (points .exit)) (now (work .exit)) ⌝ }
-{
-    let n = faces.len();
-    let m = halfedges::mate_side(faces, &*work, h);
-    if m < f {
-        let entry = work[n + m];
-        work[n + h] = entry;
-        return edges;
-    }
-    let y = halfedges::mate_side(faces, &*work, h + 3);
-    let o = halfedges::start_of(faces, y + 3);
-    line_edge(
-        &mut *points,
-        faces,
-        marks,
-        &mut *work,
-        h,
-        edges,
-        o,
-        c,
-        e,
-        d,
-        t,
-    )
-}
-
-// The second half h of a side from c by e to d.
-fn last_half(
-    points: &mut [i32],
-    faces: &[u32],
-    marks: &[u8],
-    work: &mut [u32],
-    f: usize,
-    h: usize,
-    edges: usize,
-    c: usize,
-    e: usize,
-    d: usize,
-    t: u32,
-) -> usize
-    requires { ⌜ Going t (now faces) (now marks) (now points) (now work) h edges × LastHalf (now faces) f h c e d ⌝ }
-    ensures { λ r. ⌜ Carries t (now (faces .entry)) (now (marks .entry)) h edges (h + 1) r (now (points .entry)) (now (work .entry)) (now (points .exit)) (now (work .exit)) ⌝ }
-{
-    let n = faces.len();
-    let m = halfedges::mate_side(faces, &*work, h);
-    if m < f {
-        let entry = work[n + m];
-        work[n + h] = entry;
-        return edges;
-    }
-    let x = halfedges::mate_side(faces, &*work, h - 3);
-    let r = halfedges::start_of(faces, x - 2);
-    line_edge(
-        &mut *points,
-        faces,
-        marks,
-        &mut *work,
-        h,
-        edges,
-        c,
-        e,
-        d,
-        r,
-        t,
-    )
 }
 
 // The edge of h is new: its point by the vertices o, p, q, r in line.
@@ -171,9 +88,84 @@ fn pass_edge(
     ensures { λ k. ⌜ Carries t (now (faces .entry)) (now (marks .entry)) h edges (h + 1) k (now (points .entry)) (now (work .entry)) (now (points .exit)) (now (work .exit)) ⌝ }
 {
     let n = faces.len();
-    let entry = work[n + m];
-    work[n + h] = entry;
+    edgeentries::copy_entry(&mut *work, n, m, h);
     edges
+}
+
+// The first half of a side of a plain family from f on, from c to e, where the side goes on to d.
+fn first_half(
+    points: &mut [i32],
+    faces: &[u32],
+    marks: &[u8],
+    work: &mut [u32],
+    f: usize,
+    h: usize,
+    edges: usize,
+    c: usize,
+    e: usize,
+    d: usize,
+    t: u32,
+) -> usize
+    requires { ⌜ Going t (now faces) (now marks) (now points) (now work) h edges × FirstHalf (now faces) f h c e d ⌝ }
+    ensures { λ r. ⌜ Carries t (now (faces .entry)) (now (marks .entry)) h edges (h + 1) r (now (points .entry)) (now (work .entry)) (now (points .exit)) (now (work .exit)) ⌝ }
+{
+    let m = halfedges::mate_side(faces, &*work, h);
+    if m < f {
+        return pass_edge(&mut *points, faces, marks, &mut *work, h, edges, m, t);
+    }
+    let y = halfedges::mate_side(faces, &*work, h + 3);
+    let o = halfedges::start_of(faces, y + 3);
+    make_edge(
+        &mut *points,
+        faces,
+        marks,
+        &mut *work,
+        h,
+        edges,
+        o,
+        c,
+        e,
+        d,
+        t,
+    )
+}
+
+// The second half h of a side from c by e to d.
+fn last_half(
+    points: &mut [i32],
+    faces: &[u32],
+    marks: &[u8],
+    work: &mut [u32],
+    f: usize,
+    h: usize,
+    edges: usize,
+    c: usize,
+    e: usize,
+    d: usize,
+    t: u32,
+) -> usize
+    requires { ⌜ Going t (now faces) (now marks) (now points) (now work) h edges × LastHalf (now faces) f h c e d ⌝ }
+    ensures { λ r. ⌜ Carries t (now (faces .entry)) (now (marks .entry)) h edges (h + 1) r (now (points .entry)) (now (work .entry)) (now (points .exit)) (now (work .exit)) ⌝ }
+{
+    let m = halfedges::mate_side(faces, &*work, h);
+    if m < f {
+        return pass_edge(&mut *points, faces, marks, &mut *work, h, edges, m, t);
+    }
+    let x = halfedges::mate_side(faces, &*work, h - 3);
+    let r = halfedges::start_of(faces, x - 2);
+    make_edge(
+        &mut *points,
+        faces,
+        marks,
+        &mut *work,
+        h,
+        edges,
+        c,
+        e,
+        d,
+        r,
+        t,
+    )
 }
 
 // The edges of a plain family: sixteen steps from h on, by the vertices that were read.

@@ -1,19 +1,16 @@
 -- `line_edge` meets its contract. Assumes nothing.
-use mathlib.Core.Path.{_≡_, refl, sym, ap, _∙_}
-use mathlib.Core.List.{List}
-use Prim.Native.Nat.{ℕ, _+_, _*_}
+use mathlib.Core.Path.{refl, sym, _∙_}
+use Prim.Native.Nat.{_*_}
 use native.Mathlib.Omega.{arith}
-use native.Mathlib.Nat.{add-zero}
 use borrow.Author.Needs.{needs}
-use lib.ListN.{length, set}
+use lib.ListN.{length}
 use lib.Seq.{length-take-le}
 use mir.Syntax.{w32, w64}
 use mir.Val.{SFits}
 use mir.Facts.{toZ-ofZ}
-use Rattle.edgeentries.specs.Packed.{putThree}
+use Rattle.coordinates.proofs.Points.{put-point-is}
 use Rattle.edgetable.specs.EdgeTable.{met}
 use Rattle.edgetable.proofs.EdgeTable.{exact-small}
-use Rattle.coordinates.proofs.Points.{put-point-is}
 use Rattle.familyedges.proofs.Line.{line-in, line-exact, small₀, small₁, small₂, rounded-zero}
 use Rattle.familyedges.proofs.line_edge.Statement.{statement}
 use Rattle.familyedges.proofs.line_edge.Tie as tie
@@ -23,10 +20,6 @@ start e = e .before .before .before .before .before
 
 fits : (e : tie.After-interior-exact) → SFits w64 (e .interior-exact .result .x) × SFits w64 (e .interior-exact .result .y) × SFits w64 (e .interior-exact .result .z)
 fits e = let k = e .interior-exact .ok in (search (needs, k), search (needs, k), search (needs, k .1))
-
--- at the end
-abbrev exact : tie.After-slice-known2 → tie.After-interior-exact
-exact c = c .before .before .before .before .before .before .before .before .before .before .before .before .before
 
 mul-end : tie.Need-mul-end
 mul-end c = search needs
@@ -61,17 +54,8 @@ add-put-point c = search needs
 put-point-requires : tie.Need-put-point-requires
 put-point-requires c κs = search needs
 
-mul-store-exact : tie.Need-mul-store-exact
-mul-store-exact c = search needs
-
-mul-store-exact-2 : tie.Need-mul-store-exact-2
-mul-store-exact-2 c = search needs
-
-add-store-exact : tie.Need-add-store-exact
-add-store-exact c = search needs
-
-store-exact-requires : tie.Need-store-exact-requires
-store-exact-requires c κs =
+store-edge-requires : tie.Need-store-edge-requires
+store-edge-requires c κs =
     let e = c .before .before .before .before .before .before .before .before .before .before in
     let s = start e in
     let r = e .interior-exact .result in
@@ -79,19 +63,11 @@ store-exact-requires c κs =
     let fy : SFits w64 (r .y) = fits e .1 in
     let fz : SFits w64 (r .z) = fits e .2 in
     let k = line-exact _ _ _ _ _ _ _ _ _ _ _ (s .pre .0) (s .pre .1) (r .x) (r .y) (r .z) (e .interior-exact .ensures) in
-    (s .pre .0 .exact, exact-small (s .args .t) (s .pre .0 .low) _ _ 0 _ (r .x) (r .y) (r .z) (k .0) (k .1))
-
-cast-work : tie.Need-cast-work
-cast-work c = let s = start (exact c) in let a = s .pre .0 .lt in let b = s .pre .0 .below in let k = s .pre .0 .ready .table .sides .few in record { fits = omega arith }
-
-add-work : tie.Need-add-work
-add-work c = let s = start (exact c) in let a = s .pre .0 .lt in let b = s .pre .0 .below in let k = s .pre .0 .ready .table .sides .few in record { fits = omega arith }
-
-mul-work : tie.Need-mul-work
-mul-work c = let s = start (exact c) in let a = s .pre .0 .lt in let b = s .pre .0 .below in let k = s .pre .0 .ready .table .sides .few in record { fits = omega arith }
-
-slice-write-work : tie.Need-slice-write-work
-slice-write-work c = search needs
+    let m = s .pre .0 .ready .table .sides .few in
+    let a = s .pre .0 .below in
+    let b = s .pre .0 .lt in
+    let d = s .pre .0 .entries in
+    ((omega arith, omega arith, omega arith), ((omega arith, s .pre .0 .exact), exact-small (s .args .t) (s .pre .0 .low) _ _ 0 _ (r .x) (r .y) (r .z) (k .0) (k .1)))
 
 add-result : tie.Need-add-result
 add-result c = search needs
@@ -104,17 +80,18 @@ same-length-2 c = search needs
 
 returns : tie.Need-returns
 returns c =
-    let e = exact c in
+    let d = c .before .before in
+    let t = d .before .before .before in
+    let z₃ = t .before .before in
+    let z₂ = z₃ .before .before in
+    let z₁ = z₂ .before .before in
+    let e = z₁ .before .before in
     let s = start e in
     let r = e .interior-exact .result in
     let fx : SFits w64 (r .x) = fits e .0 in
     let fy : SFits w64 (r .y) = fits e .1 in
     let fz : SFits w64 (r .z) = fits e .2 in
     let k = line-exact _ _ _ _ _ _ _ _ _ _ _ (s .pre .0) (s .pre .1) (r .x) (r .y) (r .z) (e .interior-exact .ensures) in
-    let t = c .before .before .before .before .before in
-    let z₃ = t .before .before in
-    let z₂ = z₃ .before .before in
-    let z₁ = z₂ .before .before in
     let f₁ : SFits w32 (z₁ .rounded-plain .result) = search needs in
     let f₂ : SFits w32 (z₂ .rounded-plain2 .result) = search needs in
     let f₃ : SFits w32 (z₃ .rounded-plain3 .result) = search needs in
@@ -123,9 +100,7 @@ returns c =
     (simp toZ-ofZ at (z₁ .rounded-plain .ensures) ∙ rounded-zero (s .args .t) (r .x))
     (simp toZ-ofZ at (z₂ .rounded-plain2 .ensures) ∙ rounded-zero (s .args .t) (r .y))
     (simp toZ-ofZ at (z₃ .rounded-plain3 .ensures) ∙ rounded-zero (s .args .t) (r .z)))
-    (let a : s .args .edges ≡ s .args .edges + 0 = sym (add-zero (s .args .edges)) in
-    ap (λ (x : List ℕ). set x (length (s .args .faces .now) + s .args .h) (s .args .edges)) (c .before .before .store-exact .ensures)
-    ∙ ap (set (putThree (s .args .work .now) (2 * length (s .args .faces .now) + 6 * s .args .edges) (r .x) (r .y) (r .z)) (length (s .args .faces .now) + s .args .h)) a)
+    (d .store-edge .ensures)
 
 pub line-edge-spec : {M : Type 1} → statement M
 line-edge-spec =
@@ -140,14 +115,7 @@ line-edge-spec =
     rounded-plain-requires-3
     add-put-point
     put-point-requires
-    mul-store-exact
-    mul-store-exact-2
-    add-store-exact
-    store-exact-requires
-    cast-work
-    add-work
-    mul-work
-    slice-write-work
+    store-edge-requires
     add-result
     same-length
     same-length-2
