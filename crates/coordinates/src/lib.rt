@@ -2,7 +2,7 @@
 ghost use mathlib.Core.Path.{_≡_};
 ghost use Prim.Native.Nat.{ℕ, _+_, _*_, _^_, _≤_, _<_};
 ghost use lib.IntN.{natAbs};
-ghost use lib.ListN.{length, getD};
+ghost use lib.ListN.{length};
 ghost use Rattle.integers.specs.Within.{Within};
 ghost use Rattle.curve.specs.Weights.{tension};
 ghost use Rattle.rings.specs.Scales.{coordinateRange};

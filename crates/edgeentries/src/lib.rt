@@ -88,7 +88,7 @@ pub fn load_biased(table: &[u32], at: usize) -> i64
 }
 
 // The number at the place `at`.
-pub fn load(table: &[u32], at: usize) -> i64
+fn load(table: &[u32], at: usize) -> i64
     requires { ⌜ (at + 2 ≤ length (now table)) × (getD (now table) (at + 1) 0 < 2 ^ 31) ⌝ }
     ensures { λ r. ⌜ r ≡ packedAt (now (table .entry)) at ⌝ }
 {
@@ -106,7 +106,7 @@ fn store(table: &mut [u32], at: usize, z: i64)
 }
 
 // Writes an exact point from the place `at` on.
-pub fn store_exact(table: &mut [u32], at: usize, e: Exact)
+fn store_exact(table: &mut [u32], at: usize, e: Exact)
     requires { ⌜ at + 6 ≤ length (now table) ⌝ }
     requires { ⌜ (natAbs (e .x) < 2 ^ 55) × (natAbs (e .y) < 2 ^ 55) × (natAbs (e .z) < 2 ^ 55) ⌝ }
     ensures { λ _. ⌜ now (table .exit) ≡ putThree (now (table .entry)) at (e .x) (e .y) (e .z) ⌝ }

@@ -12,36 +12,7 @@ ghost use Rattle.edgetable.specs.EdgeTable.{Turned};
 ghost use Rattle.familyedges.specs.Steps.{Going, Carries, Place, Line, FirstHalf, LastHalf};
 ghost use Rattle.familyedges.specs.PlainFamily.{FamilyTest, PlainFamily, FamilyOf};
 
-// Makes the point of the edge of h, number `edges`, by the vertices o, p, q, r in line.
-fn line_edge(
-    points: &mut [i32],
-    faces: &[u32],
-    marks: &[u8],
-    work: &mut [u32],
-    h: usize,
-    edges: usize,
-    o: usize,
-    p: usize,
-    q: usize,
-    r: usize,
-    t: u32,
-) -> usize
-    requires { ⌜ Place t (now faces) (now marks) (now points) (now work) h edges × Line (now faces) h o p q r ⌝ }
-    ensures { λ k. ⌜ Turned t (now (faces .entry)) (now (marks .entry)) h edges k (now (points .entry)) (now (work .entry)) (now (points .exit)) (now (work .exit)) ⌝ }
-{
-    let n = faces.len();
-    let v = marks.len();
-    let end = 3 * v;
-    let e = coordinates::interior_exact(&points[..end], o, p, q, r, t);
-    let x = edgetable::rounded_plain(e.x);
-    let y = edgetable::rounded_plain(e.y);
-    let z = edgetable::rounded_plain(e.z);
-    coordinates::put_point(&mut *points, v + edges, x, y, z);
-    edgeentries::store_edge(&mut *work, n, h, edges, 0, e);
-    edges + 1
-}
-
-// The edge of h is new: its point by the vertices o, p, q, r in line.
+// The edge of h is new, number `edges`: makes its point by the vertices o, p, q, r in line.
 fn make_edge(
     points: &mut [i32],
     faces: &[u32],
@@ -58,19 +29,16 @@ fn make_edge(
     requires { ⌜ Going t (now faces) (now marks) (now points) (now work) h edges × Line (now faces) h o p q r ⌝ }
     ensures { λ k. ⌜ Carries t (now (faces .entry)) (now (marks .entry)) h edges (h + 1) k (now (points .entry)) (now (work .entry)) (now (points .exit)) (now (work .exit)) ⌝ }
 {
-    line_edge(
-        &mut *points,
-        faces,
-        marks,
-        &mut *work,
-        h,
-        edges,
-        o,
-        p,
-        q,
-        r,
-        t,
-    )
+    let n = faces.len();
+    let v = marks.len();
+    let end = 3 * v;
+    let e = coordinates::interior_exact(&points[..end], o, p, q, r, t);
+    let x = edgetable::rounded_plain(e.x);
+    let y = edgetable::rounded_plain(e.y);
+    let z = edgetable::rounded_plain(e.z);
+    coordinates::put_point(&mut *points, v + edges, x, y, z);
+    edgeentries::store_edge(&mut *work, n, h, edges, 0, e);
+    edges + 1
 }
 
 // The edge of h was met before, at its mate m.
