@@ -8,8 +8,7 @@ ghost use Rattle.topology.specs.Shape.{quads};
 ghost use Rattle.topology.specs.HalfEdge.{mate};
 ghost use Rattle.halfedges.specs.Tables.{Connectivity};
 ghost use Rattle.edgepoints.specs.Edge.{ClassedCorners};
-ghost use Rattle.edgetable.specs.EdgeTable.{Turned};
-ghost use Rattle.familyedges.specs.Steps.{Going, Carries, Place, Line, FirstHalf, LastHalf};
+ghost use Rattle.familyedges.specs.Steps.{Going, Carries, Line, FirstHalf, LastHalf};
 ghost use Rattle.familyedges.specs.PlainFamily.{FamilyTest, PlainFamily, FamilyOf};
 
 // The edge of h is new, number `edges`: makes its point by the vertices o, p, q, r in line.

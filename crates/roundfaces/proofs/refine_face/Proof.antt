@@ -11,6 +11,9 @@ mul-h c = search needs
 mul-at : tie.Need-mul-at
 mul-at c = search needs
 
+cast-first : tie.Need-cast-first
+cast-first c = search needs
+
 add-point : tie.Need-add-point
 add-point c = search needs
 
@@ -117,6 +120,7 @@ refine-face-spec =
     (tie.spec
     mul-h
     mul-at
+    cast-first
     add-point
     add-point-2
     cast-point
