@@ -23,6 +23,14 @@ pub fn entry_at(work: &[u32], n: usize, h: usize) -> usize
     work[n + h] as usize
 }
 
+// The entry of the edge of side i of a face whose side 0 is h. With the sum in this order the compiler reads all sides from one place.
+pub fn side_entry(work: &[u32], n: usize, h: usize, i: usize) -> usize
+    requires { ⌜ n + h + i < length (now work) ⌝ }
+    ensures { λ r. ⌜ (r ≡ entryOf n (now (work .entry)) (h + i)) × (r < 2 ^ 32) ⌝ }
+{
+    work[n + h + i] as usize
+}
+
 // Gives h the entry of m too.
 pub fn copy_entry(work: &mut [u32], n: usize, m: usize, h: usize)
     requires { ⌜ (n + m < length (now work)) × (n + h < length (now work)) ⌝ }

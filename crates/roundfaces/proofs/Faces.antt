@@ -28,7 +28,7 @@ module _ (n v count f : ℕ) (c w : List ℕ) where
   faces-four i b = omega arith
 
   pub corners-written : (p q r s : ℕ) (c₁ c₂ c₃ c₄ : List ℕ) → 16 * f + 16 ≤ length c
-      → p ≡ v + edgeOf (entryOf n w (4 * f)) → q ≡ v + edgeOf (entryOf n w (4 * f + 1)) → r ≡ v + edgeOf (entryOf n w (4 * f + 2)) → s ≡ v + edgeOf (entryOf n w (4 * f + 3))
+      → p ≡ v + edgeOf (entryOf n w (4 * f + 0)) → q ≡ v + edgeOf (entryOf n w (4 * f + 1)) → r ≡ v + edgeOf (entryOf n w (4 * f + 2)) → s ≡ v + edgeOf (entryOf n w (4 * f + 3))
       → c₁ ≡ putFour c (16 * f + 12) (getD c (4 * f + 3) 0) s (v + count + f) r
       → c₂ ≡ putFour c₁ (16 * f + 8) (getD c (4 * f + 2) 0) r (v + count + f) q
       → c₃ ≡ putFour c₂ (16 * f + 4) (getD c (4 * f + 1) 0) q (v + count + f) p
@@ -38,11 +38,12 @@ module _ (n v count f : ℕ) (c w : List ℕ) where
   corners-written p q r s c₁ c₂ c₃ c₄ b ep eq er es p₁ p₂ p₃ p₄ =
       let z : quads .face (4 * f) ≡ f = rw add-zero at (faces-four 0 (omega arith)) in
       let k = four-sides f in
+      let e₀ = rw add-zero at ep in
       written-face number f c c₁ c₂ c₃ c₄ b
       (rw (faces-four 3 (omega arith), k .prev₃, ← es, ← er) p₁)
       (rw (faces-four 2 (omega arith), k .prev₂, ← er, ← eq) p₂)
-      (rw (faces-four 1 (omega arith), k .prev₁, ← eq, ← ep) p₃)
-      (rw (z, k .prev₀, ← ep, ← es) p₄)
+      (rw (faces-four 1 (omega arith), k .prev₁, ← eq, ← e₀) p₃)
+      (rw (z, k .prev₀, ← e₀, ← es) p₄)
 
 -- one face after another, the last first: the corners of those before are still there
 pub corners-then : (n v count a b e : ℕ) (w c c₁ c₂ : List ℕ) → a ≤ b → b ≤ e → Written b e (refinedBy n v count c w) c c₁ → Written a b (refinedBy n v count c₁ w) c₁ c₂ → Written a e (refinedBy n v count c w) c c₂

@@ -6,12 +6,12 @@ ghost use Rattle.tables.specs.Tables.{filled, Written};
 ghost use Rattle.edgeentries.specs.Entry.{entryOf, edgeOf};
 ghost use Rattle.roundfaces.specs.Faces.{refinedBy, FaceIn, extended};
 
-// The vertex on the edge of h, where `first` is that of edge 0.
-fn edge_vertex(work: &[u32], n: usize, first: u32, h: usize) -> u32
-    requires { ⌜ (n + h < length (now work)) × (first + edgeOf (entryOf n (now work) h) < 2 ^ 32) ⌝ }
-    ensures { λ r. ⌜ r ≡ first + edgeOf (entryOf n (now (work .entry)) h) ⌝ }
+// The vertex on the edge of side i of a face whose side 0 is h, where `first` is the vertex of edge 0.
+fn edge_vertex(work: &[u32], n: usize, first: u32, h: usize, i: usize) -> u32
+    requires { ⌜ (n + h + i < length (now work)) × (first + edgeOf (entryOf n (now work) (h + i)) < 2 ^ 32) ⌝ }
+    ensures { λ r. ⌜ r ≡ first + edgeOf (entryOf n (now (work .entry)) (h + i)) ⌝ }
 {
-    first + edgeentries::number_of(edgeentries::entry_at(work, n, h)) as u32
+    first + edgeentries::number_of(edgeentries::side_entry(work, n, h, i)) as u32
 }
 
 // Writes the refined faces of face f, the last first, from the corners a to d of the face and the points p to s of its sides.
@@ -23,10 +23,10 @@ pub fn refine_face(faces: &mut [u32], work: &[u32], n: usize, v: usize, edges: u
     let at = 16 * f;
     let first = v as u32;
     let point = (v + edges + f) as u32;
-    let p = edge_vertex(work, n, first, h);
-    let q = edge_vertex(work, n, first, h + 1);
-    let r = edge_vertex(work, n, first, h + 2);
-    let s = edge_vertex(work, n, first, h + 3);
+    let p = edge_vertex(work, n, first, h, 0);
+    let q = edge_vertex(work, n, first, h, 1);
+    let r = edge_vertex(work, n, first, h, 2);
+    let s = edge_vertex(work, n, first, h, 3);
     let a = faces[h];
     let b = faces[h + 1];
     let c = faces[h + 2];

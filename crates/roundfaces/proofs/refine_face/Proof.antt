@@ -26,20 +26,11 @@ cast-point c = search needs
 edge-vertex-requires : tie.Need-edge-vertex-requires
 edge-vertex-requires c κs = search needs
 
-add-edge-vertex : tie.Need-add-edge-vertex
-add-edge-vertex c = search needs
-
 edge-vertex-requires-2 : tie.Need-edge-vertex-requires-2
 edge-vertex-requires-2 c κs = search needs
 
-add-edge-vertex-2 : tie.Need-add-edge-vertex-2
-add-edge-vertex-2 c = search needs
-
 edge-vertex-requires-3 : tie.Need-edge-vertex-requires-3
 edge-vertex-requires-3 c κs = search needs
-
-add-edge-vertex-3 : tie.Need-add-edge-vertex-3
-add-edge-vertex-3 c = search needs
 
 edge-vertex-requires-4 : tie.Need-edge-vertex-requires-4
 edge-vertex-requires-4 c κs = search needs
@@ -125,11 +116,8 @@ refine-face-spec =
     add-point-2
     cast-point
     edge-vertex-requires
-    add-edge-vertex
     edge-vertex-requires-2
-    add-edge-vertex-2
     edge-vertex-requires-3
-    add-edge-vertex-3
     edge-vertex-requires-4
     mul-a
     slice-read-a
