@@ -1,4 +1,2 @@
 pub mod Points
-pub mod Packed
 pub mod Stencil
-pub mod Entry

@@ -1,14 +1,13 @@
-// Coordinates of vertices in the caller's table of points, and exact points in the work table: each coordinate as two 32-bit numbers, its lower half first.
+// Coordinates of vertices in the caller's table of points, and exact points.
 ghost use mathlib.Core.Path.{_≡_};
 ghost use Prim.Native.Nat.{ℕ, _+_, _*_, _^_, _≤_, _<_};
 ghost use lib.IntN.{natAbs};
-ghost use lib.ListN.{length, getD};
+ghost use lib.ListN.{length};
 ghost use Rattle.integers.specs.Within.{Within};
 ghost use Rattle.curve.specs.Weights.{tension};
 ghost use Rattle.rings.specs.Scales.{coordinateRange};
 ghost use Rattle.nets.specs.Net.{axis};
 ghost use Rattle.coordinates.specs.Points.{InTable, OnAxes, putPoint};
-ghost use Rattle.coordinates.specs.Packed.{biased, biasedAt, packedAt, put, putThree};
 ghost use Rattle.coordinates.specs.Stencil.{FarIn, farValue, stencilValue, interiorValue};
 
 // An exact point: its numerators over one denominator.
@@ -41,61 +40,6 @@ pub fn put_point(table: &mut [i32], i: usize, x: i32, y: i32, z: i32)
     table[3 * i] = x;
     table[3 * i + 1] = y;
     table[3 * i + 2] = z;
-}
-
-// z + 2^56 + 2^31. With this number the compiler makes one store of the two halves.
-fn bias(z: i64) -> u64
-    requires { ⌜ natAbs z < 2 ^ 55 ⌝ }
-    ensures { λ r. ⌜ r ≡ biased z ⌝ }
-{
-    (z + 72057596185411584) as u64
-}
-
-// x in 64 bits.
-fn wide(x: u32) -> u64
-    ensures { λ r. ⌜ (r ≡ x) × (r < 2 ^ 32) ⌝ }
-{
-    x as u64
-}
-
-// The number at the place `at` as it is packed: 2^56 + 2^31 more. The halves are joined where they are read, so that the compiler makes one read of both.
-pub fn load_biased(table: &[u32], at: usize) -> i64
-    requires { ⌜ (at + 2 ≤ length (now table)) × (getD (now table) (at + 1) 0 < 2 ^ 31) ⌝ }
-    ensures { λ r. ⌜ (r ≡ biasedAt (now (table .entry)) at) × (natAbs r < 2 ^ 63) ⌝ }
-{
-    let lo = wide(table[at]);
-    let hi = wide(table[at + 1]);
-    let u = hi * 4294967296 + lo;
-    u as i64
-}
-
-// The number at the place `at`.
-pub fn load(table: &[u32], at: usize) -> i64
-    requires { ⌜ (at + 2 ≤ length (now table)) × (getD (now table) (at + 1) 0 < 2 ^ 31) ⌝ }
-    ensures { λ r. ⌜ r ≡ packedAt (now (table .entry)) at ⌝ }
-{
-    load_biased(table, at) - 72057596185411584
-}
-
-// Writes z at the place `at`.
-fn store(table: &mut [u32], at: usize, z: i64)
-    requires { ⌜ (at + 2 ≤ length (now table)) × (natAbs z < 2 ^ 55) ⌝ }
-    ensures { λ _. ⌜ now (table .exit) ≡ put (now (table .entry)) at z ⌝ }
-{
-    let u = bias(z);
-    table[at] = (u % 4294967296) as u32;
-    table[at + 1] = (u / 4294967296) as u32;
-}
-
-// Writes an exact point from the place `at` on.
-pub fn store_exact(table: &mut [u32], at: usize, e: Exact)
-    requires { ⌜ at + 6 ≤ length (now table) ⌝ }
-    requires { ⌜ (natAbs (e .x) < 2 ^ 55) × (natAbs (e .y) < 2 ^ 55) × (natAbs (e .z) < 2 ^ 55) ⌝ }
-    ensures { λ _. ⌜ now (table .exit) ≡ putThree (now (table .entry)) at (e .x) (e .y) (e .z) ⌝ }
-{
-    store(&mut *table, at, e.x);
-    store(&mut *table, at + 2, e.y);
-    store(&mut *table, at + 4, e.z);
 }
 
 // The four-point rule at tension t on axis a of the vertices o, p, q, r.

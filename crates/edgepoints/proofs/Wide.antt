@@ -35,7 +35,7 @@ use Rattle.classes.specs.Classes.{ordinaryBy}
 use Rattle.coordinates.specs.declared.Far.{Far}
 use Rattle.coordinates.specs.declared.Far.the-variants.{At, Nowhere}
 use Rattle.coordinates.specs.Points.{Points, OnAxes}
-use Rattle.coordinates.specs.Entry.{wideFlag, boundaryFlag, unitOf}
+use Rattle.edgeentries.specs.Entry.{wideFlag, boundaryFlag, unitOf}
 use Rattle.coordinates.specs.Stencil.{farValue, stencilValue}
 use Rattle.coordinates.proofs.Values.{axis-bound}
 use Rattle.edgepoints.specs.Edge.{farBefore, farAfter, farOn, StraightFar, ClassedCorners, Flagged, plain, wide, boundary, ExactEdge, ExactPoint}

@@ -16,7 +16,7 @@ use Rattle.schemelaws.specs.Ordinary.{Ordinary, straight}
 use Rattle.classes.specs.Classes.{ordinaryBy}
 use Rattle.coordinates.specs.declared.Far.{Far}
 use Rattle.coordinates.specs.declared.Far.the-variants.{At, Nowhere}
-use Rattle.coordinates.specs.Entry.{wideFlag, boundaryFlag, unitOf}
+use Rattle.edgeentries.specs.Entry.{wideFlag, boundaryFlag, unitOf}
 use Rattle.coordinates.specs.Stencil.{farValue}
 use Rattle.edgepoints.specs.declared.EdgeRule.{EdgeRule}
 use Rattle.edgepoints.specs.declared.EdgeRule.the-variants.{InsideSegment, StartOfSegment, EndOfSegment, WholeSegment, InnerRule}

@@ -17,16 +17,11 @@ ghost use Rattle.schemelaws.specs.Numerators.{virtualAtZ, edgeValueZ, edgeZ};
 ghost use Rattle.halfedges.specs.Tables.{Quadrilaterals};
 ghost use Rattle.walks.specs.Ready.{Ready};
 ghost use Rattle.coordinates.specs.Points.{InTable, Points, Marks, OnAxes};
-ghost use Rattle.coordinates.specs.Entry.{wideFlag, boundaryFlag};
+ghost use Rattle.edgeentries.specs.Entry.{wideFlag, boundaryFlag};
 ghost use Rattle.coordinates.specs.Stencil.{FarIn, stencilValue};
 ghost use Rattle.edgepoints.specs.Edge.{ruleOf, farBefore, farAfter, farOn, StraightFar, ClassedCorners, ClassedEnds, Flagged, ExactPoint};
 use coordinates::Exact;
 use coordinates::Far;
-
-// Flags beside the numbers of edges.
-const WIDE: u32 = 536870912;
-
-const BOUNDARY: u32 = 1073741824;
 
 // Which rule makes the point on an edge.
 pub enum EdgeRule {
@@ -130,7 +125,7 @@ fn boundary_edge(points: &[i32], faces: &[u32], h: usize, o: Far, r: Far, t: u32
         x: e.x,
         y: e.y,
         z: e.z,
-        flag: BOUNDARY,
+        flag: edgeentries::BOUNDARY,
     }
 }
 
@@ -271,7 +266,7 @@ fn wide_edge(
         x: wide_on(points, p, q, u.x, w.x, 0, t),
         y: wide_on(points, p, q, u.y, w.y, 1, t),
         z: wide_on(points, p, q, u.z, w.z, 2, t),
-        flag: WIDE,
+        flag: edgeentries::WIDE,
     }
 }
 

@@ -9,7 +9,7 @@ use native.Mathlib.Decide.{ℕ-discrete}
 use native.Mathlib.Omega.{arith}
 use borrow.Author.Tests.{lt-ltb, le-ltb}
 use lib.IntN.{ℤ, pos, natAbs, _*ℤ_}
-use lib.ListN.{length, getD, set, take, drop, length-set}
+use lib.ListN.{length, getD, take, drop, length-set}
 use lib.Seq.{getD-set-same, getD-set-other, getD-take, length-take-le}
 use Rattle.lists.specs.Tabulate.{tabulate}
 use Rattle.lists.proofs.Tabulate.{length-tabulate, getD-tabulate}
@@ -38,10 +38,10 @@ use Rattle.walks.specs.Ready.{Ready}
 use Rattle.classes.specs.Classes.{Classes}
 use Rattle.classes.proofs.Classes.{classes-same}
 use Rattle.coordinates.specs.Points.{Points, Marks, putPoint, Written}
-use Rattle.coordinates.specs.Packed.{putThree, Holds}
-use Rattle.coordinates.specs.Entry.{wideFlag, boundaryFlag, entryOf, edgeOf, placeOf, unitOf}
+use Rattle.edgeentries.specs.Packed.{putThree, Holds}
+use Rattle.edgeentries.specs.Entry.{wideFlag, boundaryFlag, entryOf, edgeOf, pointPlace, placeOf, putEdge, copied, unitOf}
 use Rattle.coordinates.proofs.Points.{take-point, written-next}
-use Rattle.coordinates.proofs.Packed.{holds-kept, length-put-three, put-three-other, put-three-first, put-three-second, put-three-third}
+use Rattle.edgeentries.proofs.Packed.{holds-kept, length-put-three, put-three-other, put-three-first, put-three-second, put-three-third}
 use Rattle.edgepoints.specs.Edge.{ClassedCorners, Flagged, plain, wide, boundary, ExactEdge, ExactPoint}
 use Rattle.edgetable.specs.EdgeTable.{roundedBy, Small, oldAxis, refinedAxis, edgeAxis, Round, Turn, Turned, met, passed, Entry, StoredAt, Edges}
 
@@ -57,9 +57,9 @@ module _ (l : List ℕ) (h flag : ℕ) where
   entry-edge e b (wide c o g) = omega arith
   entry-edge e b (boundary c g) = omega arith
 
-  pub entry-place : (n e : ℕ) → e < wideFlag → Flagged l h flag → placeOf n (e + flag) ≡ 2 * n + 6 * e
+  pub entry-place : (n e : ℕ) → e < wideFlag → Flagged l h flag → placeOf n (e + flag) ≡ pointPlace n e
   unfolding placeOf
-  entry-place n e b f = ap (λ (i : ℕ). 2 * n + 6 * i) (entry-edge e b f)
+  entry-place n e b f = ap (pointPlace n) (entry-edge e b f)
 
 -- ---- an entry serves both half-edges of its edge
 flagged-mate : (l : List ℕ) (h flag : ℕ) → mate quads l h < length l → mate quads l (mate quads l h) ≡ h → h < length l → Flagged l (mate quads l h) flag → Flagged l h flag
@@ -219,7 +219,7 @@ module _ (t : ℕ) where
         below : h < mate quads l h → e < edgeCount quads l
         below m = let f = number m in let g = edge-lt quads (length marks) l (ok .net .oriented) h b in omega arith
 
-        exact-room : h < mate quads l h → 2 * length l + 6 * e + 6 ≤ length w
+        exact-room : h < mate quads l h → pointPlace (length l) e + 6 ≤ length w
         exact-room m = let k = below m in let n = done .kept in let r = ok .classes .room in let q = ok .behind in let i = edges-le quads l in omega arith
 
         pub turn-in : Turn t l marks p w at initial h e
@@ -247,7 +247,7 @@ module _ (t : ℕ) where
             }
 
         -- ---- an edge that was met before
-        module _ (m : mate quads l h < h) (w′ : List ℕ) (ew : w′ ≡ set w (length l + h) (getD w (length l + mate quads l h) 0)) where
+        module _ (m : mate quads l h < h) (w′ : List ℕ) (ew : w′ ≡ copied (length l) w (mate quads l h) h) where
           abbrev g : ℕ
           g = mate quads l h
 
@@ -308,9 +308,9 @@ module _ (t : ℕ) where
 
         -- ---- an edge that is met now
         module _ (m : h < mate quads l h) (flag : ℕ) (x y z : ℤ) (f : Flagged l h flag) (exact : ExactPoint (tension t) flag (λ (a : ℕ). edgeZ (tension t) l marks (axis (take (3 * length marks) p) a) h) x y z)
-            (w′ : List ℕ) (ew : w′ ≡ set (putThree w (2 * length l + 6 * e) x y z) (length l + h) (e + flag)) where
+            (w′ : List ℕ) (ew : w′ ≡ putEdge (length l) w h e flag x y z) where
           abbrev i : ℕ
-          i = 2 * length l + 6 * e
+          i = pointPlace (length l) e
 
           few : e < wideFlag
           few = let a = edge-few h b in let q = number m in omega arith
@@ -374,7 +374,7 @@ module _ (t : ℕ) where
           before-met a k j r =
               let o = done .entries k r in
               let u = edge-below quads (length marks) l (ok .net .oriented) k h (omega arith) r in
-              let n : placeOf (length l) (entryOf (length l) w k) ≡ 2 * length l + 6 * edge quads l k = ap (placeOf (length l)) (o .is) ∙ entry-place l k (o .flag) (length l) (edge quads l k) (edge-few k (omega arith)) (o .flagged) in
+              let n : placeOf (length l) (entryOf (length l) w k) ≡ pointPlace (length l) (edge quads l k) = ap (placeOf (length l)) (o .is) ∙ entry-place l k (o .flag) (length l) (edge quads l k) (edge-few k (omega arith)) (o .flagged) in
               stored-kept (length l) w w′ a (entryOf (length l) w k) (edgeAxis (tension t) l marks p₀ a k)
               (far-now (placeOf (length l) (entryOf (length l) w k) + 2 * a) (λ q. omega arith) (inl (omega arith)))
               (far-now (placeOf (length l) (entryOf (length l) w k) + 2 * a + 1) (λ q. omega arith) (inl (omega arith))) (done .stored a k j r)

@@ -25,8 +25,8 @@ use Rattle.schemelaws.specs.Ordinary.{Ordinary}
 use Rattle.schemelaws.proofs.Ties.{across-lt, side₀-lt, side₁-lt}
 use Rattle.schemelaws.proofs.OneDirection.{by-sides}
 use Rattle.schemelaws.proofs.Plain.{directions-equal}
-use Rattle.coordinates.specs.Entry.{wideFlag, boundaryFlag, entryOf, edgeOf, placeOf, unitOf, exactAt, exactOf}
-use Rattle.coordinates.proofs.Packed.{holds-value, holds-high}
+use Rattle.edgeentries.specs.Entry.{wideFlag, boundaryFlag, entryOf, edgeOf, placeOf, unitOf, exactAt, exactOf}
+use Rattle.edgeentries.proofs.Packed.{holds-value, holds-high}
 use Rattle.facepoints.specs.declared.FaceRule.the-variants.{FirstAlone, SecondAlone, BothInner, NeitherInner}
 use Rattle.facepoints.specs.Faces.{beyondOf, farOf, directionOf, innerTwiceOf, fourInnerOf, faceRuleOf, faceValueOf, faceCoordinate, PlainTwice, AllPlain, FaceTable}
 use Rattle.edgepoints.specs.Edge.{Flagged, plain, wide, boundary}

@@ -14,7 +14,7 @@ use Rattle.rounding.proofs.Laws.{round-within, round-scale}
 use Rattle.curve.specs.Weights.{tension}
 use Rattle.rings.proofs.Tension.{edge-scale-at, edge-range-at}
 use Rattle.rings.specs.Scales.{virtualScale, edgeScale, edgeRange}
-use Rattle.coordinates.specs.Entry.{wideFlag, unitOf}
+use Rattle.edgeentries.specs.Entry.{wideFlag, unitOf}
 use Rattle.edgetable.specs.EdgeTable.{roundedBy}
 
 module _ (t : ℕ) where

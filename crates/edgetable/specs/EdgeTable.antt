@@ -3,7 +3,7 @@ use mathlib.Core.Path.{_≡_}
 use mathlib.Core.List.{List}
 use Prim.Native.Nat.{ℕ, _+_, _*_, _≤_, _<_}
 use lib.IntN.{ℤ, pos, natAbs, _*ℤ_}
-use lib.ListN.{length, getD, take, set}
+use lib.ListN.{length, getD, take}
 use Rattle.integers.specs.Within.{Within}
 use Rattle.rounding.specs.Rounding.{round}
 use Rattle.curve.specs.Weights.{Weights, tension}
@@ -19,8 +19,8 @@ use Rattle.halfedges.specs.Tables.{Connectivity}
 use Rattle.walks.specs.Ready.{Ready}
 use Rattle.classes.specs.Classes.{Classes}
 use Rattle.coordinates.specs.Points.{Points, Marks, putPoint, Written}
-use Rattle.coordinates.specs.Packed.{putThree, Holds}
-use Rattle.coordinates.specs.Entry.{wideFlag, entryOf, placeOf, unitOf}
+use Rattle.edgeentries.specs.Packed.{Holds}
+use Rattle.edgeentries.specs.Entry.{wideFlag, entryOf, pointPlace, placeOf, putEdge, copied, unitOf}
 use Rattle.edgepoints.specs.Edge.{Flagged, ExactPoint}
 
 -- a stored numerator of an edge with this flag, rounded
@@ -69,14 +69,14 @@ pub record Turn (t : ℕ) (l marks : List ℕ) (p : List ℤ) (w : List ℕ) (at
   pub entries : 2 * length l ≤ length w
   pub old : 3 * length marks ≤ length p
   pub room : h < mate quads l h → 3 * (length marks + e) + 3 ≤ length p
-  pub exact : h < mate quads l h → 2 * length l + 6 * e + 6 ≤ length w
+  pub exact : h < mate quads l h → pointPlace (length l) e + 6 ≤ length w
 
 -- after it, with r edges met: the point of its edge went, rounded and exact, to the tables, and its entry; or the edge was met before, and has the entry of its mate
 pub data Turned (t : ℕ) (l marks : List ℕ) (h e r : ℕ) (p : List ℤ) (w : List ℕ) (p′ : List ℤ) (w′ : List ℕ) : Type 0 where
   met : (flag : ℕ) (x y z : ℤ) → h < mate quads l h → r ≡ e + 1 → Flagged l h flag → ExactPoint (tension t) flag (λ (a : ℕ). edgeZ (tension t) l marks (axis (take (3 * length marks) p) a) h) x y z
-      → p′ ≡ putPoint p (length marks + e) (roundedBy (tension t) flag x) (roundedBy (tension t) flag y) (roundedBy (tension t) flag z) → w′ ≡ set (putThree w (2 * length l + 6 * e) x y z) (length l + h) (e + flag)
+      → p′ ≡ putPoint p (length marks + e) (roundedBy (tension t) flag x) (roundedBy (tension t) flag y) (roundedBy (tension t) flag z) → w′ ≡ putEdge (length l) w h e flag x y z
       → Turned t l marks h e r p w p′ w′
-  passed : mate quads l h < h → r ≡ e → p′ ≡ p → w′ ≡ set w (length l + h) (getD w (length l + mate quads l h) 0) → Turned t l marks h e r p w p′ w′
+  passed : mate quads l h < h → r ≡ e → p′ ≡ p → w′ ≡ copied (length l) w (mate quads l h) h → Turned t l marks h e r p w p′ w′
 
 -- the entry of the edge of h: its number and its flag
 pub record Entry (l : List ℕ) (h entry : ℕ) : Type 0 where

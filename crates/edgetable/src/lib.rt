@@ -11,8 +11,6 @@ ghost use Rattle.edgetable.specs.EdgeTable.{roundedBy, Small, Turn, Turn
 use coordinates::Exact;
 use edgepoints::Edge;
 
-const WIDE: u32 = 536870912;
-
 // A coordinate over 64, rounded.
 pub fn rounded_plain(z: i64) -> i32
     requires { ⌜ natAbs z ≤ 2 ^ 33 ⌝ }
@@ -42,7 +40,7 @@ fn put_rounded(points: &mut [i32], i: usize, e: Edge, t: u32)
     requires { ⌜ (3 * i + 3 ≤ length (now points)) × Small (tension t) (e .flag) (e .x) (e .y) (e .z) × (t ≤ 4) ⌝ }
     ensures { λ _. ⌜ now (points .exit) ≡ putPoint (now (points .entry)) i (roundedBy (tension t) (e .flag) (e .x)) (roundedBy (tension t) (e .flag) (e .y)) (roundedBy (tension t) (e .flag) (e .z)) ⌝ }
 {
-    if e.flag == WIDE {
+    if e.flag == edgeentries::WIDE {
         let x = rounded_wide(e.x, t);
         let y = rounded_wide(e.y, t);
         let z = rounded_wide(e.z, t);
@@ -74,8 +72,7 @@ pub fn edge_side(
     let v = marks.len();
     let m = halfedges::mate_side(faces, &*work, h);
     if m < h {
-        let entry = work[n + m];
-        work[n + h] = entry;
+        edgeentries::copy_entry(&mut *work, n, m, h);
         return edges;
     }
     let end = 3 * v;
@@ -86,7 +83,6 @@ pub fn edge_side(
         y: e.y,
         z: e.z,
     };
-    coordinates::store_exact(&mut *work, 2 * n + 6 * edges, x);
-    work[n + h] = edges as u32 + e.flag;
+    edgeentries::store_edge(&mut *work, n, h, edges, e.flag, x);
     edges + 1
 }

@@ -24,7 +24,7 @@ use Rattle.rings.proofs.Tension.{edge-range-at, face-scale-at}
 use Rattle.rings.specs.Scales.{edgeRange, faceScale}
 use Rattle.topology.specs.Quads.{across}
 use Rattle.coordinates.specs.Points.{putPoint}
-use Rattle.coordinates.specs.Entry.{boundaryFlag, entryOf, exactOf}
+use Rattle.edgeentries.specs.Entry.{boundaryFlag, entryOf, exactOf}
 use Rattle.facepoints.specs.declared.FaceRule.{FaceRule}
 use Rattle.facepoints.specs.declared.FaceRule.the-variants.{FirstAlone, SecondAlone, BothInner, NeitherInner}
 use Rattle.facepoints.specs.Faces.{FaceTable, beyondOf, farOf, directionOf, innerTwiceOf, fourInnerOf, faceRuleOf, faceValueOf, faceCoordinate}

@@ -23,9 +23,9 @@ use Rattle.rings.proofs.Tension.{edge-range-at}
 use Rattle.rings.specs.Scales.{virtualScale, faceScale}
 use Rattle.topology.specs.Quads.{across}
 use Rattle.coordinates.specs.Points.{putPoint}
-use Rattle.coordinates.specs.Packed.{biasedAt, packedAt}
-use Rattle.coordinates.proofs.Packed.{biased-packed}
-use Rattle.coordinates.specs.Entry.{wideFlag, boundaryFlag, entryOf, placeOf, exactAt, exactOf}
+use Rattle.edgeentries.specs.Packed.{biasedAt, packedAt}
+use Rattle.edgeentries.proofs.Packed.{biased-packed}
+use Rattle.edgeentries.specs.Entry.{wideFlag, boundaryFlag, entryOf, pointPlace, placeOf, exactAt, exactOf}
 use Rattle.facepoints.specs.declared.FaceRule.{FaceRule}
 use Rattle.facepoints.specs.Faces.{FaceTable, PlainTwice, AllPlain, beyondOf, farOf, directionOf, innerTwiceOf, fourInnerOf, faceValueOf, faceCoordinate}
 use Rattle.facepoints.specs.Reading.{PlainAt, PlainEdge, plainDirection, plainCoordinate}
@@ -81,23 +81,21 @@ module _ (t : ℕ) where
   plain-read w p q r s n z e k = let f : scale (tension t) * scale (tension t) ≡ 4096 = ap₂ _*_ (scale-at t) (scale-at t) in cc
 
   -- on the three axes
-  pub put-plain : (n : ℕ) (w : List ℕ) (f p q r s : ℕ) (o o′ : List ℤ) (x y z : ℤ)
-      → x ≡ plainDirection (tension t) w (2 * n + 6 * p) (2 * n + 6 * q) (2 * n + 6 * r) (2 * n + 6 * s)
-      → y ≡ plainDirection (tension t) w (2 * n + 6 * p + 2) (2 * n + 6 * q + 2) (2 * n + 6 * r + 2) (2 * n + 6 * s + 2)
-      → z ≡ plainDirection (tension t) w (2 * n + 6 * p + 4) (2 * n + 6 * q + 4) (2 * n + 6 * r + 4) (2 * n + 6 * s + 4)
+  pub put-plain : (n : ℕ) (w : List ℕ) (f p q r s i j k l : ℕ) (o o′ : List ℤ) (x y z : ℤ) → i ≡ pointPlace n p → j ≡ pointPlace n q → k ≡ pointPlace n r → l ≡ pointPlace n s
+      → x ≡ plainDirection (tension t) w i j k l → y ≡ plainDirection (tension t) w (i + 2) (j + 2) (k + 2) (l + 2) → z ≡ plainDirection (tension t) w (i + 4) (j + 4) (k + 4) (l + 4)
       → o′ ≡ putPoint o f x y z → o′ ≡ putPoint o f (plainCoordinate (tension t) n w 0 p q r s) (plainCoordinate (tension t) n w 1 p q r s) (plainCoordinate (tension t) n w 2 p q r s)
   unfolding plainCoordinate
-  put-plain n w f p q r s o o′ x y z a b c e = let i = add-zero (2 * n + 6 * p) in let j = add-zero (2 * n + 6 * q) in let k = add-zero (2 * n + 6 * r) in let l = add-zero (2 * n + 6 * s) in cc
+  put-plain n w f p q r s i j k l o o′ x y z ei ej ek el a b c e = let ti = add-zero (pointPlace n p) in let tj = add-zero (pointPlace n q) in let tk = add-zero (pointPlace n r) in let tl = add-zero (pointPlace n s) in cc
 
   -- ---- plain edges
   module _ (n : ℕ) (w : List ℕ) where
-    exact-plain : (a h : ℕ) → entryOf n w h < wideFlag → exactOf (tension t) n w a h ≡ pos (virtualScale (tension t)) *ℤ packedAt w (2 * n + 6 * entryOf n w h + 2 * a)
+    exact-plain : (a h : ℕ) → entryOf n w h < wideFlag → exactOf (tension t) n w a h ≡ pos (virtualScale (tension t)) *ℤ packedAt w (pointPlace n (entryOf n w h) + 2 * a)
     unfolding exactOf exactAt placeOf
     exact-plain a h k =
         let e : entryOf n w h % wideFlag ≡ entryOf n w h = omega arith in
-        ap₂ (λ (u i : ℕ). pos u *ℤ packedAt w (2 * n + 6 * i + 2 * a)) (unit-plain t (entryOf n w h) k) e
+        ap₂ (λ (u i : ℕ). pos u *ℤ packedAt w (pointPlace n i + 2 * a)) (unit-plain t (entryOf n w h) k) e
 
-    plain-at : (a h entry : ℕ) → FaceTable t n w → a < 3 → h < n → entry ≡ entryOf n w h → entry < wideFlag → PlainAt w (2 * n + 6 * entry + 2 * a)
+    plain-at : (a h entry : ℕ) → FaceTable t n w → a < 3 → h < n → entry ≡ entryOf n w h → entry < wideFlag → PlainAt w (pointPlace n entry + 2 * a)
     unfolding placeOf
     plain-at a h entry ok on lt i k =
         let b = ok .entries .numbers h lt in
@@ -105,22 +103,22 @@ module _ (t : ℕ) where
         let e : entryOf n w h % wideFlag ≡ entry = omega arith in
         let s = ok .small a h on lt in
         let d = ap natAbs (exact-plain a h (omega arith)) in
-        let m = abs-mul (pos (virtualScale (tension t))) (packedAt w (2 * n + 6 * entryOf n w h + 2 * a)) in
+        let m = abs-mul (pos (virtualScale (tension t))) (packedAt w (pointPlace n (entryOf n w h) + 2 * a)) in
         let c = edge-range-at t in
-        let x = natAbs (packedAt w (2 * n + 6 * entryOf n w h + 2 * a)) in
+        let x = natAbs (packedAt w (pointPlace n (entryOf n w h) + 2 * a)) in
         let f : virtualScale (tension t) * x ≡ (32 + t) * (50400 * x) = mul-assoc (32 + t) 50400 x in
         let j : 0 < 32 + t = omega arith in
         let g : 50400 * x ≤ 5913600 * 67108864 = le-of-mul-le-mul-left {k = 32 + t} (omega arith) j in
         record {
           room = omega arith;
-          high = subst (λ (x : ℕ). getD w (2 * n + 6 * x + 2 * a + 1) 0 < 2 ^ 31) e (ok .entries .high a h on lt);
+          high = subst (λ (x : ℕ). getD w (pointPlace n x + 2 * a + 1) 0 < 2 ^ 31) e (ok .entries .high a h on lt);
           small = rw i (omega arith);
         }
 
     pub plain-edge : (h entry : ℕ) → FaceTable t n w → h < n → entry ≡ entryOf n w h → entry < wideFlag → PlainEdge n w entry
     plain-edge h entry ok lt i k =
         let b = ok .entries .numbers h lt in
-        let e : 2 * n + 6 * entry + 2 * 0 ≡ 2 * n + 6 * entry = omega arith in
+        let e : pointPlace n entry + 2 * 0 ≡ pointPlace n entry = omega arith in
         record {
           few = ok .entries .few;
           number = omega arith;
@@ -144,7 +142,7 @@ module _ (t : ℕ) where
     -- ---- one direction over `scale`
     module _ (a : ℕ) where
       stored : ℕ → ℤ
-      stored h = packedAt w (2 * n + 6 * entryOf n w h + 2 * a)
+      stored h = packedAt w (pointPlace n (entryOf n w h) + 2 * a)
 
       far-plain : (h : ℕ) (x y : ℤ) → PlainTwice n w h → farOf (tension t) n w a h x y ≡ pos (virtualScale (tension t)) *ℤ stored (beyondOf w h)
       unfolding stored

@@ -13,8 +13,8 @@ use Rattle.rings.proofs.Tension.{edge-range-le}
 use Rattle.rings.specs.Scales.{virtualScale, edgeRange}
 use Rattle.topology.specs.Shape.{quads}
 use Rattle.topology.specs.Quads.{across}
-use Rattle.coordinates.specs.Packed.{packedAt}
-use Rattle.coordinates.specs.Entry.{wideFlag, boundaryFlag, entryOf, placeOf, unitOf, exactAt, exactOf}
+use Rattle.edgeentries.specs.Packed.{packedAt}
+use Rattle.edgeentries.specs.Entry.{wideFlag, boundaryFlag, entryOf, placeOf, unitOf, exactAt, exactOf}
 use Rattle.facepoints.specs.Faces.{FaceTable}
 use Rattle.facepoints.specs.Reading.{Readable}
 
@@ -62,8 +62,8 @@ module _ (t : ℕ) where
     pub exact-fits : (a entry : ℕ) → Readable t n w a entry → SFits w64 (exactAt (tension t) n w a entry)
     exact-fits a entry k = let s = k .small in let b = edge-range-le t (k .low) in fits-abs w64 (exactAt (tension t) n w a entry) (omega arith)
 
-    pub exact-read : (a entry : ℕ) (u z : ℤ) → u ≡ pos (unitOf (tension t) entry) → z ≡ packedAt w (2 * n + 6 * (entry % wideFlag) + 2 * a) → u *ℤ z ≡ exactAt (tension t) n w a entry
-    unfolding exactAt placeOf
+    pub exact-read : (a entry : ℕ) (u z : ℤ) → u ≡ pos (unitOf (tension t) entry) → z ≡ packedAt w (placeOf n entry + 2 * a) → u *ℤ z ≡ exactAt (tension t) n w a entry
+    unfolding exactAt
     exact-read a entry u z e k = ap₂ (λ (x y : ℤ). x *ℤ y) e k
 
     -- what was read by the entry of h

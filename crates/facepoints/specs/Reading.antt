@@ -6,8 +6,8 @@ use lib.ListN.{length, getD}
 use Rattle.rounding.specs.Rounding.{round}
 use Rattle.curve.specs.Weights.{Weights, tension, scale, interior}
 use Rattle.rings.specs.Scales.{edgeRange}
-use Rattle.coordinates.specs.Packed.{packedAt}
-use Rattle.coordinates.specs.Entry.{edgeOf, placeOf, exactAt}
+use Rattle.edgeentries.specs.Packed.{packedAt}
+use Rattle.edgeentries.specs.Entry.{edgeOf, pointPlace, placeOf, exactAt}
 
 -- coordinate a of the exact point of an entry can be read
 pub record Readable (t n : ℕ) (w : List ℕ) (a entry : ℕ) : Type 0 where
@@ -29,9 +29,9 @@ pub record PlainAt (w : List ℕ) (i : ℕ) : Type 0 where
 pub record PlainEdge (n : ℕ) (w : List ℕ) (entry : ℕ) : Type 0 where
   pub few : n ≤ 262144
   pub number : entry < n
-  pub on₀ : PlainAt w (2 * n + 6 * entry)
-  pub on₁ : PlainAt w (2 * n + 6 * entry + 2)
-  pub on₂ : PlainAt w (2 * n + 6 * entry + 4)
+  pub on₀ : PlainAt w (pointPlace n entry)
+  pub on₁ : PlainAt w (pointPlace n entry + 2)
+  pub on₂ : PlainAt w (pointPlace n entry + 4)
 
 -- one direction by numbers over `scale` at the places p, q, r, s, rounded
 unfoldable pub plainDirection : Weights → List ℕ → (p q r s : ℕ) → ℤ
@@ -39,4 +39,4 @@ plainDirection weights w p q r s = round (interior weights (packedAt w p) (packe
 
 -- the same on axis a of the edges p, q, r, s
 unfoldable pub plainCoordinate : Weights → (n : ℕ) → List ℕ → (a p q r s : ℕ) → ℤ
-plainCoordinate weights n w a p q r s = plainDirection weights w (2 * n + 6 * p + 2 * a) (2 * n + 6 * q + 2 * a) (2 * n + 6 * r + 2 * a) (2 * n + 6 * s + 2 * a)
+plainCoordinate weights n w a p q r s = plainDirection weights w (pointPlace n p + 2 * a) (pointPlace n q + 2 * a) (pointPlace n r + 2 * a) (pointPlace n s + 2 * a)

@@ -7,15 +7,9 @@ ghost use Rattle.rounding.specs.Rounding.{round};
 ghost use Rattle.curve.specs.Weights.{tension};
 ghost use Rattle.rings.specs.Scales.{faceScale, edgeRange};
 ghost use Rattle.coordinates.specs.Points.{putPoint};
-ghost use Rattle.coordinates.specs.Entry.{entryOf, unitOf, exactAt};
+ghost use Rattle.edgeentries.specs.Entry.{entryOf, unitOf, exactAt};
 ghost use Rattle.facepoints.specs.Faces.{EntryTable, FaceTable, beyondOf, farOf, directionOf, innerTwiceOf, fourInnerOf, faceRuleOf, faceValueOf, faceCoordinate};
 ghost use Rattle.facepoints.specs.Reading.{Readable, PlainAt, PlainEdge, plainDirection, plainCoordinate};
-
-// The entries of plain edges are smaller: inner edges whose points are kept over 64. So is every edge number.
-const WIDE: usize = 536870912;
-
-// The entries of inner edges are smaller.
-const BOUNDARY: usize = 1073741824;
 
 // Which directions of a face have four inner edges.
 pub enum FaceRule {
@@ -23,14 +17,6 @@ pub enum FaceRule {
     SecondAlone,
     BothInner,
     NeitherInner,
-}
-
-// The entry of the edge of h.
-pub fn entry(work: &[u32], n: usize, h: usize) -> usize
-    requires { ⌜ EntryTable n (now work) × (h < n) ⌝ }
-    ensures { λ r. ⌜ (r ≡ entryOf n (now (work .entry)) h) × (r < 2 ^ 32) ⌝ }
-{
-    work[n + h] as usize
 }
 
 // The mate of h, or n for none.
@@ -46,7 +32,7 @@ pub fn beyond(work: &[u32], n: usize, h: usize) -> usize
     requires { ⌜ EntryTable n (now work) × (h < n) × (getD (now work) h 0 < n) ⌝ }
     ensures { λ r. ⌜ (r ≡ entryOf n (now (work .entry)) (beyondOf (now (work .entry)) h)) × (r < 2 ^ 32) ⌝ }
 {
-    entry(work, n, halfedges::across_side(mate(work, n, h)))
+    edgeentries::entry_at(work, n, halfedges::across_side(mate(work, n, h)))
 }
 
 // What makes a stored numerator of the entry e one over `edgeScale`.
@@ -54,13 +40,13 @@ fn unit(e: usize, t: u32) -> i64
     requires { ⌜ t ≤ 4 ⌝ }
     ensures { λ r. ⌜ r ≡ pos (unitOf (tension t) e) ⌝ }
 {
-    if e < WIDE {
+    if edgeentries::is_plain(e) {
         return rings::virtual_scale(t);
     }
-    if e < BOUNDARY {
-        return 1;
+    if edgeentries::is_boundary(e) {
+        return rings::virtual_scale(t);
     }
-    rings::virtual_scale(t)
+    1
 }
 
 // Coordinate a of the exact point of the entry e, over `edgeScale`.
@@ -68,7 +54,7 @@ fn exact_on(work: &[u32], n: usize, e: usize, a: usize, t: u32) -> i64
     requires { ⌜ Readable t n (now work) a e ⌝ }
     ensures { λ r. ⌜ r ≡ exactAt (tension t) n (now (work .entry)) a e ⌝ }
 {
-    let z = coordinates::load(work, 2 * n + 6 * (e % WIDE) + 2 * a);
+    let z = edgeentries::exact_at(work, n, e, a);
     unit(e, t) * z
 }
 
@@ -89,8 +75,8 @@ fn direction_on(work: &[u32], n: usize, h: usize, a: usize, t: u32) -> i64
     ensures { λ r. ⌜ r ≡ directionOf (tension t) n (now (work .entry)) a h ⌝ }
 {
     let g = halfedges::across_side(h);
-    let x = exact_on(work, n, entry(work, n, h), a, t);
-    let y = exact_on(work, n, entry(work, n, g), a, t);
+    let x = exact_on(work, n, edgeentries::entry_at(work, n, h), a, t);
+    let y = exact_on(work, n, edgeentries::entry_at(work, n, g), a, t);
     let u = far_on(work, n, h, x, y, a, t);
     let v = far_on(work, n, g, y, x, a, t);
     curve::four_point(u, x, y, v, t)
@@ -102,7 +88,7 @@ fn inner_twice(work: &[u32], n: usize, h: usize) -> bool
     ensures { λ r. ⌜ r ≡ innerTwiceOf n (now (work .entry)) h ⌝ }
 {
     if mate(work, n, h) < n {
-        return beyond(work, n, h) < BOUNDARY;
+        return !edgeentries::is_boundary(beyond(work, n, h));
     }
     false
 }
@@ -189,10 +175,10 @@ fn plain_on(work: &[u32], p: usize, q: usize, r: usize, s: usize, t: u32) -> i32
     ensures { λ z. ⌜ z ≡ plainDirection (tension t) (now (work .entry)) p q r s ⌝ }
 {
     let z = curve::four_point(
-        coordinates::load_biased(work, p),
-        coordinates::load_biased(work, q),
-        coordinates::load_biased(work, r),
-        coordinates::load_biased(work, s),
+        edgeentries::load_biased(work, p),
+        edgeentries::load_biased(work, q),
+        edgeentries::load_biased(work, r),
+        edgeentries::load_biased(work, s),
         t,
     );
     rounding::round_shift(z - 4611686155866341376, 2048, 12) as i32
@@ -214,24 +200,13 @@ pub fn plain_face(
     requires { ⌜ (3 * f + 3 ≤ length (now out)) × (t ≤ 4) ⌝ }
     ensures { λ _. ⌜ now (out .exit) ≡ putPoint (now (out .entry)) f (plainCoordinate (tension t) n (now (work .entry)) 0 p q r s) (plainCoordinate (tension t) n (now (work .entry)) 1 p q r s) (plainCoordinate (tension t) n (now (work .entry)) 2 p q r s) ⌝ }
 {
-    let b = 2 * n;
-    let x = plain_on(work, b + 6 * p, b + 6 * q, b + 6 * r, b + 6 * s, t);
-    let y = plain_on(
-        work,
-        b + 6 * p + 2,
-        b + 6 * q + 2,
-        b + 6 * r + 2,
-        b + 6 * s + 2,
-        t,
-    );
-    let z = plain_on(
-        work,
-        b + 6 * p + 4,
-        b + 6 * q + 4,
-        b + 6 * r + 4,
-        b + 6 * s + 4,
-        t,
-    );
+    let o = edgeentries::point_place(n, p);
+    let u = edgeentries::point_place(n, q);
+    let v = edgeentries::point_place(n, r);
+    let w = edgeentries::point_place(n, s);
+    let x = plain_on(work, o, u, v, w, t);
+    let y = plain_on(work, o + 2, u + 2, v + 2, w + 2, t);
+    let z = plain_on(work, o + 4, u + 4, v + 4, w + 4, t);
     coordinates::put_point(&mut *out, f, x, y, z);
 }
 
@@ -241,16 +216,16 @@ pub fn put_face(out: &mut [i32], work: &[u32], n: usize, f: usize, t: u32)
     ensures { λ _. ⌜ now (out .exit) ≡ putPoint (now (out .entry)) f (faceCoordinate (tension t) n (now (work .entry)) 0 f) (faceCoordinate (tension t) n (now (work .entry)) 1 f) (faceCoordinate (tension t) n (now (work .entry)) 2 f) ⌝ }
 {
     let h = 4 * f;
-    let p = entry(work, n, h);
-    let q = entry(work, n, h + 1);
-    let r = entry(work, n, h + 2);
-    let s = entry(work, n, h + 3);
-    if p + q + r + s < WIDE {
+    let p = edgeentries::entry_at(work, n, h);
+    let q = edgeentries::entry_at(work, n, h + 1);
+    let r = edgeentries::entry_at(work, n, h + 2);
+    let s = edgeentries::entry_at(work, n, h + 3);
+    if edgeentries::is_plain(p + q + r + s) {
         let o = beyond(work, n, h);
         let u = beyond(work, n, h + 1);
         let v = beyond(work, n, h + 2);
         let w = beyond(work, n, h + 3);
-        if o + u + v + w < WIDE {
+        if edgeentries::is_plain(o + u + v + w) {
             plain_face(&mut *out, work, n, o, p, r, v, f, t);
             return;
         }

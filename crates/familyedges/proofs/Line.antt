@@ -10,7 +10,7 @@ use Rattle.nets.specs.Net.{axis}
 use Rattle.schemelaws.specs.Numerators.{edgeZ}
 use Rattle.coordinates.specs.Points.{InTable, OnAxes}
 use Rattle.coordinates.specs.Stencil.{interiorValue}
-use Rattle.coordinates.specs.Entry.{unitOf}
+use Rattle.edgeentries.specs.Entry.{unitOf}
 use Rattle.edgepoints.specs.Edge.{Flagged, ExactPoint}
 use Rattle.edgepoints.proofs.Plain.{on-axes-as, corner-room}
 use Rattle.edgepoints.proofs.Wide.{plain-point, inner-point}

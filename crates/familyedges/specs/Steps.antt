@@ -14,6 +14,7 @@ use Rattle.schemelaws.specs.Ordinary.{OrdinaryEnds, ordinaryValue}
 use Rattle.walks.specs.Ready.{Ready}
 use Rattle.coordinates.specs.Points.{Points}
 use Rattle.coordinates.specs.Stencil.{interiorValue}
+use Rattle.edgeentries.specs.Entry.{pointPlace}
 use Rattle.edgepoints.specs.Edge.{CornerOf}
 use Rattle.edgetable.specs.EdgeTable.{Round, Edges}
 
@@ -44,7 +45,7 @@ pub record Place (t : ℕ) (l marks : List ℕ) (p : List ℤ) (w : List ℕ) (h
   pub entries : 2 * length l ≤ length w
   pub old : 3 * length marks ≤ length p
   pub room : 3 * (length marks + e) + 3 ≤ length p
-  pub exact : 2 * length l + 6 * e + 6 ≤ length w
+  pub exact : pointPlace (length l) e + 6 ≤ length w
 
 -- the edge of h is new and lies between ordinary vertices, on the line of the vertices o, p, q, r
 pub record Line (l : List ℕ) (h o p q r : ℕ) : Type 0 where

@@ -8,12 +8,11 @@ ghost use Rattle.topology.specs.Shape.{quads};
 ghost use Rattle.topology.specs.HalfEdge.{mate};
 ghost use Rattle.halfedges.specs.Tables.{Connectivity};
 ghost use Rattle.edgepoints.specs.Edge.{ClassedCorners};
-ghost use Rattle.edgetable.specs.EdgeTable.{Turned};
-ghost use Rattle.familyedges.specs.Steps.{Going, Carries, Place, Line, FirstHalf, LastHalf};
+ghost use Rattle.familyedges.specs.Steps.{Going, Carries, Line, FirstHalf, LastHalf};
 ghost use Rattle.familyedges.specs.PlainFamily.{FamilyTest, PlainFamily, FamilyOf};
 
-// Makes the point of the edge of h, number `edges`, by the vertices o, p, q, r in line.
-fn line_edge(
+// The edge of h is new, number `edges`: makes its point by the vertices o, p, q, r in line.
+fn make_edge(
     points: &mut [i32],
     faces: &[u32],
     marks: &[u8],
@@ -26,8 +25,8 @@ fn line_edge(
     r: usize,
     t: u32,
 ) -> usize
-    requires { ⌜ Place t (now faces) (now marks) (now points) (now work) h edges × Line (now faces) h o p q r ⌝ }
-    ensures { λ k. ⌜ Turned t (now (faces .entry)) (now (marks .entry)) h edges k (now (points .entry)) (now (work .entry)) (now (points .exit)) (now (work .exit)) ⌝ }
+    requires { ⌜ Going t (now faces) (now marks) (now points) (now work) h edges × Line (now faces) h o p q r ⌝ }
+    ensures { λ k. ⌜ Carries t (now (faces .entry)) (now (marks .entry)) h edges (h + 1) k (now (points .entry)) (now (work .entry)) (now (points .exit)) (now (work .exit)) ⌝ }
 {
     let n = faces.len();
     let v = marks.len();
@@ -37,9 +36,27 @@ fn line_edge(
     let y = edgetable::rounded_plain(e.y);
     let z = edgetable::rounded_plain(e.z);
     coordinates::put_point(&mut *points, v + edges, x, y, z);
-    coordinates::store_exact(&mut *work, 2 * n + 6 * edges, e);
-    work[n + h] = edges as u32;
+    edgeentries::store_edge(&mut *work, n, h, edges, 0, e);
     edges + 1
+}
+
+// The edge of h was met before, at its mate m.
+fn pass_edge(
+    points: &mut [i32],
+    faces: &[u32],
+    marks: &[u8],
+    work: &mut [u32],
+    h: usize,
+    edges: usize,
+    m: usize,
+    t: u32,
+) -> usize
+    requires { ⌜ Going t (now faces) (now marks) (now points) (now work) h edges × (m ≡ mate quads (now faces) h) × (m < h) × (h < length (now faces)) ⌝ }
+    ensures { λ k. ⌜ Carries t (now (faces .entry)) (now (marks .entry)) h edges (h + 1) k (now (points .entry)) (now (work .entry)) (now (points .exit)) (now (work .exit)) ⌝ }
+{
+    let n = faces.len();
+    edgeentries::copy_entry(&mut *work, n, m, h);
+    edges
 }
 
 // The first half of a side of a plain family from f on, from c to e, where the side goes on to d.
@@ -59,16 +76,13 @@ fn first_half(
     requires { ⌜ Going t (now faces) (now marks) (now points) (now work) h edges × FirstHalf (now faces) f h c e d ⌝ }
     ensures { λ r. ⌜ Carries t (now (faces .entry)) (now (marks .entry)) h edges (h + 1) r (now (points .entry)) (now (work .entry)) (now (points .exit)) (now (work .exit)) ⌝ }
 {
-    let n = faces.len();
     let m = halfedges::mate_side(faces, &*work, h);
     if m < f {
-        let entry = work[n + m];
-        work[n + h] = entry;
-        return edges;
+        return pass_edge(&mut *points, faces, marks, &mut *work, h, edges, m, t);
     }
     let y = halfedges::mate_side(faces, &*work, h + 3);
     let o = halfedges::start_of(faces, y + 3);
-    line_edge(
+    make_edge(
         &mut *points,
         faces,
         marks,
@@ -100,16 +114,13 @@ fn last_half(
     requires { ⌜ Going t (now faces) (now marks) (now points) (now work) h edges × LastHalf (now faces) f h c e d ⌝ }
     ensures { λ r. ⌜ Carries t (now (faces .entry)) (now (marks .entry)) h edges (h + 1) r (now (points .entry)) (now (work .entry)) (now (points .exit)) (now (work .exit)) ⌝ }
 {
-    let n = faces.len();
     let m = halfedges::mate_side(faces, &*work, h);
     if m < f {
-        let entry = work[n + m];
-        work[n + h] = entry;
-        return edges;
+        return pass_edge(&mut *points, faces, marks, &mut *work, h, edges, m, t);
     }
     let x = halfedges::mate_side(faces, &*work, h - 3);
     let r = halfedges::start_of(faces, x - 2);
-    line_edge(
+    make_edge(
         &mut *points,
         faces,
         marks,
@@ -122,58 +133,6 @@ fn last_half(
         r,
         t,
     )
-}
-
-// The edge of h is new: its point by the vertices o, p, q, r in line.
-fn make_edge(
-    points: &mut [i32],
-    faces: &[u32],
-    marks: &[u8],
-    work: &mut [u32],
-    h: usize,
-    edges: usize,
-    o: usize,
-    p: usize,
-    q: usize,
-    r: usize,
-    t: u32,
-) -> usize
-    requires { ⌜ Going t (now faces) (now marks) (now points) (now work) h edges × Line (now faces) h o p q r ⌝ }
-    ensures { λ k. ⌜ Carries t (now (faces .entry)) (now (marks .entry)) h edges (h + 1) k (now (points .entry)) (now (work .entry)) (now (points .exit)) (now (work .exit)) ⌝ }
-{
-    line_edge(
-        &mut *points,
-        faces,
-        marks,
-        &mut *work,
-        h,
-        edges,
-        o,
-        p,
-        q,
-        r,
-        t,
-    )
-}
-
-// The edge of h was met before, at its mate m.
-fn pass_edge(
-    points: &mut [i32],
-    faces: &[u32],
-    marks: &[u8],
-    work: &mut [u32],
-    h: usize,
-    edges: usize,
-    m: usize,
-    t: u32,
-) -> usize
-    requires { ⌜ Going t (now faces) (now marks) (now points) (now work) h edges × (m ≡ mate quads (now faces) h) × (m < h) × (h < length (now faces)) ⌝ }
-    ensures { λ k. ⌜ Carries t (now (faces .entry)) (now (marks .entry)) h edges (h + 1) k (now (points .entry)) (now (work .entry)) (now (points .exit)) (now (work .exit)) ⌝ }
-{
-    let n = faces.len();
-    let entry = work[n + m];
-    work[n + h] = entry;
-    edges
 }
 
 // The edges of a plain family: sixteen steps from h on, by the vertices that were read.

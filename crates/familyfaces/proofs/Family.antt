@@ -7,7 +7,7 @@ use native.Mathlib.Omega.{arith}
 use lib.ListN.{length, getD, take}
 use Rattle.topology.specs.Shape.{quads}
 use Rattle.topology.specs.Quads.{across}
-use Rattle.coordinates.specs.Entry.{wideFlag, entryOf}
+use Rattle.edgeentries.specs.Entry.{wideFlag, entryOf}
 use Rattle.refinedfaces.specs.Refined.{corner}
 use Rattle.tables.specs.Tables.{Written}
 use Rattle.tables.proofs.Written.{Refining, refining-to}

@@ -6,7 +6,7 @@ use lib.IntN.{ℤ}
 use lib.ListN.{getD}
 use Rattle.topology.specs.Shape.{quads}
 use Rattle.refinedfaces.specs.Families.{Facing}
-use Rattle.coordinates.specs.Entry.{wideFlag, entryOf}
+use Rattle.edgeentries.specs.Entry.{wideFlag, entryOf}
 use Rattle.coordinates.specs.Points.{putPoint}
 use Rattle.facepoints.specs.Faces.{AllPlain, beyondOf}
 

@@ -11,9 +11,6 @@ ghost use Rattle.roundfaces.specs.Faces.{refinedBy, FaceIn};
 ghost use Rattle.facepoints.specs.Faces.{EntryTable, FaceTable, faceCoordinate};
 ghost use Rattle.familyfaces.specs.Family.{FamilyTable, PlainSides, PlainFace, putFamily};
 
-// The entries of plain edges are smaller.
-const WIDE: usize = 536870912;
-
 // Writes the point of face f, whose eight edges are plain, by the edges of its sides 0 and 2 and that beyond side 2.
 fn family_face(
     out: &mut [i32],
@@ -79,18 +76,18 @@ pub fn refine_family(
     ensures { λ _. ⌜ Written (16 * f) (16 * f + 64) (refinedBy n v edges (now (faces .entry)) (now (work .entry))) (now (faces .entry)) (now (faces .exit)) ⌝ }
 {
     let h = 4 * f;
-    let a0 = facepoints::entry(work, n, h);
-    let s0 = facepoints::entry(work, n, h + 1);
-    let b3 = facepoints::entry(work, n, h + 3);
-    let a1 = facepoints::entry(work, n, h + 4);
-    let s1 = facepoints::entry(work, n, h + 5);
-    let b0 = facepoints::entry(work, n, h + 7);
-    let a2 = facepoints::entry(work, n, h + 8);
-    let s2 = facepoints::entry(work, n, h + 9);
-    let b1 = facepoints::entry(work, n, h + 11);
-    let a3 = facepoints::entry(work, n, h + 12);
-    let s3 = facepoints::entry(work, n, h + 13);
-    let b2 = facepoints::entry(work, n, h + 15);
+    let a0 = edgeentries::entry_at(work, n, h);
+    let s0 = edgeentries::entry_at(work, n, h + 1);
+    let b3 = edgeentries::entry_at(work, n, h + 3);
+    let a1 = edgeentries::entry_at(work, n, h + 4);
+    let s1 = edgeentries::entry_at(work, n, h + 5);
+    let b0 = edgeentries::entry_at(work, n, h + 7);
+    let a2 = edgeentries::entry_at(work, n, h + 8);
+    let s2 = edgeentries::entry_at(work, n, h + 9);
+    let b1 = edgeentries::entry_at(work, n, h + 11);
+    let a3 = edgeentries::entry_at(work, n, h + 12);
+    let s3 = edgeentries::entry_at(work, n, h + 13);
+    let b2 = edgeentries::entry_at(work, n, h + 15);
     family_points(
         &mut *out,
         work,
@@ -122,13 +119,13 @@ pub fn plain_family(work: &[u32], n: usize, f: usize) -> bool
     ensures { λ r. ⌜ (r ≡ true → PlainSides n (now (work .entry)) (f / 4)) ⌝ }
 {
     let h = 4 * f;
-    let s = facepoints::entry(work, n, h)
-        + facepoints::entry(work, n, h + 3)
-        + facepoints::entry(work, n, h + 4)
-        + facepoints::entry(work, n, h + 7);
-    let u = facepoints::entry(work, n, h + 8)
-        + facepoints::entry(work, n, h + 11)
-        + facepoints::entry(work, n, h + 12)
-        + facepoints::entry(work, n, h + 15);
-    s + u < WIDE
+    let s = edgeentries::entry_at(work, n, h)
+        + edgeentries::entry_at(work, n, h + 3)
+        + edgeentries::entry_at(work, n, h + 4)
+        + edgeentries::entry_at(work, n, h + 7);
+    let u = edgeentries::entry_at(work, n, h + 8)
+        + edgeentries::entry_at(work, n, h + 11)
+        + edgeentries::entry_at(work, n, h + 12)
+        + edgeentries::entry_at(work, n, h + 15);
+    edgeentries::is_plain(s + u)
 }

@@ -2,7 +2,7 @@
 use mathlib.Core.Path.{_≡_, refl, sym, ap, _∙_, subst}
 use mathlib.Core.Bool.{true}
 use mathlib.Core.List.{List}
-use Prim.Native.Nat.{ℕ, _+_, _-_, _*_, _%_, _≤_, _<_}
+use Prim.Native.Nat.{ℕ, _+_, _-_, _*_, _≤_, _<_}
 use native.Mathlib.Decide.{decLt, ℕ-discrete}
 use native.Mathlib.Omega.{arith}
 use borrow.Author.Tests.{lt-ltb}
@@ -17,27 +17,24 @@ use Rattle.topology.proofs.Mates.{mate-le, mate-back, edge-lt, edge-onto}
 use Rattle.refinedfaces.specs.Refined.{refinedVertices}
 use Rattle.tables.specs.Tables.{Written}
 use Rattle.scheme.specs.Points.{edgeRule, fourInner}
-use Rattle.coordinates.specs.Entry.{wideFlag, boundaryFlag, entryOf}
+use Rattle.edgeentries.specs.Entry.{boundaryFlag, entryOf, edgeOf}
 use Rattle.origins.specs.Origins.{madeBy, letterOf, edgeCase}
 use Rattle.letters.specs.Letters.{newLetter, faceLetter, Touches, onEdge, inFace, inFarFace, PutRight, Nameable}
 use Rattle.letters.proofs.Letters.{four-by, face-by, across-face, across-lt, across-twice, face-named, boundary-named, inner-named}
 
 -- ---- the entry of a half-edge
 module _ (l marks w s : List ℕ) (ok : Nameable l marks w s) (h : ℕ) (k : h < length l) where
-  pub off-boundary : getD w (length l + h) 0 < boundaryFlag → OnBoundary quads l h → ⊥
-  unfolding entryOf
+  pub off-boundary : entryOf (length l) w h < boundaryFlag → OnBoundary quads l h → ⊥
   off-boundary b o = let c = ok .boundary h k (o .none) in omega arith
 
-  pub on-boundary : boundaryFlag ≤ getD w (length l + h) 0 → OnBoundary quads l h
-  unfolding entryOf
+  pub on-boundary : boundaryFlag ≤ entryOf (length l) w h → OnBoundary quads l h
   on-boundary b = record { lt = k; none = go (decLt (mate quads l h) (length l)) }
     where
       go : Dec (mate quads l h < length l) → mate quads l h ≡ length l
       go (yes m) = let c = ok .inner h k m in let z : ⊥ = omega arith in absurd z
       go (no m) = omega (arith, mate-le quads l h)
 
-  pub edge-place : length marks + getD w (length l + h) 0 % wideFlag ≡ length marks + edge quads l h
-  unfolding entryOf
+  pub edge-place : length marks + edgeOf (entryOf (length l) w h) ≡ length marks + edge quads l h
   edge-place = ap (λ (e : ℕ). length marks + e) (ok .numbered h k)
 
 -- ---- tables put right

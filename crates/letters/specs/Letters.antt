@@ -13,7 +13,7 @@ use Rattle.topology.specs.Manifold.{Oriented}
 use Rattle.refinedfaces.specs.Refined.{refinedVertices}
 use Rattle.scheme.specs.Points.{faceRule}
 use Rattle.halfedges.specs.Tables.{Connectivity}
-use Rattle.coordinates.specs.Entry.{boundaryFlag, entryOf, edgeOf}
+use Rattle.edgeentries.specs.Entry.{boundaryFlag, entryOf, edgeOf}
 use Rattle.origins.specs.Origins.{madeBy, letterOf, faceCase, newRule, startOrigin}
 
 -- the letter of vertex i where refining begins: "V drawn", "S made by P1's split"

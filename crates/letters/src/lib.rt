@@ -2,21 +2,17 @@
 ghost use mathlib.Core.Path.{_≡_};
 ghost use mathlib.Core.Bool.{true};
 ghost use Prim.Native.Nat.{ℕ, _+_, _≤_, _<_};
-ghost use lib.ListN.{length, getD, set};
+ghost use lib.ListN.{length, set};
 ghost use Rattle.tables.specs.Tables.{Written};
 ghost use Rattle.topology.specs.Shape.{quads};
 ghost use Rattle.topology.specs.HalfEdge.{from, to, mate, edgeCount};
 ghost use Rattle.refinedfaces.specs.Refined.{refinedVertices};
 ghost use Rattle.scheme.specs.Points.{edgeRule, fourInner};
 ghost use Rattle.halfedges.specs.Tables.{Quadrilaterals, Connectivity};
-ghost use Rattle.coordinates.specs.Entry.{boundaryFlag};
+ghost use Rattle.edgeentries.specs.Entry.{boundaryFlag, entryOf};
 ghost use Rattle.origins.specs.Origins.{madeBy, letterOf, edgeCase};
 ghost use Rattle.letters.specs.Letters.{startLetter, newLetter, faceLetter, PutRight, Nameable, WrittenIf};
 use edgepoints::EdgeRule;
-
-const WIDE: usize = 536870912;
-
-const BOUNDARY: u32 = 1073741824;
 
 // Writes one letter from the place `first` up to `end`.
 fn fill(letters: &mut [u8], first: usize, end: usize, letter: u8)
@@ -106,11 +102,11 @@ fn name_side(letters: &mut [u8], faces: &[u32], marks: &[u8], work: &[u32], firs
     ensures { λ _. ⌜ PutRight (now (faces .entry)) (now (marks .entry)) h (h + 1) (now (letters .entry)) (now (letters .exit)) ⌝ }
 {
     let n = faces.len();
-    let entry = work[n + h];
-    if entry < BOUNDARY {
+    let entry = edgeentries::entry_at(work, n, h);
+    if !edgeentries::is_boundary(entry) {
         return;
     }
-    let place = marks.len() + entry as usize % WIDE;
+    let place = marks.len() + edgeentries::number_of(entry);
     letters[place] = edge_letter(faces, marks, h, n);
     name_face(&mut *letters, faces, work, first, halfedges::face_of(h));
     let g = halfedges::mate_side(faces, work, halfedges::across_side(h));
@@ -119,21 +115,21 @@ fn name_side(letters: &mut [u8], faces: &[u32], marks: &[u8], work: &[u32], firs
     }
 }
 
-// Whether the four entries from the place i on are those of inner edges.
-fn inner_sides(work: &[u32], i: usize) -> bool
-    requires { ⌜ i + 4 ≤ length (now work) ⌝ }
-    ensures { λ r. ⌜ (r ≡ true → (k : ℕ) → i ≤ k → k < i + 4 → getD (now (work .entry)) k 0 < boundaryFlag) ⌝ }
+// Whether the edges of the four half-edges from h on are inner edges.
+fn inner_sides(work: &[u32], n: usize, h: usize) -> bool
+    requires { ⌜ n + h + 4 ≤ length (now work) ⌝ }
+    ensures { λ r. ⌜ (r ≡ true → (k : ℕ) → h ≤ k → k < h + 4 → entryOf n (now (work .entry)) k < boundaryFlag) ⌝ }
 {
-    if BOUNDARY <= work[i] {
+    if edgeentries::is_boundary(edgeentries::entry_at(work, n, h)) {
         return false;
     }
-    if BOUNDARY <= work[i + 1] {
+    if edgeentries::is_boundary(edgeentries::entry_at(work, n, h + 1)) {
         return false;
     }
-    if BOUNDARY <= work[i + 2] {
+    if edgeentries::is_boundary(edgeentries::entry_at(work, n, h + 2)) {
         return false;
     }
-    work[i + 3] < BOUNDARY
+    !edgeentries::is_boundary(edgeentries::entry_at(work, n, h + 3))
 }
 
 // Puts right what the four sides from h on touch; most faces have none on the boundary.
@@ -142,7 +138,7 @@ fn name_sides(letters: &mut [u8], faces: &[u32], marks: &[u8], work: &[u32], fir
     requires { ⌜ (first ≡ length (now marks) + edgeCount quads (now faces)) × (h + 4 ≤ length (now faces)) ⌝ }
     ensures { λ _. ⌜ PutRight (now (faces .entry)) (now (marks .entry)) h (h + 4) (now (letters .entry)) (now (letters .exit)) ⌝ }
 {
-    if inner_sides(work, faces.len() + h) {
+    if inner_sides(work, faces.len(), h) {
         return;
     }
     name_side(&mut *letters, faces, marks, work, first, h);

@@ -15,7 +15,7 @@ use Rattle.refinedfaces.specs.Families.{AfterRound, Facing}
 use Rattle.refinedfaces.proofs.Families.{later-facing, later-length}
 use Rattle.schemelaws.specs.Ordinary.{OrdinaryEnds}
 use Rattle.schemelaws.proofs.Families.{spoke-plain, spoke-back}
-use Rattle.coordinates.specs.Entry.{entryOf}
+use Rattle.edgeentries.specs.Entry.{entryOf}
 use Rattle.familyfaces.specs.Family.{FamilyTable}
 use Rattle.edgepoints.specs.Edge.{Flagged, plain, wide, boundary}
 use Rattle.edgetable.specs.EdgeTable.{Round, Entry, Edges}

@@ -2,7 +2,7 @@
 use mathlib.Core.Path.{_≡_, refl, sym, ap, _∙_}
 use mathlib.Core.List.{List}
 use Prim.Native.Nat.{ℕ, _+_, _-_, _*_, _/_, _%_, _≤_, _<_}
-use native.Mathlib.Nat.{add-assoc, add-zero}
+use native.Mathlib.Nat.{add-zero}
 use native.Mathlib.Omega.{arith}
 use lib.ListN.{length, getD, take}
 use lib.Seq.{length-take-le, getD-take}
@@ -11,7 +11,7 @@ use Rattle.topology.specs.Shape.{Shape, quads}
 use Rattle.topology.specs.HalfEdge.{from, edgeCount, edge}
 use Rattle.topology.proofs.Shape.{four-sides}
 use Rattle.topology.proofs.Mates.{edges-le}
-use Rattle.coordinates.specs.Entry.{entryOf, edgeOf}
+use Rattle.edgeentries.specs.Entry.{entryOf, edgeOf}
 use Rattle.refinedfaces.specs.Refined.{corner, refined}
 use Rattle.tables.specs.Tables.{filled, putFour, Written}
 use Rattle.roundfaces.specs.Faces.{cornerBy, refinedBy, FaceIn, FacesIn}
@@ -27,29 +27,23 @@ module _ (n v count f : ℕ) (c w : List ℕ) where
   unfolding quads
   faces-four i b = omega arith
 
-  side : (i : ℕ) → edgeOf (getD w (n + 4 * f + i) 0) ≡ edgeOf (entryOf n w (4 * f + i))
-  unfolding entryOf
-  side i = ap (λ (k : ℕ). edgeOf (getD w k 0)) (add-assoc n (4 * f) i)
-
-  pub corners-written : (c₁ c₂ c₃ c₄ : List ℕ) → 16 * f + 16 ≤ length c
-      → c₁ ≡ putFour c (16 * f + 12) (getD c (4 * f + 3) 0) (v + edgeOf (getD w (n + 4 * f + 3) 0)) (v + count + f) (v + edgeOf (getD w (n + 4 * f + 2) 0))
-      → c₂ ≡ putFour c₁ (16 * f + 8) (getD c (4 * f + 2) 0) (v + edgeOf (getD w (n + 4 * f + 2) 0)) (v + count + f) (v + edgeOf (getD w (n + 4 * f + 1) 0))
-      → c₃ ≡ putFour c₂ (16 * f + 4) (getD c (4 * f + 1) 0) (v + edgeOf (getD w (n + 4 * f + 1) 0)) (v + count + f) (v + edgeOf (getD w (n + 4 * f) 0))
-      → c₄ ≡ putFour c₃ (16 * f) (getD c (4 * f) 0) (v + edgeOf (getD w (n + 4 * f) 0)) (v + count + f) (v + edgeOf (getD w (n + 4 * f + 3) 0))
+  pub corners-written : (p q r s : ℕ) (c₁ c₂ c₃ c₄ : List ℕ) → 16 * f + 16 ≤ length c
+      → p ≡ v + edgeOf (entryOf n w (4 * f + 0)) → q ≡ v + edgeOf (entryOf n w (4 * f + 1)) → r ≡ v + edgeOf (entryOf n w (4 * f + 2)) → s ≡ v + edgeOf (entryOf n w (4 * f + 3))
+      → c₁ ≡ putFour c (16 * f + 12) (getD c (4 * f + 3) 0) s (v + count + f) r
+      → c₂ ≡ putFour c₁ (16 * f + 8) (getD c (4 * f + 2) 0) r (v + count + f) q
+      → c₃ ≡ putFour c₂ (16 * f + 4) (getD c (4 * f + 1) 0) q (v + count + f) p
+      → c₄ ≡ putFour c₃ (16 * f) (getD c (4 * f) 0) p (v + count + f) s
       → Written (16 * f) (16 * f + 16) (refinedBy n v count c w) c c₄
-  unfolding cornerBy number entryOf
-  corners-written c₁ c₂ c₃ c₄ b p₁ p₂ p₃ p₄ =
+  unfolding cornerBy number
+  corners-written p q r s c₁ c₂ c₃ c₄ b ep eq er es p₁ p₂ p₃ p₄ =
       let z : quads .face (4 * f) ≡ f = rw add-zero at (faces-four 0 (omega arith)) in
-      let s = four-sides f in
+      let k = four-sides f in
+      let e₀ = rw add-zero at ep in
       written-face number f c c₁ c₂ c₃ c₄ b
-      (rw (faces-four 3 (omega arith), s .prev₃, ← side 3, ← side 2) p₁)
-      (rw (faces-four 2 (omega arith), s .prev₂, ← side 2, ← side 1) p₂)
-      (rw (faces-four 1 (omega arith), s .prev₁, ← side 1) p₃)
-      (rw (z, s .prev₀, ← side 3) p₄)
-
--- an edge number is small
-pub side-le : (n v count f : ℕ) (c w : List ℕ) (i : ℕ) → i < 4 → FaceIn n v count f c w → edgeOf (getD w (n + 4 * f + i) 0) ≤ n
-side-le n v count f c w i b ok = let e = side n v count f c w i in let r = ok .lt in rw e (ok .below (4 * f + i) (omega arith))
+      (rw (faces-four 3 (omega arith), k .prev₃, ← es, ← er) p₁)
+      (rw (faces-four 2 (omega arith), k .prev₂, ← er, ← eq) p₂)
+      (rw (faces-four 1 (omega arith), k .prev₁, ← eq, ← e₀) p₃)
+      (rw (z, k .prev₀, ← e₀, ← es) p₄)
 
 -- one face after another, the last first: the corners of those before are still there
 pub corners-then : (n v count a b e : ℕ) (w c c₁ c₂ : List ℕ) → a ≤ b → b ≤ e → Written b e (refinedBy n v count c w) c c₁ → Written a b (refinedBy n v count c₁ w) c₁ c₂ → Written a e (refinedBy n v count c w) c c₂

@@ -9,7 +9,7 @@ use lib.Dec.{ltb}
 use Rattle.lists.specs.Tabulate.{tabulate}
 use Rattle.topology.specs.Shape.{Shape, quads}
 use Rattle.topology.specs.HalfEdge.{edgeCount, edge}
-use Rattle.coordinates.specs.Entry.{entryOf, edgeOf}
+use Rattle.edgeentries.specs.Entry.{entryOf, edgeOf}
 use Rattle.halfedges.specs.Tables.{Quadrilaterals}
 
 -- corner j of the refined face h, from the corners c and the edge numbers e

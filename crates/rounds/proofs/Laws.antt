@@ -30,7 +30,7 @@ use Rattle.roundfaces.proofs.Round.{vertices-refined, marks-refined, marks-cong
 use Rattle.roundmates.specs.Mates.{MatesIn, LaterIn}
 use Rattle.roundmates.proofs.Round.{mates-in, mated-refined, mates-rest}
 use Rattle.classes.specs.Classes.{Classes}
-use Rattle.coordinates.specs.Entry.{entryOf, edgeOf}
+use Rattle.edgeentries.specs.Entry.{entryOf, edgeOf}
 use Rattle.facepoints.specs.Faces.{faceCoordinates, FaceTable}
 use Rattle.familyfaces.specs.Family.{FamilyTable}
 use Rattle.letters.specs.Letters.{newLetter, Nameable, WrittenIf}

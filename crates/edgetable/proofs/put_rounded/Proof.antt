@@ -6,7 +6,7 @@ use mir.Val.{SFits}
 use mir.Facts.{toZ-ofZ}
 use Rattle.curve.specs.Weights.{tension}
 use Rattle.rings.specs.Scales.{virtualScale}
-use Rattle.coordinates.specs.Entry.{unitOf}
+use Rattle.edgeentries.specs.Entry.{unitOf}
 use Rattle.coordinates.proofs.Points.{put-point-is}
 use Rattle.edgetable.proofs.Rounded.{wide-is, wide-range, plain-is, plain-range, plain-small, round-plain}
 use Rattle.edgetable.proofs.put_rounded.Statement.{statement}

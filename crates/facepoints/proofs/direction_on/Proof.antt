@@ -10,7 +10,7 @@ use mir.Facts.{toZ-ofZ}
 use Rattle.curve.specs.Weights.{tension}
 use Rattle.rings.proofs.Tension.{edge-range-le}
 use Rattle.rings.specs.Scales.{edgeRange}
-use Rattle.coordinates.specs.Entry.{exactOf}
+use Rattle.edgeentries.specs.Entry.{exactOf}
 use Rattle.facepoints.proofs.Reading.{across-lt, readable, exact-of, exact-small}
 use Rattle.facepoints.proofs.Directions.{far-size, direction-read}
 use Rattle.facepoints.proofs.direction_on.Statement.{statement}
@@ -18,7 +18,7 @@ use Rattle.facepoints.proofs.direction_on.Tie as tie
 
 -- the values of h and of the opposite side
 value-x : (x : tie.After-exact-on) → let s = x .before .before .before .before in x .exact-on .result ≡ exactOf (tension (s .args .t)) (s .args .n) (s .args .work .now) (s .args .a) (s .args .h)
-value-x x = exact-of _ _ _ _ _ _ _ (x .before .entry .ensures .0) (x .exact-on .ensures)
+value-x x = exact-of _ _ _ _ _ _ _ (x .before .entry-at .ensures .0) (x .exact-on .ensures)
 
 small-x : (x : tie.After-exact-on) → natAbs (x .exact-on .result) ≤ edgeRange (tension (x .before .before .before .before .args .t))
 small-x x = let s = x .before .before .before .before in exact-small _ _ _ _ _ _ (s .pre .0) (s .pre .2) (s .pre .1) (value-x x)
@@ -30,7 +30,7 @@ value-y : (y : tie.After-exact-on2)
     → let g = y .before .before .before .before in
     let s = g .before .before in
     y .exact-on2 .result ≡ exactOf (tension (s .args .t)) (s .args .n) (s .args .work .now) (s .args .a) (g .across-side .result)
-value-y y = exact-of _ _ _ _ _ _ _ (y .before .entry2 .ensures .0) (y .exact-on2 .ensures)
+value-y y = exact-of _ _ _ _ _ _ _ (y .before .entry-at2 .ensures .0) (y .exact-on2 .ensures)
 
 small-y : (y : tie.After-exact-on2) → natAbs (y .exact-on2 .result) ≤ edgeRange (tension (y .before .before .before .before .before .before .args .t))
 small-y y =
@@ -41,17 +41,17 @@ small-y y =
 across-side-requires : tie.Need-across-side-requires
 across-side-requires c κs = search needs
 
-entry-requires : tie.Need-entry-requires
-entry-requires c κs = let s = c .before .before in (s .pre .0 .entries, s .pre .1)
+entry-at-requires : tie.Need-entry-at-requires
+entry-at-requires c κs = let s = c .before .before in let r = s .pre .0 .entries .room in let b = s .pre .1 in omega arith
 
 exact-on-requires : tie.Need-exact-on-requires
-exact-on-requires c κs = let s = c .before .before .before in readable _ _ _ _ _ _ (s .pre .0) (s .pre .2) (s .pre .1) (c .entry .ensures .0)
+exact-on-requires c κs = let s = c .before .before .before in readable _ _ _ _ _ _ (s .pre .0) (s .pre .2) (s .pre .1) (c .entry-at .ensures .0)
 
-entry-requires-2 : tie.Need-entry-requires-2
-entry-requires-2 c κs = let s = c .before .before .before .before in (s .pre .0 .entries, opposite-lt (c .before .before))
+entry-at-requires-2 : tie.Need-entry-at-requires-2
+entry-at-requires-2 c κs = let s = c .before .before .before .before in let r = s .pre .0 .entries .room in let b = opposite-lt (c .before .before) in omega arith
 
 exact-on-requires-2 : tie.Need-exact-on-requires-2
-exact-on-requires-2 c κs = let g = c .before .before .before in let s = g .before .before in readable _ _ _ _ _ _ (s .pre .0) (s .pre .2) (opposite-lt g) (c .entry2 .ensures .0)
+exact-on-requires-2 c κs = let g = c .before .before .before in let s = g .before .before in readable _ _ _ _ _ _ (s .pre .0) (s .pre .2) (opposite-lt g) (c .entry-at2 .ensures .0)
 
 far-on-requires : tie.Need-far-on-requires
 far-on-requires c κs =
@@ -106,9 +106,9 @@ direction-on-spec =
     tie.close
     (tie.spec
     across-side-requires
-    entry-requires
+    entry-at-requires
     exact-on-requires
-    entry-requires-2
+    entry-at-requires-2
     exact-on-requires-2
     far-on-requires
     far-on-requires-2

@@ -8,8 +8,8 @@ use mir.Val.{SFits}
 use mir.Facts.{toZ-ofZ}
 use Rattle.curve.specs.Weights.{tension, interior}
 use Rattle.rounding.specs.Rounding.{round}
-use Rattle.coordinates.specs.Packed.{packedAt}
-use Rattle.coordinates.proofs.Packed.{biased-packed}
+use Rattle.edgeentries.specs.Packed.{packedAt}
+use Rattle.edgeentries.proofs.Packed.{biased-packed}
 use Rattle.facepoints.proofs.Plain.{Steps, steps, four-read, plain-read}
 use Rattle.facepoints.proofs.plain_on.Statement.{statement}
 use Rattle.facepoints.proofs.plain_on.Tie as tie

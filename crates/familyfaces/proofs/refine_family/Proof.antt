@@ -8,130 +8,130 @@ use Rattle.familyfaces.proofs.refine_family.Tie as tie
 mul-h : tie.Need-mul-h
 mul-h c = let s = c .before .before in let p = s .pre .0 .0 .entries .few in let b = s .pre .1 .1 in omega arith
 
-entry-requires : tie.Need-entry-requires
-entry-requires c κs = let s = c .before .before in let p = s .pre .0 .0 .entries .few in let b = s .pre .1 .1 in (s .pre .0 .0 .entries, omega arith)
+entry-at-requires : tie.Need-entry-at-requires
+entry-at-requires c κs = let s = c .before .before in let r = s .pre .0 .0 .entries .room in let b = s .pre .1 .1 in omega arith
 
-add-entry : tie.Need-add-entry
-add-entry c = let s = c .before .before .before in let p = s .pre .0 .0 .entries .few in let b = s .pre .1 .1 in record { fits = omega arith }
+add-entry-at : tie.Need-add-entry-at
+add-entry-at c = let s = c .before .before .before in let p = s .pre .0 .0 .entries .few in let b = s .pre .1 .1 in record { fits = omega arith }
 
-entry-requires-2 : tie.Need-entry-requires-2
-entry-requires-2 c κs = let s = c .before .before .before in let p = s .pre .0 .0 .entries .few in let b = s .pre .1 .1 in (s .pre .0 .0 .entries, omega arith)
+entry-at-requires-2 : tie.Need-entry-at-requires-2
+entry-at-requires-2 c κs = let s = c .before .before .before in let r = s .pre .0 .0 .entries .room in let b = s .pre .1 .1 in omega arith
 
-add-entry-2 : tie.Need-add-entry-2
-add-entry-2 c = let s = c .before .before .before .before in let p = s .pre .0 .0 .entries .few in let b = s .pre .1 .1 in record { fits = omega arith }
+add-entry-at-2 : tie.Need-add-entry-at-2
+add-entry-at-2 c = let s = c .before .before .before .before in let p = s .pre .0 .0 .entries .few in let b = s .pre .1 .1 in record { fits = omega arith }
 
-entry-requires-3 : tie.Need-entry-requires-3
-entry-requires-3 c κs = let s = c .before .before .before .before in let p = s .pre .0 .0 .entries .few in let b = s .pre .1 .1 in (s .pre .0 .0 .entries, omega arith)
+entry-at-requires-3 : tie.Need-entry-at-requires-3
+entry-at-requires-3 c κs = let s = c .before .before .before .before in let r = s .pre .0 .0 .entries .room in let b = s .pre .1 .1 in omega arith
 
-add-entry-3 : tie.Need-add-entry-3
-add-entry-3 c = let s = c .before .before .before .before .before in let p = s .pre .0 .0 .entries .few in let b = s .pre .1 .1 in record { fits = omega arith }
+add-entry-at-3 : tie.Need-add-entry-at-3
+add-entry-at-3 c = let s = c .before .before .before .before .before in let p = s .pre .0 .0 .entries .few in let b = s .pre .1 .1 in record { fits = omega arith }
 
-entry-requires-4 : tie.Need-entry-requires-4
-entry-requires-4 c κs = let s = c .before .before .before .before .before in let p = s .pre .0 .0 .entries .few in let b = s .pre .1 .1 in (s .pre .0 .0 .entries, omega arith)
+entry-at-requires-4 : tie.Need-entry-at-requires-4
+entry-at-requires-4 c κs = let s = c .before .before .before .before .before in let r = s .pre .0 .0 .entries .room in let b = s .pre .1 .1 in omega arith
 
-add-entry-4 : tie.Need-add-entry-4
-add-entry-4 c = let s = c .before .before .before .before .before .before in let p = s .pre .0 .0 .entries .few in let b = s .pre .1 .1 in record { fits = omega arith }
+add-entry-at-4 : tie.Need-add-entry-at-4
+add-entry-at-4 c = let s = c .before .before .before .before .before .before in let p = s .pre .0 .0 .entries .few in let b = s .pre .1 .1 in record { fits = omega arith }
 
-entry-requires-5 : tie.Need-entry-requires-5
-entry-requires-5 c κs =
+entry-at-requires-5 : tie.Need-entry-at-requires-5
+entry-at-requires-5 c κs =
     let s = c .before .before .before .before .before .before in
-    let p = s .pre .0 .0 .entries .few in
+    let r = s .pre .0 .0 .entries .room in
     let b = s .pre .1 .1 in
-    (s .pre .0 .0 .entries, omega arith)
+    omega arith
 
-add-entry-5 : tie.Need-add-entry-5
-add-entry-5 c = let s = c .before .before .before .before .before .before .before in let p = s .pre .0 .0 .entries .few in let b = s .pre .1 .1 in record { fits = omega arith }
+add-entry-at-5 : tie.Need-add-entry-at-5
+add-entry-at-5 c = let s = c .before .before .before .before .before .before .before in let p = s .pre .0 .0 .entries .few in let b = s .pre .1 .1 in record { fits = omega arith }
 
-entry-requires-6 : tie.Need-entry-requires-6
-entry-requires-6 c κs =
+entry-at-requires-6 : tie.Need-entry-at-requires-6
+entry-at-requires-6 c κs =
     let s = c .before .before .before .before .before .before .before in
-    let p = s .pre .0 .0 .entries .few in
+    let r = s .pre .0 .0 .entries .room in
     let b = s .pre .1 .1 in
-    (s .pre .0 .0 .entries, omega arith)
+    omega arith
 
-add-entry-6 : tie.Need-add-entry-6
-add-entry-6 c =
+add-entry-at-6 : tie.Need-add-entry-at-6
+add-entry-at-6 c =
     let s = c .before .before .before .before .before .before .before .before in
     let p = s .pre .0 .0 .entries .few in
     let b = s .pre .1 .1 in
     record { fits = omega arith }
 
-entry-requires-7 : tie.Need-entry-requires-7
-entry-requires-7 c κs =
+entry-at-requires-7 : tie.Need-entry-at-requires-7
+entry-at-requires-7 c κs =
     let s = c .before .before .before .before .before .before .before .before in
-    let p = s .pre .0 .0 .entries .few in
+    let r = s .pre .0 .0 .entries .room in
     let b = s .pre .1 .1 in
-    (s .pre .0 .0 .entries, omega arith)
+    omega arith
 
-add-entry-7 : tie.Need-add-entry-7
-add-entry-7 c =
+add-entry-at-7 : tie.Need-add-entry-at-7
+add-entry-at-7 c =
     let s = c .before .before .before .before .before .before .before .before .before in
     let p = s .pre .0 .0 .entries .few in
     let b = s .pre .1 .1 in
     record { fits = omega arith }
 
-entry-requires-8 : tie.Need-entry-requires-8
-entry-requires-8 c κs =
+entry-at-requires-8 : tie.Need-entry-at-requires-8
+entry-at-requires-8 c κs =
     let s = c .before .before .before .before .before .before .before .before .before in
-    let p = s .pre .0 .0 .entries .few in
+    let r = s .pre .0 .0 .entries .room in
     let b = s .pre .1 .1 in
-    (s .pre .0 .0 .entries, omega arith)
+    omega arith
 
-add-entry-8 : tie.Need-add-entry-8
-add-entry-8 c =
+add-entry-at-8 : tie.Need-add-entry-at-8
+add-entry-at-8 c =
     let s = c .before .before .before .before .before .before .before .before .before .before in
     let p = s .pre .0 .0 .entries .few in
     let b = s .pre .1 .1 in
     record { fits = omega arith }
 
-entry-requires-9 : tie.Need-entry-requires-9
-entry-requires-9 c κs =
+entry-at-requires-9 : tie.Need-entry-at-requires-9
+entry-at-requires-9 c κs =
     let s = c .before .before .before .before .before .before .before .before .before .before in
-    let p = s .pre .0 .0 .entries .few in
+    let r = s .pre .0 .0 .entries .room in
     let b = s .pre .1 .1 in
-    (s .pre .0 .0 .entries, omega arith)
+    omega arith
 
-add-entry-9 : tie.Need-add-entry-9
-add-entry-9 c =
+add-entry-at-9 : tie.Need-add-entry-at-9
+add-entry-at-9 c =
     let s = c .before .before .before .before .before .before .before .before .before .before .before in
     let p = s .pre .0 .0 .entries .few in
     let b = s .pre .1 .1 in
     record { fits = omega arith }
 
-entry-requires-10 : tie.Need-entry-requires-10
-entry-requires-10 c κs =
+entry-at-requires-10 : tie.Need-entry-at-requires-10
+entry-at-requires-10 c κs =
     let s = c .before .before .before .before .before .before .before .before .before .before .before in
-    let p = s .pre .0 .0 .entries .few in
+    let r = s .pre .0 .0 .entries .room in
     let b = s .pre .1 .1 in
-    (s .pre .0 .0 .entries, omega arith)
+    omega arith
 
-add-entry-10 : tie.Need-add-entry-10
-add-entry-10 c =
+add-entry-at-10 : tie.Need-add-entry-at-10
+add-entry-at-10 c =
     let s = c .before .before .before .before .before .before .before .before .before .before .before .before in
     let p = s .pre .0 .0 .entries .few in
     let b = s .pre .1 .1 in
     record { fits = omega arith }
 
-entry-requires-11 : tie.Need-entry-requires-11
-entry-requires-11 c κs =
+entry-at-requires-11 : tie.Need-entry-at-requires-11
+entry-at-requires-11 c κs =
     let s = c .before .before .before .before .before .before .before .before .before .before .before .before in
-    let p = s .pre .0 .0 .entries .few in
+    let r = s .pre .0 .0 .entries .room in
     let b = s .pre .1 .1 in
-    (s .pre .0 .0 .entries, omega arith)
+    omega arith
 
-add-entry-11 : tie.Need-add-entry-11
-add-entry-11 c =
+add-entry-at-11 : tie.Need-add-entry-at-11
+add-entry-at-11 c =
     let s = c .before .before .before .before .before .before .before .before .before .before .before .before .before in
     let p = s .pre .0 .0 .entries .few in
     let b = s .pre .1 .1 in
     record { fits = omega arith }
 
-entry-requires-12 : tie.Need-entry-requires-12
-entry-requires-12 c κs =
+entry-at-requires-12 : tie.Need-entry-at-requires-12
+entry-at-requires-12 c κs =
     let s = c .before .before .before .before .before .before .before .before .before .before .before .before .before in
-    let p = s .pre .0 .0 .entries .few in
+    let r = s .pre .0 .0 .entries .room in
     let b = s .pre .1 .1 in
-    (s .pre .0 .0 .entries, omega arith)
+    omega arith
 
 family-points-requires : tie.Need-family-points-requires
 family-points-requires c κs =
@@ -151,8 +151,8 @@ family-points-requires c κs =
     let p = s .pre .0 in
     let q = s .pre .1 in (
       (p .0, q .2),
-      plain-faces _ _ (p .0 .entries) (p .1) _ (p .2) (p .3) _ _ _ _ _ _ _ _ _ _ _ _ (q .1) (e₁ .entry .ensures .0) (e₂ .entry2 .ensures .0) (e₃ .entry3 .ensures .0) (e₄ .entry4 .ensures .0) (e₅ .entry5 .ensures .0) (e₆ .entry6 .ensures .0)
-          (e₇ .entry7 .ensures .0) (e₈ .entry8 .ensures .0) (e₉ .entry9 .ensures .0) (e₁₀ .entry10 .ensures .0) (e₁₁ .entry11 .ensures .0) (e₁₂ .entry12 .ensures .0),
+      plain-faces _ _ (p .0 .entries) (p .1) _ (p .2) (p .3) _ _ _ _ _ _ _ _ _ _ _ _ (q .1) (e₁ .entry-at .ensures .0) (e₂ .entry-at2 .ensures .0) (e₃ .entry-at3 .ensures .0) (e₄ .entry-at4 .ensures .0) (e₅ .entry-at5 .ensures .0) (e₆ .entry-at6 .ensures .0)
+          (e₇ .entry-at7 .ensures .0) (e₈ .entry-at8 .ensures .0) (e₉ .entry-at9 .ensures .0) (e₁₀ .entry-at10 .ensures .0) (e₁₁ .entry-at11 .ensures .0) (e₁₂ .entry-at12 .ensures .0),
     )
 
 add-refine-face : tie.Need-add-refine-face
@@ -228,29 +228,29 @@ refine-family-spec =
     tie.close
     (tie.spec
     mul-h
-    entry-requires
-    add-entry
-    entry-requires-2
-    add-entry-2
-    entry-requires-3
-    add-entry-3
-    entry-requires-4
-    add-entry-4
-    entry-requires-5
-    add-entry-5
-    entry-requires-6
-    add-entry-6
-    entry-requires-7
-    add-entry-7
-    entry-requires-8
-    add-entry-8
-    entry-requires-9
-    add-entry-9
-    entry-requires-10
-    add-entry-10
-    entry-requires-11
-    add-entry-11
-    entry-requires-12
+    entry-at-requires
+    add-entry-at
+    entry-at-requires-2
+    add-entry-at-2
+    entry-at-requires-3
+    add-entry-at-3
+    entry-at-requires-4
+    add-entry-at-4
+    entry-at-requires-5
+    add-entry-at-5
+    entry-at-requires-6
+    add-entry-at-6
+    entry-at-requires-7
+    add-entry-at-7
+    entry-at-requires-8
+    add-entry-at-8
+    entry-at-requires-9
+    add-entry-at-9
+    entry-at-requires-10
+    add-entry-at-10
+    entry-at-requires-11
+    add-entry-at-11
+    entry-at-requires-12
     family-points-requires
     add-refine-face
     refine-face-requires

@@ -22,9 +22,6 @@ long-2 x = x .name-side2 .kept .0 ∙ long-1 (x .before .before .before .before)
 long-3 : (x : tie.After-name-side3) → length (x .name-side3 .last .0) ≡ length (start (x .before .before .before .before .before .before .before .before .before .before) .args .letters .now)
 long-3 x = x .name-side3 .kept .0 ∙ long-2 (x .before .before .before .before)
 
-add-inner-sides : tie.Need-add-inner-sides
-add-inner-sides c = search needs
-
 inner-sides-requires : tie.Need-inner-sides-requires
 inner-sides-requires c κs = let s = c .before .before .before .before in let e = s .pre .0 .entries in let b = s .pre .1 .1 in omega arith
 
@@ -34,7 +31,7 @@ returns c =
     let n = length (s .args .faces .now) in
     let b : s .args .h + 4 ≤ n = s .pre .1 .1 in
     put-none _ _ _ _ _
-    (λ g x y o. off-boundary _ _ _ _ (s .pre .0) g (omega arith) (c .before .inner-sides .ensures (c .if1 .taken) (n + g) (omega arith) (omega arith)) o)
+    (λ g x y o. off-boundary _ _ _ _ (s .pre .0) g (omega arith) (c .before .inner-sides .ensures (c .if1 .taken) g x y) o)
 
 name-side-requires : tie.Need-name-side-requires
 name-side-requires c κs = let s = start (c .before) in let b = s .pre .1 .1 in (s .pre .0, (s .pre .1 .0, omega arith))
@@ -84,7 +81,6 @@ pub name-sides-spec : {M : Type 1} → statement M
 name-sides-spec =
     tie.close
     (tie.spec
-    add-inner-sides
     inner-sides-requires
     returns
     name-side-requires

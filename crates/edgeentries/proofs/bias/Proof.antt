@@ -7,10 +7,10 @@ use mir.Syntax.{w64}
 use mir.Val.{SFits, Fits}
 use mir.Facts.{toZ-ofZ, fits-natAbs}
 use borrow.Author.Needs.{needs}
-use Rattle.coordinates.specs.Packed.{biased}
-use Rattle.coordinates.proofs.Packed.{bias-fits, bias-natural}
-use Rattle.coordinates.proofs.bias.Statement.{statement}
-use Rattle.coordinates.proofs.bias.Tie as tie
+use Rattle.edgeentries.specs.Packed.{biased}
+use Rattle.edgeentries.proofs.Packed.{bias-fits, bias-natural}
+use Rattle.edgeentries.proofs.bias.Statement.{statement}
+use Rattle.edgeentries.proofs.bias.Tie as tie
 
 add-result : tie.Need-add-result
 add-result c = let k = bias-fits (c .args .z) (c .pre) in search needs

@@ -3,9 +3,9 @@ use borrow.Author.Needs.{needs}
 use mir.Syntax.{w64}
 use mir.Val.{SFits}
 use mir.Facts.{toZ-ofZ}
-use Rattle.coordinates.proofs.Packed.{put-three-is}
-use Rattle.coordinates.proofs.store_exact.Statement.{statement}
-use Rattle.coordinates.proofs.store_exact.Tie as tie
+use Rattle.edgeentries.proofs.Packed.{put-three-is}
+use Rattle.edgeentries.proofs.store_exact.Statement.{statement}
+use Rattle.edgeentries.proofs.store_exact.Tie as tie
 
 store-requires : tie.Need-store-requires
 store-requires c κs = search needs

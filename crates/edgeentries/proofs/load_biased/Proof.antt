@@ -7,9 +7,9 @@ use mir.Syntax.{w64}
 use mir.Val.{toZ}
 use mir.Facts.{toZ-pos}
 use borrow.Author.Needs.{needs}
-use Rattle.coordinates.specs.Packed.{biasedAt}
-use Rattle.coordinates.proofs.load_biased.Statement.{statement}
-use Rattle.coordinates.proofs.load_biased.Tie as tie
+use Rattle.edgeentries.specs.Packed.{biasedAt}
+use Rattle.edgeentries.proofs.load_biased.Statement.{statement}
+use Rattle.edgeentries.proofs.load_biased.Tie as tie
 
 read : (lo hi : ℕ) → hi < 2 ^ 31 → lo < 2 ^ 32 → toZ w64 (hi * 4294967296 + lo) ≡ pos (hi * 4294967296 + lo)
 read lo hi h l = toZ-pos w64 (omega arith)

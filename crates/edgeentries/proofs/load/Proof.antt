@@ -3,9 +3,9 @@ use borrow.Author.Needs.{needs}
 use mir.Syntax.{w64}
 use mir.Val.{SFits}
 use mir.Facts.{toZ-ofZ}
-use Rattle.coordinates.proofs.Packed.{unbiased-fits, unbiased-packed}
-use Rattle.coordinates.proofs.load.Statement.{statement}
-use Rattle.coordinates.proofs.load.Tie as tie
+use Rattle.edgeentries.proofs.Packed.{unbiased-fits, unbiased-packed}
+use Rattle.edgeentries.proofs.load.Statement.{statement}
+use Rattle.edgeentries.proofs.load.Tie as tie
 
 load-biased-requires : tie.Need-load-biased-requires
 load-biased-requires c κs = search needs

@@ -5,9 +5,9 @@ use borrow.Author.Needs.{needs}
 use mir.Syntax.{w64}
 use mir.Val.{SFits}
 use mir.Facts.{toZ-ofZ}
-use Rattle.coordinates.proofs.Packed.{put-is}
-use Rattle.coordinates.proofs.store.Statement.{statement}
-use Rattle.coordinates.proofs.store.Tie as tie
+use Rattle.edgeentries.proofs.Packed.{put-is}
+use Rattle.edgeentries.proofs.store.Statement.{statement}
+use Rattle.edgeentries.proofs.store.Tie as tie
 
 bias-requires : tie.Need-bias-requires
 bias-requires c κs = search needs

@@ -15,7 +15,7 @@ use Rattle.integers.proofs.Linear.{at, whole, _⊕_, _⊖_}
 use Rattle.integers.proofs.Order.{eq-by, le-by, abs-by, of-abs}
 use Rattle.integers.proofs.AbsoluteValue.{abs-add}
 use Rattle.integers.proofs.Range.{fits-abs}
-use Rattle.coordinates.specs.Packed.{biased, lowHalf, highHalf, joined, biasedAt, packedAt, put, putThree, Holds}
+use Rattle.edgeentries.specs.Packed.{biased, lowHalf, highHalf, joined, biasedAt, packedAt, put, putThree, Holds}
 
 -- ---- adding 2^56 + 2^31 and taking it away
 pub bias-natural : (z : ℤ) → natAbs z < 2 ^ 55 → T (nonNeg (z +ℤ pos 72057596185411584))
