@@ -1,6 +1,5 @@
--- How the parts of the check fit together. Assumes nothing.
+-- How the limits and the tests of the net fit together. Assumes nothing.
 use mathlib.Core.Path.{_≡_, refl, sym, ap, _∙_}
-use mathlib.Core.Bool.{Bool}
 use mathlib.Core.List.{List, [], _∷_}
 use Prim.Native.Nat.{ℕ, _*_, _^_, _≤_, _<_}
 use native.Mathlib.Nat.{one-le-pow, mul-le-mul-left}
@@ -9,66 +8,22 @@ use native.Mathlib.Decide.{decLt}
 use lib.Dec.{lit≤}
 use borrow.Author.Tests.{eq-eqb, ne-eqb}
 use lib.ListN.{length, drop}
-use Rattle.search.specs.Search.{first}
-use Rattle.search.proofs.First.{first-le}
 use Rattle.polygons.specs.Polygons.{shapeOf, Sided}
-use Rattle.refusals.specs.Refusals.{isolated, repeatedSide, nonManifold, badValence, markedRing}
-use Rattle.refusals.proofs.Places.{isolated-soon}
 use Rattle.nets.specs.Net.{ControlNet}
 use Rattle.tables.specs.Tables.{cleared}
 use Rattle.tables.proofs.Laws.{cleared-over}
 use Rattle.lists.proofs.Parts.{drop-later}
 use Rattle.verdict.specs.Call.{Room, lengthsOf, Call, quadrilaterals, finalFaces}
-use Rattle.verdict.specs.Verdict.{Verdict, accepted, refused, callVerdict, vertexVerdict, adjacencyVerdict, facesVerdict, netVerdict, verdict, workAfter}
-use Rattle.verdict.proofs.Accepted.{call-both, never, or-both, WithinLimits, within-if, accepted-limits, at-hit, at-pass, last-pass}
+use Rattle.verdict.specs.Verdict.{Verdict, accepted, refused, callVerdict, netVerdict, verdict, workAfter}
+use Rattle.verdict.proofs.Accepted.{call-both, or-both, WithinLimits, within-if, accepted-limits}
 use Rattle.limits.specs.Answer.{limitsOf, FinalFaces}
-use Rattle.adjacency.specs.Chains.{CornersBelow, Tables}
 use Rattle.halfedges.specs.Tables.{MateTableOf}
 use Rattle.sidetable.specs.Table.{ShapeRoom, ShapeBuilt}
 use Rattle.sidetable.proofs.Table.{shaped-kept}
-use Rattle.adjacency.proofs.Chains.{corners-below-le}
-use Rattle.admission.specs.declared.Answer.the-variants.{Accepted, Refused}
-use Rattle.admission.specs.Answer.{found, checked}
+use Rattle.examination.specs.Examine.{CheckTables}
+use Rattle.admission.specs.Answer.{checkedAs, checked}
 use Rattle.admission.specs.Admission.{RefusedCall, AdmittedCall}
-use Rattle.admission.specs.Examine.{CheckTables, Joined, Examined}
 
--- no vertex is isolated, so there are no more than corners
-pub joined : (l : List ℕ) (v : ℕ) → first (isolated l) v ≡ v → Joined l v
-joined l v e = record { few = go (decLt (length l) v); none = e }
-  where
-    go : Dec (length l < v) → v ≤ length l
-    go (yes h) = let k = isolated-soon l v h in absurd (omega arith)
-    go (no h) = omega arith
-
-pub chain-tables : (s l w : List ℕ) (v : ℕ) → CheckTables s l w → v ≤ length l → CornersBelow v l → Tables s l w
-chain-tables s l w v t h r = let b = t .room in record { shaped = t .shaped; few = t .few; corners = corners-below-le v (length l) l h r; room = omega arith }
-
--- a search that passes all found nothing
-pub all : (t : ℕ → Bool) (n i : ℕ) → i ≡ first t n → n ≤ i → first t n ≡ n
-all t n i e h = let a = first-le t n in omega arith
-
--- ---- no faces
-pub empty-faces : (s l m w : List ℕ) → length l ≡ 0 → length m ≡ 0 → Examined (facesVerdict (shapeOf s) (length m) l m) s l w Accepted w
-unfolding facesVerdict adjacencyVerdict vertexVerdict
-empty-faces s l m w e f = record {
-  verdict =
-      at-pass 8 (isolated l) (length m) (λ p. p) _ _ _ refl (omega arith)
-      (at-pass 9 (repeatedSide (shapeOf s) l) (length l) (shapeOf s .face) _ _ _ refl (omega arith)
-      (at-pass 10 (nonManifold (shapeOf s) l) (length m) (λ p. p) _ _ _ refl (omega arith)
-      (at-pass 11 (badValence (shapeOf s) l) (length m) (λ p. p) _ _ _ refl (omega arith) (last-pass 12 (markedRing (shapeOf s) l m) (length m) (λ p. p) _ refl (omega arith)))));
-  mated = λ z. record { mates = λ g h. absurd (omega arith) };
-  rest = refl;
-}
-
-pub lonely-vertex : (s l m w : List ℕ) → length l ≡ 0 → (length m ≡ 0 → ⊥) → Examined (facesVerdict (shapeOf s) (length m) l m) s l w (Refused 8 0) w
-unfolding facesVerdict
-lonely-vertex s l m w e f = record {
-  verdict = at-hit 8 (isolated l) (length m) (λ p. p) _ 0 (let k = isolated-soon l (length m) (omega arith) in omega arith) (omega arith);
-  mated = λ z. never 8 0 z;
-  rest = refl;
-}
-
--- ---- the whole call
 pub passed : {v : Verdict} (f : ℕ) → v ≡ limitsOf f → f ≡ 0 → v ≡ accepted
 passed f e z = e ∙ rw (eq-eqb f 0 z) refl
 
@@ -174,10 +129,10 @@ module _ (c : Call) (g : ℕ) (w : List ℕ) (a : AdmittedCall c g w) where
       let p : callVerdict c ≡ accepted = or-both (callVerdict c) (netVerdict (c .net)) e .0 in
       rw p (h ∙ cleared-over (16 * g) w₀ w r ∙ ap (λ (x : ℕ). cleared (16 * x) w₀) (a .final))
 
-  pub checked-admitted : (w₀ w′ : List ℕ) → drop (16 * g) w ≡ drop (16 * g) w₀ → w′ ≡ cleared (16 * g) w → found accepted w′ ≡ checked c w₀
+  pub checked-admitted : (w₀ w′ : List ℕ) → drop (16 * g) w ≡ drop (16 * g) w₀ → w′ ≡ cleared (16 * g) w → checkedAs accepted w′ ≡ checked c w₀
   unfolding checked
-  checked-admitted w₀ w′ r h = λ i. found (sym (a .accepts) i) (admitted-cleared w₀ w′ r h i)
+  checked-admitted w₀ w′ r h = λ i. checkedAs (sym (a .accepts) i) (admitted-cleared w₀ w′ r h i)
 
-pub checked-refused : (c : Call) (w w′ : List ℕ) (number place : ℕ) → RefusedCall c w number place w′ → found (refused number place) w′ ≡ checked c w
+pub checked-refused : (c : Call) (w w′ : List ℕ) (number place : ℕ) → RefusedCall c w number place w′ → checkedAs (refused number place) w′ ≡ checked c w
 unfolding checked
-checked-refused c w w′ number place a = λ i. found (sym (a .refuses) i) (a .work i)
+checked-refused c w w′ number place a = λ i. checkedAs (sym (a .refuses) i) (a .work i)

@@ -1,3 +1,2 @@
 pub mod Answer
-pub mod Examine
 pub mod Admission

@@ -1,5 +1,5 @@
 -- What the numbers of the test of limits mean.
-use mathlib.Core.Bool.{true, cond}
+use mathlib.Core.Bool.{cond}
 use Prim.Native.Nat.{ℕ, _*_, _^_, _≤_}
 use mathlib.Core.Path.{_≡_}
 use lib.Dec.{eqb}
@@ -12,9 +12,8 @@ use Rattle.limits.specs.declared.Room.{Room}
 abbrev pub limitsOf : ℕ → Verdict
 limitsOf r = cond (eqb r 0) accepted (refused r 0)
 
--- the least lengths, for a call that asks for letters
 abbrev pub roomIn : Room → call.Room
-roomIn r = call.room (r .vertices) (r .faces) (r .marks) true (r .letters) (r .work)
+roomIn r = call.room (r .vertices) (r .faces) (r .marks) (r .«with_letters») (r .letters) (r .work)
 
 abbrev pub lengthsIn : Lengths → call.Lengths
 lengthsIn n = call.lengths (n .coordinates) (n .corners) (n .marks) (call.room (n .«out_vertices») (n .«out_faces») (n .«out_marks») (n .«with_letters») (n .letters) (n .work))

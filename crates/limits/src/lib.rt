@@ -1,10 +1,10 @@
-// Refusals 1 to 4 and 14, from the side counts and the lengths of the other tables.
+// Refusals 1 to 4 and 14, from the side counts and the lengths of the other tables, and 16, from the tension.
 ghost use Prim.Native.Nat.{_≤_, _/_, _*_, _^_};
 ghost use mathlib.Core.Path.{_≡_};
 ghost use mathlib.Core.Bool.{_&&_};
 ghost use lib.Dec.{ltb};
 ghost use Rattle.polygons.specs.Polygons.{badCount, badSides};
-ghost use Rattle.verdict.specs.Verdict.{cornersVerdict, tablesVerdict, sizeVerdict, roomVerdict, limitsVerdict};
+ghost use Rattle.verdict.specs.Verdict.{cornersVerdict, tablesVerdict, sizeVerdict, roomVerdict, limitsVerdict, orElse, refusedIf};
 ghost use Rattle.verdict.specs.Call as call;
 ghost use Rattle.limits.specs.Answer.{limitsOf, roomIn, lengthsIn, FinalFaces};
 
@@ -21,11 +21,12 @@ pub struct Lengths {
     pub work: usize,
 }
 
-// The lengths of the output tables, the letters among them, and the work table.
+// The lengths of the output tables and the work table, and whether letters are asked for.
 pub struct Room {
     pub vertices: usize,
     pub faces: usize,
     pub marks: usize,
+    pub with_letters: bool,
     pub letters: usize,
     pub work: usize,
 }
@@ -69,7 +70,7 @@ pub fn final_faces(rounds: u32, faces: usize) -> usize
     faces * pow4(rounds)
 }
 
-// The least lengths for g refined faces.
+// The least lengths for g refined faces, for a call that asks for letters.
 pub fn needed(g: usize) -> Room
     requires { ⌜ g ≤ 16777216 ⌝ }
     ensures { λ r. ⌜ roomIn r ≡ call.needed g ⌝ }
@@ -78,6 +79,7 @@ pub fn needed(g: usize) -> Room
         vertices: 12 * g,
         faces: 4 * g,
         marks: 4 * g,
+        with_letters: true,
         letters: 4 * g,
         work: 16 * g,
     }
@@ -211,4 +213,18 @@ pub fn limits(rounds: u32, sides: &[u8], n: Lengths) -> u32
         return size;
     }
     test_room(g, n)
+}
+
+// The first of refusals 1 to 4, 14 and 16 that holds, or 0.
+pub fn call_fault(rounds: u32, sides: &[u8], n: Lengths, tension: u32) -> u32
+    ensures { λ r. ⌜ orElse (limitsVerdict rounds (now (sides .entry)) (lengthsIn n)) (refusedIf 16 (ltb 4 tension)) ≡ limitsOf r ⌝ }
+{
+    let limit = limits(rounds, sides, n);
+    if limit != 0 {
+        return limit;
+    }
+    if tension > 4 {
+        return 16;
+    }
+    0
 }

@@ -1,6 +1,5 @@
 -- An accepted call: its verdict, and the net that it gives. Assumes nothing.
 use mathlib.Core.Path.{_≡_, refl, ap, _∙_}
-use mathlib.Core.List.{List}
 use Prim.Native.Nat.{ℕ, _*_, _/_}
 use native.Mathlib.Omega.{arith}
 use lib.ListN.{length}
@@ -9,7 +8,7 @@ use Rattle.nets.specs.Net.{Net}
 use Rattle.tables.proofs.Laws.{take-filled}
 use Rattle.nets.proofs.Laws.{same-net}
 use Rattle.verdict.specs.Call.{Call}
-use Rattle.verdict.specs.Verdict.{Verdict, accepted, refused, verdict, workAfter}
+use Rattle.verdict.specs.Verdict.{Verdict, accepted, refused, verdict}
 use Rattle.verdict.proofs.Accepted.{or-both, accepted-limits, accepted-net}
 use Rattle.scheme.specs.Step.{steps}
 use Rattle.splitting.specs.Splitting.{startNet}
@@ -18,15 +17,13 @@ use Rattle.splitting.proofs.Split.{start-refinable}
 use Rattle.schemelaws.specs.Nets.{Refinable}
 use Rattle.schemelaws.proofs.Steps.{refinable-steps}
 use Rattle.outcome.specs.Tally.{newPoints, tallyVerdict}
-use Rattle.outcome.specs.Outcome.{refinedTo, Request, forRounds, Outcome, callOf, requestVerdict, outcomeBy, outcome}
-use Rattle.nets.specs.Buffers.{Buffers, Letters}
-use Rattle.origins.specs.Origins.{letters}
+use Rattle.outcome.specs.Outcome.{refinedTo, Request, forRounds, Outcome, callOf, requestVerdict, refinedNet, outcomeBy, outcome}
 use Rattle.outcome.specs.SharedSegment.{AcceptedFor, netBy, netAfter}
 
 -- ---- the verdict behind the result
-pub by-result : (v : Verdict) (t d : ℕ) (n : Net) (s : List ℕ) (o : Buffers) (l : Letters) (w : List ℕ) (x y : ℕ) → outcomeBy v t d n s o l w .result ≡ refinedTo x y → v ≡ accepted
-by-result accepted t d n s o l w x y e = refl
-by-result (refused r p) t d n s o l w x y e = let z : _≡_ {A = ℕ} 0 1 = cc in absurd (omega arith)
+pub by-result : (v : Verdict) (a : Request) (n : Net) (x y : ℕ) → outcomeBy v a n .result ≡ refinedTo x y → v ≡ accepted
+by-result accepted a n x y e = refl
+by-result (refused r p) a n x y e = let z : _≡_ {A = ℕ} 0 1 = cc in absurd (omega arith)
 
 module _ (a : Request) (k : ℕ) (h : AcceptedFor a k) where
   abbrev c : Call
@@ -35,7 +32,7 @@ module _ (a : Request) (k : ℕ) (h : AcceptedFor a k) where
   accepted-request : requestVerdict (forRounds k a) ≡ accepted
   unfolding outcome
   accepted-request =
-      by-result (requestVerdict (forRounds k a)) (a .tally) (newPoints (a .tension) k (a .net)) (steps (tension (a .tension)) k (startNet (a .net))) (letters (tension (a .tension)) (a .net) k) (a .buffers) (a .letters) (workAfter c (a .buffers .work)) (h .vertices) (h .faces) (h .result)
+      by-result (requestVerdict (forRounds k a)) (forRounds k a) (refinedNet (forRounds k a)) (h .vertices) (h .faces) (h .result)
 
   both : (verdict c ≡ accepted) × (tallyVerdict (a .tally) (newPoints (a .tension) k (a .net)) ≡ accepted)
   unfolding requestVerdict
@@ -69,7 +66,7 @@ accepted-refinable c e = start-refinable (c .net) (accepted-drawn c e)
 -- ---- the net at the front of the outputs
 -- the outcome of the request for k rounds, were v the verdict and n the refined net
 abbrev pub given : Request → ℕ → Verdict → Net → Outcome
-given a k v n = outcomeBy v (a .tally) (newPoints (a .tension) k (a .net)) n (letters (tension (a .tension)) (a .net) k) (a .buffers) (a .letters) (workAfter (callOf (forRounds k a)) (a .buffers .work))
+given a k v n = outcomeBy v (forRounds k a) n
 
 module _ (a : Request) (k : ℕ) (e : requestVerdict (forRounds k a) ≡ accepted) where
   abbrev call : Call

@@ -23,7 +23,7 @@ use Rattle.splitting.specs.Splitting.{split, startNet}
 use Rattle.origins.specs.Origins.{newRule, startOrigin, originFrom, originAfter, letters}
 use Rattle.verdict.specs.Verdict.{Verdict, accepted, refused, tablesVerdict, sizeVerdict, roomVerdict, limitsVerdict, badCoordinate, coordinatesVerdict, vertexVerdict, adjacencyVerdict, facesVerdict, shapeVerdict, netVerdict, verdict}
 use Rattle.outcome.specs.Tally.{newPoints, tallyVerdict}
-use Rattle.outcome.specs.Outcome.{Request, request, requestVerdict, refusedOutcome, outcome}
+use Rattle.outcome.specs.Outcome.{refusedWith, Request, request, Outcome, outcomeOn, requestVerdict, outcome}
 use Rattle.outcome.specs.Series.{tallyAfter}
 
 abbrev zeros : ℕ → List ℤ
@@ -82,17 +82,21 @@ judged : verdicts ≡ accepted ∷ refused 15 0 ∷ refused 15 0 ∷ accepted �
 unfolding requestVerdict tallyVerdict newPoints steps step startNet split tabulate firstFrom first any count iterate quads from to opposed mate firstMet edgeCount edge corner refined refinedMarks shapeOf verdict limitsVerdict tablesVerdict sizeVerdict roomVerdict netVerdict coordinatesVerdict shapeVerdict facesVerdict adjacencyVerdict vertexVerdict badCoordinate badMark badCorner isolated repeatedSide nonManifold badValence markedRing isBoundaryFrom boundaryFrom leaves valence turn start stops facesMet
 judged = refl
 
+-- the outcome of a call from 3,999,999,996 points with place 0, where all but the work table is as found
+abbrev left : (number : ℕ) (work : List ℕ) → Outcome
+left r w = outcomeOn (refusedWith r 0) 3999999996 (tables 4 .vertices) (tables 4 .faces) (tables 4 .marks) [] w
+
 -- on 15 the outputs and the tally are as found, and the first 16G work numbers are zero; on 4 all is as found
-fifteen : outcome (request 3999999996 1 square 4 (tables 4) unasked) ≡ refusedOutcome 15 0 3999999996 (tables 4) unasked (copies 0 64 ++ copies 7 2)
+fifteen : outcome (request 3999999996 1 square 4 (tables 4) unasked) ≡ left 15 (copies 0 64 ++ copies 7 2)
 unfolding outcome requestVerdict tallyVerdict newPoints steps step startNet split tabulate firstFrom first any count iterate quads from to opposed mate firstMet edgeCount edge corner refined refinedMarks shapeOf verdict limitsVerdict tablesVerdict sizeVerdict roomVerdict netVerdict coordinatesVerdict shapeVerdict facesVerdict adjacencyVerdict vertexVerdict badCoordinate badMark badCorner isolated repeatedSide nonManifold badValence markedRing isBoundaryFrom boundaryFrom leaves valence turn start stops facesMet cleared filled
 fifteen = refl
 
-four : outcome (request 3999999996 2 square 4 (tables 4) unasked) ≡ refusedOutcome 4 0 3999999996 (tables 4) unasked (copies 7 66)
+four : outcome (request 3999999996 2 square 4 (tables 4) unasked) ≡ left 4 (copies 7 66)
 unfolding outcome requestVerdict tallyVerdict newPoints steps step startNet split tabulate firstFrom first any count iterate quads from to opposed mate firstMet edgeCount edge corner refined refinedMarks shapeOf verdict limitsVerdict tablesVerdict sizeVerdict roomVerdict netVerdict coordinatesVerdict shapeVerdict facesVerdict adjacencyVerdict vertexVerdict badCoordinate badMark badCorner isolated repeatedSide nonManifold badValence markedRing isBoundaryFrom boundaryFrom leaves valence turn start stops facesMet cleared filled
 four = refl
 
 -- so on 16
-sixteen : outcome (request 3999999996 1 square 5 (tables 4) unasked) ≡ refusedOutcome 16 0 3999999996 (tables 4) unasked (copies 7 66)
+sixteen : outcome (request 3999999996 1 square 5 (tables 4) unasked) ≡ left 16 (copies 7 66)
 unfolding outcome requestVerdict tallyVerdict newPoints steps step startNet split tabulate firstFrom first any count iterate quads from to opposed mate firstMet edgeCount edge corner refined refinedMarks shapeOf verdict limitsVerdict tablesVerdict sizeVerdict roomVerdict netVerdict coordinatesVerdict shapeVerdict facesVerdict adjacencyVerdict vertexVerdict badCoordinate badMark badCorner isolated repeatedSide nonManifold badValence markedRing isBoundaryFrom boundaryFrom leaves valence turn start stops facesMet cleared filled
 sixteen = refl
 

@@ -1,7 +1,7 @@
 -- The call on a moved net gives the moved net. Assumes nothing.
 use mathlib.Core.Path.{_≡_, refl, sym, ap, ap₂, _∙_}
 use mathlib.Core.List.{List, []}
-use Prim.Native.Nat.{ℕ}
+use Prim.Native.Nat.{ℕ, _+_}
 use lib.IntN.{ℤ}
 use Rattle.lists.specs.Tabulate.{tabulate}
 use Rattle.integers.specs.Within.{Within}
@@ -18,12 +18,12 @@ use Rattle.splitting.specs.Splitting.{startNet}
 use Rattle.splitting.proofs.Moved.{start-moved}
 use Rattle.origins.specs.Origins.{letters}
 use Rattle.origins.proofs.Letters.{same-letters}
-use Rattle.verdict.specs.Call.{Call}
+use Rattle.verdict.specs.Call.{Call, vertexCount, faceCount}
 use Rattle.verdict.specs.Verdict.{Verdict, accepted, refused, orElse, verdict, workAfter}
 use Rattle.verdict.proofs.Accepted.{accepted-tension, or-both}
 use Rattle.verdict.proofs.Coordinates.{same-verdict, same-work}
 use Rattle.outcome.specs.Tally.{newPoints, tallyVerdict}
-use Rattle.outcome.specs.Outcome.{Request, forRounds, Outcome, callOf, requestVerdict, outcomeBy, outcome}
+use Rattle.outcome.specs.Outcome.{refinedTo, refusedWith, Request, forRounds, Outcome, outcomeOn, callOf, requestVerdict, lettered, outcome}
 use Rattle.outcome.specs.SharedSegment.{resultAfter, netBy, netAfter}
 use Rattle.outcome.specs.Moved.{movedBy, MovedAfter, MovedNets}
 use Rattle.outcome.proofs.Tally.{same-points}
@@ -65,9 +65,15 @@ module _ (s : Point) (a : Request) (here : Within 1048576 (a .net .vertices)) (t
   one-work : workAfter (callOf (forRounds k (movedBy s a))) (a .buffers .work) ≡ workAfter c (a .buffers .work)
   one-work = same-work k (a .net .vertices) (movedVertices s (a .net .vertices)) (a .net .faces) (a .net .sides) (a .net .marks) (a .tension) (c .room) (moved-length s (a .net .vertices)) (a .buffers .work)
 
+  same-given : (v : Verdict) → given (movedBy s a) k v n′ ≡ given a k v n′
+  same-given accepted = λ i.
+      outcomeOn (refinedTo (vertexCount n′) (faceCount n′)) (a .tally + one-figure i) (filled (n′ .vertices) (a .buffers .vertices)) (filled (n′ .faces) (a .buffers .faces)) (filled (n′ .marks) (a .buffers .marks))
+      (lettered (one-letters i) (a .letters)) (one-work i)
+  same-given (refused r p) = λ i. outcomeOn (refusedWith r p) (a .tally) (a .buffers .vertices) (a .buffers .faces) (a .buffers .marks) (a .letters .table) (one-work i)
+
   moved-given : (v : Verdict) → requestVerdict (forRounds k a) ≡ v → resultAfter (movedBy s a) k ≡ given a k v n′
   unfolding outcome
-  moved-given v e = λ i. outcomeBy ((one-verdict ∙ e) i) (a .tally) (one-figure i) n′ (one-letters i) (a .buffers) (a .letters) (one-work i)
+  moved-given v e = ap (λ (u : Verdict). given (movedBy s a) k u n′) (one-verdict ∙ e) ∙ same-given v
 
   here-given : (v : Verdict) → requestVerdict (forRounds k a) ≡ v → resultAfter a k ≡ given a k v n
   unfolding outcome

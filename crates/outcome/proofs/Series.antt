@@ -4,39 +4,33 @@ use mathlib.Core.List.{List, [], _∷_}
 use Prim.Native.Nat.{ℕ, _+_, _≤_}
 use native.Mathlib.Omega.{arith}
 use lib.ListN.{length}
-use Rattle.curve.specs.Weights.{tension}
-use Rattle.nets.specs.Net.{ControlNet}
-use Rattle.nets.specs.Buffers.{Buffers, Letters}
-use Rattle.scheme.specs.Step.{steps}
-use Rattle.splitting.specs.Splitting.{startNet}
-use Rattle.origins.specs.Origins.{letters}
-use Rattle.verdict.specs.Verdict.{Verdict, accepted, refused, verdict, workAfter}
+use Rattle.verdict.specs.Verdict.{Verdict, accepted, refused, verdict}
 use Rattle.verdict.proofs.Accepted.{or-both}
 use Rattle.outcome.specs.Tally.{newPoints, tallyVerdict}
-use Rattle.outcome.specs.Outcome.{refinedTo, refusedWith, Request, fromTally, Outcome, callOf, toAdd, requestVerdict, outcomeBy, outcome}
+use Rattle.outcome.specs.Outcome.{refinedTo, refusedWith, Request, fromTally, Outcome, callOf, toAdd, requestVerdict, refinedNet, outcomeBy, outcome}
 use Rattle.outcome.specs.Series.{TallyByReport, tallyAfter, acceptedOf, pointsOf, TallyIsSum}
 use Rattle.outcome.proofs.Counts.{control-among}
 use Rattle.outcome.proofs.Tally.{tally-le}
 
 -- ---- one call, by its verdict
-module _ (t : ℕ) (m : ControlNet) (k tally : ℕ) (o : Buffers) (l : Letters) (w : List ℕ) where
+module _ (a : Request) where
   abbrev by : Verdict → Outcome
-  by v = outcomeBy v tally (newPoints t k m) (steps (tension t) k (startNet m)) (letters (tension t) m k) o l w
+  by v = outcomeBy v a (refinedNet a)
 
-  adds-by : (v : Verdict) (x y : ℕ) → by v .result ≡ refinedTo x y → by v .tally + length (m .marks) ≡ tally + x
+  adds-by : (v : Verdict) (x y : ℕ) → by v .result ≡ refinedTo x y → by v .tally + length (a .net .marks) ≡ a .tally + x
   unfolding newPoints
-  adds-by accepted x y e = let d = control-among t m k in let z : length (steps (tension t) k (startNet m) .marks) ≡ x = cc in omega arith
+  adds-by accepted x y e = let d = control-among (a .tension) (a .net) (a .rounds) in let z : length (refinedNet a .marks) ≡ x = cc in omega arith
   adds-by (refused r p) x y e = let z : _≡_ {A = ℕ} 0 1 = cc in absurd (omega arith)
 
-  keeps-by : (v : Verdict) (x y : ℕ) → by v .result ≡ refusedWith x y → by v .tally ≡ tally
+  keeps-by : (v : Verdict) (x y : ℕ) → by v .result ≡ refusedWith x y → by v .tally ≡ a .tally
   keeps-by accepted x y e = let z : _≡_ {A = ℕ} 0 1 = cc in absurd (omega arith)
   keeps-by (refused r p) x y e = refl
 
 pub tally-by-report : TallyByReport
 unfolding outcome
 tally-by-report = record {
-  adds = λ a v f e. adds-by (a .tension) (a .net) (a .rounds) (a .tally) (a .buffers) (a .letters) (workAfter (callOf a) (a .buffers .work)) (requestVerdict a) v f e;
-  keeps = λ a r p e. keeps-by (a .tension) (a .net) (a .rounds) (a .tally) (a .buffers) (a .letters) (workAfter (callOf a) (a .buffers .work)) (requestVerdict a) r p e;
+  adds = λ a v f e. adds-by a (requestVerdict a) v f e;
+  keeps = λ a r p e. keeps-by a (requestVerdict a) r p e;
 }
 
 -- ---- a series
@@ -45,7 +39,7 @@ module _ (tally : ℕ) (a : Request) where
   b = fromTally tally a
 
   abbrev given : Verdict → Outcome
-  given v = outcomeBy v tally (toAdd a) (steps (tension (a .tension)) (a .rounds) (startNet (a .net))) (letters (tension (a .tension)) (a .net) (a .rounds)) (a .buffers) (a .letters) (workAfter (callOf b) (a .buffers .work))
+  given v = outcomeBy v b (refinedNet a)
 
   -- the outcome by its verdict
   is-given : (v : Verdict) → requestVerdict b ≡ v → outcome (fromTally tally a) ≡ given v

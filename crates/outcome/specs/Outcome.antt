@@ -1,11 +1,12 @@
 -- What a refining call answers and leaves in the caller's tally and tables, on every input.
-use mathlib.Core.Bool.{cond}
+use mathlib.Core.Bool.{Bool, cond}
 use mathlib.Core.List.{List}
 use Prim.Native.Nat.{ℕ, _+_}
+use lib.IntN.{ℤ}
 use lib.ListN.{length}
 use Rattle.curve.specs.Weights.{tension}
-use Rattle.nets.specs.Net.{Net, ControlNet}
-use Rattle.nets.specs.Buffers.{Buffers, buffers, Letters}
+use Rattle.nets.specs.Net.{Net, ControlNet, controlNet}
+use Rattle.nets.specs.Buffers.{Buffers, buffers, Letters, letterTable}
 use Rattle.tables.specs.Tables.{filled}
 use Rattle.verdict.specs.Call.{Room, room, Call, call, vertexCount, faceCount}
 use Rattle.verdict.specs.Verdict.{Verdict, accepted, refused, orElse, verdict, workAfter}
@@ -46,6 +47,19 @@ pub record Outcome : Type 0 where
   pub buffers : Buffers
   pub letters : List ℕ
 
+-- ---- by the parameters of a call, in its order
+
+-- the request that they make, with the tables as the call finds them
+abbrev pub requestOn : (tally rounds : ℕ) (vertices : List ℤ) (faces sides marks : List ℕ) (tension : ℕ) (outVertices : List ℤ) (outFaces outMarks : List ℕ) (withLetters : Bool) (letters work : List ℕ) → Request
+requestOn tally rounds vertices faces sides marks tension outVertices outFaces outMarks withLetters letters work =
+    request tally rounds (controlNet vertices faces sides marks) tension (buffers outVertices outFaces outMarks work) (letterTable withLetters letters)
+
+-- the outcome, with the tables as the call leaves them
+abbrev pub outcomeOn : Result → (tally : ℕ) (outVertices : List ℤ) (outFaces outMarks letters work : List ℕ) → Outcome
+outcomeOn result tally outVertices outFaces outMarks letters work = record { result = result; tally = tally; buffers = buffers outVertices outFaces outMarks work; letters = letters }
+
+-- ---- what a request asks for, and gives
+
 -- how much the caller's tables hold
 abbrev pub roomOf : Buffers → Letters → Room
 roomOf o l = room (length (o .vertices)) (length (o .faces)) (length (o .marks)) (l .asked) (length (l .table)) (length (o .work))
@@ -66,27 +80,28 @@ requestVerdict a = orElse (verdict (callOf a)) (tallyVerdict (a .tally) (toAdd a
 abbrev pub lettered : List ℕ → Letters → List ℕ
 lettered s l = cond (l .asked) (filled s (l .table)) (l .table)
 
+-- the rounds of paper 01 start from the net that the split gives, or from the drawn net itself
+abbrev pub refinedNet : Request → Net
+refinedNet a = steps (tension (a .tension)) (a .rounds) (startNet (a .net))
+
+-- on 15 "tables left as after 5"
+abbrev pub workLeft : Request → List ℕ
+workLeft a = workAfter (callOf a) (a .buffers .work)
+
 -- "An accepted call fills the refined vertices, faces and marks from the front, reports both counts, leaves the first 16G work numbers zero and the rest of
--- every output as found." The tally is then t, and s are the letters.
-abbrev pub refinedOutcome : (tally : ℕ) → Net → (s : List ℕ) → Buffers → Letters → List ℕ → Outcome
-refinedOutcome t n s o l w = record {
-  result = refinedTo (vertexCount n) (faceCount n);
-  tally = t;
-  buffers = buffers (filled (n .vertices) (o .vertices)) (filled (n .faces) (o .faces)) (filled (n .marks) (o .marks)) w;
-  letters = lettered s l;
-}
+-- every output as found." n is the refined net. Paper 02: "An accepted call adds refined vertices minus drawn vertices"
+abbrev pub refinedOutcome : Request → (n : Net) → Outcome
+refinedOutcome a n =
+    outcomeOn (refinedTo (vertexCount n) (faceCount n)) (a .tally + toAdd a) (filled (n .vertices) (a .buffers .vertices)) (filled (n .faces) (a .buffers .faces)) (filled (n .marks) (a .buffers .marks))
+    (lettered (letters (tension (a .tension)) (a .net) (a .rounds)) (a .letters)) (workLeft a)
 
--- "outputs untouched" on every refusal; the tally is then t
-abbrev pub refusedOutcome : (number place tally : ℕ) → Buffers → Letters → List ℕ → Outcome
-refusedOutcome r p t o l w = record { result = refusedWith r p; tally = t; buffers = buffers (o .vertices) (o .faces) (o .marks) w; letters = l .table }
+-- "outputs untouched" on every refusal. Paper 02: "a refused call adds nothing."
+abbrev pub refusedOutcome : Request → (number place : ℕ) → Outcome
+refusedOutcome a r p = outcomeOn (refusedWith r p) (a .tally) (a .buffers .vertices) (a .buffers .faces) (a .buffers .marks) (a .letters .table) (workLeft a)
 
--- Paper 02: "An accepted call adds refined vertices minus drawn vertices; a refused call adds nothing."
-abbrev pub outcomeBy : Verdict → (tally new : ℕ) → Net → (s : List ℕ) → Buffers → Letters → List ℕ → Outcome
-outcomeBy accepted t new n s o l w = refinedOutcome (t + new) n s o l w
-outcomeBy (refused r p) t new n s o l w = refusedOutcome r p t o l w
+abbrev pub outcomeBy : Verdict → Request → (n : Net) → Outcome
+outcomeBy accepted a n = refinedOutcome a n
+outcomeBy (refused r p) a n = refusedOutcome a r p
 
--- the rounds of paper 01 start from the net that the split gives, or from the drawn net itself; on 15 "tables left as after 5"
 unfoldable pub outcome : Request → Outcome
-outcome a =
-    outcomeBy (requestVerdict a) (a .tally) (toAdd a) (steps (tension (a .tension)) (a .rounds) (startNet (a .net))) (letters (tension (a .tension)) (a .net) (a .rounds)) (a .buffers) (a .letters)
-    (workAfter (callOf a) (a .buffers .work))
+outcome a = outcomeBy (requestVerdict a) a (refinedNet a)

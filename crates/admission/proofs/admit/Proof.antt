@@ -6,8 +6,8 @@ use lib.ListN.{length}
 use Rattle.nets.specs.Net.{ControlNet}
 use Rattle.verdict.specs.Call.{Room, call, quadrilaterals}
 use Rattle.verdict.specs.Verdict.{accepted, callVerdict}
-use Rattle.limits.specs.Answer.{FinalFaces}
-use Rattle.admission.specs.Answer.{verdictOf}
+use Rattle.limits.specs.Answer.{roomIn, FinalFaces}
+use Rattle.examination.specs.Examine.{verdictOf}
 use Rattle.admission.proofs.Laws.{passed, refused-limits, shape-room, check-tables, room-work, admitted-net, refused-net}
 use borrow.Author.Needs.{needs}
 use Rattle.admission.proofs.admit.Statement.{statement}
@@ -17,7 +17,7 @@ abbrev net : tie.Start → ControlNet
 net s = record { vertices = s .args .vertices .now; faces = s .args .faces .now; sides = s .args .sides .now; marks = s .args .marks .now }
 
 abbrev room : tie.Start → Room
-room s = record { vertices = s .args .out-vertices; faces = s .args .out-faces; marks = s .args .out-marks; asked = s .args .with-letters; letters = s .args .letters; work = length (s .args .work .now) }
+room s = roomIn (s .args .room)
 
 -- past the limits
 abbrev start : tie.Else1 → tie.Start
@@ -63,13 +63,13 @@ final-faces-requires : tie.Need-final-faces-requires
 final-faces-requires c κs = search needs
 
 build-shape-requires : tie.Need-build-shape-requires
-build-shape-requires c κs = let x = c .before .before .before in let s = start x in shape-room (s .args .rounds) (net s) (s .args .tension) (room s) (s .args .work .now) (past x) refl
+build-shape-requires c κs = let x = c .before .before .before in let s = start x in shape-room (s .args .rounds) (net s) (s .args .tension) (room s) (s .args .work .now) (past x) (s .pre)
 
 examine-net-requires : tie.Need-examine-net-requires
 examine-net-requires c κs =
     let b = c .before .before .before in
     let s = start (opened b) in
-    check-tables (s .args .rounds) (net s) (s .args .tension) (room s) (s .args .work .now) (past (opened b)) (shaped b) (b .build-shape .ensures) (kept b) refl
+    check-tables (s .args .rounds) (net s) (s .args .tension) (room s) (s .args .work .now) (past (opened b)) (shaped b) (b .build-shape .ensures) (kept b) (s .pre)
 
 enum-told : tie.Need-enum-told
 enum-told c = search needs
@@ -85,7 +85,7 @@ clear-requires c κs =
     let x = c .before .before .before .before .before .before in
     let b = built x in
     let s = start (opened b) in
-    room-work (s .args .rounds) (net s) (s .args .tension) (room s) (s .args .work .now) (past (opened b)) (shaped b) (b .build-shape .ensures) (kept b) _ (final b) (examined x) (x .examine-net .ensures .rest) refl
+    room-work (s .args .rounds) (net s) (s .args .tension) (room s) (s .args .work .now) (past (opened b)) (shaped b) (b .build-shape .ensures) (kept b) _ (final b) (examined x) (x .examine-net .ensures .rest) (s .pre)
     (x .examine-net .kept .1 .1 .1 .1 .0)
 
 same-length : tie.Need-same-length

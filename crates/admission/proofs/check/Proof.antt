@@ -6,6 +6,7 @@ use native.Mathlib.Omega.{arith}
 use lib.ListN.{length}
 use Rattle.nets.specs.Net.{ControlNet}
 use Rattle.verdict.specs.Call.{Room, Call}
+use Rattle.limits.specs.Answer.{roomIn}
 use Rattle.admission.specs.declared.Admission.{Admission}
 use Rattle.admission.specs.Admission.{Admits}
 use Rattle.admission.proofs.Laws.{admitted-faces, admitted-room, checked-admitted, checked-refused}
@@ -17,7 +18,7 @@ abbrev net : tie.Start → ControlNet
 net s = record { vertices = s .args .vertices .now; faces = s .args .faces .now; sides = s .args .sides .now; marks = s .args .marks .now }
 
 abbrev room : tie.Start → Room
-room s = record { vertices = s .args .out-vertices; faces = s .args .out-faces; marks = s .args .out-marks; asked = s .args .with-letters; letters = s .args .letters; work = length (s .args .work .now) }
+room s = roomIn (s .args .room)
 
 -- after the admission: the call, and what is left of its work table
 abbrev start : tie.After-admit → tie.Start
@@ -27,7 +28,7 @@ abbrev called : tie.After-admit → Call
 called x = record { rounds = start x .args .rounds; net = net (start x); tension = start x .args .tension; room = room (start x) }
 
 abbrev left : tie.After-admit → List ℕ
-left x = x .admit .last .1 .1 .1 .1 .1 .1 .1 .1 .1 .1 .1 .0
+left x = x .admit .last .1 .1 .1 .1 .1 .1 .1 .0
 
 admits : (x : tie.After-admit) (a : Admission) → x .admit .result ≡ a → Admits (called x) (start x .args .work .now) a (left x)
 admits x a e = subst (λ (b : Admission). Admits (called x) (start x .args .work .now) b (left x)) e (x .admit .ensures)
@@ -46,7 +47,7 @@ clear-requires c κs =
     let x = c .before .before .before .before .before .before in
     let a = admits x _ (c .before .before .g .given .1) in
     let b = admitted-room (called x) _ (left x) (a .0) in
-    let k = x .admit .kept .1 .1 .1 .1 .1 .1 .1 .1 .1 .1 .1 .0 in
+    let k = x .admit .kept .1 .1 .1 .1 .1 .1 .1 .0 in
     omega arith
 
 enum-known-number : tie.Need-enum-known-number

@@ -5,9 +5,9 @@ use borrow.Author.Needs.{needs}
 use borrow.Author.Tests.{lt-ltb, le-ltb, eq-eqb, ne-eqb}
 use lib.Dec.{ltb}
 use Rattle.verdict.specs.Verdict.{Verdict, accepted, refused, orElse, refusedIf}
 use Rattle.limits.specs.Answer.{limitsOf}
-use Rattle.admission.proofs.call_fault.Statement.{statement}
-use Rattle.admission.proofs.call_fault.Tie as tie
+use Rattle.limits.proofs.call_fault.Statement.{statement}
+use Rattle.limits.proofs.call_fault.Tie as tie
 
 by-limits : (v : Verdict) (t f : ℕ) → v ≡ limitsOf f → (f ≡ 0 → ⊥) → orElse v (refusedIf 16 (ltb 4 t)) ≡ limitsOf f
 by-limits v t f e n = let z = ne-eqb f 0 n in let k : v ≡ refused f 0 = e ∙ rw z refl in rw (k, z) refl

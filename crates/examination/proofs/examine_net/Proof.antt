@@ -1,12 +1,12 @@
--- `admission::examine_net` meets its contract: the coordinates, then the shape. Assumes nothing.
+-- `examination::examine_net` meets its contract: the coordinates, then the shape. Assumes nothing.
 use mathlib.Core.Path.{refl}
 use Prim.Native.Nat.{_/_}
 use lib.ListN.{length}
 use Rattle.verdict.specs.Verdict.{badCoordinate, coordinatesVerdict, netVerdict}
 use Rattle.verdict.proofs.Accepted.{never, at-hit, at-pass}
 use borrow.Author.Needs.{needs}
-use Rattle.admission.proofs.examine_net.Statement.{statement}
-use Rattle.admission.proofs.examine_net.Tie as tie
+use Rattle.examination.proofs.examine_net.Statement.{statement}
+use Rattle.examination.proofs.examine_net.Tie as tie
 
 abbrev start : tie.After-first-bad-coordinate → tie.Start
 start x = x .before .before .before .before .before

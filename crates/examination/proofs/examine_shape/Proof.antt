@@ -1,14 +1,14 @@
--- `admission::examine_shape` meets its contract: the tests in their order. Assumes nothing.
+-- `examination::examine_shape` meets its contract: the tests in their order. Assumes nothing.
 use mathlib.Core.Path.{refl, ap, _∙_}
 use lib.ListN.{length}
 use Rattle.refusals.specs.Refusals.{badMark, badCorner}
 use Rattle.polygons.specs.Polygons.{shapeOf}
 use Rattle.verdict.specs.Verdict.{refused, shapeVerdict}
 use Rattle.verdict.proofs.Accepted.{never, at-hit, at-pass}
-use Rattle.admission.proofs.Laws.{all}
+use Rattle.examination.proofs.Laws.{all}
 use borrow.Author.Needs.{needs}
-use Rattle.admission.proofs.examine_shape.Statement.{statement}
-use Rattle.admission.proofs.examine_shape.Tie as tie
+use Rattle.examination.proofs.examine_shape.Statement.{statement}
+use Rattle.examination.proofs.examine_shape.Tie as tie
 
 abbrev start : tie.After-first-bad-mark → tie.Start
 start x = x .before .before .before .before .before

@@ -1,4 +1,4 @@
--- `admission::examine_adjacency` meets its contract: refusal 9, then the vertices. Assumes nothing.
+-- `examination::examine_adjacency` meets its contract: refusal 9, then the vertices. Assumes nothing.
 use mathlib.Core.Path.{_≡_, ap, _∙_}
 use lib.ListN.{length}
 use Rattle.search.specs.Search.{first}
@@ -9,8 +9,8 @@ use Rattle.verdict.proofs.Accepted.{never, at-hit, at-pass}
 use Rattle.adjacency.proofs.Chains.{tables-lawful}
 use Rattle.slots.proofs.Repeats.{repeats-first}
 use borrow.Author.Needs.{needs}
-use Rattle.admission.proofs.examine_adjacency.Statement.{statement}
-use Rattle.admission.proofs.examine_adjacency.Tie as tie
+use Rattle.examination.proofs.examine_adjacency.Statement.{statement}
+use Rattle.examination.proofs.examine_adjacency.Tie as tie
 
 abbrev start : tie.After-link → tie.Start
 start x = x .before .before .before .before .before .before

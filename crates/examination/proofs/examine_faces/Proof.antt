@@ -1,4 +1,4 @@
--- `admission::examine_faces` meets its contract: refusal 8, then the sides. Assumes nothing.
+-- `examination::examine_faces` meets its contract: refusal 8, then the sides. Assumes nothing.
 use mathlib.Core.Path.{_∙_}
 use Prim.Native.Nat.{_*_, _≤_}
 use native.Mathlib.Omega.{arith}
@@ -11,10 +11,10 @@ use Rattle.lists.proofs.Parts.{drop-later}
 use Rattle.verdict.proofs.Accepted.{never, at-hit, at-pass}
 use Rattle.adjacency.specs.Chains.{Tables, CornersBelow}
 use Rattle.adjacency.proofs.Chains.{tables-kept, corners-below-if}
-use Rattle.admission.proofs.Laws.{all, joined, chain-tables, empty-faces, lonely-vertex}
+use Rattle.examination.proofs.Laws.{all, joined, chain-tables, empty-faces, lonely-vertex}
 use borrow.Author.Needs.{needs}
-use Rattle.admission.proofs.examine_faces.Statement.{statement}
-use Rattle.admission.proofs.examine_faces.Tie as tie
+use Rattle.examination.proofs.examine_faces.Statement.{statement}
+use Rattle.examination.proofs.examine_faces.Tie as tie
 
 abbrev start : tie.After-build-chains → tie.Start
 start x = x .before .before .before .before .before .before .before .before

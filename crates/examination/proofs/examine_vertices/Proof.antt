@@ -1,4 +1,4 @@
--- `admission::examine_vertices` meets its contract: the tests in their order. Assumes nothing.
+-- `examination::examine_vertices` meets its contract: the tests in their order. Assumes nothing.
 use mathlib.Core.Path.{_≡_}
 use lib.ListN.{length}
 use Rattle.polygons.specs.Polygons.{shapeOf}
@@ -6,8 +6,8 @@ use Rattle.refusals.specs.Refusals.{nonManifold, badValence, markedRing}
 use Rattle.verdict.specs.Verdict.{Verdict, refusedAt, vertexVerdict}
 use Rattle.verdict.proofs.Accepted.{at-hit, at-pass, last-hit, last-pass}
 use borrow.Author.Needs.{needs}
-use Rattle.admission.proofs.examine_vertices.Statement.{statement}
-use Rattle.admission.proofs.examine_vertices.Tie as tie
+use Rattle.examination.proofs.examine_vertices.Statement.{statement}
+use Rattle.examination.proofs.examine_vertices.Tie as tie
 
 abbrev start : tie.After-first-non-manifold → tie.Start
 start x = x .before .before .before .before .before
