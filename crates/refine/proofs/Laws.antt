@@ -12,11 +12,11 @@ use Rattle.lists.proofs.Parts.{drop-later}
 use Rattle.curve.specs.Weights.{tension}
 use Rattle.integers.specs.Within.{Within}
 use Rattle.nets.specs.Net.{Net, ControlNet}
-use Rattle.tables.specs.Tables.{filled}
+use Rattle.tables.specs.Tables.{filled, cleared}
 use Rattle.tables.proofs.Laws.{length-filled, take-filled, filled-over, cleared-over}
 use Rattle.nets.proofs.Laws.{same-net}
 use Rattle.polygons.specs.Polygons.{Sided}
-use Rattle.verdict.specs.Call.{lengthsOf, Call, call, quadrilaterals}
+use Rattle.verdict.specs.Call.{lengthsOf, Call, quadrilaterals}
 use Rattle.verdict.proofs.Accepted.{by-sides, WithinLimits, accepted-limits, accepted-tension, accepted-coordinate}
 use Rattle.scheme.specs.Step.{steps}
 use Rattle.schemelaws.specs.Nets.{Refinable}
@@ -25,19 +25,26 @@ use Rattle.admission.specs.Admission.{AdmittedCall}
 use Rattle.admission.proofs.Laws.{admitted-faces, admitted-room}
 use Rattle.origins.specs.Origins as origins
 use Rattle.letters.specs.Letters.{startLetter, WrittenIf}
-use Rattle.outcome.specs.Outcome.{roomOf, lettered}
-use Rattle.nets.specs.Buffers.{Buffers, front, Letters}
+use Rattle.outcome.specs.Outcome.{Request, callOf, lettered}
+use Rattle.nets.specs.Buffers.{Buffers, buffers, front, Letters}
 use Rattle.splitting.specs.Splitting.{startNet}
 use Rattle.splitting.specs.Drawn.{Drawn}
-use Rattle.splitting.proofs.Split.{split-corners, start-none, start-split, start-grows}
+use Rattle.splitting.proofs.Split.{start-grows}
 use Rattle.splitting.proofs.Growth.{start-within}
 use Rattle.splitting.proofs.Room.{start-vertices-le}
 use Rattle.outcome.proofs.Accepted.{accepted-drawn, accepted-refinable}
 use Rattle.outcome.proofs.Counts.{zero-steps, more-vertices, corners-grown, start-four, start-corners}
 use Rattle.loading.specs.Loading.{Loadable, Loaded}
-use Rattle.rounds.specs.Rounds.{Prepared, LettersFit, LettersAfter}
-use Rattle.refine.specs.Run.{Ran, Finished, Finishing}
+use Rattle.rounds.specs.Rounds.{Prepared, After, LettersFit, LettersAfter}
 use Rattle.refine.proofs.Naming.{lettered-all}
+
+-- the tables o′ after k rounds at tension t on the net m, from the tables o, and the final number of vertices; `last` is the final number of faces
+pub record Ran (t k : ℕ) (m : ControlNet) (o o′ : Buffers) (last r : ℕ) : Type 0 where
+  pub count : r ≡ length (steps (tension t) k (startNet m) .marks)
+  pub vertices : o′ .vertices ≡ filled (steps (tension t) k (startNet m) .vertices) (o .vertices)
+  pub faces : o′ .faces ≡ filled (steps (tension t) k (startNet m) .faces) (o .faces)
+  pub marks : o′ .marks ≡ filled (steps (tension t) k (startNet m) .marks) (o .marks)
+  pub work : o′ .work ≡ cleared (16 * last) (o .work)
 
 -- corners are four to a face
 pub by-faces : (n p : ℕ) → n % 4 ≡ 0 → n * p ≡ 4 * (n / 4 * p)
@@ -47,10 +54,25 @@ corners-le : (s : List ℕ) (n : ℕ) → Sided s n → n ≤ 4 * quadrilaterals
 corners-le [] n k = let f = k .fours refl in omega arith
 corners-le (c ∷ s) n k = omega arith
 
--- ---- k rounds on the control net, from the tables o
-module _ (k : ℕ) (control : ControlNet) (t : ℕ) (o : Buffers) (letters : Letters) (last : ℕ) (ok : AdmittedCall (call k control t (roomOf o letters)) last (o .work)) where
+-- ---- an admitted request
+module _ (a : Request) (last : ℕ) (ok : AdmittedCall (callOf a) last (a .buffers .work)) where
   abbrev asked : Call
-  asked = call k control t (roomOf o letters)
+  asked = callOf a
+
+  abbrev k : ℕ
+  k = a .rounds
+
+  abbrev t : ℕ
+  t = a .tension
+
+  abbrev control : ControlNet
+  control = a .net
+
+  abbrev o : Buffers
+  o = a .buffers
+
+  abbrev letters : Letters
+  letters = a .letters
 
   abbrev m : Net
   m = startNet control
@@ -117,12 +139,9 @@ module _ (k : ℕ) (control : ControlNet) (t : ℕ) (o : Buffers) (letters : Let
         shaped = ok .shaped;
       }
 
-  -- corners where refining begins, without side counts and with them
-  pub corners-plain : length (control .sides) ≡ 0 → length (control .faces) ≡ length (m .faces)
-  corners-plain z = sym (ap (λ (y : Net). length (y .faces)) (start-none control z))
-
-  pub corners-split : (length (control .sides) ≡ 0 → ⊥) → 4 * length (control .faces) ≡ length (m .faces)
-  corners-split z = sym (ap (λ (y : Net). length (y .faces)) (start-split control (omega arith)) ∙ split-corners control)
+  -- corners where refining begins
+  pub corners-start : 4 * quadrilaterals (control .sides) (length (control .faces)) ≡ length (m .faces)
+  corners-start = sym (start-four control (limits .sided))
 
   pub corners-limit : length (control .faces) ≤ 16384
   corners-limit = loadable .few
@@ -136,15 +155,15 @@ module _ (k : ℕ) (control : ControlNet) (t : ℕ) (o : Buffers) (letters : Let
 
   -- the letter table has room for all vertices, where letters are asked for
   pub letters-fit : (n : ℕ) → n ≡ length (m .faces) → LettersFit (letters .asked) (n * 4 ^ k) (letters .table)
-  letters-fit n e a =
-      let r = limits .roomLetters a in
+  letters-fit n e h =
+      let r = limits .roomLetters h in
       let s = size in
       let f = ok .final in
       let g : n * 4 ^ k ≡ length (m .faces) * 4 ^ k = ap (λ (j : ℕ). j * 4 ^ k) e in
       omega arith
 
   pub start-fits : letters .asked ≡ true → (length (control .marks) ≤ length (m .marks)) × (length (m .marks) ≤ length (letters .table))
-  start-fits a = (start-grows control, omega (arith, letters-fit _ refl a, once, vertices-le))
+  start-fits h = (start-grows control, omega (arith, letters-fit _ refl h, once, vertices-le))
 
   module _ (B : Buffers) (r n : ℕ) (x : Loaded control o B r) (long : length (B .work) ≡ length (o .work)) (corners-are : n ≡ length (m .faces)) where
     front-is : front r n B ≡ m
@@ -156,7 +175,7 @@ module _ (k : ℕ) (control : ControlNet) (t : ℕ) (o : Buffers) (letters : Let
         (ap (take n) (x .faces) ∙ take-filled (m .faces) (o .faces) n d)
         (ap (take r) (x .marks) ∙ take-filled (m .marks) (o .marks) r c)
 
-    prepared : Prepared t k r n last B
+    pub prepared : Prepared t k r n last B
     prepared =
         let w = limits in
         let b = w .roomVertices in
@@ -190,23 +209,17 @@ module _ (k : ℕ) (control : ControlNet) (t : ℕ) (o : Buffers) (letters : Let
           mated = rw (ap (λ (j : Net). j .faces) front-is) (x .mated);
         }
 
-    pub finishing : Finishing t k r n last B
-    finishing = record { prepared = prepared; few = last-le; room = (let a = room-work in omega arith) }
-
-    module _ (v : ℕ) (u : Buffers) (x₂ : Finished t k r n last v B u) where
+    module _ (v : ℕ) (u : Buffers) (b : After t k r n v B u) where
       -- the letters of the vertices where refining begins, then those of the rounds
       pub letters-ran : (s₁ s₂ : List ℕ) → length s₂ ≡ length (letters .table) → WrittenIf (letters .asked) 0 r (startLetter (length (control .marks))) (letters .table) s₁
           → LettersAfter (letters .asked) t k r v (front r n B) s₁ s₂ → s₂ ≡ lettered (origins.letters (tension t) control k) letters
       letters-ran s₁ s₂ e y z =
-          let b = x₂ .after in
           let c : v ≡ length (steps (tension t) k m .marks) = b .count ∙ ap (λ (y : Net). length (steps (tension t) k y .marks)) front-is in
           let f = b .fewer in
           lettered-all t k control r v (x .count) c (letters .table) s₁ s₂ e (letters .asked) (λ a. omega (arith, letters-fit n corners-are a)) y (subst (λ (q : Net). LettersAfter (letters .asked) t k r v q s₁ s₂) front-is z)
 
-      pub ran : Ran t k control o u last v
-      ran =
-          let b = x₂ .after in
-          let z = x₂ .work in
+      pub ran : (w : List ℕ) → w ≡ cleared (16 * last) (u .work) → Ran t k control o (buffers (u .vertices) (u .faces) (u .marks) w) last v
+      ran w z =
           let q = refinable .threes in
           let j = refinable-steps (tension t) m refinable k .threes in
           let i = start-fewer in
@@ -220,6 +233,6 @@ module _ (k : ℕ) (control : ControlNet) (t : ℕ) (o : Buffers) (letters : Let
             vertices = b .newPoints ∙ ap₂ (λ (y : Net) (l : List ℤ). filled (steps (tension t) k y .vertices) l) front-is (x .vertices) ∙ filled-over _ _ (o .vertices) (omega arith);
             faces = b .newFaces ∙ ap₂ (λ (y : Net) (l : List ℕ). filled (steps (tension t) k y .faces) l) front-is (x .faces) ∙ filled-over _ _ (o .faces) (omega arith);
             marks = b .newMarks ∙ ap₂ (λ (y : Net) (l : List ℕ). filled (steps (tension t) k y .marks) l) front-is (x .marks) ∙ filled-over _ _ (o .marks) i;
-            work = z ∙ cleared-over (16 * last) (o .work) (x₂ .before)
-                (drop-later (3 * (n * 4 ^ k)) (16 * last) (x₂ .before) (B .work) (omega arith) (b .rest) ∙ drop-later (4 * length (m .faces)) (16 * last) (B .work) (o .work) (omega arith) (x .rest));
+            work = z ∙ cleared-over (16 * last) (o .work) (u .work)
+                (drop-later (3 * (n * 4 ^ k)) (16 * last) (u .work) (B .work) (omega arith) (b .rest) ∙ drop-later (4 * length (m .faces)) (16 * last) (B .work) (o .work) (omega arith) (x .rest));
           }

@@ -2,11 +2,9 @@
 use mathlib.Core.Path.{_≡_, _∙_, subst}
 use mathlib.Core.List.{List}
 use Prim.Native.Nat.{ℕ}
-use Rattle.nets.specs.Net.{controlNet}
 use Rattle.admission.specs.declared.Admission.{Admission}
 use Rattle.admission.specs.Admission.{Admits}
-use Rattle.outcome.specs.Outcome.{Request, request, callOf}
-use Rattle.nets.specs.Buffers.{buffers, letterTable}
+use Rattle.outcome.specs.Outcome.{Request, requestOn, callOf}
 use Rattle.refine.proofs.Whole.{admitted-work, same-outcome, refused-outcome}
 use borrow.Author.Needs.{needs}
 use Rattle.refine.proofs.refine.Statement.{statement}
@@ -14,15 +12,15 @@ use Rattle.refine.proofs.refine.Tie as tie
 
 abbrev asked : tie.Start → Request
 asked s =
-    request (s .args .points) (s .args .rounds) (controlNet (s .args .vertices .now) (s .args .faces .now) (s .args .sides .now) (s .args .marks .now)) (s .args .tension)
-    (buffers (s .args .out-vertices .now) (s .args .out-faces .now) (s .args .out-marks .now) (s .args .work .now)) (letterTable (s .args .with-letters) (s .args .letters .now))
+    requestOn (s .args .points) (s .args .rounds) (s .args .vertices .now) (s .args .faces .now) (s .args .sides .now) (s .args .marks .now) (s .args .tension)
+    (s .args .out-vertices .now) (s .args .out-faces .now) (s .args .out-marks .now) (s .args .with-letters) (s .args .letters .now) (s .args .work .now)
 
 -- after the admission: what is left of the work table
 abbrev start : tie.After-admit → tie.Start
 start x = x .before .before .before .before .before .before .before .before .before
 
 abbrev left : tie.After-admit → List ℕ
-left x = x .admit .last .1 .1 .1 .1 .1 .1 .1 .1 .1 .1 .1 .0
+left x = x .admit .last .1 .1 .1 .1 .1 .1 .1 .0
 
 admits : (x : tie.After-admit) (a : Admission) → x .admit .result ≡ a → Admits (callOf (asked (start x))) (start x .args .work .now) a (left x)
 admits x a e = subst (λ (b : Admission). Admits (callOf (asked (start x))) (start x .args .work .now) b (left x)) e (x .admit .ensures)
@@ -36,7 +34,7 @@ enum-known-last c = search needs
 refine-admitted-requires : tie.Need-refine-admitted-requires
 refine-admitted-requires c κs =
     let x = c .before .before .before .before .before .before .before .before .before .before in
-    admitted-work (asked (start x)) _ (left x) (admits x _ (c .before .before .before .before .before .before .last .given .1) .0) (x .admit .kept .1 .1 .1 .1 .1 .1 .1 .1 .1 .1 .1 .0)
+    admitted-work (asked (start x)) _ (left x) (admits x _ (c .before .before .before .before .before .before .last .given .1) .0) (x .admit .kept .1 .1 .1 .1 .1 .1 .1 .0)
 
 enum-known-number : tie.Need-enum-known-number
 enum-known-number c = search needs
@@ -61,7 +59,7 @@ returns c =
     let y = c .before .before .before .before .before .before .before .before .before in
     let x = y .before .before .before .before .before .before .before .before .before .before .before in
     let a = admits x _ (y .before .before .before .before .before .before .before .last .given .1) in
-    y .refine-admitted .ensures ∙ same-outcome (asked (start x)) _ (left x) (a .0) (x .admit .kept .1 .1 .1 .1 .1 .1 .1 .1 .1 .1 .1 .0) (a .1)
+    y .refine-admitted .ensures ∙ same-outcome (asked (start x)) _ (left x) (a .0) (x .admit .kept .1 .1 .1 .1 .1 .1 .1 .0) (a .1)
 
 same-length-6 : tie.Need-same-length-6
 same-length-6 c = search needs

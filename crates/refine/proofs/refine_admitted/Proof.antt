@@ -1,15 +1,15 @@
--- `refine::refine_admitted` meets its contract: the new points, refusal 15, the rounds. Assumes nothing.
-use mathlib.Core.Path.{_≡_, ap, _∙_}
+-- `refine::refine_admitted` meets its contract: the new points, refusal 15, the load, the letters, the rounds, the clearing. Assumes nothing.
+use mathlib.Core.Path.{_≡_, sym, ap, _∙_}
 use mathlib.Core.List.{List}
-use Prim.Native.Nat.{ℕ, _+_, _-_, _≤_}
+use Prim.Native.Nat.{ℕ, _+_, _-_, _*_, _≤_}
 use native.Mathlib.Omega.{arith}
 use lib.ListN.{length}
-use Rattle.nets.specs.Net.{controlNet}
-use Rattle.nets.specs.Buffers.{Buffers, buffers, letterTable}
-use Rattle.outcome.specs.Outcome.{Request, request, toAdd}
+use Rattle.nets.specs.Buffers.{Buffers, buffers}
+use Rattle.outcome.specs.Outcome.{Request, requestOn, toAdd}
+use Rattle.splitting.specs.Splitting.{startNet}
 use Rattle.refine.specs.Answer.{answered}
 use Rattle.refine.specs.declared.Answer.the-variants.{Refined}
-use Rattle.refine.proofs.Laws.{room-work, last-le}
+use Rattle.refine.proofs.Laws.{room-work, last-le, faces-few, loadable, corners-start, letters-fit, start-fits, prepared, letters-ran, ran}
 use Rattle.refine.proofs.Whole.{growable, new-points, few-new, refused-15, refined-outcome}
 use borrow.Author.Needs.{needs}
 use Rattle.refine.proofs.refine_admitted.Statement.{statement}
@@ -17,8 +17,8 @@ use Rattle.refine.proofs.refine_admitted.Tie as tie
 
 abbrev asked : tie.Start → Request
 asked s =
-    request (s .args .points) (s .args .rounds) (controlNet (s .args .vertices .now) (s .args .faces .now) (s .args .sides .now) (s .args .marks .now)) (s .args .tension)
-    (buffers (s .args .out-vertices .now) (s .args .out-faces .now) (s .args .out-marks .now) (s .args .work .now)) (letterTable (s .args .with-letters) (s .args .letters .now))
+    requestOn (s .args .points) (s .args .rounds) (s .args .vertices .now) (s .args .faces .now) (s .args .sides .now) (s .args .marks .now) (s .args .tension)
+    (s .args .out-vertices .now) (s .args .out-faces .now) (s .args .out-marks .now) (s .args .with-letters) (s .args .letters .now) (s .args .work .now)
 
 -- after the count: the vertices are at least those that the caller has, and the others are new
 abbrev start : tie.After-final-vertices → tie.Start
@@ -30,12 +30,35 @@ new x = new-points (asked (start x)) (start x .args .last) (start x .pre) (x .fi
 few : (x : tie.After-final-vertices) → toAdd (asked (start x)) ≤ 1048576
 few x = few-new (asked (start x)) (start x .args .last) (start x .pre)
 
--- after the rounds: the caller's tables, and the letters
-abbrev after : tie.After-run → Buffers
-after y = let o = y .run .last .1 .1 .1 .1 .1 .1 in buffers (o .0) (o .1 .0) (o .1 .1 .0) (o .1 .1 .1 .1 .1 .0)
+-- after the load: the start, and the caller's tables
+abbrev counted : tie.After-load → tie.After-final-vertices
+counted y = y .before .before .before .before .before .before
 
-abbrev named : tie.After-run → List ℕ
-named y = y .run .last .1 .1 .1 .1 .1 .1 .1 .1 .1 .1 .0
+abbrev begun : tie.After-load → tie.Start
+begun y = start (counted y)
+
+abbrev loaded : tie.After-load → Buffers
+loaded y = let o = y .load .last .1 .1 .1 .1 in buffers (o .0) (o .1 .0) (o .1 .1 .0) (o .1 .1 .1 .0)
+
+-- after the letters of the vertices where refining begins, and with the number of corners there
+abbrev from : tie.After-quadrilaterals → tie.After-load
+from q = q .before .before .before .before .before .before .before .before .before .before .before .before .before .before .before .before .before
+
+abbrev named : tie.After-quadrilaterals → List ℕ
+named q = q .before .before .before .before .before .before .before .before .name-start .last .1 .0
+
+corners : (q : tie.After-quadrilaterals) → 4 * q .quadrilaterals .result ≡ length (startNet (asked (begun (from q)) .net) .faces)
+corners q = let s = begun (from q) in ap (λ (n : ℕ). 4 * n) (q .quadrilaterals .ensures) ∙ corners-start (asked s) (s .args .last) (s .pre)
+
+-- after the rounds: the tables, and the letters
+abbrev sized : tie.After-rounds → tie.After-quadrilaterals
+sized r = r .before
+
+abbrev refined : tie.After-rounds → Buffers
+refined r = let o = r .rounds .last in buffers (o .0) (o .1 .0) (o .1 .1 .0) (o .1 .1 .1 .1 .1 .0)
+
+abbrev lettered : tie.After-rounds → List ℕ
+lettered r = r .rounds .last .1 .1 .1 .1 .0
 
 final-vertices-requires : tie.Need-final-vertices-requires
 final-vertices-requires c κs = let s = c .before .before .before .before .before .before .before .before in growable (asked s) (s .args .last) (s .pre)
@@ -47,10 +70,10 @@ sub-if1 : tie.Need-sub-if1
 sub-if1 c = let n = new c .1 in let f = few c in omega arith
 
 mul-clear : tie.Need-mul-clear
-mul-clear c = let s = start (c .before .before) in let l = last-le (s .args .rounds) (asked s .net) (s .args .tension) (asked s .buffers) (asked s .letters) (s .args .last) (s .pre) in omega arith
+mul-clear c = let s = start (c .before .before) in let l = last-le (asked s) (s .args .last) (s .pre) in omega arith
 
 clear-requires : tie.Need-clear-requires
-clear-requires c κs = let s = start (c .before .before) in let r = room-work (s .args .rounds) (asked s .net) (s .args .tension) (asked s .buffers) (asked s .letters) (s .args .last) (s .pre) in omega arith
+clear-requires c κs = let s = start (c .before .before) in let r = room-work (asked s) (s .args .last) (s .pre) in omega arith
 
 same-length : tie.Need-same-length
 same-length c = search needs
@@ -64,15 +87,49 @@ returns c =
     let t = c .before .before .before .before .if1 .taken in
     refused-15 (asked s) (s .args .last) (s .pre) (omega arith) (c .before .before .clear .last .0) (c .before .before .clear .ensures)
 
-run-requires : tie.Need-run-requires
-run-requires c κs = search needs
+load-requires : tie.Need-load-requires
+load-requires c κs = let s = c .before .before .before .before .before .before .before .before .before .before .before .before .before .before in loadable (asked s) (s .args .last) (s .pre)
 
-add-t22 : tie.Need-add-t22
-add-t22 c =
-    let x = c .before .before .before .before .before .before .before .before .before .before .before .before .before .before .before .before in
+name-start-requires : tie.Need-name-start-requires
+name-start-requires c κs =
+    let y = c .before .before .before .before .before .before .before .before in
+    let s = begun y in
+    let e = y .load .ensures .count in
+    λ a. let f = start-fits (asked s) (s .args .last) (s .pre) a in (omega (arith, f .0), omega (arith, f .1))
+
+quadrilaterals-requires : tie.Need-quadrilaterals-requires
+quadrilaterals-requires c κs = search needs
+
+mul-rounds : tie.Need-mul-rounds
+mul-rounds c = let s = begun (from c) in let e = c .quadrilaterals .ensures in let f = faces-few (asked s) (s .args .last) (s .pre) in omega arith
+
+rounds-requires : tie.Need-rounds-requires
+rounds-requires c κs =
+    let y = from c in
+    let s = begun y in (
+      prepared (asked s) (s .args .last) (s .pre) (loaded y) _ _ (y .load .ensures) (y .load .kept .1 .1 .1 .1 .1 .1 .1 .0) (corners c),
+      λ a. omega (arith, c .before .before .before .before .before .before .before .before .name-start .kept .1 .0, letters-fit (asked s) (s .args .last) (s .pre) _ (corners c) a),
+    )
+
+mul-clear-2 : tie.Need-mul-clear-2
+mul-clear-2 c = let s = begun (from (sized (c .before .before .before .before .before .before .before .before .before .before))) in let l = last-le (asked s) (s .args .last) (s .pre) in omega arith
+
+clear-requires-2 : tie.Need-clear-requires-2
+clear-requires-2 c κs =
+    let r = c .before .before .before .before .before .before .before .before .before .before in
+    let s = begun (from (sized r)) in
+    let k = r .rounds .kept .1 .1 .1 .1 .1 .0 in
+    let l = from (sized r) .load .kept .1 .1 .1 .1 .1 .1 .1 .0 in
+    let w = room-work (asked s) (s .args .last) (s .pre) in
+    omega arith
+
+add-t23 : tie.Need-add-t23
+add-t23 c =
+    let y = from (sized (c .before .before .before .before .before .before .before .before .before .before .before .before .before)) in
+    let x = counted y in
     let n = new x .1 in
     let f = few x in
-    let t = c .before .before .before .before .before .before .before .before .before .before .before .before .before .before .before .if1 .left in
+    let t = y .before .before .before .before .before .if1 .left in
     record { fits = omega arith }
 
 same-length-2 : tie.Need-same-length-2
@@ -92,14 +149,23 @@ same-length-6 c = search needs
 
 returns-2 : tie.Need-returns-2
 returns-2 c =
-    let y = c .before .before .before .before .before .before .before .before .before in
-    let x = c .before .before .before .before .before .before .before .before .before .before .before .before .before .before .before .before in
+    let r = c .before .before .before .before .before .before .before .before .before .before .before .before .before in
+    let q = sized r in
+    let y = from q in
+    let x = counted y in
     let s = start x in
     let n = new x .1 in
     let f = few x in
-    let t = c .before .before .before .before .before .before .before .before .before .before .before .before .before .before .before .if1 .left in
-    ap (λ (d : ℕ). answered (record { answer = Refined (y .run .result) (s .args .last); points = s .args .points + d }) (after y) (named y)) n
-    ∙ refined-outcome (asked s) (s .args .last) (s .pre) (omega arith) (y .run .result) (after y) (y .run .ensures .0) (named y) (y .run .ensures .1)
+    let t = y .before .before .before .before .before .if1 .left in
+    let u = refined r in
+    let l = y .load .ensures in
+    let k = y .load .kept .1 .1 .1 .1 .1 .1 .1 .0 in
+    let w = c .before .before .clear2 .last .0 in
+    let o : Buffers = buffers (u .vertices) (u .faces) (u .marks) w in
+    let z = ran (asked s) (s .args .last) (s .pre) (loaded y) _ _ l k (corners q) _ u (r .rounds .ensures .0) w (c .before .before .clear2 .ensures) in
+    let g = letters-ran (asked s) (s .args .last) (s .pre) (loaded y) _ _ l k (corners q) _ u (r .rounds .ensures .0) (named q) (lettered r) (r .rounds .kept .1 .1 .1 .1 .0 ∙ q .before .before .before .before .before .before .before .before .name-start .kept .1 .0) (q .before .before .before .before .before .before .before .before .name-start .ensures) (r .rounds .ensures .1) in
+    ap (λ (d : ℕ). answered (record { answer = Refined (r .rounds .result) (s .args .last); points = s .args .points + d }) (u .vertices) (u .faces) (u .marks) (lettered r) w) n
+    ∙ refined-outcome (asked s) (s .args .last) (s .pre) (omega arith) (r .rounds .result) o z (lettered r) g
 
 pub refine-admitted-spec : {M : Type 1} → statement M
 refine-admitted-spec =
@@ -112,8 +178,14 @@ refine-admitted-spec =
     clear-requires
     same-length
     returns
-    run-requires
-    add-t22
+    load-requires
+    name-start-requires
+    quadrilaterals-requires
+    mul-rounds
+    rounds-requires
+    mul-clear-2
+    clear-requires-2
+    add-t23
     same-length-2
     same-length-3
     same-length-4
