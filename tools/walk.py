@@ -72,8 +72,8 @@ use Rattle·@crate·specs.specs.declared.Tally.{Tally}
 use Rattle·@crate·specs.specs.declared.Charged.{Charged}
 use Rattle·@crate·proofs.proofs.Tally as T
 use Rattle·@crate·proofs.proofs.Tally.Laws as T′
-use Rattle·@crate·proofs.proofs.Report as R
-use Rattle·@crate·proofs.proofs.Report.Laws as R′
+use Rattle.reports.proofs.Report as R
+use Rattle.reports.proofs.Report.Laws as R′
 use Rattle·@crate·proofs.proofs.Charged as D
 use Rattle·@crate·proofs.proofs.Charged.Laws as D′
 use Rattle·@crate·proofs.proofs.@callee as g

@@ -1,20 +1,13 @@
--- What crosses the C boundary: the papers' number and place of each answer.
+-- What crosses the C boundary: the numbers returned, and the caller's tables as they are left.
 use mathlib.Core.List.{List}
-use Prim.Native.Nat.{ℕ, _*_, _^_}
+use Prim.Native.Nat.{ℕ}
+use lib.IntN.{ℤ}
 use Rattle.admission.specs.Answer.{Checked}
-use Rattle.verdict.specs.Call.{Room, needed, lengths, quadrilaterals}
-use Rattle.verdict.specs.Verdict.{Verdict, accepted, refused, limitsVerdict}
-use Rattle.outcome.specs.Outcome.{Result, refinedTo, refusedWith, Outcome}
-use Rattle.nets.specs.Buffers.{Buffers}
-use Rattle.capi.specs.declared.Finding.{Finding}
-use Rattle.capi.specs.declared.Report.{Report}
-use Rattle.capi.specs.declared.Charged.{Charged}
-use Rattle.capi.specs.declared.Sizes.{Sizes}
-
--- reason 0: accepted
-abbrev pub finding : Verdict → Finding
-finding accepted = record { reason = 0; place = 0 }
-finding (refused r p) = record { reason = r; place = p }
+use Rattle.outcome.specs.Outcome.{Outcome}
+use Rattle.nets.specs.Buffers.{Buffers, buffers}
+use Rattle.reports.specs.declared.Finding.{Finding}
+use Rattle.reports.specs.declared.Report.{Report}
+use Rattle.reports.specs.Report.{finding, report}
 
 -- the numbers that the function returns, and the work table as it leaves it
 pub record CheckExport : Type 0 where
@@ -27,11 +20,6 @@ checkExportOf f w = record { finding = f; work = w }
 abbrev pub checkExport : Checked → CheckExport
 checkExport c = checkExportOf (finding (c .verdict)) (c .work)
 
--- reason 0: refined; both counts are 0 on a refusal
-abbrev pub report : Result → Report
-report (refinedTo v f) = record { reason = 0; place = 0; vertices = v; faces = f }
-report (refusedWith r p) = record { reason = r; place = p; vertices = 0; faces = 0 }
-
 -- the numbers that the function returns, the points in the caller's record and the caller's tables as it leaves them
 pub record RefineExport : Type 0 where
   pub report : Report
@@ -39,19 +27,9 @@ pub record RefineExport : Type 0 where
   pub buffers : Buffers
   pub letters : List ℕ
 
-abbrev pub chargedExportOf : Charged → Buffers → (letters : List ℕ) → RefineExport
-chargedExportOf c o letters = record { report = c .report; points = c .points; buffers = o; letters = letters }
+-- by the tables of a call, in its order
+abbrev pub exportOf : Report → (points : ℕ) (outVertices : List ℤ) (outFaces outMarks letters work : List ℕ) → RefineExport
+exportOf report points outVertices outFaces outMarks letters work = record { report = report; points = points; buffers = buffers outVertices outFaces outMarks work; letters = letters }
 
 abbrev pub refineExport : Outcome → RefineExport
 refineExport o = record { report = report (o .result); points = o .tally; buffers = o .buffers; letters = o .letters }
-
--- the lengths, or the refusal that holds whatever tables are given, with lengths 0
-abbrev pub sizesBy : Verdict → Room → Sizes
-sizesBy accepted n = record { reason = 0; «out_vertices» = n .vertices; «out_faces» = n .faces; «out_marks» = n .marks; work = n .work }
-sizesBy (refused r p) n = record { reason = r; «out_vertices» = 0; «out_faces» = 0; «out_marks» = 0; work = 0 }
-
--- the verdict of the limits on a call with just these lengths, and these side counts
-unfoldable pub sizes : (rounds coordinates corners : ℕ) (sides : List ℕ) (marks : ℕ) → Sizes
-sizes k nv nf s nm =
-    let g = quadrilaterals s nf * 4 ^ k in
-    sizesBy (limitsVerdict k s (lengths nv nf nm (needed g))) (needed g)

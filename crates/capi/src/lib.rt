@@ -1,32 +1,17 @@
 // The functions for C.
-ghost use Rattle.capi.specs.Version.{version};
 ghost use mathlib.Core.Path.{_≡_};
 ghost use lib.ListN.{length};
 ghost use Rattle.nets.specs.Net.{controlNet};
 ghost use Rattle.verdict.specs.Call.{room, call};
-ghost use Rattle.admission.specs.Answer.{verdictOf, checked};
-ghost use Rattle.outcome.specs.Outcome.{request, outcome};
-ghost use Rattle.nets.specs.Buffers.{buffers, letterTable};
-ghost use Rattle.refine.specs.Answer.{resultOf};
-ghost use Rattle.capi.specs.Export.{finding, checkExportOf, checkExport, report, chargedExportOf, refineExport, sizes};
-use admission::Answer;
-use limits::Lengths;
-
-// The verdict of the check: reason 0, or the refusal's number and place.
-#[repr(C)]
-pub struct Finding {
-    pub reason: u32,
-    pub place: u64,
-}
-
-// The result of a refining call: reason 0 and the counts of the refined net, or the refusal's number and place.
-#[repr(C)]
-pub struct Report {
-    pub reason: u32,
-    pub place: u64,
-    pub vertices: u64,
-    pub faces: u64,
-}
+ghost use Rattle.admission.specs.Answer.{checked};
+ghost use Rattle.outcome.specs.Outcome.{requestOn, outcome};
+ghost use Rattle.reports.specs.Report.{sizes};
+ghost use Rattle.reports.specs.Version.{version};
+ghost use Rattle.capi.specs.Export.{checkExportOf, checkExport, exportOf, refineExport};
+use limits::Room;
+use reports::Finding;
+use reports::Report;
+use reports::Sizes;
 
 // The caller's record: the new points of the accepted calls.
 #[repr(C)]
@@ -38,21 +23,6 @@ pub struct Tally {
 pub struct Charged {
     pub report: Report,
     pub points: u64,
-}
-
-fn finding_of(answer: Answer) -> Finding
-    ensures { λ r. ⌜ r ≡ finding (verdictOf answer) ⌝ }
-{
-    match answer {
-        Answer::Accepted => Finding {
-            reason: 0,
-            place: 0,
-        },
-        Answer::Refused(reason, place) => Finding {
-            reason,
-            place: place as u64,
-        },
-    }
 }
 
 // The verdict on a call but for 15, given the lengths of its output tables and whether letters are asked for: reason 0, or the refusal's number and place.
@@ -74,6 +44,14 @@ pub extern "C" fn gedrovit_check(
     ensures { λ r. ⌜ checkExportOf r (now (work .exit)) ≡
         checkExport (checked (call rounds (controlNet (now (vertices .entry)) (now (faces .entry)) (now (sides .entry)) (now (marks .entry))) tension (room «out_vertices» «out_faces» «out_marks» «with_letters» letters (length (now (work .entry))))) (now (work .entry))) ⌝ }
 {
+    let room = Room {
+        vertices: out_vertices,
+        faces: out_faces,
+        marks: out_marks,
+        with_letters,
+        letters,
+        work: work.len(),
+    };
     let answer = admission::check(
         rounds,
         vertices,
@@ -81,33 +59,10 @@ pub extern "C" fn gedrovit_check(
         sides,
         marks,
         tension,
-        out_vertices,
-        out_faces,
-        out_marks,
-        with_letters,
-        letters,
+        room,
         &mut *work,
     );
-    finding_of(answer)
-}
-
-fn report_of(answer: refine::Answer) -> Report
-    ensures { λ r. ⌜ r ≡ report (resultOf answer) ⌝ }
-{
-    match answer {
-        refine::Answer::Refined(vertices, faces) => Report {
-            reason: 0,
-            place: 0,
-            vertices: vertices as u64,
-            faces: faces as u64,
-        },
-        refine::Answer::Refused(reason, place) => Report {
-            reason,
-            place: place as u64,
-            vertices: 0,
-            faces: 0,
-        },
-    }
+    reports::finding_of(answer)
 }
 
 // The refining call from a record of this many points.
@@ -126,11 +81,10 @@ fn refine_from(
     letters: &mut [u8],
     work: &mut [u32],
 ) -> Charged
-    ensures { λ r. ⌜ chargedExportOf r (buffers (now («out_vertices» .exit)) (now («out_faces» .exit)) (now («out_marks» .exit)) (now (work .exit))) (now (letters .exit)) ≡
-        refineExport (outcome (request points rounds (controlNet (now (vertices .entry)) (now (faces .entry)) (now (sides .entry)) (now (marks .entry))) tension
-        (buffers (now («out_vertices» .entry)) (now («out_faces» .entry)) (now («out_marks» .entry)) (now (work .entry))) (letterTable «with_letters» (now (letters .entry))))) ⌝ }
+    ensures { λ r. ⌜ exportOf (r .report) (r .points) (now («out_vertices» .exit)) (now («out_faces» .exit)) (now («out_marks» .exit)) (now (letters .exit)) (now (work .exit)) ≡
+        refineExport (outcome (requestOn points rounds (now (vertices .entry)) (now (faces .entry)) (now (sides .entry)) (now (marks .entry)) tension (now («out_vertices» .entry)) (now («out_faces» .entry)) (now («out_marks» .entry)) «with_letters» (now (letters .entry)) (now (work .entry)))) ⌝ }
 {
-    let charged = refine::refine(
+    let refinement = refine::refine(
         points,
         rounds,
         vertices,
@@ -145,10 +99,10 @@ fn refine_from(
         &mut *letters,
         &mut *work,
     );
-    let answer = charged.answer;
+    let answer = refinement.answer;
     Charged {
-        report: report_of(answer),
-        points: charged.points,
+        report: reports::report_of(answer),
+        points: refinement.points,
     }
 }
 
@@ -170,9 +124,8 @@ pub extern "C" fn gedrovit_refine(
     letters: &mut [u8],
     work: &mut [u32],
 ) -> Report
-    ensures { λ r. ⌜ chargedExportOf (record { report = r; points = now (tally .exit) .points }) (buffers (now («out_vertices» .exit)) (now («out_faces» .exit)) (now («out_marks» .exit)) (now (work .exit))) (now (letters .exit)) ≡
-        refineExport (outcome (request (now (tally .entry) .points) rounds (controlNet (now (vertices .entry)) (now (faces .entry)) (now (sides .entry)) (now (marks .entry))) tension
-        (buffers (now («out_vertices» .entry)) (now («out_faces» .entry)) (now («out_marks» .entry)) (now (work .entry))) (letterTable «with_letters» (now (letters .entry))))) ⌝ }
+    ensures { λ r. ⌜ exportOf r (now (tally .exit) .points) (now («out_vertices» .exit)) (now («out_faces» .exit)) (now («out_marks» .exit)) (now (letters .exit)) (now (work .exit)) ≡
+        refineExport (outcome (requestOn (now (tally .entry) .points) rounds (now (vertices .entry)) (now (faces .entry)) (now (sides .entry)) (now (marks .entry)) tension (now («out_vertices» .entry)) (now («out_faces» .entry)) (now («out_marks» .entry)) «with_letters» (now (letters .entry)) (now (work .entry)))) ⌝ }
 {
     let charged = refine_from(
         tally.points,
@@ -193,16 +146,6 @@ pub extern "C" fn gedrovit_refine(
     charged.report
 }
 
-// The lengths that the output tables and the work table of a call must have at least, in elements; a letter table must be as long as the marks.
-#[repr(C)]
-pub struct Sizes {
-    pub reason: u32,
-    pub out_vertices: u64,
-    pub out_faces: u64,
-    pub out_marks: u64,
-    pub work: u64,
-}
-
 // The lengths to provide for a call, from the side counts and the lengths of the net's other tables; or refusal 1, 2, 3 or 14, which no tables avert, and
 // lengths 0.
 #[no_mangle]
@@ -215,40 +158,7 @@ pub extern "C" fn gedrovit_sizes_for(
 ) -> Sizes
     ensures { λ r. ⌜ r ≡ sizes rounds vertices faces (now (sides .entry)) marks ⌝ }
 {
-    let quadrilaterals = limits::quadrilaterals(sides, faces);
-    let g = limits::final_faces(rounds, quadrilaterals);
-    let least = limits::needed(g);
-    let reason = limits::limits(
-        rounds,
-        sides,
-        Lengths {
-            coordinates: vertices,
-            corners: faces,
-            marks,
-            out_vertices: least.vertices,
-            out_faces: least.faces,
-            out_marks: least.marks,
-            with_letters: true,
-            letters: least.letters,
-            work: least.work,
-        },
-    );
-    if reason != 0 {
-        return Sizes {
-            reason,
-            out_vertices: 0,
-            out_faces: 0,
-            out_marks: 0,
-            work: 0,
-        };
-    }
-    Sizes {
-        reason: 0,
-        out_vertices: least.vertices as u64,
-        out_faces: least.faces as u64,
-        out_marks: least.marks as u64,
-        work: least.work as u64,
-    }
+    reports::sizes_for(rounds, vertices, faces, sides, marks)
 }
 
 // The version of the archive.
@@ -256,7 +166,7 @@ pub extern "C" fn gedrovit_sizes_for(
 pub extern "C" fn gedrovit_version() -> u32
     ensures { λ r. ⌜ r ≡ version ⌝ }
 {
-    6000
+    reports::version()
 }
 
 // The same under a name that has the version in it: a program that was compiled with another version's header does not link.

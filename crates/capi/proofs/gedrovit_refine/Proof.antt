@@ -45,16 +45,14 @@ use denote.Triple.Spec.{Meets, tripleOf}
 use denote.Triple.Table.{entered, cited}
 use denote.Triple.Walked.{says, Stay, Stays, stay-ref, walkOf, AllGo, goes-ref, Walks, ends-at, walked, walk-meets}
 use denote.Exit.{Kept, left}
-use Rattle.nets.specs.Net.{controlNet}
-use Rattle.outcome.specs.Outcome.{request, outcome}
-use Rattle.nets.specs.Buffers.{buffers, letterTable}
-use Rattle.capi.specs.Export.{chargedExportOf, refineExport}
+use Rattle.outcome.specs.Outcome.{requestOn, outcome}
+use Rattle.capi.specs.Export.{exportOf, refineExport}
 use Rattle.capi.specs.declared.Tally.{Tally}
 use Rattle.capi.specs.declared.Charged.{Charged}
 use Rattle.capi.proofs.Tally as T
 use Rattle.capi.proofs.Tally.Laws as T′
-use Rattle.capi.proofs.Report as R
-use Rattle.capi.proofs.Report.Laws as R′
+use Rattle.reports.proofs.Report as R
+use Rattle.reports.proofs.Report.Laws as R′
 use Rattle.capi.proofs.Charged as D
 use Rattle.capi.proofs.Charged.Laws as D′
 use Rattle.capi.proofs.refine_from as g
@@ -181,9 +179,8 @@ module _ {M : Type 1} (𝓤 : URA M) (H : Heap 𝓤) (A : Atoms 𝓤) (W : Given
   -- what the callee says of its answer and of the last lists
   abbrev Said : Charged → Last → Type 0
   Said r zs =
-      chargedExportOf r (buffers (zs .1 .1 .1 .1 .1 .1 .1 .0) (zs .1 .1 .1 .1 .1 .1 .1 .1 .0) (zs .1 .1 .1 .1 .1 .1 .1 .1 .1 .0) (zs .1 .1 .1 .1 .1 .1 .1 .1 .1 .1 .1 .1 .0)) (zs .1 .1 .1 .1 .1 .1 .1 .1 .1 .1 .1 .0) ≡
-      refineExport (outcome (request points rounds (controlNet (vertices .now) (faces .now) (sides .now) (marks .now)) tension
-      (buffers («out_vertices» .now) («out_faces» .now) («out_marks» .now) (work .now)) (letterTable «with_letters» (letters .now))))
+      exportOf (r .report) (r .points) (zs .1 .1 .1 .1 .1 .1 .1 .0) (zs .1 .1 .1 .1 .1 .1 .1 .1 .0) (zs .1 .1 .1 .1 .1 .1 .1 .1 .1 .0) (zs .1 .1 .1 .1 .1 .1 .1 .1 .1 .1 .1 .0) (zs .1 .1 .1 .1 .1 .1 .1 .1 .1 .1 .1 .1 .0) ≡
+      refineExport (outcome (requestOn points rounds (vertices .now) (faces .now) (sides .now) (marks .now) tension («out_vertices» .now) («out_faces» .now) («out_marks» .now) «with_letters» (letters .now) (work .now)))
 
   -- the record at exit
   abbrev h′ : Charged → Tally

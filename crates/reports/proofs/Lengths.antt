@@ -1,31 +1,16 @@
 -- The lengths to provide. Assumes nothing.
-use mathlib.Core.Path.{_≡_, refl, sym, ap, _∙_, subst}
-use mathlib.Core.List.{List, [], _∷_}
+use mathlib.Core.Path.{_≡_, sym, ap, _∙_, subst}
+use mathlib.Core.List.{List}
 use Prim.Native.Nat.{ℕ, _*_, _/_, _^_, _<_}
 use native.Mathlib.Decide.{decLt}
 use native.Mathlib.Omega.{arith}
 use lib.Dec.{ltb}
 use borrow.Author.Tests.{lt-ltb, eq-eqb, ne-eqb}
 use Rattle.verdict.specs.Call.{Room, needed, lengths, quadrilaterals}
-use Rattle.verdict.specs.Verdict.{Verdict, accepted, refused, orElse, refusedIf, limitsVerdict, tablesVerdict, sizeVerdict, roomVerdict}
+use Rattle.verdict.specs.Verdict.{Verdict, accepted, refused, orElse, refusedIf, limitsVerdict, tablesVerdict, sizeVerdict}
 use Rattle.verdict.proofs.Accepted.{or-refused, sized-faces, within-if}
-use Rattle.search.specs.Search.{firstFrom, first, any}
-use Rattle.polygons.specs.Polygons.{total, badCount, badSides}
 use Rattle.limits.specs.Answer.{limitsOf, FinalFaces}
-use Rattle.capi.specs.Export.{sizesBy, sizes}
-
--- 64 faces can be refined six times, 65 cannot; the empty net needs no tables; marks too few; a triangle and a square, and side counts that do not add up
-examples : sizes 6 243 256 [] 81 ∷ sizes 6 243 260 [] 81 ∷ sizes 6 0 0 [] 0 ∷ sizes 7 12 4 [] 4 ∷ sizes 1 12 4 [] 3 ∷ sizes 1 12 7 (3 ∷ 4 ∷ []) 4 ∷ sizes 1 12 7 (3 ∷ 3 ∷ []) 4 ∷ []
-    ≡ record { reason = 0; «out_vertices» = 3145728; «out_faces» = 1048576; «out_marks» = 1048576; work = 4194304 }
-    ∷ record { reason = 3; «out_vertices» = 0; «out_faces» = 0; «out_marks» = 0; work = 0 }
-    ∷ record { reason = 0; «out_vertices» = 0; «out_faces» = 0; «out_marks» = 0; work = 0 }
-    ∷ record { reason = 1; «out_vertices» = 0; «out_faces» = 0; «out_marks» = 0; work = 0 }
-    ∷ record { reason = 2; «out_vertices» = 0; «out_faces» = 0; «out_marks» = 0; work = 0 }
-    ∷ record { reason = 0; «out_vertices» = 336; «out_faces» = 112; «out_marks» = 112; work = 448 }
-    ∷ record { reason = 14; «out_vertices» = 0; «out_faces» = 0; «out_marks» = 0; work = 0 }
-    ∷ []
-unfolding sizes limitsVerdict tablesVerdict sizeVerdict roomVerdict badSides badCount total firstFrom first any
-examples = refl
+use Rattle.reports.specs.Report.{sizesBy, sizes}
 
 module _ (k nv nf : ℕ) (s : List ℕ) (nm : ℕ) where
   -- the faces that count

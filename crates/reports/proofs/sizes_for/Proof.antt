@@ -1,9 +1,9 @@
--- `capi::gedrovit_sizes_for` meets its contract. Assumes nothing.
+-- `reports::sizes_for` meets its contract. Assumes nothing.
 use Rattle.limits.specs.Answer.{roomIn}
-use Rattle.capi.proofs.Lengths.{refused-sizes, given-sizes}
+use Rattle.reports.proofs.Lengths.{refused-sizes, given-sizes}
 use borrow.Author.Needs.{needs}
-use Rattle.capi.proofs.gedrovit_sizes_for.Statement.{statement}
-use Rattle.capi.proofs.gedrovit_sizes_for.Tie as tie
+use Rattle.reports.proofs.sizes_for.Statement.{statement}
+use Rattle.reports.proofs.sizes_for.Tie as tie
 
 quadrilaterals-requires : tie.Need-quadrilaterals-requires
 quadrilaterals-requires c κs = search needs
@@ -27,6 +27,6 @@ returns-2 c =
     let y = c .before .before in
     given-sizes _ _ _ (y .before .before .before .before .args .sides .now) _ _ (y .before .before .quadrilaterals .ensures) _ (y .before .final-faces .ensures) (roomIn (y .needed .result)) (y .needed .ensures) _ (c .before .limits .ensures) (c .if1 .left)
 
-pub gedrovit-sizes-for-spec : {M : Type 1} → statement M
-gedrovit-sizes-for-spec =
+pub sizes-for-spec : {M : Type 1} → statement M
+sizes-for-spec =
     tie.close (tie.spec quadrilaterals-requires final-faces-requires needed-requires limits-requires returns returns-2)

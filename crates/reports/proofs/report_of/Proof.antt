@@ -1,11 +1,11 @@
--- `capi::report_of` meets its contract: by cases. Assumes nothing.
+-- `reports::report_of` meets its contract: by cases. Assumes nothing.
 use mathlib.Core.Path.{sym, ap}
-use Rattle.capi.specs.Export.{report}
+use Rattle.reports.specs.Report.{report}
 use Rattle.refine.specs.Answer.{resultOf}
 use Rattle.refine.specs.declared.Answer.{Answer}
 use borrow.Author.Needs.{needs}
-use Rattle.capi.proofs.report_of.Statement.{statement}
-use Rattle.capi.proofs.report_of.Tie as tie
+use Rattle.reports.proofs.report_of.Statement.{statement}
+use Rattle.reports.proofs.report_of.Tie as tie
 
 enum-known-answer : tie.Need-enum-known-answer
 enum-known-answer c = search needs
