@@ -81,7 +81,7 @@ module _ (k : ℕ) (rule : Bool) (m : Net) (o : Buffers) (l : List ℕ) (lv : le
   by-net = rw (lv, lf, lm, ll, lw, limits-either rule k (length (m .vertices)) (length (m .faces)) (length (m .marks)), h)
 
   abbrev given : Verdict → Outcome
-  given v = outcomeBy v 0 (toAdd asked) (steps (tension 4) k m) (letters (tension 4) (plain m) k) o (letterTable rule l) (workAfter (called) (o .work))
+  given v = outcomeBy v asked (steps (tension 4) k m)
 
   outcome-is : outcome asked ≡ given (netVerdict (plain m))
   unfolding outcome startNet
@@ -93,15 +93,15 @@ module _ (k : ℕ) (rule : Bool) (m : Net) (o : Buffers) (l : List ℕ) (lv : le
   by-refused (refused s q) r p e = ap₂ refusalText (ap vertexNumber e) (ap faceNumber e)
 
   module _ (t : Buffers) (t₂ : List ℕ) (points : ℕ) where
-    pub refused-text : (r p : ℕ) → answered (record { answer = Refused r p; points = points }) t t₂ ≡ outcome asked → refusalText r p ≡ refinedText k rule m
+    pub refused-text : (r p : ℕ) → answered (record { answer = Refused r p; points = points }) (t .vertices) (t .faces) (t .marks) t₂ (t .work) ≡ outcome asked → refusalText r p ≡ refinedText k rule m
     refused-text r p e = by-refused (netVerdict (plain m)) r p (ap (λ (x : Outcome). x .result) (e ∙ outcome-is))
 
     -- a refined net
-    module _ (v f : ℕ) (e : answered (record { answer = Refined v f; points = points }) t t₂ ≡ outcome asked) where
+    module _ (v f : ℕ) (e : answered (record { answer = Refined v f; points = points }) (t .vertices) (t .faces) (t .marks) t₂ (t .work) ≡ outcome asked) where
       accepts : netVerdict (plain m) ≡ accepted
-      accepts = by-result (netVerdict (plain m)) 0 (toAdd asked) (steps (tension 4) k m) (letters (tension 4) (plain m) k) o (letterTable rule l) (workAfter (called) (o .work)) v f (sym (ap (λ (x : Outcome). x .result) (e ∙ outcome-is)))
+      accepts = by-result (netVerdict (plain m)) asked (steps (tension 4) k m) v f (sym (ap (λ (x : Outcome). x .result) (e ∙ outcome-is)))
 
-      is : answered (record { answer = Refined v f; points = points }) t t₂ ≡ given accepted
+      is : answered (record { answer = Refined v f; points = points }) (t .vertices) (t .faces) (t .marks) t₂ (t .work) ≡ given accepted
       is = e ∙ outcome-is ∙ ap given accepts
 
       vertex-count : v ≡ length (steps (tension 4) k m .marks)

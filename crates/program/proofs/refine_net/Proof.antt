@@ -55,8 +55,8 @@ abbrev asked : tie.Start → Request
 asked s = request 0 (s .args .rounds) (plain (net s)) 4 zeros (letterTable (s .args .rule) unnamed)
 
 -- what the call gives, once its answer is known
-given : (x : tie.After-refine) (a : Answer) → x .refine .result .answer ≡ a → answered (record { answer = a; points = x .refine .result .points }) (after x) (named x) ≡ outcome (asked (begun x))
-given x a e = sym (ap (λ (b : Answer). answered (record { answer = b; points = x .refine .result .points }) (after x) (named x)) e) ∙ x .refine .ensures
+given : (x : tie.After-refine) (a : Answer) → x .refine .result .answer ≡ a → answered (record { answer = a; points = x .refine .result .points }) (after x .vertices) (after x .faces) (after x .marks) (named x) (after x .work) ≡ outcome (asked (begun x))
+given x a e = sym (ap (λ (b : Answer). answered (record { answer = b; points = x .refine .result .points }) (after x .vertices) (after x .faces) (after x .marks) (named x) (after x .work)) e) ∙ x .refine .ensures
 
 slice-aggregate-refine : tie.Need-slice-aggregate-refine
 slice-aggregate-refine c = search needs
