@@ -6,9 +6,6 @@ ghost use Rattle.admission.specs.Admission.{AdmittedCall};
 ghost use Rattle.outcome.specs.Outcome.{requestOn, callOf, outcome};
 ghost use Rattle.refine.specs.Answer.{answered};
 
-// The largest tally that an accepted call may leave.
-const TALLY_LIMIT: u64 = 4000000000;
-
 pub enum Answer {
     Refined(usize, usize),
     Refused(u32, usize),
@@ -43,7 +40,7 @@ fn refine_admitted(
 {
     let v = marks.len();
     let new = (growth::final_vertices(rounds, faces, sides, v, &*work) - v) as u64;
-    if TALLY_LIMIT - new < points {
+    if growth::exceeds(points, new) {
         tables::clear(&mut *work, 16 * last);
         return Refinement {
             answer: Answer::Refused(15, 0),

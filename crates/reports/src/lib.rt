@@ -70,13 +70,7 @@ pub fn report_of(answer: Answer) -> Report
 
 // The lengths to provide for a call, from the side counts and the lengths of the net's other tables; or refusal 1, 2, 3 or 14, which no tables avert, and
 // lengths 0.
-pub fn sizes_for(
-    rounds: u32,
-    vertices: usize,
-    faces: usize,
-    sides: &[u8],
-    marks: usize,
-) -> Sizes
+pub fn sizes_for(rounds: u32, vertices: usize, faces: usize, sides: &[u8], marks: usize) -> Sizes
     ensures { λ r. ⌜ r ≡ sizes rounds vertices faces (now (sides .entry)) marks ⌝ }
 {
     let quadrilaterals = limits::quadrilaterals(sides, faces);

@@ -1,17 +1,19 @@
 -- `refine::refine_admitted` meets its contract: the new points, refusal 15, the load, the letters, the rounds, the clearing. Assumes nothing.
 use mathlib.Core.Path.{_≡_, sym, ap, _∙_}
 use mathlib.Core.List.{List}
-use Prim.Native.Nat.{ℕ, _+_, _-_, _*_, _≤_}
+use Prim.Native.Nat.{ℕ, _+_, _-_, _*_, _≤_, _<_}
 use native.Mathlib.Omega.{arith}
 use lib.ListN.{length}
 use Rattle.nets.specs.Buffers.{Buffers, buffers}
 use Rattle.outcome.specs.Outcome.{Request, requestOn, toAdd}
+use Rattle.outcome.specs.Tally.{tallyLimit}
 use Rattle.splitting.specs.Splitting.{startNet}
 use Rattle.refine.specs.Answer.{answered}
 use Rattle.refine.specs.declared.Answer.the-variants.{Refined}
 use Rattle.refine.proofs.Laws.{room-work, last-le, faces-few, loadable, corners-start, letters-fit, start-fits, prepared, letters-ran, ran}
 use Rattle.refine.proofs.Whole.{growable, new-points, few-new, refused-15, refined-outcome}
 use borrow.Author.Needs.{needs}
+use borrow.Author.Tests.{ltb-true, ltb-false}
 use Rattle.refine.proofs.refine_admitted.Statement.{statement}
 use Rattle.refine.proofs.refine_admitted.Tie as tie
 
@@ -32,7 +34,7 @@ few x = few-new (asked (start x)) (start x .args .last) (start x .pre)
 
 -- after the load: the start, and the caller's tables
 abbrev counted : tie.After-load → tie.After-final-vertices
-counted y = y .before .before .before .before .before .before
+counted y = y .before .before .before .before .before .before .before
 
 abbrev begun : tie.After-load → tie.Start
 begun y = start (counted y)
@@ -66,29 +68,35 @@ final-vertices-requires c κs = let s = c .before .before .before .before .befor
 sub-new : tie.Need-sub-new
 sub-new c = new c .0
 
-sub-if1 : tie.Need-sub-if1
-sub-if1 c = let n = new c .1 in let f = few c in omega arith
+exceeds-requires : tie.Need-exceeds-requires
+exceeds-requires c κs = let n = new c .1 in let f = few c in omega arith
+
+-- after the test of the sum
+above : (y : tie.Then1) → (let x = y .before .before in tallyLimit < start x .args .points + (x .final-vertices .result - length (start x .args .marks .now)))
+above y = ltb-true _ _ (sym (y .before .exceeds .ensures) ∙ y .if1 .taken)
+
+within : (y : tie.Else1) → (let x = y .before .before in start x .args .points + (x .final-vertices .result - length (start x .args .marks .now)) ≤ tallyLimit)
+within y = ltb-false _ _ (sym (y .before .exceeds .ensures) ∙ y .if1 .left)
 
 mul-clear : tie.Need-mul-clear
-mul-clear c = let s = start (c .before .before) in let l = last-le (asked s) (s .args .last) (s .pre) in omega arith
+mul-clear c = let s = start (c .before .before .before) in let l = last-le (asked s) (s .args .last) (s .pre) in omega arith
 
 clear-requires : tie.Need-clear-requires
-clear-requires c κs = let s = start (c .before .before) in let r = room-work (asked s) (s .args .last) (s .pre) in omega arith
+clear-requires c κs = let s = start (c .before .before .before) in let r = room-work (asked s) (s .args .last) (s .pre) in omega arith
 
 same-length : tie.Need-same-length
 same-length c = search needs
 
 returns : tie.Need-returns
 returns c =
-    let x = c .before .before .before .before .before in
+    let x = c .before .before .before .before .before .before in
     let s = start x in
     let n = new x .1 in
-    let f = few x in
-    let t = c .before .before .before .before .if1 .taken in
+    let t = above (c .before .before .before .before) in
     refused-15 (asked s) (s .args .last) (s .pre) (omega arith) (c .before .before .clear .last .0) (c .before .before .clear .ensures)
 
 load-requires : tie.Need-load-requires
-load-requires c κs = let s = c .before .before .before .before .before .before .before .before .before .before .before .before .before .before in loadable (asked s) (s .args .last) (s .pre)
+load-requires c κs = let s = c .before .before .before .before .before .before .before .before .before .before .before .before .before .before .before in loadable (asked s) (s .args .last) (s .pre)
 
 name-start-requires : tie.Need-name-start-requires
 name-start-requires c κs =
@@ -123,13 +131,13 @@ clear-requires-2 c κs =
     let w = room-work (asked s) (s .args .last) (s .pre) in
     omega arith
 
-add-t23 : tie.Need-add-t23
-add-t23 c =
+add-t54 : tie.Need-add-t54
+add-t54 c =
     let y = from (sized (c .before .before .before .before .before .before .before .before .before .before .before .before .before)) in
     let x = counted y in
     let n = new x .1 in
     let f = few x in
-    let t = y .before .before .before .before .before .if1 .left in
+    let t = within (y .before .before .before .before .before) in
     record { fits = omega arith }
 
 same-length-2 : tie.Need-same-length-2
@@ -155,8 +163,7 @@ returns-2 c =
     let x = counted y in
     let s = start x in
     let n = new x .1 in
-    let f = few x in
-    let t = y .before .before .before .before .before .if1 .left in
+    let t = within (y .before .before .before .before .before) in
     let u = refined r in
     let l = y .load .ensures in
     let k = y .load .kept .1 .1 .1 .1 .1 .1 .1 .0 in
@@ -173,7 +180,7 @@ refine-admitted-spec =
     (tie.spec
     final-vertices-requires
     sub-new
-    sub-if1
+    exceeds-requires
     mul-clear
     clear-requires
     same-length
@@ -185,7 +192,7 @@ refine-admitted-spec =
     rounds-requires
     mul-clear-2
     clear-requires-2
-    add-t23
+    add-t54
     same-length-2
     same-length-3
     same-length-4
