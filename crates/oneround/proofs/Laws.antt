@@ -37,8 +37,8 @@ use Rattle.letters.specs.Letters.{newLetter, Nameable, WrittenIf}
 use Rattle.edgetable.specs.EdgeTable.{Round, Edges}
 use Rattle.edgetable.proofs.Faces.{face-table, number-is, inner-is}
 use Rattle.passes.proofs.FamilyTable.{family-table}
-use Rattle.rounds.proofs.Points.{face-room, points-made}
-use Rattle.rounds.specs.Round.{Current, Refines}
+use Rattle.oneround.proofs.Points.{face-room, points-made}
+use Rattle.oneround.specs.Round.{Current, Refines}
 use Rattle.nets.specs.Buffers.{Buffers, buffers, front}
 
 -- the rest of a list, by places

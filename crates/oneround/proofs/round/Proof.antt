@@ -5,10 +5,10 @@ use Prim.Native.Nat.{ℕ, _+_, _*_, _/_, _≤_}
 use native.Mathlib.Omega.{arith}
 use Rattle.search.proofs.Tests.{clash}
 use Rattle.nets.specs.Buffers.{Buffers, buffers}
-use Rattle.rounds.proofs.Laws.{corners, marked, count-le, ready, nameable, letters-made, face-ready, family-ready, net-ready, part-start, part-room, refines}
+use Rattle.oneround.proofs.Laws.{corners, marked, count-le, ready, nameable, letters-made, face-ready, family-ready, net-ready, part-start, part-room, refines}
 use borrow.Author.Needs.{needs}
-use Rattle.rounds.proofs.round.Statement.{statement}
-use Rattle.rounds.proofs.round.Tie as tie
+use Rattle.oneround.proofs.round.Statement.{statement}
+use Rattle.oneround.proofs.round.Tie as tie
 
 abbrev tables : tie.Start → Buffers
 tables s = buffers (s .args .points .now) (s .args .faces .now) (s .args .marks .now) (s .args .work .now)
