@@ -15,7 +15,7 @@ use Rattle.edgepoints.specs.Edge.{Flagged, ExactPoint}
 use Rattle.edgepoints.proofs.Plain.{on-axes-as, corner-room}
 use Rattle.edgepoints.proofs.Wide.{plain-point, inner-point}
 use Rattle.edgetable.specs.EdgeTable.{roundedBy, Small}
-use Rattle.familyedges.specs.Steps.{Place, Line}
+use Rattle.familylines.specs.Steps.{Place, Line}
 use Rattle.edgetable.proofs.Rounded.{plain-small, round-plain, plain-is}
 use Rattle.edgetable.proofs.EdgeTable.{small-of}
 

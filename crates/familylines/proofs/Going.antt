@@ -7,7 +7,7 @@ use lib.ListN.{length}
 use Rattle.topology.specs.Shape.{quads}
 use Rattle.topology.specs.HalfEdge.{mate}
 use Rattle.edgetable.specs.EdgeTable.{Turn, Turned}
-use Rattle.familyedges.specs.Steps.{Place, Going, Carries}
+use Rattle.familylines.specs.Steps.{Place, Going, Carries}
 use Rattle.edgetable.proofs.EdgeTable.{turn-in, turned-edges, turned-count}
 
 module _ (t : ℕ) (l marks : List ℕ) where

@@ -11,11 +11,11 @@ use mir.Facts.{toZ-ofZ}
 use Rattle.coordinates.proofs.Points.{put-point-is}
 use Rattle.edgetable.specs.EdgeTable.{met}
 use Rattle.edgetable.proofs.EdgeTable.{exact-small}
-use Rattle.familyedges.specs.Steps.{Place}
-use Rattle.familyedges.proofs.Going.{place-now, turned-carries}
-use Rattle.familyedges.proofs.Line.{line-in, line-exact, small₀, small₁, small₂, rounded-zero}
-use Rattle.familyedges.proofs.make_edge.Statement.{statement}
-use Rattle.familyedges.proofs.make_edge.Tie as tie
+use Rattle.familylines.specs.Steps.{Place}
+use Rattle.familylines.proofs.Going.{place-now, turned-carries}
+use Rattle.familylines.proofs.Line.{line-in, line-exact, small₀, small₁, small₂, rounded-zero}
+use Rattle.familylines.proofs.make_edge.Statement.{statement}
+use Rattle.familylines.proofs.make_edge.Tie as tie
 
 place : (s : tie.Start) → Place (s .args .t) (s .args .faces .now) (s .args .marks .now) (s .args .points .now) (s .args .work .now) (s .args .h) (s .args .edges)
 place s = place-now _ _ _ _ _ _ _ (s .pre .0) (s .pre .1 .ends .lt) (s .pre .1 .new)

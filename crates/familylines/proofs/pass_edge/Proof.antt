@@ -6,9 +6,9 @@ use borrow.Author.Needs.{needs}
 use lib.ListN.{length}
 use Rattle.edgeentries.specs.Entry.{copied}
 use Rattle.edgetable.specs.EdgeTable.{passed}
-use Rattle.familyedges.proofs.Going.{turned-carries}
-use Rattle.familyedges.proofs.pass_edge.Statement.{statement}
-use Rattle.familyedges.proofs.pass_edge.Tie as tie
+use Rattle.familylines.proofs.Going.{turned-carries}
+use Rattle.familylines.proofs.pass_edge.Statement.{statement}
+use Rattle.familylines.proofs.pass_edge.Tie as tie
 
 copy-entry-requires : tie.Need-copy-entry-requires
 copy-entry-requires c κs = search needs

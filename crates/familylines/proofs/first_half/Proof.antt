@@ -8,10 +8,10 @@ use lib.ListN.{length}
 use Rattle.topology.specs.Shape.{quads}
 use Rattle.topology.specs.HalfEdge.{from, mate}
 use Rattle.edgetable.specs.EdgeTable.{Turn}
-use Rattle.familyedges.specs.Steps.{Line}
-use Rattle.familyedges.proofs.Going.{turn-now}
-use Rattle.familyedges.proofs.first_half.Statement.{statement}
-use Rattle.familyedges.proofs.first_half.Tie as tie
+use Rattle.familylines.specs.Steps.{Line}
+use Rattle.familylines.proofs.Going.{turn-now}
+use Rattle.familylines.proofs.first_half.Statement.{statement}
+use Rattle.familylines.proofs.first_half.Tie as tie
 
 lt : (s : tie.Start) → s .args .h < length (s .args .faces .now)
 lt s = let b = s .pre .1 .lt in omega arith
