@@ -17,7 +17,7 @@ use Rattle.refinedfaces.proofs.Mates.{mate₀, mate₁, mate₂, mate₃}
 use Rattle.scheme.specs.Points.{innerRule}
 use Rattle.schemelaws.specs.Ordinary.{Ordinary, OrdinaryEnds, straight, ordinaryValue}
 use Rattle.schemelaws.proofs.Families.{spoke-plain, spoke-back, first-plain, last-plain, spoke-value, first-value, last-value}
-use Rattle.edgepoints.specs.Edge.{CornerOf}
+use Rattle.exactedges.specs.Edge.{CornerOf}
 use Rattle.familylines.specs.Steps.{Line}
 
 corner-at : (l : List ℕ) (g : ℕ) → g < length l → CornerOf l (from l g)

@@ -5,7 +5,7 @@ ghost use mathlib.Core.Bool.{true};
 ghost use Prim.Native.Nat.{_+_, _<_};
 ghost use lib.ListN.{length};
 ghost use Rattle.halfedges.specs.Tables.{Connectivity};
-ghost use Rattle.edgepoints.specs.Edge.{ClassedCorners};
+ghost use Rattle.exactedges.specs.Edge.{ClassedCorners};
 ghost use Rattle.familylines.specs.Steps.{Going, Carries};
 ghost use Rattle.familyedges.specs.PlainFamily.{FamilyTest, PlainFamily};
 

@@ -11,9 +11,9 @@ use Rattle.schemelaws.specs.Numerators.{edgeZ}
 use Rattle.coordinates.specs.Points.{InTable, OnAxes}
 use Rattle.coordinates.specs.Stencil.{interiorValue}
 use Rattle.edgeentries.specs.Entry.{unitOf}
-use Rattle.edgepoints.specs.Edge.{Flagged, ExactPoint}
-use Rattle.edgepoints.proofs.Plain.{on-axes-as, corner-room}
-use Rattle.edgepoints.proofs.Wide.{plain-point, inner-point}
+use Rattle.exactedges.specs.Edge.{Flagged, ExactPoint}
+use Rattle.exactedges.proofs.Plain.{on-axes-as, corner-room}
+use Rattle.exactedges.proofs.Wide.{plain-point, inner-point}
 use Rattle.edgetable.specs.EdgeTable.{roundedBy, Small}
 use Rattle.familylines.specs.Steps.{Place, Line}
 use Rattle.edgetable.proofs.Rounded.{plain-small, round-plain, plain-is}

@@ -15,7 +15,7 @@ use Rattle.walks.specs.Ready.{Ready}
 use Rattle.coordinates.specs.Points.{Points}
 use Rattle.coordinates.specs.Stencil.{interiorValue}
 use Rattle.edgeentries.specs.Entry.{pointPlace}
-use Rattle.edgepoints.specs.Edge.{CornerOf}
+use Rattle.exactedges.specs.Edge.{CornerOf}
 use Rattle.edgetable.specs.EdgeTable.{Round, Edges}
 
 -- the pass has gone on to h, with e edges met, whatever tables it began with

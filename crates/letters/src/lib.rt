@@ -12,7 +12,7 @@ ghost use Rattle.halfedges.specs.Tables.{Quadrilaterals, Connectivity};
 ghost use Rattle.edgeentries.specs.Entry.{boundaryFlag, entryOf};
 ghost use Rattle.origins.specs.Origins.{madeBy, letterOf, edgeCase};
 ghost use Rattle.letters.specs.Letters.{startLetter, newLetter, faceLetter, PutRight, Nameable, WrittenIf};
-use edgepoints::EdgeRule;
+use edgerules::EdgeRule;
 
 // Writes one letter from the place `first` up to `end`.
 fn fill(letters: &mut [u8], first: usize, end: usize, letter: u8)
@@ -43,7 +43,7 @@ fn edge_letter(faces: &[u32], marks: &[u8], h: usize, m: usize) -> u8
     requires { ⌜ (from (now faces) h < length (now marks)) × (to quads (now faces) h < length (now marks)) ⌝ }
     ensures { λ r. ⌜ r ≡ letterOf (madeBy (edgeCase (edgeRule (now (faces .entry)) (now (marks .entry)) h))) ⌝ }
 {
-    let rule = edgepoints::edge_rule(faces, marks, h, m);
+    let rule = edgerules::edge_rule(faces, marks, h, m);
     match rule {
         EdgeRule::InnerRule => b'C',
         EdgeRule::InsideSegment => b'A',

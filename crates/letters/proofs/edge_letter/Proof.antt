@@ -2,8 +2,8 @@
 use mathlib.Core.Path.{_≡_, sym, ap, _∙_}
 use borrow.Author.Needs.{needs}
 use Rattle.scheme.specs.Points as points
-use Rattle.edgepoints.specs.declared.EdgeRule.{EdgeRule}
-use Rattle.edgepoints.specs.Edge.{ruleOf}
+use Rattle.edgerules.specs.declared.EdgeRule.{EdgeRule}
+use Rattle.edgerules.specs.Rule.{ruleOf}
 use Rattle.origins.specs.Origins.{madeBy, letterOf, edgeCase}
 use Rattle.letters.proofs.edge_letter.Statement.{statement}
 use Rattle.letters.proofs.edge_letter.Tie as tie
