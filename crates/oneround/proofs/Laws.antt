@@ -31,7 +31,7 @@ use Rattle.roundmates.specs.Mates.{MatesIn, LaterIn}
 use Rattle.roundmates.proofs.Round.{mates-in, mated-refined, mates-rest}
 use Rattle.classes.specs.Classes.{Classes}
 use Rattle.edgeentries.specs.Entry.{entryOf, edgeOf}
-use Rattle.facepoints.specs.Faces.{faceCoordinates, FaceTable}
+use Rattle.facerules.specs.Faces.{faceCoordinates, FaceTable}
 use Rattle.familyfaces.specs.Family.{FamilyTable}
 use Rattle.letters.specs.Letters.{newLetter, Nameable, WrittenIf}
 use Rattle.edgetable.specs.EdgeTable.{Round, Edges}

@@ -20,7 +20,7 @@ use Rattle.topology.specs.HalfEdge.{edgeCount}
 use Rattle.refinedfaces.specs.Refined.{refinedVertices}
 use Rattle.scheme.specs.Step.{step}
 use Rattle.schemelaws.proofs.Coordinates.{refined-face}
-use Rattle.facepoints.specs.Faces.{faceCoordinate, faceCoordinates}
+use Rattle.facerules.specs.Faces.{faceCoordinate, faceCoordinates}
 use Rattle.edgetable.specs.EdgeTable.{Round, oldAxis, refinedAxis, edgeAxis, Edges}
 use Rattle.edgetable.proofs.Faces.{face-is}
 
