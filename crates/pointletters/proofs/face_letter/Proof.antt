@@ -3,9 +3,9 @@ use mathlib.Core.Path.{refl, sym, _∙_}
 use mathlib.Core.Bool.{true, false}
 use native.Mathlib.Omega.{arith}
 use Rattle.topology.specs.Shape.{quads}
-use Rattle.letters.proofs.Letters.{face-by}
-use Rattle.letters.proofs.face_letter.Statement.{statement}
-use Rattle.letters.proofs.face_letter.Tie as tie
+use Rattle.pointletters.proofs.FaceLetter.{face-by}
+use Rattle.pointletters.proofs.face_letter.Statement.{statement}
+use Rattle.pointletters.proofs.face_letter.Tie as tie
 
 mul-four-inner : tie.Need-mul-four-inner
 unfolding quads

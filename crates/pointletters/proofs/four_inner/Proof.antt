@@ -12,9 +12,9 @@ use Rattle.topology.specs.HalfEdge.{mate}
 use Rattle.topology.specs.Quads.{across}
 use Rattle.topology.proofs.Shape.{quads-lawful}
 use Rattle.scheme.specs.Points.{fourInner}
-use Rattle.letters.proofs.Letters.{four-by, across-lt}
-use Rattle.letters.proofs.four_inner.Statement.{statement}
-use Rattle.letters.proofs.four_inner.Tie as tie
+use Rattle.pointletters.proofs.FaceLetter.{four-by, across-lt}
+use Rattle.pointletters.proofs.four_inner.Statement.{statement}
+use Rattle.pointletters.proofs.four_inner.Tie as tie
 
 -- where both sides have mates a and b
 abbrev start : tie.Else2 → tie.Start

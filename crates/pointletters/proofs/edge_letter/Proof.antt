@@ -5,8 +5,8 @@ use Rattle.scheme.specs.Points as points
 use Rattle.edgerules.specs.declared.EdgeRule.{EdgeRule}
 use Rattle.edgerules.specs.Rule.{ruleOf}
 use Rattle.origins.specs.Origins.{madeBy, letterOf, edgeCase}
-use Rattle.letters.proofs.edge_letter.Statement.{statement}
-use Rattle.letters.proofs.edge_letter.Tie as tie
+use Rattle.pointletters.proofs.edge_letter.Statement.{statement}
+use Rattle.pointletters.proofs.edge_letter.Tie as tie
 
 -- where the rule is known
 abbrev start : tie.After-edge-rule → tie.Start
