@@ -10,8 +10,8 @@ ghost use Rattle.rules.specs.Numerators.{innerEdgeZ};
 ghost use Rattle.topology.specs.Shape.{quads};
 ghost use Rattle.topology.specs.HalfEdge.{from, to, mate};
 ghost use Rattle.topology.specs.Boundary.{OnBoundary, along, back};
-ghost use Rattle.scheme.specs.Points.{innerRule, edgeRule};
-ghost use Rattle.nets.specs.Net.{marked, axis};
+ghost use Rattle.scheme.specs.Points.{innerRule};
+ghost use Rattle.nets.specs.Net.{axis};
 ghost use Rattle.schemelaws.specs.Ordinary.{Ordinary, OrdinaryEnds, ordinaryValue};
 ghost use Rattle.schemelaws.specs.Numerators.{virtualAtZ, edgeValueZ, edgeZ};
 ghost use Rattle.halfedges.specs.Tables.{Quadrilaterals};
@@ -19,48 +19,9 @@ ghost use Rattle.walks.specs.Ready.{Ready};
 ghost use Rattle.coordinates.specs.Points.{InTable, Points, Marks, OnAxes};
 ghost use Rattle.edgeentries.specs.Entry.{wideFlag, boundaryFlag};
 ghost use Rattle.coordinates.specs.Stencil.{FarIn, stencilValue};
-ghost use Rattle.edgepoints.specs.Edge.{ruleOf, farBefore, farAfter, farOn, StraightFar, ClassedCorners, ClassedEnds, Flagged, ExactPoint};
+ghost use Rattle.exactedges.specs.Edge.{farBefore, farAfter, farOn, StraightFar, ClassedCorners, ClassedEnds, Flagged, ExactPoint};
 use coordinates::Exact;
 use coordinates::Far;
-
-// Which rule makes the point on an edge.
-pub enum EdgeRule {
-    InsideSegment,
-    StartOfSegment,
-    EndOfSegment,
-    WholeSegment,
-    InnerRule,
-}
-
-// Whether vertex v is marked.
-fn is_marked(marks: &[u8], v: usize) -> bool
-    requires { ⌜ v < length (now marks) ⌝ }
-    ensures { λ r. ⌜ r ≡ marked (now (marks .entry)) v ⌝ }
-{
-    marks[v] == 1
-}
-
-// The rule for the edge of h, by its mate m and the marks of its ends.
-pub fn edge_rule(faces: &[u32], marks: &[u8], h: usize, m: usize) -> EdgeRule
-    requires { ⌜ Quadrilaterals (length (now faces)) × (h < length (now faces)) × (m ≡ mate quads (now faces) h) ⌝ }
-    requires { ⌜ (from (now faces) h < length (now marks)) × (to quads (now faces) h < length (now marks)) ⌝ }
-    ensures { λ r. ⌜ ruleOf r ≡ edgeRule (now (faces .entry)) (now (marks .entry)) h ⌝ }
-{
-    if m < faces.len() {
-        return EdgeRule::InnerRule;
-    }
-    let ends = is_marked(marks, halfedges::end_of(faces, h));
-    if is_marked(marks, halfedges::start_of(faces, h)) {
-        if ends {
-            return EdgeRule::WholeSegment;
-        }
-        return EdgeRule::StartOfSegment;
-    }
-    if ends {
-        return EdgeRule::EndOfSegment;
-    }
-    EdgeRule::InsideSegment
-}
 
 // The end of the boundary half-edge after h.
 fn vertex_after(faces: &[u32], work: &[u32], h: usize) -> usize
@@ -86,7 +47,7 @@ fn far_before(faces: &[u32], marks: &[u8], work: &[u32], h: usize) -> Far
     requires { ⌜ OnBoundary quads (now faces) h × (from (now faces) h < length (now marks)) ⌝ }
     ensures { λ f. ⌜ f ≡ farBefore (now (faces .entry)) (now (marks .entry)) h ⌝ }
 {
-    if is_marked(marks, halfedges::start_of(faces, h)) {
+    if edgerules::is_marked(marks, halfedges::start_of(faces, h)) {
         return Far::Nowhere;
     }
     Far::At(vertex_before(faces, work, h))
@@ -98,7 +59,7 @@ fn far_after(faces: &[u32], marks: &[u8], work: &[u32], h: usize) -> Far
     requires { ⌜ OnBoundary quads (now faces) h × (to quads (now faces) h < length (now marks)) ⌝ }
     ensures { λ f. ⌜ f ≡ farAfter (now (faces .entry)) (now (marks .entry)) h ⌝ }
 {
-    if is_marked(marks, halfedges::end_of(faces, h)) {
+    if edgerules::is_marked(marks, halfedges::end_of(faces, h)) {
         return Far::Nowhere;
     }
     Far::At(vertex_after(faces, work, h))

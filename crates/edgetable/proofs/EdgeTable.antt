@@ -42,7 +42,7 @@ use Rattle.edgeentries.specs.Packed.{putThree, Holds}
 use Rattle.edgeentries.specs.Entry.{wideFlag, boundaryFlag, entryOf, edgeOf, pointPlace, placeOf, putEdge, copied, unitOf}
 use Rattle.coordinates.proofs.Points.{take-point, written-next}
 use Rattle.edgeentries.proofs.Packed.{holds-kept, length-put-three, put-three-other, put-three-first, put-three-second, put-three-third}
-use Rattle.edgepoints.specs.Edge.{ClassedCorners, Flagged, plain, wide, boundary, ExactEdge, ExactPoint}
+use Rattle.exactedges.specs.Edge.{ClassedCorners, Flagged, plain, wide, boundary, ExactEdge, ExactPoint}
 use Rattle.edgetable.specs.EdgeTable.{roundedBy, Small, oldAxis, refinedAxis, edgeAxis, Round, Turn, Turned, met, passed, Entry, StoredAt, Edges}
 
 -- ---- flags

@@ -27,9 +27,9 @@ use Rattle.schemelaws.proofs.OneDirection.{by-sides}
 use Rattle.schemelaws.proofs.Plain.{directions-equal}
 use Rattle.edgeentries.specs.Entry.{wideFlag, boundaryFlag, entryOf, edgeOf, placeOf, unitOf, exactAt, exactOf}
 use Rattle.edgeentries.proofs.Packed.{holds-value, holds-high}
-use Rattle.facepoints.specs.declared.FaceRule.the-variants.{FirstAlone, SecondAlone, BothInner, NeitherInner}
-use Rattle.facepoints.specs.Faces.{beyondOf, farOf, directionOf, innerTwiceOf, fourInnerOf, faceRuleOf, faceValueOf, faceCoordinate, PlainTwice, AllPlain, FaceTable}
-use Rattle.edgepoints.specs.Edge.{Flagged, plain, wide, boundary}
+use Rattle.facerules.specs.declared.FaceRule.the-variants.{FirstAlone, SecondAlone, BothInner, NeitherInner}
+use Rattle.facerules.specs.Faces.{beyondOf, farOf, directionOf, innerTwiceOf, fourInnerOf, faceRuleOf, faceValueOf, faceCoordinate, PlainTwice, AllPlain, FaceTable}
+use Rattle.exactedges.specs.Edge.{Flagged, plain, wide, boundary}
 use Rattle.edgetable.specs.EdgeTable.{oldAxis, edgeAxis, Round, Entry, Edges}
 use Rattle.edgetable.proofs.EdgeTable.{entry-edge, edge-few, edge-small, ready-now}
 

@@ -21,7 +21,7 @@ use Rattle.classes.specs.Classes.{Classes}
 use Rattle.coordinates.specs.Points.{Points, Marks, putPoint, Written}
 use Rattle.edgeentries.specs.Packed.{Holds}
 use Rattle.edgeentries.specs.Entry.{wideFlag, entryOf, pointPlace, placeOf, putEdge, copied, unitOf}
-use Rattle.edgepoints.specs.Edge.{Flagged, ExactPoint}
+use Rattle.exactedges.specs.Edge.{Flagged, ExactPoint}
 
 -- a stored numerator of an edge with this flag, rounded
 unfoldable pub roundedBy : Weights → ℕ → ℤ → ℤ

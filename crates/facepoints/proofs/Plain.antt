@@ -26,11 +26,11 @@ use Rattle.coordinates.specs.Points.{putPoint}
 use Rattle.edgeentries.specs.Packed.{biasedAt, packedAt}
 use Rattle.edgeentries.proofs.Packed.{biased-packed}
 use Rattle.edgeentries.specs.Entry.{wideFlag, boundaryFlag, entryOf, pointPlace, placeOf, exactAt, exactOf}
-use Rattle.facepoints.specs.declared.FaceRule.{FaceRule}
-use Rattle.facepoints.specs.Faces.{FaceTable, PlainTwice, AllPlain, beyondOf, farOf, directionOf, innerTwiceOf, fourInnerOf, faceValueOf, faceCoordinate}
-use Rattle.facepoints.specs.Reading.{PlainAt, PlainEdge, plainDirection, plainCoordinate}
-use Rattle.facepoints.proofs.Reading.{unit-plain, across-lt, across-first, across-second}
-use Rattle.facepoints.proofs.Directions.{far-mated, direction-read, inner-mated, rule-is}
+use Rattle.facerules.specs.declared.FaceRule.{FaceRule}
+use Rattle.facerules.specs.Faces.{FaceTable, PlainTwice, AllPlain, beyondOf, farOf, directionOf, innerTwiceOf, fourInnerOf, faceValueOf, faceCoordinate}
+use Rattle.facepoints.specs.Plain.{PlainAt, PlainEdge, plainDirection, plainCoordinate}
+use Rattle.facerules.proofs.Reading.{unit-plain, across-lt, across-first, across-second}
+use Rattle.facerules.proofs.Directions.{far-mated, direction-read, inner-mated, rule-is}
 
 module _ (t : ℕ) where
   -- ---- the steps of one direction, on numbers as they are packed

@@ -1,4 +1,2 @@
-pub mod Line
 pub mod Lines
-pub mod Going
 pub mod PlainFamily

@@ -17,8 +17,8 @@ use Rattle.refinedfaces.proofs.Mates.{mate₀, mate₁, mate₂, mate₃}
 use Rattle.scheme.specs.Points.{innerRule}
 use Rattle.schemelaws.specs.Ordinary.{Ordinary, OrdinaryEnds, straight, ordinaryValue}
 use Rattle.schemelaws.proofs.Families.{spoke-plain, spoke-back, first-plain, last-plain, spoke-value, first-value, last-value}
-use Rattle.edgepoints.specs.Edge.{CornerOf}
-use Rattle.familyedges.specs.Steps.{Line}
+use Rattle.exactedges.specs.Edge.{CornerOf}
+use Rattle.familylines.specs.Steps.{Line}
 
 corner-at : (l : List ℕ) (g : ℕ) → g < length l → CornerOf l (from l g)
 corner-at l g b = record { at = g; lt = b; is = refl }

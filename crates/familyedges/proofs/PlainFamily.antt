@@ -14,8 +14,9 @@ use Rattle.refinedfaces.proofs.Corners.{length-refined, quad}
 use Rattle.refinedfaces.proofs.Mates as round
 use Rattle.schemelaws.specs.Ordinary.{Ordinary}
 use Rattle.refinedfaces.proofs.Families.{Halves, older, newer, halves, none-first, inside₁, inside₂}
-use Rattle.familyedges.specs.Steps.{Line, FirstHalf, LastHalf}
-use Rattle.familyedges.specs.PlainFamily.{FamilyTest, PlainFamily, FamilyOf}
+use Rattle.familylines.specs.Steps.{Line, FirstHalf, LastHalf}
+use Rattle.familysteps.specs.Family.{FamilyOf}
+use Rattle.familyedges.specs.PlainFamily.{FamilyTest, PlainFamily}
 use Rattle.familyedges.proofs.Lines.{first-line, last-line, spoke-line, back-line}
 
 module _ (v : ℕ) (l : List ℕ) (ok : Manifold quads v l) (fours : length l % 4 ≡ 0) where

@@ -13,8 +13,8 @@ use Rattle.tables.specs.Tables.{Written}
 use Rattle.tables.proofs.Written.{Refining, refining-to}
 use Rattle.roundfaces.specs.Faces.{refinedBy, FaceIn, FacesIn}
 use Rattle.roundfaces.proofs.Faces.{corners-then, corners-from}
-use Rattle.facepoints.specs.Faces.{EntryTable, AllPlain, beyondOf}
-use Rattle.facepoints.proofs.Reading.{across-lt}
+use Rattle.facerules.specs.Faces.{EntryTable, AllPlain, beyondOf}
+use Rattle.facerules.proofs.Reading.{across-lt}
 use Rattle.familyfaces.specs.Family.{FamilyTable, PlainSides, PlainFace}
 
 across-side : (m j : ℕ) → m % 4 + j ≡ 3 → (j ≡ 0) ⊎ (j ≡ 3) → (0 < across m % 4) × (across m % 4 < 3)

@@ -8,7 +8,7 @@ use Rattle.topology.specs.Shape.{quads}
 use Rattle.refinedfaces.specs.Families.{Facing}
 use Rattle.edgeentries.specs.Entry.{wideFlag, entryOf}
 use Rattle.coordinates.specs.Points.{putPoint}
-use Rattle.facepoints.specs.Faces.{AllPlain, beyondOf}
+use Rattle.facerules.specs.Faces.{AllPlain, beyondOf}
 
 -- mates as after a round; the edges inside the face that was split are plain, and have one entry for both half-edges
 pub record FamilyTable (n : ℕ) (w : List ℕ) : Type 0 where

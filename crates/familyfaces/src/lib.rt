@@ -8,7 +8,7 @@ ghost use Rattle.curve.specs.Weights.{tension};
 ghost use Rattle.tables.specs.Tables.{Written};
 ghost use Rattle.coordinates.specs.Points.{putPoint};
 ghost use Rattle.roundfaces.specs.Faces.{refinedBy, FaceIn};
-ghost use Rattle.facepoints.specs.Faces.{EntryTable, FaceTable, faceCoordinate};
+ghost use Rattle.facerules.specs.Faces.{EntryTable, FaceTable, faceCoordinate};
 ghost use Rattle.familyfaces.specs.Family.{FamilyTable, PlainSides, PlainFace, putFamily};
 
 // Writes the point of face f, whose eight edges are plain, by the edges of its sides 0 and 2 and that beyond side 2.
@@ -25,7 +25,7 @@ fn family_face(
     requires { ⌜ FaceTable t n (now work) × PlainFace n (now work) f p r v × (3 * f + 3 ≤ length (now out)) ⌝ }
     ensures { λ _. ⌜ now (out .exit) ≡ putPoint (now (out .entry)) f (faceCoordinate (tension t) n (now (work .entry)) 0 f) (faceCoordinate (tension t) n (now (work .entry)) 1 f) (faceCoordinate (tension t) n (now (work .entry)) 2 f) ⌝ }
 {
-    let o = facepoints::beyond(work, n, 4 * f);
+    let o = facerules::beyond(work, n, 4 * f);
     facepoints::plain_face(&mut *out, work, n, o, p, r, v, f, t);
 }
 

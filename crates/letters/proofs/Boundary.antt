@@ -19,8 +19,10 @@ use Rattle.tables.specs.Tables.{Written}
 use Rattle.scheme.specs.Points.{edgeRule, fourInner}
 use Rattle.edgeentries.specs.Entry.{boundaryFlag, entryOf, edgeOf}
 use Rattle.origins.specs.Origins.{madeBy, letterOf, edgeCase}
-use Rattle.letters.specs.Letters.{newLetter, faceLetter, Touches, onEdge, inFace, inFarFace, PutRight, Nameable}
-use Rattle.letters.proofs.Letters.{four-by, face-by, across-face, across-lt, across-twice, face-named, boundary-named, inner-named}
+use Rattle.pointletters.specs.FaceLetter.{faceLetter}
+use Rattle.letters.specs.Letters.{newLetter, Touches, onEdge, inFace, inFarFace, PutRight, Nameable}
+use Rattle.pointletters.proofs.FaceLetter.{four-by, face-by, across-lt}
+use Rattle.letters.proofs.Letters.{across-face, across-twice, face-named, boundary-named, inner-named}
 
 -- ---- the entry of a half-edge
 module _ (l marks w s : List ℕ) (ok : Nameable l marks w s) (h : ℕ) (k : h < length l) where

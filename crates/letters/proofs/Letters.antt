@@ -1,26 +1,26 @@
 -- Laws of letters: which one an edge or a face has. Assumes nothing.
 use mathlib.Core.Path.{_≡_, refl, sym, ap, _∙_, subst}
-use mathlib.Core.Bool.{Bool, true, false, cond, _&&_}
+use mathlib.Core.Bool.{Bool, true, false}
 use mathlib.Core.List.{List}
-use Prim.Native.Nat.{ℕ, _+_, _-_, _*_, _≤_, _<_, min}
+use Prim.Native.Nat.{ℕ, _+_, _-_, _≤_, _<_, min}
 use native.Mathlib.Decide.{decLt, ℕ-discrete}
 use native.Mathlib.Omega.{arith}
 use borrow.Author.Tests.{lt-ltb, le-ltb}
-use lib.Dec.{ltb}
 use lib.ListN.{length}
 use Rattle.search.specs.Search.{iterate}
 use Rattle.topology.specs.Shape.{Lawful, quads}
 use Rattle.topology.specs.HalfEdge.{mate, edgeCount, edge, edgeAt}
 use Rattle.topology.specs.Boundary.{OnBoundary}
-use Rattle.topology.specs.Quads.{across, beyond}
+use Rattle.topology.specs.Quads.{across}
 use Rattle.topology.specs.Manifold.{Oriented}
 use Rattle.topology.proofs.Mates.{mate-back, edge-lt, edgeAt-edge}
 use Rattle.tables.specs.Tables.{Written}
 use Rattle.tables.proofs.Written.{written-on, written-as}
-use Rattle.scheme.specs.Points.{edgeRule, inner, fourInner, faceRule}
+use Rattle.scheme.specs.Points.{edgeRule}
 use Rattle.origins.specs.Origins.{madeBy, letterOf, edgeCase, newRule}
 use Rattle.origins.proofs.Named.{start-control, start-split-point}
-use Rattle.letters.specs.Letters.{startLetter, newLetter, faceLetter, Nameable, WrittenIf}
+use Rattle.pointletters.specs.FaceLetter.{faceLetter}
+use Rattle.letters.specs.Letters.{startLetter, newLetter, Nameable, WrittenIf}
 
 pub nameable-kept : (l marks w letters letters′ : List ℕ) → length letters′ ≡ length letters → Nameable l marks w letters → Nameable l marks w letters′
 nameable-kept l marks w letters letters′ e ok = record {
@@ -57,27 +57,10 @@ start-named v start w w₁ w₂ b x y =
     (written-as 0 v (λ (i : ℕ). 86) (startLetter v) w w₁ (λ k _ l. ap letterOf (sym (start-control v k l))) x)
     (written-as v start (λ (i : ℕ). 83) (startLetter v) w₁ w₂ (λ k l _. ap letterOf (sym (start-split-point v k l))) y)
 
--- ---- faces
--- the direction of the side h, where a and b are the mates of h and of the side opposite
-pub four-by : (l : List ℕ) (h a b : ℕ) → a ≡ mate quads l h → b ≡ mate quads l (across h)
-    → fourInner l h ≡ ltb a (length l) && ltb b (length l) && ltb (mate quads l (across a)) (length l) && ltb (mate quads l (across b)) (length l)
-unfolding fourInner inner beyond
-four-by l h a b ea eb = rw (ea, eb)
-
-pub face-by : (l : List ℕ) (f : ℕ) (b c : Bool) → fourInner l (4 * f) ≡ b → fourInner l (4 * f + 1) ≡ c → faceLetter l f ≡ cond b 68 (cond c 68 69)
-unfolding faceRule
-face-by l f true true p q = rw (p, q)
-face-by l f true false p q = rw (p, q)
-face-by l f false true p q = rw (p, q)
-face-by l f false false p q = rw (p, q)
-
+-- ---- opposite sides
 pub across-face : (h : ℕ) → quads .face (across h) ≡ quads .face h
 unfolding quads across
 across-face h = omega arith
-
-pub across-lt : (n h g : ℕ) → Lawful quads n → h < n → g ≡ across h → g < n
-unfolding across
-across-lt n h g c k e = rw e (c .next-lt (quads .next h) (c .next-lt h k))
 
 pub across-twice : (n h : ℕ) → Lawful quads n → h < n → across (across h) ≡ h
 unfolding quads across iterate

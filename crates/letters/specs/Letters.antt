@@ -11,10 +11,9 @@ use Rattle.topology.specs.Boundary.{OnBoundary}
 use Rattle.topology.specs.Quads.{across}
 use Rattle.topology.specs.Manifold.{Oriented}
 use Rattle.refinedfaces.specs.Refined.{refinedVertices}
-use Rattle.scheme.specs.Points.{faceRule}
 use Rattle.halfedges.specs.Tables.{Connectivity}
 use Rattle.edgeentries.specs.Entry.{boundaryFlag, entryOf, edgeOf}
-use Rattle.origins.specs.Origins.{madeBy, letterOf, faceCase, newRule, startOrigin}
+use Rattle.origins.specs.Origins.{madeBy, letterOf, newRule, startOrigin}
 
 -- the letter of vertex i where refining begins: "V drawn", "S made by P1's split"
 abbrev pub startLetter : (control : ℕ) → ℕ → ℕ
@@ -23,10 +22,6 @@ startLetter control i = letterOf (startOrigin control i)
 -- the letter of the new vertex i of a round
 abbrev pub newLetter : (l marks : List ℕ) → ℕ → ℕ
 newLetter l marks i = letterOf (madeBy (newRule l marks i))
-
--- the letter of face f
-abbrev pub faceLetter : List ℕ → ℕ → ℕ
-faceLetter l f = letterOf (madeBy (faceCase (faceRule l f)))
 
 -- the new vertices whose letters the boundary half-edge g decides: of its edge, of its face, and of the face beyond the opposite side
 pub data Touches (l marks : List ℕ) (g i : ℕ) : Type 0 where

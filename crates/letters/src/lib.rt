@@ -5,14 +5,12 @@ ghost use Prim.Native.Nat.{ℕ, _+_, _≤_, _<_};
 ghost use lib.ListN.{length, set};
 ghost use Rattle.tables.specs.Tables.{Written};
 ghost use Rattle.topology.specs.Shape.{quads};
-ghost use Rattle.topology.specs.HalfEdge.{from, to, mate, edgeCount};
+ghost use Rattle.topology.specs.HalfEdge.{edgeCount};
 ghost use Rattle.refinedfaces.specs.Refined.{refinedVertices};
-ghost use Rattle.scheme.specs.Points.{edgeRule, fourInner};
-ghost use Rattle.halfedges.specs.Tables.{Quadrilaterals, Connectivity};
+ghost use Rattle.halfedges.specs.Tables.{Connectivity};
 ghost use Rattle.edgeentries.specs.Entry.{boundaryFlag, entryOf};
-ghost use Rattle.origins.specs.Origins.{madeBy, letterOf, edgeCase};
-ghost use Rattle.letters.specs.Letters.{startLetter, newLetter, faceLetter, PutRight, Nameable, WrittenIf};
-use edgepoints::EdgeRule;
+ghost use Rattle.pointletters.specs.FaceLetter.{faceLetter};
+ghost use Rattle.letters.specs.Letters.{startLetter, newLetter, PutRight, Nameable, WrittenIf};
 
 // Writes one letter from the place `first` up to `end`.
 fn fill(letters: &mut [u8], first: usize, end: usize, letter: u8)
@@ -37,62 +35,12 @@ pub fn name_start(with_letters: bool, letters: &mut [u8], control: usize, start:
     }
 }
 
-// The letter of the edge of h, whose mate is m, by the rule that makes its point.
-fn edge_letter(faces: &[u32], marks: &[u8], h: usize, m: usize) -> u8
-    requires { ⌜ Quadrilaterals (length (now faces)) × (h < length (now faces)) × (m ≡ mate quads (now faces) h) ⌝ }
-    requires { ⌜ (from (now faces) h < length (now marks)) × (to quads (now faces) h < length (now marks)) ⌝ }
-    ensures { λ r. ⌜ r ≡ letterOf (madeBy (edgeCase (edgeRule (now (faces .entry)) (now (marks .entry)) h))) ⌝ }
-{
-    let rule = edgepoints::edge_rule(faces, marks, h, m);
-    match rule {
-        EdgeRule::InnerRule => b'C',
-        EdgeRule::InsideSegment => b'A',
-        EdgeRule::StartOfSegment => b'B',
-        EdgeRule::EndOfSegment => b'B',
-        EdgeRule::WholeSegment => b'M',
-    }
-}
-
-// Whether the direction of the side h has four inner edges.
-fn four_inner(faces: &[u32], work: &[u32], h: usize) -> bool
-    requires { ⌜ Connectivity (now faces) (now work) × (h < length (now faces)) ⌝ }
-    ensures { λ r. ⌜ r ≡ fourInner (now (faces .entry)) h ⌝ }
-{
-    let n = faces.len();
-    let a = halfedges::mate_side(faces, work, h);
-    if n <= a {
-        return false;
-    }
-    let b = halfedges::mate_side(faces, work, halfedges::across_side(h));
-    if n <= b {
-        return false;
-    }
-    if n <= halfedges::mate_side(faces, work, halfedges::across_side(a)) {
-        return false;
-    }
-    halfedges::mate_side(faces, work, halfedges::across_side(b)) < n
-}
-
-// The letter of face f, by whether a direction has four inner edges.
-fn face_letter(faces: &[u32], work: &[u32], f: usize) -> u8
-    requires { ⌜ Connectivity (now faces) (now work) × (f < quads .faces (length (now faces))) ⌝ }
-    ensures { λ r. ⌜ r ≡ faceLetter (now (faces .entry)) f ⌝ }
-{
-    if four_inner(faces, work, 4 * f) {
-        return b'D';
-    }
-    if four_inner(faces, work, 4 * f + 1) {
-        return b'D';
-    }
-    b'E'
-}
-
 // Writes the letter of face f, where `first` is the place of the first face.
 fn name_face(letters: &mut [u8], faces: &[u32], work: &[u32], first: usize, f: usize)
     requires { ⌜ Connectivity (now faces) (now work) × (f < quads .faces (length (now faces))) × (first + f < length (now letters)) ⌝ }
     ensures { λ _. ⌜ now (letters .exit) ≡ set (now (letters .entry)) (first + f) (faceLetter (now (faces .entry)) f) ⌝ }
 {
-    letters[first + f] = face_letter(faces, work, f);
+    letters[first + f] = pointletters::face_letter(faces, work, f);
 }
 
 // Puts right what the half-edge h touches if it lies on the boundary: the letter of its edge, of its face, and of the face beyond the opposite side.
@@ -107,7 +55,7 @@ fn name_side(letters: &mut [u8], faces: &[u32], marks: &[u8], work: &[u32], firs
         return;
     }
     let place = marks.len() + edgeentries::number_of(entry);
-    letters[place] = edge_letter(faces, marks, h, n);
+    letters[place] = pointletters::edge_letter(faces, marks, h, n);
     name_face(&mut *letters, faces, work, first, halfedges::face_of(h));
     let g = halfedges::mate_side(faces, work, halfedges::across_side(h));
     if g < n {

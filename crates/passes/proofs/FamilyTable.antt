@@ -17,7 +17,7 @@ use Rattle.schemelaws.specs.Ordinary.{OrdinaryEnds}
 use Rattle.schemelaws.proofs.Families.{spoke-plain, spoke-back}
 use Rattle.edgeentries.specs.Entry.{entryOf}
 use Rattle.familyfaces.specs.Family.{FamilyTable}
-use Rattle.edgepoints.specs.Edge.{Flagged, plain, wide, boundary}
+use Rattle.exactedges.specs.Edge.{Flagged, plain, wide, boundary}
 use Rattle.edgetable.specs.EdgeTable.{Round, Entry, Edges}
 use Rattle.edgetable.proofs.EdgeTable.{edge-few, ready-now}
 

@@ -10,7 +10,7 @@ ghost use Rattle.refinedfaces.specs.Refined.{refined};
 ghost use Rattle.refinedfaces.specs.Families.{AfterRound};
 ghost use Rattle.tables.specs.Tables.{filled};
 ghost use Rattle.roundfaces.specs.Faces.{FacesIn};
-ghost use Rattle.facepoints.specs.Faces.{FaceTable, faceCoordinates};
+ghost use Rattle.facerules.specs.Faces.{FaceTable, faceCoordinates};
 ghost use Rattle.familyfaces.specs.Family.{FamilyTable};
 ghost use Rattle.edgetable.specs.EdgeTable.{Round, Edges};
 

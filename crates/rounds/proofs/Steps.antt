@@ -36,10 +36,10 @@ use Rattle.roundmates.specs.Mates.{MatesIn, LaterIn}
 use Rattle.origins.specs.Origins.{letterOf, originFrom}
 use Rattle.origins.proofs.Named.{origin-kept, origin-new}
 use Rattle.letters.specs.Letters.{newLetter, WrittenIf}
-use Rattle.rounds.specs.Round.{Current, Refines}
+use Rattle.oneround.specs.Round.{Current, Refines}
 use Rattle.nets.specs.Buffers.{Buffers, buffers, front}
 use Rattle.rounds.specs.Rounds.{Prepared, After, LettersAfter}
-use Rattle.rounds.proofs.Laws.{count-le, count-is, mates-ready, mates-later, mates-next, mates-past}
+use Rattle.oneround.proofs.Laws.{count-le, count-is, mates-ready, mates-later, mates-next, mates-past}
 
 -- a list at the front of a table of its length is the whole
 filled-self : {A : Type 0} (n : ℕ) (d : List A) → n ≤ length d → d ≡ filled (take n d) d

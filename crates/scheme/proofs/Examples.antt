@@ -20,7 +20,7 @@ use Rattle.refinedfaces.specs.Refined.{corner, refined, refinedMarks}
 use Rattle.scheme.specs.Rings.{extrapolatedAt, fanNeighbour, fanCorner, ringVirtual, fanVirtual, virtualAt}
 use Rattle.topology.specs.Quads.{oppositeCorner, fanEnd, fanPlace, across, beyond}
 use Rattle.scheme.specs.Points.{edgeRule, edgeValue, edgePoint, direction, inner, fourInner, faceRule, faceValue, facePoint}
-use Rattle.scheme.specs.Step.{refinedCoordinate, step}
+use Rattle.scheme.specs.Step.{refinedCoordinate, step, steps}
 
 abbrev plane : ℤ → ℤ → List ℤ → List ℤ
 plane x y l = x ∷ y ∷ pos 0 ∷ l
@@ -77,10 +77,18 @@ onPrism = refinedAt prism 2 9 ∷ refinedAt prism 2 15 ∷ refinedAt prism 2 17 
 abbrev onEll : List ℤ
 onEll = refinedAt ell 2 9 ∷ refinedAt ell 2 10 ∷ []
 
+-- after two rounds: the point on the first half of a side, between (0, 0) and (8, -2), where a round that only splits puts (4, -1)
+abbrev twice : Net
+twice = steps kobbelt 2 (square (pos 0) (0 ∷ 0 ∷ 0 ∷ 0 ∷ []))
+
+abbrev secondRound : List ℤ
+secondRound = axis (twice .vertices) 0 9 ∷ axis (twice .vertices) 1 9 ∷ []
+
 cases : (allMarked ≡ plane (pos 8) (pos 0) (plane (pos 16) (pos 8) (plane (pos 8) (pos 16) (plane (pos 0) (pos 8) (plane (pos 8) (pos 8) [])))))
     × (atMark ≡ negsuc 0 ∷ negsuc 0 ∷ [])
     × (quarter ≡ pos 0 ∷ [])
     × (onPrism ≡ pos 32 ∷ pos 18 ∷ pos 18 ∷ [])
     × (onEll ≡ pos 7 ∷ negsuc 27 ∷ [])
-unfolding tabulate round sumᶠ virtual firstFrom first count iterate quads from to opposed mate firstMet edgeCount edge isBoundaryFrom isBoundaryInto boundaryFrom boundaryInto along back leaves valence turn corner refined refinedMarks interiorPoint endPoint midpoint extrapolated extrapolatedCorner oppositeCorner fanEnd extrapolatedAt fanNeighbour fanCorner fanPlace ringVirtual fanVirtual virtualAt marked edgeRule edgeValue edgePoint across beyond direction inner fourInner faceRule faceValue facePoint edgeAt refinedCoordinate axis step
-cases = (refl, refl, refl, refl, refl)
+    × (secondRound ≡ pos 4 ∷ negsuc 1 ∷ [])
+unfolding tabulate round sumᶠ virtual firstFrom first count iterate quads from to opposed mate firstMet edgeCount edge isBoundaryFrom isBoundaryInto boundaryFrom boundaryInto along back leaves valence turn corner refined refinedMarks interiorPoint endPoint midpoint extrapolated extrapolatedCorner oppositeCorner fanEnd extrapolatedAt fanNeighbour fanCorner fanPlace ringVirtual fanVirtual virtualAt marked edgeRule edgeValue edgePoint across beyond direction inner fourInner faceRule faceValue facePoint edgeAt refinedCoordinate axis step steps
+cases = (refl, refl, refl, refl, refl, refl)

@@ -1,4 +1,1 @@
-pub mod Turning
-pub mod Sums
-pub mod Extrapolated
 pub mod Rings

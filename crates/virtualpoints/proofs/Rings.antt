@@ -23,11 +23,12 @@ use Rattle.schemelaws.specs.Numerators.{extrapolatedAtZ, fanNeighbourZ, fanCorn
 use Rattle.schemelaws.proofs.Vertices.{fan-le, place-at, place-inner, ring-of, ring-ge, ring-le, neighbours-periodic, corners-periodic}
 use Rattle.nets.specs.Net.{axis}
 use Rattle.coordinates.specs.Points.{OnAxes}
-use Rattle.virtualpoints.specs.Gathered.{Filled}
-use Rattle.virtualpoints.specs.Sums.{weighed, placeOn, weightedSum, ringSum, fanOn}
-use Rattle.virtualpoints.specs.Exact.{extrapolatedOn, virtualOn}
-use Rattle.virtualpoints.proofs.Sums.{place-after, scaled-sum, virtual-first, virtual-turned}
-use Rattle.virtualpoints.proofs.Extrapolated.{end-inside}
+use Rattle.extrapolation.specs.Gathered.{Filled}
+use Rattle.ringsums.specs.Sums.{weighed, placeOn, weightedSum, ringSum, fanOn}
+use Rattle.extrapolation.specs.Exact.{extrapolatedOn}
+use Rattle.virtualpoints.specs.Virtual.{virtualOn}
+use Rattle.ringsums.proofs.Sums.{place-after, scaled-sum, virtual-first, virtual-turned}
+use Rattle.extrapolation.proofs.Extrapolated.{end-inside}
 
 module _ (v : ℕ) (l : List ℕ) (ok : Manifold quads v l) (h : ℕ) (b : h < length l) where
   -- ---- a full ring

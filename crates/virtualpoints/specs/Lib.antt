@@ -1,3 +1,1 @@
-pub mod Gathered
-pub mod Sums
-pub mod Exact
+pub mod Virtual

@@ -10,7 +10,7 @@ use Rattle.topology.specs.HalfEdge.{from, to}
 use Rattle.nets.specs.Net.{axis}
 use Rattle.coordinates.specs.Stencil.{stencilValue}
 use Rattle.curve.specs.Weights.{tension}
-use Rattle.edgepoints.proofs.Plain.{on-axes-as}
+use Rattle.exactedges.proofs.Plain.{on-axes-as}
 use Rattle.edgepoints.proofs.boundary_edge.Statement.{statement}
 use Rattle.edgepoints.proofs.boundary_edge.Tie as tie
 

@@ -10,9 +10,9 @@ use Rattle.topology.proofs.Mates.{mate-le}
 use Rattle.nets.specs.Net.{marked}
 use Rattle.coordinates.specs.Points.{InTable}
 use Rattle.coordinates.specs.Stencil.{FarIn}
-use Rattle.edgepoints.specs.Edge.{farBefore, farAfter}
-use Rattle.edgepoints.proofs.Plain.{corner-room, far-by, after-corner, back-corner}
-use Rattle.edgepoints.proofs.Wide.{inner-point, boundary-point, far-rule}
+use Rattle.exactedges.specs.Edge.{farBefore, farAfter}
+use Rattle.exactedges.proofs.Plain.{corner-room, far-by, after-corner, back-corner}
+use Rattle.exactedges.proofs.Wide.{inner-point, boundary-point, far-rule}
 use Rattle.edgepoints.proofs.edge_exact.Statement.{statement}
 use Rattle.edgepoints.proofs.edge_exact.Tie as tie
 

@@ -7,7 +7,7 @@ use Rattle.topology.specs.Boundary.{along}
 use Rattle.nets.specs.Net.{marked}
 use Rattle.coordinates.specs.declared.Far.{Far}
 use Rattle.coordinates.specs.declared.Far.the-variants.{At, Nowhere}
-use Rattle.edgepoints.specs.Edge.{farAfter}
+use Rattle.exactedges.specs.Edge.{farAfter}
 use Rattle.edgepoints.proofs.far_after.Statement.{statement}
 use Rattle.edgepoints.proofs.far_after.Tie as tie
 

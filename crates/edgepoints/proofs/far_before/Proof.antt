@@ -7,7 +7,7 @@ use Rattle.topology.specs.Boundary.{back}
 use Rattle.nets.specs.Net.{marked}
 use Rattle.coordinates.specs.declared.Far.{Far}
 use Rattle.coordinates.specs.declared.Far.the-variants.{At, Nowhere}
-use Rattle.edgepoints.specs.Edge.{farBefore}
+use Rattle.exactedges.specs.Edge.{farBefore}
 use Rattle.edgepoints.proofs.far_before.Statement.{statement}
 use Rattle.edgepoints.proofs.far_before.Tie as tie
 

@@ -1,7 +1,7 @@
 -- `plain_exact` meets its contract. Assumes nothing.
 use borrow.Author.Needs.{needs}
 use Rattle.nets.specs.Net.{axis}
-use Rattle.edgepoints.proofs.Plain.{on-axes-as, end-corner, start-corner, before-corner, corner-room, plain-made}
+use Rattle.exactedges.proofs.Plain.{on-axes-as, end-corner, start-corner, before-corner, corner-room, plain-made}
 use Rattle.edgepoints.proofs.plain_exact.Statement.{statement}
 use Rattle.edgepoints.proofs.plain_exact.Tie as tie
 

@@ -7,7 +7,7 @@ use mir.Syntax.{w64}
 use mir.Val.{SFits}
 use mir.Facts.{toZ-ofZ}
 use Rattle.coordinates.proofs.Values.{read-small}
-use Rattle.edgepoints.proofs.Wide.{scaled-fits}
+use Rattle.exactedges.proofs.Wide.{scaled-fits}
 use Rattle.edgepoints.proofs.scaled.Statement.{statement}
 use Rattle.edgepoints.proofs.scaled.Tie as tie
 

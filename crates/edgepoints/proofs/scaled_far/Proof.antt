@@ -11,7 +11,7 @@ use Rattle.rings.specs.Scales.{coordinateRange}
 use Rattle.nets.specs.Net.{axis}
 use Rattle.coordinates.specs.Stencil.{farValue}
 use Rattle.coordinates.proofs.Values.{read-small, far-small}
-use Rattle.edgepoints.proofs.Wide.{scaled-fits}
+use Rattle.exactedges.proofs.Wide.{scaled-fits}
 use Rattle.edgepoints.proofs.scaled_far.Statement.{statement}
 use Rattle.edgepoints.proofs.scaled_far.Tie as tie
 

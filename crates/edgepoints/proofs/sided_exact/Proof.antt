@@ -1,6 +1,6 @@
 -- `sided_exact` meets its contract. Assumes nothing.
 use borrow.Author.Needs.{needs}
-use Rattle.edgepoints.proofs.Plain.{on-axes-as, end-corner, start-corner, corner-room, straight-in, ends-mate, sided-made}
+use Rattle.exactedges.proofs.Plain.{on-axes-as, end-corner, start-corner, corner-room, straight-in, ends-mate, sided-made}
 use Rattle.edgepoints.proofs.sided_exact.Statement.{statement}
 use Rattle.edgepoints.proofs.sided_exact.Tie as tie
 use Rattle.nets.specs.Net.{axis}

@@ -1,6 +1,6 @@
 -- `straight_far` meets its contract. Assumes nothing.
 use borrow.Author.Needs.{needs}
-use Rattle.edgepoints.proofs.Plain.{far-vertex, far-mirror}
+use Rattle.exactedges.proofs.Plain.{far-vertex, far-mirror}
 use Rattle.edgepoints.proofs.straight_far.Statement.{statement}
 use Rattle.edgepoints.proofs.straight_far.Tie as tie
 

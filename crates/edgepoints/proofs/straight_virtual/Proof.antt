@@ -7,8 +7,8 @@ use mir.Facts.{toZ-ofZ}
 use Rattle.nets.specs.Net.{axis}
 use Rattle.coordinates.specs.Points.{InTable}
 use Rattle.coordinates.specs.Stencil.{FarIn}
-use Rattle.edgepoints.proofs.Plain.{start-corner, end-corner, corner-room, straight-in}
-use Rattle.edgepoints.proofs.Wide.{far-virtual}
+use Rattle.exactedges.proofs.Plain.{start-corner, end-corner, corner-room, straight-in}
+use Rattle.exactedges.proofs.Wide.{far-virtual}
 use Rattle.edgepoints.proofs.straight_virtual.Statement.{statement}
 use Rattle.edgepoints.proofs.straight_virtual.Tie as tie
 

@@ -16,8 +16,8 @@ use Rattle.topology.proofs.Mates.{mate-back}
 use Rattle.nets.specs.Net.{axis}
 use Rattle.schemelaws.specs.Numerators.{virtualAtZ}
 use Rattle.coordinates.specs.Points.{InTable}
-use Rattle.edgepoints.proofs.Plain.{start-corner, end-corner, corner-room}
-use Rattle.edgepoints.proofs.Wide.{virtual-small, wide-made}
+use Rattle.exactedges.proofs.Plain.{start-corner, end-corner, corner-room}
+use Rattle.exactedges.proofs.Wide.{virtual-small, wide-made}
 use Rattle.edgepoints.proofs.wide_edge.Statement.{statement}
 use Rattle.edgepoints.proofs.wide_edge.Tie as tie
 

@@ -9,7 +9,7 @@ use mir.Facts.{toZ-ofZ}
 use Rattle.curve.specs.Weights.{tension, interior}
 use Rattle.nets.specs.Net.{axis}
 use Rattle.coordinates.proofs.Values.{axis-bound}
-use Rattle.edgepoints.proofs.Wide.{scaled-size}
+use Rattle.exactedges.proofs.Wide.{scaled-size}
 use Rattle.edgepoints.proofs.wide_on.Statement.{statement}
 use Rattle.edgepoints.proofs.wide_on.Tie as tie
 

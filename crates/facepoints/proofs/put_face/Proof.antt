@@ -5,7 +5,7 @@ use mathlib.Core.Path.{sym, _∙_}
 use borrow.Author.Tests.{ltb-true}
 use borrow.Author.Needs.{needs}
 use Rattle.edgeentries.specs.Entry.{wideFlag}
-use Rattle.facepoints.specs.Faces.{AllPlain}
+use Rattle.facerules.specs.Faces.{AllPlain}
 use Rattle.facepoints.proofs.Plain.{all-plain, plain-mated, regular-edges, put-regular}
 use Rattle.facepoints.proofs.put_face.Statement.{statement}
 use Rattle.facepoints.proofs.put_face.Tie as tie

@@ -8,7 +8,7 @@ use lib.ListN.{length}
 use Rattle.topology.specs.Shape.{quads}
 use Rattle.topology.specs.HalfEdge.{from, mate}
 use Rattle.edgetable.specs.EdgeTable.{Turn}
-use Rattle.familyedges.proofs.Going.{turn-now}
+use Rattle.familylines.proofs.Going.{turn-now}
 use Rattle.familyedges.proofs.PlainFamily.{family-of, mates-some}
 use Rattle.familyedges.proofs.family_edges.Statement.{statement}
 use Rattle.familyedges.proofs.family_edges.Tie as tie

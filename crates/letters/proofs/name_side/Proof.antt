@@ -11,7 +11,7 @@ use Rattle.topology.specs.HalfEdge.{to, mate, edge}
 use Rattle.topology.specs.Boundary.{OnBoundary}
 use Rattle.topology.specs.Quads.{across}
 use Rattle.edgeentries.specs.Entry.{boundaryFlag, edgeOf}
-use Rattle.letters.proofs.Letters.{across-lt}
+use Rattle.pointletters.proofs.FaceLetter.{across-lt}
 use Rattle.letters.proofs.Boundary.{Put, off-boundary, on-boundary, edge-place, put-none, facePlace, edge-room, face-room, put-edge, put-face, side-alone, side-and-far}
 use Rattle.letters.proofs.name_side.Statement.{statement}
 use Rattle.letters.proofs.name_side.Tie as tie

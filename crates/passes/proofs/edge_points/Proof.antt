@@ -9,9 +9,9 @@ use Rattle.search.specs.Search.{count}
 use Rattle.topology.specs.Shape.{quads}
 use Rattle.topology.specs.HalfEdge.{firstMet, edgeCount}
 use Rattle.edgetable.specs.EdgeTable.{Edges}
-use Rattle.familyedges.specs.Steps.{Carries}
+use Rattle.familylines.specs.Steps.{Carries}
 use Rattle.edgetable.proofs.EdgeTable.{edges-none, turn-in, classed-of}
-use Rattle.familyedges.proofs.Going.{carries-none, carries-then, turned-carries}
+use Rattle.familylines.proofs.Going.{carries-none, carries-then, turned-carries}
 use Rattle.familyedges.proofs.PlainFamily.{plain-later}
 use Rattle.passes.proofs.Turns.{cases, whole, edges-end}
 use Rattle.passes.proofs.edge_points.Statement.{statement}

@@ -13,7 +13,7 @@ use Rattle.tables.proofs.Written.{Refining, refining-none, refining-next}
 use Rattle.roundfaces.specs.Faces.{FacesIn}
 use Rattle.roundfaces.proofs.Faces.{face-in, corners-as, corners-all}
 use Rattle.curve.specs.Weights.{tension}
-use Rattle.facepoints.specs.Faces.{faceCoordinate, faceCoordinates}
+use Rattle.facerules.specs.Faces.{faceCoordinate, faceCoordinates}
 use Rattle.passes.proofs.FacePass.{Writing, writing-none, writing-next, writing-four, writing-all}
 use Rattle.familyfaces.proofs.Family.{family-refining}
 use Rattle.passes.proofs.Turns.{cases, faces-end}

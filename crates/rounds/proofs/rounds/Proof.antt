@@ -10,7 +10,7 @@ use Rattle.classes.specs.Classes.{Classes}
 use Rattle.curve.specs.Weights.{tension}
 use Rattle.scheme.specs.Step.{steps}
 use Rattle.nets.specs.Net.{frontNet}
-use Rattle.rounds.specs.Round.{Current, Refines}
+use Rattle.oneround.specs.Round.{Current, Refines}
 use Rattle.nets.specs.Buffers.{Buffers, buffers}
 use Rattle.rounds.specs.Rounds.{Prepared, After, LettersAfter}
 use Rattle.rounds.proofs.Steps.{again, sized, after-none, letters-none, letters-next, mated-none, classes-none, corners-room, corners-length, countable, prepared-classes, after-classes, kept-points, kept-faces, kept-marks, later-net, current, after-next, ready-mates, later-mates, after-mates, mated-next, classes-next}

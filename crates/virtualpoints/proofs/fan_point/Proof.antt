@@ -8,8 +8,8 @@ use Rattle.topology.specs.Shape.{quads}
 use Rattle.topology.specs.HalfEdge.{from}
 use Rattle.topology.specs.Boundary.{OnBoundary, back}
 use Rattle.topology.proofs.Boundary.{boundaryFrom-on, along-on, back-on}
-use Rattle.virtualpoints.proofs.Turning.{open-fan, gathered-back, neighbours-in, corners-in}
-use Rattle.virtualpoints.proofs.Extrapolated.{extrapolated-small}
+use Rattle.extrapolation.proofs.Turning.{open-fan, gathered-back, neighbours-in, corners-in}
+use Rattle.extrapolation.proofs.Extrapolated.{extrapolated-small}
 use Rattle.virtualpoints.proofs.Rings.{fan-sizes, count-is, fan-made}
 use Rattle.virtualpoints.proofs.fan_point.Statement.{statement}
 use Rattle.virtualpoints.proofs.fan_point.Tie as tie

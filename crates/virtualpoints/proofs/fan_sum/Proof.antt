@@ -11,8 +11,8 @@ use Rattle.integers.proofs.Range.{fits-abs}
 use Rattle.rings.specs.Scales.{extrapolatedRange}
 use Rattle.rings.proofs.Table.{row-small}
 use Rattle.nets.specs.Net.{axis}
-use Rattle.virtualpoints.specs.Sums.{weightRange}
-use Rattle.virtualpoints.proofs.Sums.{SmallSums, sums-small, fan-read}
+use Rattle.ringsums.specs.Sums.{weightRange}
+use Rattle.ringsums.proofs.Sums.{SmallSums, sums-small, fan-read}
 use Rattle.virtualpoints.proofs.fan_sum.Statement.{statement}
 use Rattle.virtualpoints.proofs.fan_sum.Tie as tie
 

@@ -7,8 +7,8 @@ use mir.Facts.{toZ-ofZ}
 use Rattle.integers.specs.Within.{WithinFirst}
 use Rattle.integers.proofs.Range.{fits-abs}
 use Rattle.rings.proofs.Table.{row-small}
-use Rattle.virtualpoints.specs.Sums.{weightRange}
-use Rattle.virtualpoints.proofs.Sums.{SmallSums, sums-small, ring-read}
+use Rattle.ringsums.specs.Sums.{weightRange}
+use Rattle.ringsums.proofs.Sums.{SmallSums, sums-small, ring-read}
 use Rattle.virtualpoints.proofs.ring_point.Statement.{statement}
 use Rattle.virtualpoints.proofs.ring_point.Tie as tie
 

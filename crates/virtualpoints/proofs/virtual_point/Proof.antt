@@ -7,7 +7,7 @@ use Rattle.topology.specs.Shape.{quads}
 use Rattle.topology.specs.HalfEdge.{from}
 use Rattle.topology.specs.Boundary.{boundaryFrom}
 use Rattle.walks.proofs.Around.{ring-here-range}
-use Rattle.virtualpoints.proofs.Turning.{gathered-ring, gathered-fan, neighbours-in, corners-in}
+use Rattle.extrapolation.proofs.Turning.{gathered-ring, gathered-fan, neighbours-in, corners-in}
 use Rattle.virtualpoints.proofs.Rings.{ring-made}
 use Rattle.virtualpoints.proofs.virtual_point.Statement.{statement}
 use Rattle.virtualpoints.proofs.virtual_point.Tie as tie

@@ -1,0 +1,2 @@
+mod Points
+pub mod Laws
