@@ -1,6 +1,6 @@
 -- How the tests of refusals 1 to 4 and 14 make one. Assumes nothing.
 use mathlib.Core.Path.{_≡_, refl, sym, ap, _∙_, subst}
-use mathlib.Core.Bool.{true, false, _&&_}
+use mathlib.Core.Bool.{true, false, _&&_, _||_}
 use mathlib.Core.List.{List, [], _∷_}
 use Prim.Native.Nat.{ℕ, _*_, _/_, _%_, _^_, _≤_, _<_}
 use lib.ListN.{length}
@@ -10,18 +10,18 @@ use native.Mathlib.Omega.{arith}
 use lib.Dec.{ltb}
 use borrow.Author.Tests.{lt-ltb, le-ltb, eq-eqb, ne-eqb}
 use Rattle.verdict.specs.Call.{Room, needed, Lengths, quadrilaterals}
-use Rattle.verdict.specs.Verdict.{Verdict, orElse, refusedIf, shorter, cornersVerdict, tablesVerdict, sizeVerdict, roomVerdict, limitsVerdict}
+use Rattle.verdict.specs.Verdict.{Verdict, refusedIf, shorter, cornersVerdict, tablesVerdict, sizeVerdict, roomVerdict, limitsVerdict}
 use Rattle.verdict.proofs.Accepted.{sized-faces}
 use Rattle.limits.specs.Answer.{limitsOf, FinalFaces}
 
 -- the outputs but the letters are long enough
 pub outputs-long : (room least : Room) → least .vertices ≤ room .vertices → least .faces ≤ room .faces → least .marks ≤ room .marks
-    → shorter room least ≡ orElse (refusedIf 4 (room .asked && ltb (room .letters) (least .letters))) (refusedIf 4 (ltb (room .work) (least .work)))
+    → shorter room least ≡ ((room .asked && ltb (room .letters) (least .letters)) || ltb (room .work) (least .work))
 outputs-long room least a b c = simp (le-ltb (room .vertices) (least .vertices) a, le-ltb (room .faces) (least .faces) b, le-ltb (room .marks) (least .marks) c)
 
-pub by-needed : (g : ℕ) (room least : Room) {v : Verdict} → least ≡ needed g → shorter room least ≡ v → roomVerdict g room ≡ v
+pub by-needed : (g : ℕ) (room least : Room) {v : Verdict} → least ≡ needed g → refusedIf 4 (shorter room least) ≡ v → roomVerdict g room ≡ v
 unfolding roomVerdict
-by-needed g room least e h = ap (shorter room) (sym e) ∙ h
+by-needed g room least e h = ap (λ (x : Room). refusedIf 4 (shorter room x)) (sym e) ∙ h
 
 -- ---- 14 and the face part of 2
 pub fours-hit : (s : List ℕ) (n : ℕ) → length s ≡ 0 → (n % 4 ≡ 0 → ⊥) → cornersVerdict s n ≡ limitsOf 2

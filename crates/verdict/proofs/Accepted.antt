@@ -1,6 +1,6 @@
 -- What an accepted call has, and that a call for fewer rounds is accepted too. Assumes nothing.
 use mathlib.Core.Path.{_≡_, refl}
-use mathlib.Core.Bool.{Bool, true, false, cond, _&&_}
+use mathlib.Core.Bool.{Bool, true, false, cond, _&&_, _||_}
 use mathlib.Core.List.{List, [], _∷_}
 use Prim.Native.Nat.{ℕ, _*_, _/_, _%_, _^_, _≤_, _<_}
 use native.Mathlib.Nat.{pow-le-pow-right, mul-le-mul-left}
@@ -11,6 +11,7 @@ use lib.ListN.{length, getD}
 use borrow.Author.Tests.{ltb-false, eqb-true, not-false, lt-ltb, le-ltb, eq-eqb}
 use Rattle.search.specs.Search.{first}
 use Rattle.search.proofs.First.{first-le, first-before}
+use Rattle.search.proofs.Tests.{or-left, or-right}
 use Rattle.topology.specs.Shape.{Lawful}
 use Rattle.topology.specs.Manifold.{Manifold}
 use Rattle.polygons.specs.Polygons.{shapeOf, badSides, Sided}
@@ -18,8 +19,8 @@ use Rattle.polygons.proofs.Counts.{shape-lawful}
 use Rattle.refusals.proofs.Manifold.{manifold-if}
 use Rattle.refusals.specs.Refusals.{badValence, markedRing}
 use Rattle.nets.specs.Net.{ControlNet}
-use Rattle.verdict.specs.Call.{Lengths, lengthsOf, Call, call, quadrilaterals}
-use Rattle.verdict.specs.Verdict.{Verdict, accepted, refused, orElse, refusedIf, refusedAt, cornersVerdict, tablesVerdict, sizeVerdict, roomVerdict, limitsVerdict, callVerdict, badCoordinate, coordinatesVerdict, vertexVerdict, adjacencyVerdict, facesVerdict, shapeVerdict, netVerdict, verdict}
+use Rattle.verdict.specs.Call.{Room, needed, Lengths, lengthsOf, Call, call, quadrilaterals}
+use Rattle.verdict.specs.Verdict.{Verdict, accepted, refused, orElse, refusedIf, refusedAt, shorter, cornersVerdict, tablesVerdict, sizeVerdict, roomVerdict, limitsVerdict, callVerdict, badCoordinate, coordinatesVerdict, vertexVerdict, adjacencyVerdict, facesVerdict, shapeVerdict, netVerdict, verdict}
 use Rattle.verdict.specs.LargeRing.{NoneOf5To10}
 use Rattle.verdict.proofs.Examples
 
@@ -100,6 +101,32 @@ if-letters : (asked : Bool) (n least : ℕ) → (asked ≡ true → least ≤ n)
 if-letters true n least h = le-ltb n least (h refl)
 if-letters false n least h = refl
 
+-- what passes 4
+record Ample (room stated : Room) : Type 0 where
+  vertices : stated .vertices ≤ room .vertices
+  faces : stated .faces ≤ room .faces
+  marks : stated .marks ≤ room .marks
+  letters : room .asked ≡ true → stated .letters ≤ room .letters
+  work : stated .work ≤ room .work
+
+ample-if : (room stated : Room) → shorter room stated ≡ false → Ample room stated
+ample-if room stated e =
+    let v = ltb (room .vertices) (stated .vertices) in
+    let f = ltb (room .faces) (stated .faces) in
+    let m = ltb (room .marks) (stated .marks) in
+    let l = room .asked && ltb (room .letters) (stated .letters) in
+    let w = ltb (room .work) (stated .work) in
+    let c = or-left (v || f || m || l) w e in
+    let b = or-left (v || f || m) l c in
+    let a = or-left (v || f) m b in
+    record {
+      vertices = ltb-false (room .vertices) (stated .vertices) (or-left v f a);
+      faces = ltb-false (room .faces) (stated .faces) (or-right v f a);
+      marks = ltb-false (room .marks) (stated .marks) (or-right (v || f) m b);
+      letters = letters-if (room .asked) (room .letters) (stated .letters) (or-right (v || f || m) l c);
+      work = ltb-false (room .work) (stated .work) (or-right (v || f || m || l) w e);
+    }
+
 module _ (k : ℕ) (s : List ℕ) (n : Lengths) where
   pub within-if : limitsVerdict k s n ≡ accepted → WithinLimits k s n
   unfolding limitsVerdict tablesVerdict sizeVerdict roomVerdict
@@ -112,10 +139,7 @@ module _ (k : ℕ) (s : List ℕ) (n : Lengths) where
       let b₂ = or-both _ _ (b₁ .1) in
       let c₁ = or-both _ _ (a₃ .0) in
       let c₂ = or-both _ _ (c₁ .1) in
-      let d₁ = or-both _ _ (a₃ .1) in
-      let d₂ = or-both _ _ (d₁ .1) in
-      let d₃ = or-both _ _ (d₂ .1) in
-      let d₄ = or-both _ _ (d₃ .1) in
+      let d = ample-if (n .room) (needed g) (if-false 4 _ (a₃ .1)) in
       record {
         few = ltb-false 6 k (if-false 1 _ (a₁ .0));
         points = eqb-true (n .coordinates % 3) 0 (not-false _ (if-false 2 _ (b₁ .0)));
@@ -124,11 +148,11 @@ module _ (k : ℕ) (s : List ℕ) (n : Lengths) where
         vertices = ltb-false 8192 (n .coordinates / 3) (if-false 3 _ (c₁ .0));
         faces = ltb-false 4096 (quadrilaterals s (n .corners)) (if-false 3 _ (c₂ .0));
         final = ltb-false 262144 g (if-false 3 _ (c₂ .1));
-        roomVertices = ltb-false (n .room .vertices) (12 * g) (if-false 4 _ (d₁ .0));
-        roomFaces = ltb-false (n .room .faces) (4 * g) (if-false 4 _ (d₂ .0));
-        roomMarks = ltb-false (n .room .marks) (4 * g) (if-false 4 _ (d₃ .0));
-        roomLetters = letters-if (n .room .asked) (n .room .letters) (4 * g) (if-false 4 _ (d₄ .0));
-        roomWork = ltb-false (n .room .work) (16 * g) (if-false 4 _ (d₄ .1));
+        roomVertices = d .vertices;
+        roomFaces = d .faces;
+        roomMarks = d .marks;
+        roomLetters = d .letters;
+        roomWork = d .work;
       }
 
   pub if-within : WithinLimits k s n → limitsVerdict k s n ≡ accepted
