@@ -30,6 +30,7 @@ use Rattle.polygons.specs.Polygons.{sideAfter, sideBefore, faceThen, noFace, po
 use Rattle.refinedfaces.specs.Refined.{corner, refined, refinedMarks}
 use Rattle.splitting.specs.Splitting.{sideMidpoint, cornerMean, firstSide, splitValue, splitCoordinate, split, startNet}
 use Rattle.origins.specs.Origins.{newRule, startOrigin, originFrom, originAfter, letters}
+use Rattle.cases.specs.Digits.{readFrom, characters}
 use Rattle.cases.specs.Cases.{Case, cases, AllHold}
 
 abbrev eqList : List ℤ → List ℤ → Bool
@@ -48,7 +49,7 @@ abbrev agrees : ℕ → Case → Bool
 agrees k c = eqList (c .computed) (c .stated)
 
 passes : T (every agrees 0 cases)
-unfolding cases step curve round limitsVerdict tablesVerdict sizeVerdict roomVerdict netVerdict coordinatesVerdict shapeVerdict facesVerdict adjacencyVerdict vertexVerdict badCoordinate badMark badCorner isolated repeatedSide nonManifold badValence markedRing firstFrom first any count iterate quads from to opposed mate firstMet edgeCount edge isBoundaryFrom isBoundaryInto boundaryFrom boundaryInto along back leaves valence turn start stops facesMet sumᶠ virtual interiorPoint endPoint midpoint extrapolated extrapolatedCorner oppositeCorner fanEnd extrapolatedAt fanNeighbour fanCorner fanPlace ringVirtual fanVirtual virtualAt marked edgeRule edgeValue edgePoint across beyond direction inner fourInner faceRule faceValue facePoint edgeAt refinedCoordinate axis tabulate sideAfter sideBefore faceThen noFace polygons shapeOf corner refined refinedMarks sideMidpoint cornerMean firstSide splitValue splitCoordinate split startNet scheme.step steps newRule startOrigin originFrom originAfter letters
+unfolding cases readFrom characters step curve round limitsVerdict tablesVerdict sizeVerdict roomVerdict netVerdict coordinatesVerdict shapeVerdict facesVerdict adjacencyVerdict vertexVerdict badCoordinate badMark badCorner isolated repeatedSide nonManifold badValence markedRing firstFrom first any count iterate quads from to opposed mate firstMet edgeCount edge isBoundaryFrom isBoundaryInto boundaryFrom boundaryInto along back leaves valence turn start stops facesMet sumᶠ virtual interiorPoint endPoint midpoint extrapolated extrapolatedCorner oppositeCorner fanEnd extrapolatedAt fanNeighbour fanCorner fanPlace ringVirtual fanVirtual virtualAt marked edgeRule edgeValue edgePoint across beyond direction inner fourInner faceRule faceValue facePoint edgeAt refinedCoordinate axis tabulate sideAfter sideBefore faceThen noFace polygons shapeOf corner refined refinedMarks sideMidpoint cornerMean firstSide splitValue splitCoordinate split startNet scheme.step steps newRule startOrigin originFrom originAfter letters
 passes = tt
 
 pub cases-hold : AllHold cases
