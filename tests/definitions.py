@@ -619,7 +619,7 @@ MUTATIONS = {
     "the last edge of a segment taken as cyclic": ("Round", "single", "scheme/specs/Points.antt", [("endOfSegment insideSegment)", "insideSegment insideSegment)")]),
     "never the second direction alone": ("Round", "annulus", "scheme/specs/Points.antt", [("secondAlone neitherInner)", "neitherInner neitherInner)")]),
     "side i+1 for side i-1 in refined faces": ("Round", "single", "refinedfaces/specs/Refined.antt", [("edge S l (S .prev h)", "edge S l (S .next h)")]),
-    "a fan of 7 accepted": ("Verdict", "polygons-stored-fan-of-seven", "refusals/specs/Refusals.antt", [("(ltb 6 (valence l p))", "(ltb 7 (valence l p))")]),
+    "a fan of 7 accepted": ("Verdict", "polygons-stored-fan-of-seven", "refusals/specs/Refusals.antt", [("(ltb maxFan (valence l p))", "(ltb 7 (valence l p))")]),
     "refusal 12 before 11": (
         "Verdict",
         "refused-11",

@@ -4,6 +4,7 @@ use mathlib.Core.Bool.{true, false, _&&_, _||_}
 use mathlib.Core.List.{List, [], _∷_}
 use Prim.Native.Nat.{ℕ, _*_, _/_, _%_, _^_, _≤_, _<_}
 use lib.ListN.{length}
+use Rattle.bounds.specs.Bounds.{maxRounds, maxFaces}
 use Rattle.polygons.specs.Polygons.{badSides}
 use native.Mathlib.Decide.{decLt}
 use native.Mathlib.Omega.{arith}
@@ -65,14 +66,14 @@ module _ (k : ℕ) (c : List ℕ) (n : Lengths) where
   abbrev F : ℕ
   F = quadrilaterals c (n .corners)
 
-  pub many-rounds : 6 < k → limitsVerdict k c n ≡ limitsOf 1
+  pub many-rounds : maxRounds < k → limitsVerdict k c n ≡ limitsOf 1
   unfolding limitsVerdict
-  many-rounds h = rw (lt-ltb 6 k h)
+  many-rounds h = rw (lt-ltb maxRounds k h)
 
-  module _ (few : k ≤ 6) (t : ℕ) (e : tablesVerdict (n .coordinates) (n .corners) c (n .marks) ≡ limitsOf t) where
+  module _ (few : k ≤ maxRounds) (t : ℕ) (e : tablesVerdict (n .coordinates) (n .corners) c (n .marks) ≡ limitsOf t) where
     pub by-tables : (t ≡ 0 → ⊥) → limitsVerdict k c n ≡ limitsOf t
     unfolding limitsVerdict
-    by-tables h = rw (le-ltb 6 k few, e, ne-eqb t 0 h)
+    by-tables h = rw (le-ltb maxRounds k few, e, ne-eqb t 0 h)
 
     module _ (z : t ≡ 0) (q : ℕ) (same : q ≡ F) (g s : ℕ) (f₀ : FinalFaces k q g) (d₀ : sizeVerdict (n .coordinates / 3) q g ≡ limitsOf s) where
       f : FinalFaces k F g
@@ -82,23 +83,23 @@ module _ (k : ℕ) (c : List ℕ) (n : Lengths) where
       d = ap (λ (x : ℕ). sizeVerdict (n .coordinates / 3) x g) (sym same) ∙ d₀
 
       -- with too many faces their number after the rounds does not matter
-      many-faces : (h : ℕ) → 4096 < F → sizeVerdict (n .coordinates / 3) F g ≡ sizeVerdict (n .coordinates / 3) F h
+      many-faces : (h : ℕ) → maxFaces < F → sizeVerdict (n .coordinates / 3) F g ≡ sizeVerdict (n .coordinates / 3) F h
       unfolding sizeVerdict
-      many-faces h b = rw (lt-ltb 4096 F b)
+      many-faces h b = rw (lt-ltb maxFaces F b)
 
       size : sizeVerdict (n .coordinates / 3) F (F * 4 ^ k) ≡ limitsOf s
-      size = go (decLt 4096 F)
+      size = go (decLt maxFaces F)
         where
-          go : Dec (4096 < F) → sizeVerdict (n .coordinates / 3) F (F * 4 ^ k) ≡ limitsOf s
+          go : Dec (maxFaces < F) → sizeVerdict (n .coordinates / 3) F (F * 4 ^ k) ≡ limitsOf s
           go (yes b) = sym (many-faces (F * 4 ^ k) b) ∙ d
           go (no b) = ap (sizeVerdict (n .coordinates / 3) F) (sym (f .final few (omega arith))) ∙ d
 
       pub by-size : (s ≡ 0 → ⊥) → limitsVerdict k c n ≡ limitsOf s
       unfolding limitsVerdict
-      by-size h = rw (le-ltb 6 k few, e, eq-eqb t 0 z, size, ne-eqb s 0 h)
+      by-size h = rw (le-ltb maxRounds k few, e, eq-eqb t 0 z, size, ne-eqb s 0 h)
 
       pub by-room : s ≡ 0 → (r : ℕ) → roomVerdict g (n .room) ≡ limitsOf r → limitsVerdict k c n ≡ limitsOf r
       unfolding limitsVerdict
       by-room y r h =
-          rw (le-ltb 6 k few, e, eq-eqb t 0 z, size, eq-eqb s 0 y)
+          rw (le-ltb maxRounds k few, e, eq-eqb t 0 z, size, eq-eqb s 0 y)
           (ap (λ (x : ℕ). roomVerdict x (n .room)) (sym (f .final few (sized-faces (n .coordinates / 3) F g (d ∙ rw (eq-eqb s 0 y))))) ∙ h)

@@ -5,6 +5,7 @@ use mathlib.Core.List.{List}
 use Prim.Native.Nat.{ℕ, _+_, _*_, _/_, _%_, _≤_, _<_}
 use lib.IntN.{ℤ}
 use lib.ListN.{length, take}
+use Rattle.bounds.specs.Bounds.{maxCoordinate}
 use Rattle.lists.specs.Tabulate.{tabulate}
 use Rattle.integers.specs.Within.{Within}
 use Rattle.topology.specs.HalfEdge.{from, to, mate}
@@ -23,7 +24,7 @@ pub record Splittable (s l : List ℕ) (v : ℕ) (t : List ℤ) : Type 0 where
   pub counts : badSides s (length l) ≡ false
   pub oriented : Oriented (shapeOf s) v l
   pub room : 3 * refinedVertices (shapeOf s) v l ≤ length t
-  pub within : Within 1048576 (take (3 * v) t)
+  pub within : Within maxCoordinate (take (3 * v) t)
 
 -- coordinate a of vertex i of the split, and all of them as a table
 unfoldable pub splitAxis : (s l : List ℕ) (v : ℕ) → List ℤ → ℕ → ℕ → ℤ

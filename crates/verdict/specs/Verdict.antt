@@ -6,6 +6,7 @@ use Prim.Native.Nat.{ℕ, _*_, _/_, _%_, _^_}
 use lib.Dec.{eqb, ltb}
 use lib.IntN.{ℤ, pos, natAbs}
 use lib.ListN.{length, getD}
+use Rattle.bounds.specs.Bounds.{maxRounds, maxVertices, maxFaces, maxRefinedFaces, maxCoordinate}
 use Rattle.tables.specs.Tables.{cleared}
 use Rattle.search.specs.Search.{first}
 use Rattle.topology.specs.Shape.{Shape}
@@ -52,7 +53,7 @@ tablesVerdict coordinates corners sides marks =
 
 -- 3: "V above 8,192, F above 4,096, or G above 262,144."
 unfoldable pub sizeVerdict : (v f g : ℕ) → Verdict
-sizeVerdict v f g = orElse (refusedIf 3 (ltb 8192 v)) (orElse (refusedIf 3 (ltb 4096 f)) (refusedIf 3 (ltb 262144 g)))
+sizeVerdict v f g = orElse (refusedIf 3 (ltb maxVertices v)) (orElse (refusedIf 3 (ltb maxFaces f)) (refusedIf 3 (ltb maxRefinedFaces g)))
 
 -- 4: "an output or the work table shorter than stated". Paper 02 on the letter table, where letters are asked for: "a shorter one counts among the outputs of 4"
 abbrev pub shorter : (room stated : Room) → Bool
@@ -71,7 +72,7 @@ unfoldable pub limitsVerdict : (rounds : ℕ) (sides : List ℕ) → Lengths →
 limitsVerdict rounds sides n =
     let f = quadrilaterals sides (n .corners) in
     let g = f * 4 ^ rounds in
-    orElse (refusedIf 1 (ltb 6 rounds))
+    orElse (refusedIf 1 (ltb maxRounds rounds))
     (orElse (tablesVerdict (n .coordinates) (n .corners) sides (n .marks))
     (orElse (sizeVerdict (n .coordinates / 3) f g)
     (roomVerdict g (n .room))))
@@ -83,7 +84,7 @@ callVerdict c = orElse (limitsVerdict (c .rounds) (c .net .sides) (lengthsOf (c 
 -- ---- "Whoever drew the net"
 -- 5: "a coordinate outside -1,048,576 to 1,048,576; vertex."
 unfoldable pub badCoordinate : List ℤ → ℕ → Bool
-badCoordinate vs i = ltb 1048576 (natAbs (getD vs i (pos 0)))
+badCoordinate vs i = ltb maxCoordinate (natAbs (getD vs i (pos 0)))
 
 unfoldable pub coordinatesVerdict : List ℤ → Verdict
 coordinatesVerdict vs = refusedAt 5 (badCoordinate vs) (length vs) (λ i. i / 3)
