@@ -11,11 +11,12 @@ pub const MAX_FACES: usize = 4096;
 pub const MAX_REFINED_FACES: usize = 262144;
 
 // Refusal 5.
+pub const MIN_COORDINATE: i32 = -1048576;
 pub const MAX_COORDINATE: i32 = 1048576;
 
 // Refusal 11.
-pub const MIN_RING: usize = 3;
+pub const MIN_RING: u16 = 3;
 
-pub const MAX_RING: usize = 8;
+pub const MAX_RING: u16 = 8;
 
-pub const MAX_FAN: usize = 6;
+pub const MAX_FAN: u16 = 6;
