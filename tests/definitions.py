@@ -113,8 +113,6 @@ GROUPS["Obj"] = {
     "objform.Form": "",
     "objform.Text": "none, slash, vertexLine, faceLine, commentLine",
 }
-# Names that two modules of a group have; the group does not need the first module's.
-LEFT_OUT = {("Round", "topology.Boundary", "step"), ("Letters", "topology.Boundary", "step"), ("Outcome", "topology.Boundary", "step"), ("Seam", "topology.Boundary", "step"), ("Seam", "curve.Curve", "step"), ("Seam", "curve.Curve", "steps")}
 LIBRARY = """use mathlib.Core.Path.{_≡_, refl, ap, _∙_}
 use mathlib.Core.Bool.{Bool, true, false}
 use mathlib.Core.List.{List, [], _∷_}
@@ -316,7 +314,7 @@ def reading_facts(label, place, reading, case, with_seam):
         name, count = f"{label}-after{rounds}" if rounds else label, len(vertices)
         cost = 0.05 + 0.00001 * len(net[1]) ** 2
         faces = naturals(net[1])
-        along = f"(λ (i : ℕ). from ({faces}) (iterate (step quads ({faces}) {way}) i (boundaryFrom quads ({faces}) {start})))"
+        along = f"(λ (i : ℕ). from ({faces}) (iterate (boundaryStep quads ({faces}) {way}) i (boundaryFrom quads ({faces}) {start})))"
         yield "Reading", f"vertices{place}-{rounds}", f"tabulate {count} {along}", naturals(vertices), cost
         if with_seam and len(net[1]) <= SEAM_CORNERS:
             read = [value for vertex in vertices for value in net[0][3 * vertex:3 * vertex + 3]]
@@ -432,7 +430,7 @@ def headers(crates):
         lines, unfolded = [LIBRARY], []
         for module, others in modules.items():
             crate, file = module.split(".")
-            names = [name for name in unfoldable_names(crates / crate / "specs" / f"{file}.antt") if (group, module, name) not in LEFT_OUT]
+            names = unfoldable_names(crates / crate / "specs" / f"{file}.antt")
             unfolded += names
             listed = ", ".join(names + ([others] if others else []))
             if listed:
@@ -679,7 +677,7 @@ MUTATIONS = {
     ),
     "the old tension in a call": ("Outcome", "polygons-stored-tension-0", "outcome/specs/Outcome.antt", [("(steps (tension (a .tension)) (a .rounds)", "(steps (tension 4) (a .rounds)")]),
     "another end weight of the curve": ("Curve", "single", "curve/specs/Weights.antt", [("pos (w .near + w .far) *ℤ q", "pos (w .near) *ℤ q")]),
-    "a loop followed backwards": ("Reading", "single", "topology/specs/Boundary.antt", [("step S l withSides h = along S l h", "step S l withSides h = back S l h")]),
+    "a loop followed backwards": ("Reading", "single", "topology/specs/Boundary.antt", [("boundaryStep S l withSides h = along S l h", "boundaryStep S l withSides h = back S l h")]),
 }
 
 

@@ -8,7 +8,7 @@ use Prim.Native.String.{String}
 use lib.IntN.{ℤ, pos, negsuc, _*ℤ_}
 use lib.ListN.{length, getD, take, drop}
 use Rattle.curve.specs.Weights.{tension}
-use Rattle.curve.specs.Curve.{Open, Closed, rounded, step, Point, curve}
+use Rattle.curve.specs.Curve.{Open, Closed, rounded, curveStep, Point, curve}
 use Rattle.nets.specs.Net.{Net, ControlNet, controlNet, plain, axis}
 use Rattle.verdict.specs.Call.{Room, room, lengths, call}
 use Rattle.verdict.specs.Verdict.{Verdict, accepted, refused, limitsVerdict, callVerdict, netVerdict}
@@ -24,35 +24,35 @@ pub record Case : Type 0 where
   pub stated : List ℤ
 
 -- these numbers are those of the text
-abbrev pub row : List ℤ → String → Case
-row computed stated = record { computed = computed; stated = integers stated }
+abbrev pub rowOf : List ℤ → String → Case
+rowOf computed stated = record { computed = computed; stated = integers stated }
 
 -- the fraction is n / d
-abbrev pub rowOver : Fraction → (n : ℤ) (d : ℕ) → Case
-rowOver z n d = record { computed = (z .num *ℤ pos d) ∷ []; stated = (n *ℤ pos (z .den)) ∷ [] }
+abbrev pub fractionRow : Fraction → (n : ℤ) (d : ℕ) → Case
+fractionRow z n d = record { computed = (z .num *ℤ pos d) ∷ []; stated = (n *ℤ pos (z .den)) ∷ [] }
 
 abbrev pub asIntegers : List ℕ → List ℤ
 asIntegers [] = []
 asIntegers (n ∷ l) = pos n ∷ asIntegers l
 
 -- ---- nets: coordinates x y z of the vertices, corners of the faces, marks
-abbrev pub netOf : (vertices faces marks : String) → Net
-netOf vertices faces marks = record { vertices = integers vertices; faces = naturals faces; marks = naturals marks }
+abbrev pub netFrom : (vertices faces marks : String) → Net
+netFrom vertices faces marks = record { vertices = integers vertices; faces = naturals faces; marks = naturals marks }
 
 abbrev pub square : Net
-square = netOf "0 0 0, 16 0 0, 16 16 0, 0 16 0" "0 1 2 3" "0 0 0 0"
+square = netFrom "0 0 0, 16 0 0, 16 16 0, 0 16 0" "0 1 2 3" "0 0 0 0"
 
 abbrev pub cube : Net
 cube =
-    netOf "-540 -540 -540, 540 -540 -540, 540 540 -540, -540 540 -540, -540 -540 540, 540 -540 540, 540 540 540, -540 540 540"
+    netFrom "-540 -540 -540, 540 -540 -540, 540 540 -540, -540 540 -540, -540 -540 540, 540 -540 540, 540 540 540, -540 540 540"
     "0 3 2 1, 4 5 6 7, 0 1 5 4, 1 2 6 5, 2 3 7 6, 3 0 4 7" "0 0 0 0 0 0 0 0"
 
 abbrev pub raised : Net
-raised = netOf "0 0 0, 16 0 0, 32 0 0, 0 16 0, 16 16 16, 32 16 0, 0 32 0, 16 32 0, 32 32 0" "0 1 4 3, 1 2 5 4, 3 4 7 6, 4 5 8 7" "1 0 1 0 0 0 1 0 1"
+raised = netFrom "0 0 0, 16 0 0, 32 0 0, 0 16 0, 16 16 16, 32 16 0, 0 32 0, 16 32 0, 32 32 0" "0 1 4 3, 1 2 5 4, 3 4 7 6, 4 5 8 7" "1 0 1 0 0 0 1 0 1"
 
 -- the square with one vertex one count higher: its edge points have z = -1/16, -1/16, 9/16, 9/16
 abbrev pub tilted : Net
-tilted = netOf "0 0 0, 16 0 0, 16 16 0, 0 16 1" "0 1 2 3" "0 0 0 0"
+tilted = netFrom "0 0 0, 16 0 0, 16 16 0, 0 16 1" "0 1 2 3" "0 0 0 0"
 
 -- v vertices at the origin, without marks
 abbrev pub flat : ℕ → List ℤ
@@ -68,31 +68,31 @@ flatNet v faces = record { vertices = flat v; faces = naturals faces; marks = un
 
 -- ---- what the definitions give
 -- the points with these coordinates x y z, and the coordinates of points
-abbrev pub points : List ℤ → List Point
-points [] = []
-points (x ∷ []) = []
-points (x ∷ y ∷ []) = []
-points (x ∷ y ∷ z ∷ l) = record { x = x; y = y; z = z } ∷ points l
+abbrev pub pointsOf : List ℤ → List Point
+pointsOf [] = []
+pointsOf (x ∷ []) = []
+pointsOf (x ∷ y ∷ []) = []
+pointsOf (x ∷ y ∷ z ∷ l) = record { x = x; y = y; z = z } ∷ pointsOf l
 
-abbrev pub coordinates : List Point → List ℤ
-coordinates [] = []
-coordinates (p ∷ l) = p .x ∷ p .y ∷ p .z ∷ coordinates l
+abbrev pub coordinatesOf : List Point → List ℤ
+coordinatesOf [] = []
+coordinatesOf (p ∷ l) = p .x ∷ p .y ∷ p .z ∷ coordinatesOf l
 
 -- the point inside a segment from four consecutive ones
-abbrev pub insideSegment : List ℤ → List ℤ
-insideSegment l = rounded (tension 4) .inside (getD l 0 (pos 0)) (getD l 1 (pos 0)) (getD l 2 (pos 0)) (getD l 3 (pos 0)) ∷ []
+abbrev pub insidePoint : List ℤ → List ℤ
+insidePoint l = rounded (tension 4) .inside (getD l 0 (pos 0)) (getD l 1 (pos 0)) (getD l 2 (pos 0)) (getD l 3 (pos 0)) ∷ []
 
 -- coordinate a of the vertex i after one round at tension t; and x, y, z of some vertices
-abbrev pub refinedAxis : (t : ℕ) → Net → (a i : ℕ) → ℤ
-refinedAxis t m a i = refinedCoordinate (tension t) (length (m .marks)) (m .faces) (m .marks) (axis (m .vertices) a) i
+abbrev pub madeCoordinate : (t : ℕ) → Net → (a i : ℕ) → ℤ
+madeCoordinate t m a i = refinedCoordinate (tension t) (length (m .marks)) (m .faces) (m .marks) (axis (m .vertices) a) i
 
-abbrev pub refinedPoints : (t : ℕ) → Net → List ℕ → List ℤ
-refinedPoints t m [] = []
-refinedPoints t m (i ∷ l) = refinedAxis t m 0 i ∷ refinedAxis t m 1 i ∷ refinedAxis t m 2 i ∷ refinedPoints t m l
+abbrev pub madePoints : (t : ℕ) → Net → List ℕ → List ℤ
+madePoints t m [] = []
+madePoints t m (i ∷ l) = madeCoordinate t m 0 i ∷ madeCoordinate t m 1 i ∷ madeCoordinate t m 2 i ∷ madePoints t m l
 
-abbrev pub refinedHeights : (t : ℕ) → Net → List ℕ → List ℤ
-refinedHeights t m [] = []
-refinedHeights t m (i ∷ l) = refinedAxis t m 2 i ∷ refinedHeights t m l
+abbrev pub madeHeights : (t : ℕ) → Net → List ℕ → List ℤ
+madeHeights t m [] = []
+madeHeights t m (i ∷ l) = madeCoordinate t m 2 i ∷ madeHeights t m l
 
 -- the exact z of the point of face f, and of that of side h
 abbrev pub facePointZ : (t : ℕ) → Net → ℕ → Fraction
@@ -123,51 +123,51 @@ netAnswer m = answer (netVerdict (plain m))
 abbrev pub paperCases : List Case
 paperCases =
     -- "this square without marks: edge points (8,-2), (18,8), (8,18), (-2,8), face point (8,8)."
-    row (refinedPoints 4 square (4 ∷ 5 ∷ 6 ∷ 7 ∷ 8 ∷ [])) "(8,-2,0), (18,8,0), (8,18,0), (-2,8,0), (8,8,0)"
+    rowOf (madePoints 4 square (4 ∷ 5 ∷ 6 ∷ 7 ∷ 8 ∷ [])) "(8,-2,0), (18,8,0), (8,18,0), (-2,8,0), (8,8,0)"
     -- "open stretch 0, 16, 32, 80 on one axis gives 8, 22, 54."
-    ∷ row (step (rounded (tension 4)) Open (integers "0, 16, 32, 80")) "0, 8, 16, 22, 32, 54, 80"
+    ∷ rowOf (curveStep (rounded (tension 4)) Open (integers "0, 16, 32, 80")) "0, 8, 16, 22, 32, 54, 80"
     -- Paper 02: "the stretch 0, 0, 0, 8 gives 0". Paper 01: "-8, 0, 0, 0 gives 1; 0, 0, 0, -7 gives 0."
-    ∷ row (insideSegment (integers "0, 0, 0, 8")) "0"
-    ∷ row (insideSegment (integers "-8, 0, 0, 0")) "1"
-    ∷ row (insideSegment (integers "0, 0, 0, -7")) "0"
+    ∷ rowOf (insidePoint (integers "0, 0, 0, 8")) "0"
+    ∷ rowOf (insidePoint (integers "-8, 0, 0, 0")) "1"
+    ∷ rowOf (insidePoint (integers "0, 0, 0, -7")) "0"
     -- "cube with corners at ±540: edge point (0,-590,-590)", and the face point at z = -540 from -737.5. Paper 02: "So -737.5 gives -737"
-    ∷ row (refinedPoints 4 cube (11 ∷ 20 ∷ [])) "(0,-590,-590), (0,0,-737)"
-    ∷ rowOver (facePointZ 4 cube 0) (negsuc 1474) 2
+    ∷ rowOf (madePoints 4 cube (11 ∷ 20 ∷ [])) "(0,-590,-590), (0,0,-737)"
+    ∷ fractionRow (facePointZ 4 cube 0) (negsuc 1474) 2
     -- "two by two squares of side 16, four outer corners marked, centre raised to z = 16, rest 0: inner edge points have z = 10, face points z = 6 (100/16)."
-    ∷ row (refinedHeights 4 raised (10 ∷ 11 ∷ 15 ∷ 16 ∷ [])) "10 10 10 10"
-    ∷ row (refinedHeights 4 raised (21 ∷ 22 ∷ 23 ∷ 24 ∷ [])) "6 6 6 6"
-    ∷ rowOver (facePointZ 4 raised 0) (pos 100) 16
-    ∷ rowOver (facePointZ 4 raised 3) (pos 100) 16
+    ∷ rowOf (madeHeights 4 raised (10 ∷ 11 ∷ 15 ∷ 16 ∷ [])) "10 10 10 10"
+    ∷ rowOf (madeHeights 4 raised (21 ∷ 22 ∷ 23 ∷ 24 ∷ [])) "6 6 6 6"
+    ∷ fractionRow (facePointZ 4 raised 0) (pos 100) 16
+    ∷ fractionRow (facePointZ 4 raised 3) (pos 100) 16
     -- "64 faces, 6 rounds pass 3; 65 do not."
-    ∷ row (facesAnswer 64) ""
-    ∷ row (facesAnswer 65) "3 0"
+    ∷ rowOf (facesAnswer 64) ""
+    ∷ rowOf (facesAnswer 65) "3 0"
     -- "two squares touching at one vertex: 10. One face listed twice: 9, place 1."
-    ∷ row (netAnswer (flatNet 7 "0 1 2 3, 2 4 5 6")) "10 2"
-    ∷ row (netAnswer (flatNet 4 "0 1 2 3, 0 1 2 3")) "9 1"
+    ∷ rowOf (netAnswer (flatNet 7 "0 1 2 3, 2 4 5 6")) "10 2"
+    ∷ rowOf (netAnswer (flatNet 4 "0 1 2 3, 0 1 2 3")) "9 1"
     -- "coordinate 1,048,576 passes; 1,048,577 gives 5."
-    ∷ row (netAnswer (squareFrom (pos 1048576))) ""
-    ∷ row (netAnswer (squareFrom (pos 1048577))) "5 0"
+    ∷ rowOf (netAnswer (squareFrom (pos 1048576))) ""
+    ∷ rowOf (netAnswer (squareFrom (pos 1048577))) "5 0"
     ∷ []
 
 -- ---- the curve and points of a round
 abbrev pub pointCases : List Case
 pointCases =
     -- the square's edge points stand on the curve of its boundary
-    row (coordinates (curve (tension 4) Closed 1 (points (square .vertices)))) "(0,0,0), (8,-2,0), (16,0,0), (18,8,0), (16,16,0), (8,18,0), (0,16,0), (-2,8,0)"
+    rowOf (coordinatesOf (curve (tension 4) Closed 1 (pointsOf (square .vertices)))) "(0,0,0), (8,-2,0), (16,0,0), (18,8,0), (16,16,0), (8,18,0), (0,16,0), (-2,8,0)"
     -- the open segment at tensions 2 and 0
-    ∷ row (step (rounded (tension 2)) Open (integers "0, 16, 32, 80")) "0, 8, 16, 23, 32, 55, 80"
-    ∷ row (step (rounded (tension 0)) Open (integers "0, 16, 32, 80")) "0, 8, 16, 24, 32, 56, 80"
+    ∷ rowOf (curveStep (rounded (tension 2)) Open (integers "0, 16, 32, 80")) "0, 8, 16, 23, 32, 55, 80"
+    ∷ rowOf (curveStep (rounded (tension 0)) Open (integers "0, 16, 32, 80")) "0, 8, 16, 24, 32, 56, 80"
     -- "Face points use the unrounded edge points.": the face point's z is 0, from 1/4; from rounded edge points it would be 1. From the second implementation.
-    ∷ row (refinedPoints 4 tilted (6 ∷ 8 ∷ [])) "(8,18,1), (8,8,0)"
+    ∷ rowOf (madePoints 4 tilted (6 ∷ 8 ∷ [])) "(8,18,1), (8,8,0)"
     -- the two by two squares at tension 2: inner edge points have z = 9, face points z = 5, from 81/16
-    ∷ row (refinedHeights 2 raised (10 ∷ 16 ∷ 21 ∷ 24 ∷ [])) "9 9 5 5"
-    ∷ rowOver (facePointZ 2 raised 0) (pos 81) 16
+    ∷ rowOf (madeHeights 2 raised (10 ∷ 16 ∷ 21 ∷ 24 ∷ [])) "9 9 5 5"
+    ∷ fractionRow (facePointZ 2 raised 0) (pos 81) 16
     -- at tension 0 the midpoints of the square's sides
-    ∷ row (refinedPoints 0 square (4 ∷ 5 ∷ 6 ∷ 7 ∷ [])) "(8,0,0), (16,8,0), (8,16,0), (0,8,0)"
+    ∷ rowOf (madePoints 0 square (4 ∷ 5 ∷ 6 ∷ 7 ∷ [])) "(8,0,0), (16,8,0), (8,16,0), (0,8,0)"
     -- the cube at tension 2: an edge point from -9585/17, the face point at z = -540 from -86265/136. From the second implementation.
-    ∷ row (refinedPoints 2 cube (11 ∷ 20 ∷ [])) "(0,-564,-564), (0,0,-634)"
-    ∷ rowOver (sidePointZ 2 cube 3) (negsuc 9584) 17
-    ∷ rowOver (facePointZ 2 cube 0) (negsuc 86264) 136
+    ∷ rowOf (madePoints 2 cube (11 ∷ 20 ∷ [])) "(0,-564,-564), (0,0,-634)"
+    ∷ fractionRow (sidePointZ 2 cube 3) (negsuc 9584) 17
+    ∷ fractionRow (facePointZ 2 cube 0) (negsuc 86264) 136
     ∷ []
 
 -- ---- refusal 16. Paper 02: "t above 4", "tested after 4"
@@ -175,7 +175,7 @@ abbrev pub tensionAnswer : (t : ℕ) → Room → List ℤ
 tensionAnswer t room = answer (callVerdict (call 1 (plain square) t room))
 
 abbrev pub tensionCases : List Case
-tensionCases = row (tensionAnswer 4 ample) "" ∷ row (tensionAnswer 5 ample) "16 0" ∷ row (tensionAnswer 5 (room 0 0 0 false 0 0)) "4 0" ∷ []
+tensionCases = rowOf (tensionAnswer 4 ample) "" ∷ rowOf (tensionAnswer 5 ample) "16 0" ∷ rowOf (tensionAnswer 5 (room 0 0 0 false 0 0)) "4 0" ∷ []
 
 -- ---- nets with other faces, split; worked out by hand from paper 02
 abbrev pub sidedNet : (vertices faces sides marks : String) → ControlNet
@@ -199,13 +199,13 @@ heightOf m i = axis (m .vertices) 2 i
 abbrev pub splitCases : List Case
 splitCases =
     -- "The face point is the mean of its corners and each edge point the midpoint": a triangle 0 0, 6 0, 0 6 gives 3 0, 3 3, 0 3 and 2 2
-    row (drop 9 (startNet triangle .vertices)) "(3,0,0), (3,3,0), (0,3,0), (2,2,0)"
+    rowOf (drop 9 (startNet triangle .vertices)) "(3,0,0), (3,3,0), (0,3,0), (2,2,0)"
     -- "Sides and numbering follow the round in 01"
-    ∷ row (asIntegers (startNet triangle .faces)) "0 3 6 5, 1 4 6 3, 2 5 6 4"
+    ∷ rowOf (asIntegers (startNet triangle .faces)) "0 3 6 5, 1 4 6 3, 2 5 6 4"
     -- "Four-sided faces are split too, and zero rounds gives the split net.": 8 0 on the first side, where a round gives 8 -2
-    ∷ row (take 3 (drop 12 (startNet (squareSided "4" "0 0 0 0") .vertices))) "(8,0,0)"
+    ∷ rowOf (take 3 (drop 12 (startNet (squareSided "4" "0 0 0 0") .vertices))) "(8,0,0)"
     -- "rounded like any new point": -1/2, -1/2, -1 and -1 on the sides, -3/5 on the face
-    ∷ row (let m = startNet pentagon in heightOf m 5 ∷ heightOf m 6 ∷ heightOf m 7 ∷ heightOf m 8 ∷ heightOf m 9 ∷ heightOf m 10 ∷ []) "0 0 0 -1 -1 -1"
+    ∷ rowOf (let m = startNet pentagon in heightOf m 5 ∷ heightOf m 6 ∷ heightOf m 7 ∷ heightOf m 8 ∷ heightOf m 9 ∷ heightOf m 10 ∷ []) "0 0 0 -1 -1 -1"
     ∷ []
 
 -- ---- letters. Paper 02: "V drawn, A within a stretch or round an unmarked loop, B end edge, M one-edge stretch, S made by P1's split, C inner edge, D one direction with

@@ -15,7 +15,7 @@ use Rattle.refinedfaces.specs.Refined.{refinedVertices}
 use Rattle.nets.specs.Net.{axis}
 use Rattle.splitting.specs.Splitting.{splitCoordinate}
 use Rattle.sidetable.specs.Table.{Linked}
-use Rattle.coordinates.specs.Points.{putPoint, Written}
+use Rattle.coordinates.specs.Points.{putPoint, PointsWritten}
 use Rattle.splitpoints.specs.Points.{DrawnVertex, midpointOn}
 
 -- what the passes assume: t has room for the vertices of the split
@@ -35,7 +35,7 @@ splitVertices s l v t = tabulate (3 * refinedVertices (shapeOf s) v l) (λ (k : 
 
 -- t is o with the first i vertices of the split
 abbrev pub Made : (s l : List ℕ) (v : ℕ) (o t : List ℤ) → ℕ → Type 0
-Made s l v o t i = Written (splitAxis s l v o) o t i
+Made s l v o t i = PointsWritten (splitAxis s l v o) o t i
 
 -- before half-edge h, with e edges met: t has room for the midpoint of its edge
 pub record Turn (s l w : List ℕ) (v : ℕ) (t : List ℤ) (h e : ℕ) : Type 0 where
