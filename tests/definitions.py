@@ -113,8 +113,6 @@ GROUPS["Obj"] = {
     "objform.Form": "",
     "objform.Text": "none, slash, vertexLine, faceLine, commentLine",
 }
-# Names that two modules of a group have; the group does not need the first module's.
-LEFT_OUT = {("Round", "topology.Boundary", "step"), ("Letters", "topology.Boundary", "step"), ("Outcome", "topology.Boundary", "step"), ("Seam", "topology.Boundary", "step"), ("Seam", "curve.Curve", "step"), ("Seam", "curve.Curve", "steps")}
 LIBRARY = """use mathlib.Core.Path.{_≡_, refl, ap, _∙_}
 use mathlib.Core.Bool.{Bool, true, false}
 use mathlib.Core.List.{List, [], _∷_}
@@ -316,7 +314,7 @@ def reading_facts(label, place, reading, case, with_seam):
         name, count = f"{label}-after{rounds}" if rounds else label, len(vertices)
         cost = 0.05 + 0.00001 * len(net[1]) ** 2
         faces = naturals(net[1])
-        along = f"(λ (i : ℕ). from ({faces}) (iterate (step quads ({faces}) {way}) i (boundaryFrom quads ({faces}) {start})))"
+        along = f"(λ (i : ℕ). from ({faces}) (iterate (boundaryStep quads ({faces}) {way}) i (boundaryFrom quads ({faces}) {start})))"
         yield "Reading", f"vertices{place}-{rounds}", f"tabulate {count} {along}", naturals(vertices), cost
         if with_seam and len(net[1]) <= SEAM_CORNERS:
             read = [value for vertex in vertices for value in net[0][3 * vertex:3 * vertex + 3]]
@@ -432,7 +430,7 @@ def headers(crates):
         lines, unfolded = [LIBRARY], []
         for module, others in modules.items():
             crate, file = module.split(".")
-            names = [name for name in unfoldable_names(crates / crate / "specs" / f"{file}.antt") if (group, module, name) not in LEFT_OUT]
+            names = unfoldable_names(crates / crate / "specs" / f"{file}.antt")
             unfolded += names
             listed = ", ".join(names + ([others] if others else []))
             if listed:
@@ -600,8 +598,8 @@ MUTATIONS = {
         "fan",
         "scheme/specs/Rings.antt",
         [
-            ("    cond (eqb i (valence l v)) (extrapolatedAt", "    cond (eqb i (valence l v + 1)) (extrapolatedAt"),
-            ("    (cond (eqb i (valence l v + 1)) (extrapolatedAt", "    (cond (eqb i (valence l v)) (extrapolatedAt"),
+            ("    cond (eqb i m) (extrapolatedAt", "    cond (eqb i (m + 1)) (extrapolatedAt"),
+            ("    (cond (eqb i (m + 1)) (extrapolatedAt", "    (cond (eqb i m) (extrapolatedAt"),
         ],
     ),
     "halves towards zero": ("Round", "halves", "rounding/specs/Rounding.antt", halves(1, 0)),
@@ -619,7 +617,7 @@ MUTATIONS = {
     "the last edge of a segment taken as cyclic": ("Round", "single", "scheme/specs/Points.antt", [("endOfSegment insideSegment)", "insideSegment insideSegment)")]),
     "never the second direction alone": ("Round", "annulus", "scheme/specs/Points.antt", [("secondAlone neitherInner)", "neitherInner neitherInner)")]),
     "side i+1 for side i-1 in refined faces": ("Round", "single", "refinedfaces/specs/Refined.antt", [("edge S l (S .prev h)", "edge S l (S .next h)")]),
-    "a fan of 7 accepted": ("Verdict", "polygons-stored-fan-of-seven", "refusals/specs/Refusals.antt", [("(ltb 6 (valence l p))", "(ltb 7 (valence l p))")]),
+    "a fan of 7 accepted": ("Verdict", "polygons-stored-fan-of-seven", "refusals/specs/Refusals.antt", [("(ltb maxFan (valence l p))", "(ltb 7 (valence l p))")]),
     "refusal 12 before 11": (
         "Verdict",
         "refused-11",
@@ -649,7 +647,7 @@ MUTATIONS = {
     "D only if both directions have four inner edges": ("Letters", "annulus", "origins/specs/Origins.antt", [("faceCase firstAlone = fourInnerEdges", "faceCase firstAlone = otherFace")]),
     "an end edge called inside": ("Letters", "single", "origins/specs/Origins.antt", [("edgeCase endOfSegment = endEdge", "edgeCase endOfSegment = withinSegment")]),
     "points of the split called drawn": ("Letters", "polygons-lone", "origins/specs/Origins.antt", [("(ltb i v) controlVertex splitPoint", "(ltb i v) controlVertex controlVertex")]),
-    "D without four inner edges taken as the mean": ("Letters", "ring", "origins/specs/Origins.antt", [("(meanOfBoth first second) second) first", "(meanOfBoth first second) second) (meanOfBoth first second)")]),
+    "D without four inner edges taken as the mean": ("Letters", "ring", "origins/specs/Origins.antt", [("fourInnerRule neitherInner = firstAlone", "fourInnerRule neitherInner = neitherInner")]),
     "a letter table measured that is not asked for": ("Verdict", "polygons-stored-letters-not-asked", "verdict/specs/Verdict.antt", [("room .asked && ltb (room .letters)", "ltb (room .letters)")]),
     "letters filled that are not asked for": ("Outcome", "polygons-stored-letters-not-asked", "outcome/specs/Outcome.antt", [("cond (l .asked) (filled s (l .table)) (l .table)", "filled s (l .table)")]),
     "31 + t for 32 + t": ("Round", "named-strip", "curve/specs/Weights.antt", [("near = 32 + t;", "near = 31 + t;")]),
@@ -679,7 +677,7 @@ MUTATIONS = {
     ),
     "the old tension in a call": ("Outcome", "polygons-stored-tension-0", "outcome/specs/Outcome.antt", [("(steps (tension (a .tension)) (a .rounds)", "(steps (tension 4) (a .rounds)")]),
     "another end weight of the curve": ("Curve", "single", "curve/specs/Weights.antt", [("pos (w .near + w .far) *ℤ q", "pos (w .near) *ℤ q")]),
-    "a loop followed backwards": ("Reading", "single", "topology/specs/Boundary.antt", [("step S l withSides h = along S l h", "step S l withSides h = back S l h")]),
+    "a loop followed backwards": ("Reading", "single", "topology/specs/Boundary.antt", [("boundaryStep S l withSides h = along S l h", "boundaryStep S l withSides h = back S l h")]),
 }
 
 

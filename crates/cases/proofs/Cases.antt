@@ -8,7 +8,7 @@ use lib.IntN.{ℤ}
 use lib.ListN.{getD}
 use Rattle.lists.proofs.Table.{both-parts, eqZ, eqZ→eq, every, every-at}
 use Rattle.rounding.specs.Rounding.{round}
-use Rattle.curve.specs.Curve.{step, curve}
+use Rattle.curve.specs.Curve.{curveStep, curve}
 use Rattle.fractions.specs.Fraction.{sumᶠ}
 use Rattle.rings.specs.Ring.{virtual}
 use Rattle.rules.specs.Rules.{interiorPoint, endPoint, midpoint, extrapolated, extrapolatedCorner}
@@ -23,13 +23,13 @@ use Rattle.scheme.specs.Rings.{extrapolatedAt, fanNeighbour, fanCorner, ringVir
 use Rattle.topology.specs.Quads.{oppositeCorner, fanEnd, fanPlace, across, beyond}
 use Rattle.nets.specs.Net.{marked, axis}
 use Rattle.scheme.specs.Points.{edgeRule, edgeValue, edgePoint, direction, inner, fourInner, faceRule, faceValue, facePoint}
-use Rattle.scheme.specs.Step as scheme
-use Rattle.scheme.specs.Step.{refinedCoordinate, steps}
+use Rattle.scheme.specs.Step.{refinedCoordinate, step, steps}
 use Rattle.lists.specs.Tabulate.{tabulate}
 use Rattle.polygons.specs.Polygons.{sideAfter, sideBefore, faceThen, noFace, polygons, shapeOf}
 use Rattle.refinedfaces.specs.Refined.{corner, refined, refinedMarks}
 use Rattle.splitting.specs.Splitting.{sideMidpoint, cornerMean, firstSide, splitValue, splitCoordinate, split, startNet}
 use Rattle.origins.specs.Origins.{newRule, startOrigin, originFrom, originAfter, letters}
+use Rattle.cases.specs.Digits.{readFrom, characters}
 use Rattle.cases.specs.Cases.{Case, cases, AllHold}
 
 abbrev eqList : List ℤ → List ℤ → Bool
@@ -48,7 +48,7 @@ abbrev agrees : ℕ → Case → Bool
 agrees k c = eqList (c .computed) (c .stated)
 
 passes : T (every agrees 0 cases)
-unfolding cases step curve round limitsVerdict tablesVerdict sizeVerdict roomVerdict netVerdict coordinatesVerdict shapeVerdict facesVerdict adjacencyVerdict vertexVerdict badCoordinate badMark badCorner isolated repeatedSide nonManifold badValence markedRing firstFrom first any count iterate quads from to opposed mate firstMet edgeCount edge isBoundaryFrom isBoundaryInto boundaryFrom boundaryInto along back leaves valence turn start stops facesMet sumᶠ virtual interiorPoint endPoint midpoint extrapolated extrapolatedCorner oppositeCorner fanEnd extrapolatedAt fanNeighbour fanCorner fanPlace ringVirtual fanVirtual virtualAt marked edgeRule edgeValue edgePoint across beyond direction inner fourInner faceRule faceValue facePoint edgeAt refinedCoordinate axis tabulate sideAfter sideBefore faceThen noFace polygons shapeOf corner refined refinedMarks sideMidpoint cornerMean firstSide splitValue splitCoordinate split startNet scheme.step steps newRule startOrigin originFrom originAfter letters
+unfolding cases readFrom characters curveStep curve round limitsVerdict tablesVerdict sizeVerdict roomVerdict netVerdict coordinatesVerdict shapeVerdict facesVerdict adjacencyVerdict vertexVerdict badCoordinate badMark badCorner isolated repeatedSide nonManifold badValence markedRing firstFrom first any count iterate quads from to opposed mate firstMet edgeCount edge isBoundaryFrom isBoundaryInto boundaryFrom boundaryInto along back leaves valence turn start stops facesMet sumᶠ virtual interiorPoint endPoint midpoint extrapolated extrapolatedCorner oppositeCorner fanEnd extrapolatedAt fanNeighbour fanCorner fanPlace ringVirtual fanVirtual virtualAt marked edgeRule edgeValue edgePoint across beyond direction inner fourInner faceRule faceValue facePoint edgeAt refinedCoordinate axis tabulate sideAfter sideBefore faceThen noFace polygons shapeOf corner refined refinedMarks sideMidpoint cornerMean firstSide splitValue splitCoordinate split startNet step steps newRule startOrigin originFrom originAfter letters
 passes = tt
 
 pub cases-hold : AllHold cases

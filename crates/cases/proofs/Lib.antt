@@ -1,2 +1,3 @@
 pub mod Cases
-pub mod Examples
+mod Examples
+mod ExamplesLargeRing

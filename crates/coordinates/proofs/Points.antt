@@ -8,7 +8,7 @@ use lib.ListN.{length, set, drop, take, length-set}
 use Rattle.lists.specs.Tabulate.{tabulate}
 use Rattle.lists.proofs.Tabulate.{write-three}
 use lib.Seq.{take-set-le}
-use Rattle.coordinates.specs.Points.{putPoint, Written}
+use Rattle.coordinates.specs.Points.{putPoint, PointsWritten}
 
 pub put-point-is : (t t′ : List ℤ) (i : ℕ) (x y z x′ y′ z′ : ℤ) → t′ ≡ putPoint t i x y z → x ≡ x′ → y ≡ y′ → z ≡ z′ → t′ ≡ putPoint t i x′ y′ z′
 put-point-is t t′ i x y z x′ y′ z′ e a b c = cc
@@ -48,7 +48,7 @@ module _ (G : ℕ → ℕ → ℤ) where
       ∙ write-three F o (3 * i) (omega arith)
       ∙ ap (λ (k : ℕ). tabulate k F ++ drop k o) n
 
-  pub written-next : (o t t′ : List ℤ) (i : ℕ) → 3 * i + 3 ≤ length o → Written G o t i → t′ ≡ putPoint t i (G 0 i) (G 1 i) (G 2 i) → Written G o t′ (i + 1)
+  pub written-next : (o t t′ : List ℤ) (i : ℕ) → 3 * i + 3 ≤ length o → PointsWritten G o t i → t′ ≡ putPoint t i (G 0 i) (G 1 i) (G 2 i) → PointsWritten G o t′ (i + 1)
   written-next o t t′ i h x e = record {
     kept = ap length e ∙ length-point t i (G 0 i) (G 1 i) (G 2 i) ∙ x .kept;
     points = e ∙ point-turn o i (x .points) h;

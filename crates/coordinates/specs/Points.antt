@@ -33,6 +33,6 @@ unfoldable pub putPoint : List ℤ → ℕ → ℤ → ℤ → ℤ → List ℤ
 putPoint t i x y z = set (set (set t (3 * i) x) (3 * i + 1) y) (3 * i + 2) z
 
 -- t is o with the first i points over its front: coordinate a of point j is G a j
-pub record Written (G : ℕ → ℕ → ℤ) (o t : List ℤ) (i : ℕ) : Type 0 where
+pub record PointsWritten (G : ℕ → ℕ → ℤ) (o t : List ℤ) (i : ℕ) : Type 0 where
   pub kept : length t ≡ length o
   pub points : t ≡ tabulate (3 * i) (λ (k : ℕ). G (k % 3) (k / 3)) ++ drop (3 * i) o

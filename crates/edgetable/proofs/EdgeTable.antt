@@ -37,7 +37,7 @@ use Rattle.schemelaws.proofs.Sizes.{edge-size}
 use Rattle.walks.specs.Ready.{Ready}
 use Rattle.classes.specs.Classes.{Classes}
 use Rattle.classes.proofs.Classes.{classes-same}
-use Rattle.coordinates.specs.Points.{Points, Marks, putPoint, Written}
+use Rattle.coordinates.specs.Points.{Points, Marks, putPoint, PointsWritten}
 use Rattle.edgeentries.specs.Packed.{putThree, Holds}
 use Rattle.edgeentries.specs.Entry.{wideFlag, boundaryFlag, entryOf, edgeOf, pointPlace, placeOf, putEdge, copied, unitOf}
 use Rattle.coordinates.proofs.Points.{take-point, written-next}
@@ -397,7 +397,7 @@ module _ (t : ℕ) where
               cc (ep, rounded-is 0 x (exact .on₀), rounded-is 1 y (exact .on₁), rounded-is 2 z (exact .on₂)) in
               record {
                 old = ap (take (3 * length marks)) ep ∙ take-point (length marks) (length marks + e) p (roundedBy (tension t) flag x) (roundedBy (tension t) flag y) (roundedBy (tension t) flag z) (omega arith) ∙ done .old;
-                points = subst (Written (refinedAxis (tension t) l marks p₀) p₀ p′) n (written-next (refinedAxis (tension t) l marks p₀) p₀ p p′ (length marks + e) (omega arith) (done .points) s);
+                points = subst (PointsWritten (refinedAxis (tension t) l marks p₀) p₀ p′) n (written-next (refinedAxis (tension t) l marks p₀) p₀ p p′ (length marks + e) (omega arith) (done .points) s);
                 kept = ap length ew ∙ length-set (putThree w i x y z) (length l + h) (e + flag) ∙ length₃ ∙ done .kept;
                 mates = λ q d. far-now q (λ r. omega arith) (inl (omega arith)) ∙ done .mates q d;
                 behind = λ q d. far-now q (λ r. omega arith) (inr (omega arith)) ∙ done .behind q d;

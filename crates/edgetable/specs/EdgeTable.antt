@@ -18,7 +18,7 @@ use Rattle.schemelaws.specs.Numerators.{edgeZ}
 use Rattle.halfedges.specs.Tables.{Connectivity}
 use Rattle.walks.specs.Ready.{Ready}
 use Rattle.classes.specs.Classes.{Classes}
-use Rattle.coordinates.specs.Points.{Points, Marks, putPoint, Written}
+use Rattle.coordinates.specs.Points.{Points, Marks, putPoint, PointsWritten}
 use Rattle.edgeentries.specs.Packed.{Holds}
 use Rattle.edgeentries.specs.Entry.{wideFlag, entryOf, pointPlace, placeOf, putEdge, copied, unitOf}
 use Rattle.exactedges.specs.Edge.{Flagged, ExactPoint}
@@ -93,7 +93,7 @@ pub record StoredAt (weights : Weights) (n : ℕ) (w : List ℕ) (a entry : ℕ)
 -- of the tables p₀ and w₀, p and w have the points of the edges of the half-edges below h, of which there are e: rounded behind the old ones, and exact
 pub record Edges (t : ℕ) (l marks : List ℕ) (p₀ : List ℤ) (w₀ : List ℕ) (p : List ℤ) (w : List ℕ) (h e : ℕ) : Type 0 where
   pub old : take (3 * length marks) p ≡ take (3 * length marks) p₀
-  pub points : Written (refinedAxis (tension t) l marks p₀) p₀ p (length marks + e)
+  pub points : PointsWritten (refinedAxis (tension t) l marks p₀) p₀ p (length marks + e)
   pub kept : length w ≡ length w₀
   pub mates : (k : ℕ) → k < length l → getD w k 0 ≡ getD w₀ k 0
   pub behind : (k : ℕ) → 8 * length l ≤ k → getD w k 0 ≡ getD w₀ k 0

@@ -6,6 +6,7 @@ use native.Mathlib.Decide.{decLt}
 use native.Mathlib.Omega.{arith}
 use native.Mathlib.Nat.{pow-suc, pow-le-pow-right, mul-assoc, mul-le-mul}
 use lib.ListN.{length, take}
+use Rattle.bounds.specs.Bounds.{maxCorners}
 use Rattle.topology.specs.Shape.{Shape, quads}
 use Rattle.topology.specs.HalfEdge.{edgeCount}
 use Rattle.topology.proofs.Mates.{edges-le}
@@ -40,10 +41,10 @@ pub record Small (c : Counts) : Type 0 where
   pub faces : c .faces ≤ 268435456
   pub corners : c .corners ≤ 268435456
 
-pub small-by : (k : ℕ) (c : Counts) → Bounded c → c .corners ≤ 16384 → k ≤ 7 → Small (grownBy k c)
+pub small-by : (k : ℕ) (c : Counts) → Bounded c → c .corners ≤ maxCorners → k ≤ 7 → Small (grownBy k c)
 small-by k c b few seven =
     let p : 4 ^ k ≤ 4 ^ 7 = pow-le-pow-right {n = 4} (omega arith) seven in
-    let q : c .corners * 4 ^ k ≤ 16384 * 4 ^ 7 = mul-le-mul few p in
+    let q : c .corners * 4 ^ k ≤ maxCorners * 4 ^ 7 = mul-le-mul few p in
     let n = corners-by k c in
     let d = bounded-by k c b in
     let v = d .vertices in

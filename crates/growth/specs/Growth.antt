@@ -2,6 +2,7 @@
 use mathlib.Core.List.{List, [], _∷_}
 use Prim.Native.Nat.{ℕ, zero, suc, _+_, _*_, _≤_}
 use lib.ListN.{length}
+use Rattle.bounds.specs.Bounds.{maxRounds, maxCorners}
 use Rattle.topology.specs.Shape.{Shape}
 use Rattle.topology.specs.HalfEdge.{edgeCount}
 use Rattle.polygons.specs.Polygons.{shapeOf, Sided}
@@ -42,9 +43,9 @@ pub record Bounded (c : Counts) : Type 0 where
 
 -- corners l of faces with the side counts s, of v vertices, for k rounds; their mates stand at the front of w
 pub record Growable (k : ℕ) (l s : List ℕ) (v : ℕ) (w : List ℕ) : Type 0 where
-  pub rounds : k ≤ 6
+  pub rounds : k ≤ maxRounds
   pub sided : Sided s (length l)
-  pub few : length l ≤ 16384
+  pub few : length l ≤ maxCorners
   pub vertices : v ≤ length l
   pub room : length l ≤ length w
   pub mated : MateTableOf (shapeOf s) l w

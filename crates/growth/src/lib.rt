@@ -3,6 +3,7 @@ ghost use mathlib.Core.Path.{_≡_};
 ghost use Prim.Native.Nat.{_+_, _≤_};
 ghost use lib.Dec.{ltb};
 ghost use lib.ListN.{length};
+ghost use Rattle.bounds.specs.Bounds.{maxCorners, maxHalfEdges};
 ghost use Rattle.polygons.specs.Polygons.{shapeOf};
 ghost use Rattle.outcome.specs.Tally.{tallyLimit};
 ghost use Rattle.edgenumbers.specs.Edges.{edgeCountBy};
@@ -10,7 +11,7 @@ ghost use Rattle.growth.specs.Growth.{counts, countsOf, grownBy, splits,
 
 // The number of edges: how many half-edges come before their mates or have none.
 fn edge_count(mates: &[u32]) -> usize
-    requires { ⌜ length (now mates) ≤ 262144 ⌝ }
+    requires { ⌜ length (now mates) ≤ maxHalfEdges ⌝ }
     ensures { λ r. ⌜ r ≡ edgeCountBy (now (mates .entry)) ⌝ }
 {
     let mut edges: u32 = 0;
@@ -25,7 +26,7 @@ fn edge_count(mates: &[u32]) -> usize
 // The number of vertices after so many refinement steps on a net of v vertices.
 fn vertices_after(v: usize, edges: usize, faces: usize, corners: usize, steps: u32) -> usize
     requires { ⌜ Bounded (counts v edges faces corners) ⌝ }
-    requires { ⌜ (corners ≤ 16384) × (steps ≤ 7) ⌝ }
+    requires { ⌜ (corners ≤ maxCorners) × (steps ≤ 7) ⌝ }
     ensures { λ r. ⌜ r ≡ grownBy steps (counts v edges faces corners) .vertices ⌝ }
 {
     let mut vertices = v;

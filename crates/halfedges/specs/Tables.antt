@@ -3,13 +3,14 @@ use mathlib.Core.Path.{_≡_}
 use mathlib.Core.List.{List}
 use Prim.Native.Nat.{ℕ, _%_, _≤_, _<_}
 use lib.ListN.{length, getD}
+use Rattle.bounds.specs.Bounds.{maxHalfEdges}
 use Rattle.topology.specs.Shape.{Shape, quads}
 use Rattle.topology.specs.HalfEdge.{mate}
 
--- n half-edges make four-sided faces, at most 65,536 of them: as many as are refined once more
+-- n half-edges make four-sided faces, at most as many as are refined once more
 pub record Quadrilaterals (n : ℕ) : Type 0 where
   pub fours : n % 4 ≡ 0
-  pub few : n ≤ 262144
+  pub few : n ≤ maxHalfEdges
 
 -- w starts with the mates of the half-edges of a net in the shape S
 pub record MateTableOf (S : Shape) (l w : List ℕ) : Type 0 where

@@ -3,6 +3,7 @@
 ghost use mathlib.Core.Path.{_≡_};
 ghost use Prim.Native.Nat.{_<_};
 ghost use lib.ListN.{length};
+ghost use Rattle.bounds.specs.Bounds.{maxHalfEdges};
 ghost use Rattle.topology.specs.Shape.{quads};
 ghost use Rattle.topology.specs.HalfEdge.{from, to, mate};
 ghost use Rattle.topology.specs.Vertex.{turn};
@@ -11,7 +12,7 @@ ghost use Rattle.halfedges.specs.Tables.{Quadrilaterals, Connectivity};
 
 // The half-edge after h round its face.
 pub fn next_side(h: usize) -> usize
-    requires { ⌜ h < 262144 ⌝ }
+    requires { ⌜ h < maxHalfEdges ⌝ }
     ensures { λ r. ⌜ r ≡ quads .next h ⌝ }
 {
     4 * (h / 4) + (h + 1) % 4
@@ -19,7 +20,7 @@ pub fn next_side(h: usize) -> usize
 
 // The half-edge before h round its face.
 pub fn prev_side(h: usize) -> usize
-    requires { ⌜ h < 262144 ⌝ }
+    requires { ⌜ h < maxHalfEdges ⌝ }
     ensures { λ r. ⌜ r ≡ quads .prev h ⌝ }
 {
     4 * (h / 4) + (h + 3) % 4
@@ -27,7 +28,7 @@ pub fn prev_side(h: usize) -> usize
 
 // The side opposite h in its face.
 pub fn across_side(h: usize) -> usize
-    requires { ⌜ h < 262144 ⌝ }
+    requires { ⌜ h < maxHalfEdges ⌝ }
     ensures { λ r. ⌜ r ≡ across h ⌝ }
 {
     4 * (h / 4) + (h + 2) % 4

@@ -1,27 +1,28 @@
 -- How the tests of refusals 1 to 4 and 14 make one. Assumes nothing.
 use mathlib.Core.Path.{_≡_, refl, sym, ap, _∙_, subst}
-use mathlib.Core.Bool.{true, false, _&&_}
+use mathlib.Core.Bool.{true, false, _&&_, _||_}
 use mathlib.Core.List.{List, [], _∷_}
 use Prim.Native.Nat.{ℕ, _*_, _/_, _%_, _^_, _≤_, _<_}
 use lib.ListN.{length}
+use Rattle.bounds.specs.Bounds.{maxRounds, maxFaces}
 use Rattle.polygons.specs.Polygons.{badSides}
 use native.Mathlib.Decide.{decLt}
 use native.Mathlib.Omega.{arith}
 use lib.Dec.{ltb}
 use borrow.Author.Tests.{lt-ltb, le-ltb, eq-eqb, ne-eqb}
 use Rattle.verdict.specs.Call.{Room, needed, Lengths, quadrilaterals}
-use Rattle.verdict.specs.Verdict.{Verdict, orElse, refusedIf, shorter, cornersVerdict, tablesVerdict, sizeVerdict, roomVerdict, limitsVerdict}
+use Rattle.verdict.specs.Verdict.{Verdict, refusedIf, shorter, cornersVerdict, tablesVerdict, sizeVerdict, roomVerdict, limitsVerdict}
 use Rattle.verdict.proofs.Accepted.{sized-faces}
 use Rattle.limits.specs.Answer.{limitsOf, FinalFaces}
 
 -- the outputs but the letters are long enough
 pub outputs-long : (room least : Room) → least .vertices ≤ room .vertices → least .faces ≤ room .faces → least .marks ≤ room .marks
-    → shorter room least ≡ orElse (refusedIf 4 (room .asked && ltb (room .letters) (least .letters))) (refusedIf 4 (ltb (room .work) (least .work)))
+    → shorter room least ≡ ((room .asked && ltb (room .letters) (least .letters)) || ltb (room .work) (least .work))
 outputs-long room least a b c = simp (le-ltb (room .vertices) (least .vertices) a, le-ltb (room .faces) (least .faces) b, le-ltb (room .marks) (least .marks) c)
 
-pub by-needed : (g : ℕ) (room least : Room) {v : Verdict} → least ≡ needed g → shorter room least ≡ v → roomVerdict g room ≡ v
+pub by-needed : (g : ℕ) (room least : Room) {v : Verdict} → least ≡ needed g → refusedIf 4 (shorter room least) ≡ v → roomVerdict g room ≡ v
 unfolding roomVerdict
-by-needed g room least e h = ap (shorter room) (sym e) ∙ h
+by-needed g room least e h = ap (λ (x : Room). refusedIf 4 (shorter room x)) (sym e) ∙ h
 
 -- ---- 14 and the face part of 2
 pub fours-hit : (s : List ℕ) (n : ℕ) → length s ≡ 0 → (n % 4 ≡ 0 → ⊥) → cornersVerdict s n ≡ limitsOf 2
@@ -65,14 +66,14 @@ module _ (k : ℕ) (c : List ℕ) (n : Lengths) where
   abbrev F : ℕ
   F = quadrilaterals c (n .corners)
 
-  pub many-rounds : 6 < k → limitsVerdict k c n ≡ limitsOf 1
+  pub many-rounds : maxRounds < k → limitsVerdict k c n ≡ limitsOf 1
   unfolding limitsVerdict
-  many-rounds h = rw (lt-ltb 6 k h)
+  many-rounds h = rw (lt-ltb maxRounds k h)
 
-  module _ (few : k ≤ 6) (t : ℕ) (e : tablesVerdict (n .coordinates) (n .corners) c (n .marks) ≡ limitsOf t) where
+  module _ (few : k ≤ maxRounds) (t : ℕ) (e : tablesVerdict (n .coordinates) (n .corners) c (n .marks) ≡ limitsOf t) where
     pub by-tables : (t ≡ 0 → ⊥) → limitsVerdict k c n ≡ limitsOf t
     unfolding limitsVerdict
-    by-tables h = rw (le-ltb 6 k few, e, ne-eqb t 0 h)
+    by-tables h = rw (le-ltb maxRounds k few, e, ne-eqb t 0 h)
 
     module _ (z : t ≡ 0) (q : ℕ) (same : q ≡ F) (g s : ℕ) (f₀ : FinalFaces k q g) (d₀ : sizeVerdict (n .coordinates / 3) q g ≡ limitsOf s) where
       f : FinalFaces k F g
@@ -82,23 +83,23 @@ module _ (k : ℕ) (c : List ℕ) (n : Lengths) where
       d = ap (λ (x : ℕ). sizeVerdict (n .coordinates / 3) x g) (sym same) ∙ d₀
 
       -- with too many faces their number after the rounds does not matter
-      many-faces : (h : ℕ) → 4096 < F → sizeVerdict (n .coordinates / 3) F g ≡ sizeVerdict (n .coordinates / 3) F h
+      many-faces : (h : ℕ) → maxFaces < F → sizeVerdict (n .coordinates / 3) F g ≡ sizeVerdict (n .coordinates / 3) F h
       unfolding sizeVerdict
-      many-faces h b = rw (lt-ltb 4096 F b)
+      many-faces h b = rw (lt-ltb maxFaces F b)
 
       size : sizeVerdict (n .coordinates / 3) F (F * 4 ^ k) ≡ limitsOf s
-      size = go (decLt 4096 F)
+      size = go (decLt maxFaces F)
         where
-          go : Dec (4096 < F) → sizeVerdict (n .coordinates / 3) F (F * 4 ^ k) ≡ limitsOf s
+          go : Dec (maxFaces < F) → sizeVerdict (n .coordinates / 3) F (F * 4 ^ k) ≡ limitsOf s
           go (yes b) = sym (many-faces (F * 4 ^ k) b) ∙ d
           go (no b) = ap (sizeVerdict (n .coordinates / 3) F) (sym (f .final few (omega arith))) ∙ d
 
       pub by-size : (s ≡ 0 → ⊥) → limitsVerdict k c n ≡ limitsOf s
       unfolding limitsVerdict
-      by-size h = rw (le-ltb 6 k few, e, eq-eqb t 0 z, size, ne-eqb s 0 h)
+      by-size h = rw (le-ltb maxRounds k few, e, eq-eqb t 0 z, size, ne-eqb s 0 h)
 
       pub by-room : s ≡ 0 → (r : ℕ) → roomVerdict g (n .room) ≡ limitsOf r → limitsVerdict k c n ≡ limitsOf r
       unfolding limitsVerdict
       by-room y r h =
-          rw (le-ltb 6 k few, e, eq-eqb t 0 z, size, eq-eqb s 0 y)
+          rw (le-ltb maxRounds k few, e, eq-eqb t 0 z, size, eq-eqb s 0 y)
           (ap (λ (x : ℕ). roomVerdict x (n .room)) (sym (f .final few (sized-faces (n .coordinates / 3) F g (d ∙ rw (eq-eqb s 0 y))))) ∙ h)

@@ -3,6 +3,7 @@ use mathlib.Core.Bool.{cond}
 use Prim.Native.Nat.{ℕ, _*_, _^_, _≤_}
 use mathlib.Core.Path.{_≡_}
 use lib.Dec.{eqb}
+use Rattle.bounds.specs.Bounds.{maxRounds, maxFaces, maxProduct}
 use Rattle.verdict.specs.Call as call
 use Rattle.verdict.specs.Verdict.{Verdict, accepted, refused}
 use Rattle.limits.specs.declared.Lengths.{Lengths}
@@ -20,5 +21,5 @@ lengthsIn n = call.lengths (n .coordinates) (n .corners) (n .marks) (call.room (
 
 -- g is the number of refined faces, where rounds and faces are within their limits
 pub record FinalFaces (rounds faces g : ℕ) : Type 0 where
-  pub few : g ≤ 16777216
-  pub final : rounds ≤ 6 → faces ≤ 4096 → g ≡ faces * 4 ^ rounds
+  pub few : g ≤ maxProduct
+  pub final : rounds ≤ maxRounds → faces ≤ maxFaces → g ≡ faces * 4 ^ rounds

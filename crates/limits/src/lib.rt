@@ -3,6 +3,7 @@ ghost use Prim.Native.Nat.{_≤_, _/_, _*_, _^_};
 ghost use mathlib.Core.Path.{_≡_};
 ghost use mathlib.Core.Bool.{_&&_};
 ghost use lib.Dec.{ltb};
+ghost use Rattle.bounds.specs.Bounds.{maxRounds, maxProduct};
 ghost use Rattle.polygons.specs.Polygons.{badCount, badSides};
 ghost use Rattle.verdict.specs.Verdict.{cornersVerdict, tablesVerdict, sizeVerdict, roomVerdict, limitsVerdict, orElse, refusedIf};
 ghost use Rattle.verdict.specs.Call as call;
@@ -33,7 +34,7 @@ pub struct Room {
 
 // 4 to the power k.
 fn pow4(k: u32) -> usize
-    requires { ⌜ k ≤ 6 ⌝ }
+    requires { ⌜ k ≤ maxRounds ⌝ }
     ensures { λ r. ⌜ (r ≡ 4 ^ k) × (r ≤ 4096) ⌝ }
 {
     match k {
@@ -61,10 +62,10 @@ pub fn quadrilaterals(sides: &[u8], corners: usize) -> usize
 pub fn final_faces(rounds: u32, faces: usize) -> usize
     ensures { λ g. ⌜ FinalFaces rounds faces g ⌝ }
 {
-    if rounds > 6 {
+    if rounds > bounds::MAX_ROUNDS {
         return 0;
     }
-    if faces > 4096 {
+    if faces > bounds::MAX_FACES {
         return 0;
     }
     faces * pow4(rounds)
@@ -72,7 +73,7 @@ pub fn final_faces(rounds: u32, faces: usize) -> usize
 
 // The least lengths for g refined faces, for a call that asks for letters.
 pub fn needed(g: usize) -> Room
-    requires { ⌜ g ≤ 16777216 ⌝ }
+    requires { ⌜ g ≤ maxProduct ⌝ }
     ensures { λ r. ⌜ roomIn r ≡ call.needed g ⌝ }
 {
     Room {
@@ -152,13 +153,13 @@ fn test_tables(sides: &[u8], n: Lengths) -> u32
 fn test_size(v: usize, f: usize, g: usize) -> u32
     ensures { λ r. ⌜ sizeVerdict v f g ≡ limitsOf r ⌝ }
 {
-    if v > 8192 {
+    if v > bounds::MAX_VERTICES {
         return 3;
     }
-    if f > 4096 {
+    if f > bounds::MAX_FACES {
         return 3;
     }
-    if g > 262144 {
+    if g > bounds::MAX_REFINED_FACES {
         return 3;
     }
     0
@@ -173,7 +174,7 @@ fn letters_short(n: Lengths, least: usize) -> bool
 
 // Refusal 4 for g refined faces, or 0.
 fn test_room(g: usize, n: Lengths) -> u32
-    requires { ⌜ g ≤ 16777216 ⌝ }
+    requires { ⌜ g ≤ maxProduct ⌝ }
     ensures { λ r. ⌜ roomVerdict g (lengthsIn n .room) ≡ limitsOf r ⌝ }
 {
     let least = needed(g);
@@ -199,7 +200,7 @@ fn test_room(g: usize, n: Lengths) -> u32
 pub fn limits(rounds: u32, sides: &[u8], n: Lengths) -> u32
     ensures { λ r. ⌜ limitsVerdict rounds (now (sides .entry)) (lengthsIn n) ≡ limitsOf r ⌝ }
 {
-    if rounds > 6 {
+    if rounds > bounds::MAX_ROUNDS {
         return 1;
     }
     let tables = test_tables(sides, n);

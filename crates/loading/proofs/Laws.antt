@@ -5,6 +5,7 @@ use Prim.Native.Nat.{ℕ, _+_, _*_, _/_, _%_, _≤_, _<_}
 use native.Mathlib.Omega.{arith}
 use lib.IntN.{ℤ}
 use lib.ListN.{length, getD, take, drop}
+use Rattle.bounds.specs.Bounds.{maxHalfEdges}
 use Rattle.lists.specs.Tabulate.{tabulate}
 use Rattle.lists.proofs.Parts.{drop-later}
 use Rattle.topology.specs.Shape.{Shape}
@@ -45,7 +46,7 @@ tables-kept s l w w′ k x ok = record {
 }
 
 -- no side counts: four-sided faces
-shaped-quads : (n : ℕ) (w : List ℕ) → n % 4 ≡ 0 → n ≤ 262144 → Shaped [] n w
+shaped-quads : (n : ℕ) (w : List ℕ) → n % 4 ≡ 0 → n ≤ maxHalfEdges → Shaped [] n w
 shaped-quads n w a b = record {
   space = record { few = b; sided = record { fours = λ e. a; counts = λ k. let z : ⊥ = omega arith in absurd z }; room = λ k. let z : ⊥ = omega arith in absurd z };
   table = λ k. let z : ⊥ = omega arith in absurd z;

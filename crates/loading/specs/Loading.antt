@@ -2,6 +2,7 @@
 use mathlib.Core.Path.{_≡_}
 use Prim.Native.Nat.{ℕ, _*_, _≤_, _<_}
 use lib.ListN.{length, drop}
+use Rattle.bounds.specs.Bounds.{maxFaces, maxCoordinate, maxCorners}
 use Rattle.integers.specs.Within.{Within}
 use Rattle.polygons.specs.Polygons.{shapeOf}
 use Rattle.tables.specs.Tables.{filled}
@@ -15,9 +16,9 @@ use Rattle.sidetable.specs.Table.{Shaped}
 -- an accepted net, with its mates and its shape in the work table, and room for the net where refining begins; 4,096 faces have 16,384 corners
 pub record Loadable (m : ControlNet) (o : Buffers) : Type 0 where
   pub drawn : Drawn m
-  pub within : Within 1048576 (m .vertices)
-  pub few : length (m .faces) ≤ 16384
-  pub fewSplit : 0 < length (m .sides) → length (m .faces) ≤ 4096
+  pub within : Within maxCoordinate (m .vertices)
+  pub few : length (m .faces) ≤ maxCorners
+  pub fewSplit : 0 < length (m .sides) → length (m .faces) ≤ maxFaces
   pub roomVertices : 3 * length (startNet m .faces) ≤ length (o .vertices)
   pub roomFaces : length (startNet m .faces) ≤ length (o .faces)
   pub roomMarks : length (startNet m .faces) ≤ length (o .marks)

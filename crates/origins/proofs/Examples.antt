@@ -20,7 +20,7 @@ use Rattle.polygons.specs.Polygons.{sideAfter, sideBefore, faceThen, noFace, po
 use Rattle.refinedfaces.specs.Refined.{corner, refined, refinedMarks}
 use Rattle.nets.specs.Net.{ControlNet, controlNet, marked}
 use Rattle.scheme.specs.Rings.{extrapolatedAt, fanNeighbour, fanCorner, ringVirtual, fanVirtual, virtualAt}
-use Rattle.scheme.specs.Points.{edgeRule, edgeValue, edgePoint, direction, inner, fourInner, faceRule}
+use Rattle.scheme.specs.Points.{edgeRule, edgeValue, edgePoint, direction, inner, fourInner, faceRule, faceValue}
 use Rattle.scheme.specs.Step.{step, steps}
 use Rattle.splitting.specs.Splitting.{split, startNet}
 use Rattle.origins.specs.Origins.{Rule, withinSegment, endEdge, singleEdge, interiorEdge, fourInnerEdges, otherFace, letterOf, madeBy, newRule, ruleValue, startOrigin, originFrom, originAfter, letters, faceCase}
@@ -96,7 +96,7 @@ firstSide marks = value (0 ∷ 1 ∷ 2 ∷ 3 ∷ []) marks (pos 16 ∷ pos 0 ∷
 
 edges-at-their-word : firstSide (replicate 4 1) withinSegment ∷ firstSide (replicate 4 1) endEdge ∷ firstSide (replicate 4 1) singleEdge ∷ firstSide (replicate 4 0) endEdge ∷ firstSide (replicate 4 0) singleEdge ∷ firstSide (replicate 4 0) interiorEdge ∷ []
     ≡ negsuc 0 ∷ pos 7 ∷ pos 8 ∷ pos 0 ∷ pos 8 ∷ pos 1 ∷ []
-unfolding round sumᶠ virtual firstFrom first count iterate quads from to opposed mate firstMet edgeCount edge edgeAt isBoundaryFrom isBoundaryInto boundaryFrom boundaryInto along back leaves valence turn interiorPoint endPoint midpoint extrapolated extrapolatedCorner oppositeCorner fanEnd extrapolatedAt fanNeighbour fanCorner fanPlace ringVirtual fanVirtual virtualAt marked edgeRule edgeValue edgePoint across beyond direction inner fourInner ruleValue
+unfolding round sumᶠ virtual firstFrom first count iterate quads from to opposed mate firstMet edgeCount edge edgeAt isBoundaryFrom isBoundaryInto boundaryFrom boundaryInto along back leaves valence turn interiorPoint endPoint midpoint extrapolated extrapolatedCorner oppositeCorner fanEnd extrapolatedAt fanNeighbour fanCorner fanPlace ringVirtual fanVirtual virtualAt marked edgeRule edgeValue edgePoint across beyond direction inner fourInner faceRule faceValue ruleValue
 edges-at-their-word = refl
 
 -- the middle one of five squares in a row, one of whose directions has four inner edges; vertex 2 raised, vertex 3 marked
@@ -104,13 +104,14 @@ abbrev middleFace : Rule → ℤ
 middleFace = value (grid 5 1) (replicate 3 0 ++ (1 ∷ replicate 8 0)) (pos 0 ∷ pos 0 ∷ pos 1600 ∷ replicate 9 (pos 0)) 30
 
 face-at-its-word : middleFace otherFace ∷ middleFace fourInnerEdges ∷ [] ≡ pos 475 ∷ pos 450 ∷ []
-unfolding tabulate round sumᶠ virtual firstFrom first count iterate quads from to opposed mate firstMet edgeCount edge edgeAt isBoundaryFrom isBoundaryInto boundaryFrom boundaryInto along back leaves valence turn interiorPoint endPoint midpoint extrapolated extrapolatedCorner oppositeCorner fanEnd extrapolatedAt fanNeighbour fanCorner fanPlace ringVirtual fanVirtual virtualAt marked edgeRule edgeValue edgePoint across beyond direction inner fourInner ruleValue
+unfolding tabulate round sumᶠ virtual firstFrom first count iterate quads from to opposed mate firstMet edgeCount edge edgeAt isBoundaryFrom isBoundaryInto boundaryFrom boundaryInto along back leaves valence turn interiorPoint endPoint midpoint extrapolated extrapolatedCorner oppositeCorner fanEnd extrapolatedAt fanNeighbour fanCorner fanPlace ringVirtual fanVirtual virtualAt marked edgeRule edgeValue edgePoint across beyond direction inner fourInner faceRule faceValue ruleValue
 face-at-its-word = refl
 
--- three of two by two squares, none of whose faces has a direction of four inner edges, vertex 5 raised: the point of the raised face by E, and by D the first direction
+-- three of two by two squares, none of whose faces has a direction of four inner edges, vertex 5 raised: the point of the raised face by E, and by D the first direction.
+-- So a D for an E is found out: it names a point that the rule for E does not give.
 abbrev raisedFace : Rule → ℤ
 raisedFace = value (0 ∷ 1 ∷ 4 ∷ 3 ∷ 1 ∷ 2 ∷ 5 ∷ 4 ∷ 3 ∷ 4 ∷ 7 ∷ 6 ∷ []) (replicate 8 0) (replicate 5 (pos 0) ++ (pos 720 ∷ pos 0 ∷ pos 0 ∷ [])) 19
 
 other-face-at-its-word : raisedFace otherFace ∷ raisedFace fourInnerEdges ∷ [] ≡ pos 181 ∷ pos 180 ∷ []
-unfolding round sumᶠ virtual firstFrom first count iterate quads from to opposed mate firstMet edgeCount edge edgeAt isBoundaryFrom isBoundaryInto boundaryFrom boundaryInto along back leaves valence turn interiorPoint endPoint midpoint extrapolated extrapolatedCorner oppositeCorner fanEnd extrapolatedAt fanNeighbour fanCorner fanPlace ringVirtual fanVirtual virtualAt marked edgeRule edgeValue edgePoint across beyond direction inner fourInner ruleValue
+unfolding round sumᶠ virtual firstFrom first count iterate quads from to opposed mate firstMet edgeCount edge edgeAt isBoundaryFrom isBoundaryInto boundaryFrom boundaryInto along back leaves valence turn interiorPoint endPoint midpoint extrapolated extrapolatedCorner oppositeCorner fanEnd extrapolatedAt fanNeighbour fanCorner fanPlace ringVirtual fanVirtual virtualAt marked edgeRule edgeValue edgePoint across beyond direction inner fourInner faceRule faceValue ruleValue
 other-face-at-its-word = refl

@@ -10,21 +10,20 @@ use lib.IntN.{ℤ}
 use lib.ListN.{length}
 use borrow.Author.Tests.{lt-ltb, le-ltb}
 use Rattle.curve.specs.Weights.{Weights}
-use Rattle.fractions.specs.Fraction.{Fraction, toWhole}
-use Rattle.rules.specs.Rules.{meanOfBoth}
+use Rattle.fractions.specs.Fraction.{toWhole}
 use Rattle.topology.specs.Shape.{quads}
 use Rattle.topology.specs.HalfEdge.{from, to, mate, edgeCount}
 use Rattle.polygons.specs.Polygons.{shapeOf}
 use Rattle.refinedfaces.specs.Refined.{refinedVertices}
 use Rattle.refinedfaces.proofs.Manifold.{vertices-after-ge}
 use Rattle.nets.specs.Net.{Net, ControlNet, marked, axis}
-use Rattle.scheme.specs.Points.{startOfSegment, endOfSegment, edgeRule, edgeValue, edgePoint, direction, fourInner, faceRule, faceValue, facePoint}
+use Rattle.scheme.specs.Points.{startOfSegment, endOfSegment, edgeRule, edgeValue, edgePoint, FaceRule, firstAlone, secondAlone, bothInner, neitherInner, faceRule, faceValue, facePoint}
 use Rattle.scheme.specs.Step.{refinedCoordinate, step, steps}
 use Rattle.schemelaws.proofs.Steps.{step-count, step-axis, step-kept, steps-count, steps-kept}
 use Rattle.splitting.specs.Splitting.{split, startNet}
 use Rattle.splitting.proofs.Coordinates.{split-new}
 use Rattle.splitting.proofs.Split.{split-count, split-axis, start-none, start-split, start-grows}
-use Rattle.origins.specs.Origins.{Rule, endEdge, fourInnerEdges, Origin, controlVertex, splitPoint, madeBy, edgeCase, faceCase, sideOf, faceOf, newRule, ruleValue, startOrigin, originFrom, originAfter}
+use Rattle.origins.specs.Origins.{Rule, endEdge, fourInnerEdges, Origin, controlVertex, splitPoint, madeBy, edgeCase, faceCase, sideOf, faceOf, newRule, fourInnerRule, ruleValue, startOrigin, originFrom, originAfter}
 use Rattle.origins.specs.Named.{MadeIn, MadeInSplit, MadeEarlier, HasOrigin}
 
 -- ---- one round: the own rule of a new vertex gives its coordinate
@@ -34,13 +33,10 @@ module _ (w : Weights) (l marks : List ℕ) (p : ℕ → ℤ) (i : ℕ) where
   unfolding ruleValue
   end-named b y = rw y
 
-  abbrev along : ℕ → Fraction
-  along h = direction w l (edgePoint w l marks p) h
-
-  directions-named : (a b : Bool) → fourInner l (4 * faceOf l marks i) ≡ a → fourInner l (4 * faceOf l marks i + 1) ≡ b
-      → cond b (cond a (meanOfBoth (along (4 * faceOf l marks i)) (along (4 * faceOf l marks i + 1))) (along (4 * faceOf l marks i + 1))) (along (4 * faceOf l marks i)) ≡ ruleValue w l marks p i fourInnerEdges
+  directions-named : (r : FaceRule) → faceRule l (faceOf l marks i) ≡ r
+      → faceValue w l (edgePoint w l marks p) (faceOf l marks i) (fourInnerRule r) ≡ ruleValue w l marks p i fourInnerEdges
   unfolding ruleValue
-  directions-named a b x y = rw (x, y)
+  directions-named r e = rw e
 
   edge-named : (a b c : Bool) → ltb (mate quads l (sideOf l marks i)) (length l) ≡ a → marked marks (from l (sideOf l marks i)) ≡ b → marked marks (to quads l (sideOf l marks i)) ≡ c
       → edgePoint w l marks p (sideOf l marks i) ≡ ruleValue w l marks p i (edgeCase (edgeRule l marks (sideOf l marks i)))
@@ -51,13 +47,12 @@ module _ (w : Weights) (l marks : List ℕ) (p : ℕ → ℤ) (i : ℕ) where
   edge-named false false true x y z = rw (x, y, z) (end-named false y)
   edge-named false false false x y z = rw (x, y, z)
 
-  face-named : (a b : Bool) → fourInner l (4 * faceOf l marks i) ≡ a → fourInner l (4 * faceOf l marks i + 1) ≡ b
-      → facePoint w l marks p (faceOf l marks i) ≡ ruleValue w l marks p i (faceCase (faceRule l (faceOf l marks i)))
-  unfolding facePoint faceRule faceValue ruleValue
-  face-named true true x y = rw (x, y) (directions-named true true x y)
-  face-named true false x y = rw (x, y) (directions-named true false x y)
-  face-named false true x y = rw (x, y) (directions-named false true x y)
-  face-named false false x y = rw (x, y)
+  face-named : (r : FaceRule) → faceRule l (faceOf l marks i) ≡ r → facePoint w l marks p (faceOf l marks i) ≡ ruleValue w l marks p i (faceCase (faceRule l (faceOf l marks i)))
+  unfolding facePoint ruleValue
+  face-named firstAlone e = rw e (directions-named firstAlone e)
+  face-named secondAlone e = rw e (directions-named secondAlone e)
+  face-named bothInner e = rw e (directions-named bothInner e)
+  face-named neitherInner e = rw e
 
   pub new-coordinate : length marks ≤ i → refinedCoordinate w (length marks) l marks p i ≡ toWhole (ruleValue w l marks p i (newRule l marks i))
   unfolding refinedCoordinate newRule
@@ -65,7 +60,7 @@ module _ (w : Weights) (l marks : List ℕ) (p : ℕ → ℤ) (i : ℕ) where
     where
       go : ltb i (length marks) ≡ false → Dec (i < length marks + edgeCount quads l) → refinedCoordinate w (length marks) l marks p i ≡ toWhole (ruleValue w l marks p i (newRule l marks i))
       go s (yes c) = let t = lt-ltb i (length marks + edgeCount quads l) c in rw (s, t) (ap toWhole (edge-named _ _ _ refl refl refl))
-      go s (no c) = let t = le-ltb i (length marks + edgeCount quads l) (omega arith) in rw (s, t) (ap toWhole (face-named _ _ refl refl))
+      go s (no c) = let t = le-ltb i (length marks + edgeCount quads l) (omega arith) in rw (s, t) (ap toWhole (face-named _ refl))
 
 pub made-new : (w : Weights) (m : Net) (i : ℕ) → length (m .marks) ≤ i → i < refinedVertices quads (length (m .marks)) (m .faces)
     → MadeIn w m (newRule (m .faces) (m .marks) i) (step w m .vertices) i

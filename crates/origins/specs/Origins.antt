@@ -2,18 +2,17 @@
 -- stretch, S made by P1's split, C inner edge, D one direction with four inner edges or both, E any other face point."
 use mathlib.Core.Bool.{cond}
 use mathlib.Core.List.{List}
-use Prim.Native.Nat.{ℕ, zero, suc, _+_, _-_, _*_}
+use Prim.Native.Nat.{ℕ, zero, suc, _+_, _-_}
 use lib.Dec.{ltb}
 use lib.IntN.{ℤ}
 use lib.ListN.{length}
 use Rattle.lists.specs.Tabulate.{tabulate}
 use Rattle.curve.specs.Weights.{Weights}
 use Rattle.fractions.specs.Fraction.{Fraction}
-use Rattle.rules.specs.Rules.{meanOfBoth}
 use Rattle.topology.specs.Shape.{quads}
 use Rattle.topology.specs.HalfEdge.{from, edgeCount, edgeAt}
 use Rattle.nets.specs.Net.{Net, ControlNet, marked}
-use Rattle.scheme.specs.Points.{EdgeRule, insideSegment, startOfSegment, endOfSegment, wholeSegment, innerRule, edgeRule, edgeValue, edgePoint, direction, fourInner, FaceRule, firstAlone, secondAlone, bothInner, neitherInner, faceRule}
+use Rattle.scheme.specs.Points.{EdgeRule, insideSegment, startOfSegment, endOfSegment, wholeSegment, innerRule, edgeRule, edgeValue, edgePoint, FaceRule, firstAlone, secondAlone, bothInner, neitherInner, faceRule, faceValue}
 use Rattle.scheme.specs.Step.{steps}
 use Rattle.splitting.specs.Splitting.{startNet}
 
@@ -66,21 +65,21 @@ newRule l marks i =
     (faceCase (faceRule l (faceOf l marks i)))
 
 -- ---- what the rule that a letter names gives for the new vertex i, on one coordinate p; the letter is taken at its word
--- B: the end rule from the marked end. D: the direction with four inner edges, the mean if both have them, and where none has them the first, so that a D for an E is
--- found out. E: the mean
+-- D: the direction with four inner edges, or the mean if both have them; where neither has them, the first
+abbrev pub fourInnerRule : FaceRule → FaceRule
+fourInnerRule firstAlone = firstAlone
+fourInnerRule secondAlone = secondAlone
+fourInnerRule bothInner = bothInner
+fourInnerRule neitherInner = firstAlone
+
+-- B: the end rule from the marked end. E: the mean
 unfoldable pub ruleValue : Weights → (l marks : List ℕ) → (ℕ → ℤ) → ℕ → Rule → Fraction
 ruleValue w l marks p i withinSegment = edgeValue w l p (sideOf l marks i) insideSegment
 ruleValue w l marks p i endEdge = cond (marked marks (from l (sideOf l marks i))) (edgeValue w l p (sideOf l marks i) startOfSegment) (edgeValue w l p (sideOf l marks i) endOfSegment)
 ruleValue w l marks p i singleEdge = edgeValue w l p (sideOf l marks i) wholeSegment
 ruleValue w l marks p i interiorEdge = edgeValue w l p (sideOf l marks i) innerRule
-ruleValue w l marks p i fourInnerEdges =
-    let f = faceOf l marks i in
-    let first = direction w l (edgePoint w l marks p) (4 * f) in
-    let second = direction w l (edgePoint w l marks p) (4 * f + 1) in
-    cond (fourInner l (4 * f + 1)) (cond (fourInner l (4 * f)) (meanOfBoth first second) second) first
-ruleValue w l marks p i otherFace =
-    let f = faceOf l marks i in
-    meanOfBoth (direction w l (edgePoint w l marks p) (4 * f)) (direction w l (edgePoint w l marks p) (4 * f + 1))
+ruleValue w l marks p i fourInnerEdges = faceValue w l (edgePoint w l marks p) (faceOf l marks i) (fourInnerRule (faceRule l (faceOf l marks i)))
+ruleValue w l marks p i otherFace = faceValue w l (edgePoint w l marks p) (faceOf l marks i) neitherInner
 
 -- ---- all rounds
 -- vertex i where refining begins, of a net drawn with v vertices

@@ -1,6 +1,6 @@
 -- What the refusals of counts leave to be read. Assumes nothing.
 use mathlib.Core.Path.{_≡_, refl, ap}
-use mathlib.Core.Bool.{Bool, true, false}
+use mathlib.Core.Bool.{Bool, true, false, _||_}
 use mathlib.Core.List.{[]}
 use Prim.Native.Nat.{ℕ, _*_, _/_, _^_, _≤_}
 use native.Mathlib.Nat.{one-le-pow, mul-le-mul-left}
@@ -8,7 +8,7 @@ use native.Mathlib.Omega.{arith}
 use lib.Dec.{ltb, lit≤}
 use borrow.Author.Tests.{ltb-false}
 use Rattle.verdict.specs.Call.{room, lengths}
-use Rattle.verdict.specs.Verdict.{Verdict, accepted, orElse, refusedIf, roomVerdict, limitsVerdict}
+use Rattle.verdict.specs.Verdict.{accepted, refusedIf, roomVerdict, limitsVerdict}
 use Rattle.verdict.proofs.Accepted.{or-both, if-false, within-if}
 use Rattle.textform.specs.Form.{Counts}
 use Rattle.readingform.specs.Loaded.{programRoom, countsVerdict}
@@ -30,15 +30,15 @@ passed-served n e =
     record { vertices = ltb-false 1024 v (if-false 4 _ (a .1)); faces = omega arith }
 
 -- ---- letters have room where marks have it, so it makes no difference whether they are asked for
-twice : (b : Bool) (v : Verdict) → orElse (refusedIf 4 b) v ≡ orElse (refusedIf 4 b) (orElse (refusedIf 4 b) v)
-twice true v = refl
-twice false v = refl
+again : (a b : Bool) → (a || b || b || false) ≡ (a || b || b || b)
+again true b = refl
+again false true = refl
+again false false = refl
 
 room-either : (rule : Bool) (g : ℕ) → roomVerdict g (room 3072 1024 1024 rule 1024 4096) ≡ roomVerdict g programRoom
 unfolding roomVerdict
 room-either true g = refl
-room-either false g =
-    ap (λ (v : Verdict). orElse (refusedIf 4 (ltb 3072 (12 * g))) (orElse (refusedIf 4 (ltb 1024 (4 * g))) v)) (twice (ltb 1024 (4 * g)) (refusedIf 4 (ltb 4096 (16 * g))))
+room-either false g = ap (λ (t : Bool). refusedIf 4 (t || ltb 4096 (16 * g))) (again (ltb 3072 (12 * g)) (ltb 1024 (4 * g)))
 
 pub limits-either : (rule : Bool) (k coordinates corners marks : ℕ)
     → limitsVerdict k [] (lengths coordinates corners marks (room 3072 1024 1024 rule 1024 4096)) ≡ limitsVerdict k [] (lengths coordinates corners marks programRoom)

@@ -7,7 +7,7 @@ use native.Mathlib.Omega.{arith}
 use lib.ListN.{length}
 use Rattle.topology.specs.Shape.{Shape, quads}
 use Rattle.topology.specs.HalfEdge.{from, to, mate, edge}
-use Rattle.topology.specs.Boundary.{OnBoundary, boundaryFrom, boundaryInto, along, back, Way, withSides, againstSides, step, passed}
+use Rattle.topology.specs.Boundary.{OnBoundary, boundaryFrom, boundaryInto, along, back, Way, withSides, againstSides, boundaryStep, passed}
 use Rattle.topology.specs.Vertex.{valence, start}
 use Rattle.topology.specs.Manifold.{Manifold}
 use Rattle.topology.proofs.Boundary.{boundaryFrom-is, boundaryInto-is, back-on, back-to, boundaryFrom-le, boundaryFrom-on, boundaryFrom-at, to-lt}
@@ -92,12 +92,12 @@ module _ (S : Shape) (v : ℕ) (l : List ℕ) (ok : Manifold S v l) where
       ap (boundaryInto quads (refined S v l)) (first-from h o ∙ sym (back-to S v l ok h o)) ∙ boundaryInto-old (back S l h) b
 
   -- one step either way
-  pub step-first : (w : Way) (h : ℕ) → OnBoundary S l h → step quads (refined S v l) w (4 * h) ≡ 4 * S .next (passed S l w h) + 3
-  unfolding step passed
+  pub step-first : (w : Way) (h : ℕ) → OnBoundary S l h → boundaryStep quads (refined S v l) w (4 * h) ≡ 4 * S .next (passed S l w h) + 3
+  unfolding boundaryStep passed
   step-first withSides h o = along-first h o
   step-first againstSides h o = back-first h o
 
-  pub step-second : (w : Way) (h : ℕ) → OnBoundary S l h → step quads (refined S v l) w (4 * S .next (passed S l w h) + 3) ≡ 4 * step S l w h
-  unfolding step passed
+  pub step-second : (w : Way) (h : ℕ) → OnBoundary S l h → boundaryStep quads (refined S v l) w (4 * S .next (passed S l w h) + 3) ≡ 4 * boundaryStep S l w h
+  unfolding boundaryStep passed
   step-second withSides h o = along-second h o
   step-second againstSides h o = back-second (back S l h) (back-on S v l ok h o)

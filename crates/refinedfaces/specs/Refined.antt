@@ -1,6 +1,6 @@
 -- One round on the faces of a net of v vertices, with corners l in the shape S.
 use mathlib.Core.Bool.{cond}
-use mathlib.Core.List.{List}
+use mathlib.Core.List.{List, [], _∷_}
 use Prim.Native.Nat.{ℕ, zero, suc, _+_, _*_, _/_, _%_}
 use lib.ListN.{length, getD}
 use lib.Dec.{ltb}
@@ -13,13 +13,13 @@ abbrev pub refinedVertices : Shape → ℕ → List ℕ → ℕ
 refinedVertices S v l = v + edgeCount S l + S .faces (length l)
 
 -- "Face f gives faces 4f+i, i = 0 to 3: corner i, point of side i, face point, point of side i-1."
--- So each side gives one face: the refined face h lies at the half-edge h, and these are its corners 0 to 3. Paper 02 has other faces numbered the same way,
--- "counted on from one drawn face to the next".
+-- So each side gives one face: the refined face h lies at the half-edge h. Paper 02 has other faces numbered the same way, "counted on from one drawn face to the next".
+abbrev pub refinedFace : Shape → ℕ → List ℕ → ℕ → List ℕ
+refinedFace S v l h = from l h ∷ (v + edge S l h) ∷ (v + edgeCount S l + S .face h) ∷ (v + edge S l (S .prev h)) ∷ []
+
+-- corner j of the refined face h
 unfoldable pub corner : Shape → ℕ → List ℕ → ℕ → ℕ → ℕ
-corner S v l h zero = from l h
-corner S v l h (suc zero) = v + edge S l h
-corner S v l h (suc (suc zero)) = v + edgeCount S l + S .face h
-corner S v l h (suc (suc (suc j))) = v + edge S l (S .prev h)
+corner S v l h j = getD (refinedFace S v l h) j 0
 
 -- the corners of all refined faces
 unfoldable pub refined : Shape → ℕ → List ℕ → List ℕ

@@ -9,6 +9,7 @@ use native.Mathlib.Omega.{arith}
 use lib.ListN.{length}
 use lib.Dec.{eqb, ltb}
 use borrow.Author.Tests.{eq-eqb, eqb-true, ltb-false, lt-ltb, le-ltb, not-false}
+use Rattle.bounds.specs.Bounds.{minRing, maxRing, maxFan}
 use Rattle.search.specs.Search.{first, iterate}
 use Rattle.search.proofs.Tests.{clash, not-off, or-off, or-left, or-right}
 use Rattle.search.proofs.First.{first-before, first-holds, first-reach, first-none, any-on}
@@ -25,11 +26,11 @@ use Rattle.refusals.proofs.Oriented.{oriented-if, no-7, no-9}
 
 -- ---- the range of 11, in numbers
 
-pub badValence-fan : (S : Shape) (l : List ℕ) (p : ℕ) → boundaryFrom S l p < length l → badValence S l p ≡ ltb 6 (valence l p)
+pub badValence-fan : (S : Shape) (l : List ℕ) (p : ℕ) → boundaryFrom S l p < length l → badValence S l p ≡ ltb maxFan (valence l p)
 unfolding badValence
 badValence-fan S l p b = let c = lt-ltb (boundaryFrom S l p) (length l) b in rw c
 
-pub badValence-ring : (S : Shape) (l : List ℕ) (p : ℕ) → boundaryFrom S l p ≡ length l → badValence S l p ≡ (ltb (valence l p) 3 || ltb 8 (valence l p))
+pub badValence-ring : (S : Shape) (l : List ℕ) (p : ℕ) → boundaryFrom S l p ≡ length l → badValence S l p ≡ (ltb (valence l p) minRing || ltb maxRing (valence l p))
 unfolding badValence
 badValence-ring S l p b = let c = le-ltb (boundaryFrom S l p) (length l) (omega arith) in rw c
 
@@ -99,13 +100,13 @@ module _ (S : Shape) (v : ℕ) (l : List ℕ) (ok : Oriented S v l) where
     where
       go : Dec (boundaryFrom S l p < length l) → Around S l p
       go (yes b) =
-          let c = ltb-false 6 (valence l p) (sym (badValence-fan S l p b) ∙ f) in
+          let c = ltb-false maxFan (valence l p) (sym (badValence-fan S l p b) ∙ f) in
           fan (start S l p) (valence l p) c (manifold-fan p e b)
       go (no b) =
           let i : boundaryFrom S l p ≡ length l = omega (arith, boundaryFrom-le S l p) in
           let r = sym (badValence-ring S l p i) ∙ f in
-          let c = ltb-false (valence l p) 3 (or-left (ltb (valence l p) 3) (ltb 8 (valence l p)) r) in
-          let d = ltb-false 8 (valence l p) (or-right (ltb (valence l p) 3) (ltb 8 (valence l p)) r) in
+          let c = ltb-false (valence l p) minRing (or-left (ltb (valence l p) minRing) (ltb maxRing (valence l p)) r) in
+          let d = ltb-false maxRing (valence l p) (or-right (ltb (valence l p) minRing) (ltb maxRing (valence l p)) r) in
           ring (start S l p) (valence l p) c d (manifold-ring p e i)
 
   no-8-at : (p : ℕ) → Around S l p → isolated l p ≡ false
@@ -121,12 +122,12 @@ module _ (S : Shape) (v : ℕ) (l : List ℕ) (ok : Oriented S v l) where
   unfolding iterate
   no-11-at p (ring h m s t r) =
       let d = ring-valence S v l ok p h m r in
-      badValence-ring S l p (ring-boundaryFrom S v l ok p h m r) ∙ or-off (ltb (valence l p) 3) (ltb 8 (valence l p)) (le-ltb (valence l p) 3 (omega arith)) (le-ltb 8 (valence l p) (omega arith))
+      badValence-ring S l p (ring-boundaryFrom S v l ok p h m r) ∙ or-off (ltb (valence l p) minRing) (ltb maxRing (valence l p)) (le-ltb (valence l p) minRing (omega arith)) (le-ltb maxRing (valence l p) (omega arith))
   no-11-at p (fan h m t r) =
       let b = fan-boundaryFrom S v l ok p h m r in
       let k = r .walk .inside 0 (r .some) in
       let d = fan-valence S v l ok p h m r in
-      badValence-fan S l p (omega arith) ∙ le-ltb 6 (valence l p) (omega arith)
+      badValence-fan S l p (omega arith) ∙ le-ltb maxFan (valence l p) (omega arith)
 
 -- ---- a net has none of 7 to 11 exactly if it is manifold
 

@@ -6,6 +6,7 @@ use mathlib.Core.List.{List}
 use Prim.Native.Nat.{ℕ, suc, _-_}
 use lib.ListN.{length, getD}
 use lib.Dec.{eqb, leb, ltb}
+use Rattle.bounds.specs.Bounds.{minRing, maxRing, maxFan}
 use Rattle.search.specs.Search.{first, any, iterate}
 use Rattle.topology.specs.Shape.{Shape}
 use Rattle.topology.specs.HalfEdge.{from, to}
@@ -34,7 +35,7 @@ nonManifold S l p = not (eqb (facesMet S l (start S l p)) (valence l p))
 
 -- 11: "a ring of fewer than 3 or more than 8 faces, or a fan of more than 6; vertex."
 unfoldable pub badValence : Shape → List ℕ → ℕ → Bool
-badValence S l p = cond (ltb (boundaryFrom S l p) (length l)) (ltb 6 (valence l p)) (ltb (valence l p) 3 || ltb 8 (valence l p))
+badValence S l p = cond (ltb (boundaryFrom S l p) (length l)) (ltb maxFan (valence l p)) (ltb (valence l p) minRing || ltb maxRing (valence l p))
 
 -- 12: "mark 1 on a vertex with a full ring; vertex."
 unfoldable pub markedRing : Shape → List ℕ → List ℕ → ℕ → Bool

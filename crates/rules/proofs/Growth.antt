@@ -5,6 +5,7 @@ use native.Mathlib.Nat.{mul-add, mul-left-comm, le-of-mul-le-mul-left}
 use native.Mathlib.Omega.{arith}
 use lib.Dec.{leb, leb→le}
 use lib.IntN.{ℤ, natAbs}
+use Rattle.bounds.specs.Bounds.{maxRounds, maxCoordinate}
 use Rattle.lists.proofs.Table.{below-at}
 use Rattle.rounding.specs.Rounding.{round}
 use Rattle.rounding.proofs.Laws.{round-size}
@@ -29,7 +30,7 @@ grown-kept B = omega arith
 
 -- the bound after k rounds
 unfoldable pub limit : ℕ → ℕ
-limit zero = 1048576
+limit zero = maxCoordinate
 limit (suc k) = grown (limit k)
 
 -- what a round is given
@@ -46,6 +47,6 @@ outputs : ℕ → Bool
 unfolding limit
 outputs k = leb (limit k) 268435456
 
-pub limit-output : (k : ℕ) → k ≤ 6 → limit k ≤ 268435456
+pub limit-output : (k : ℕ) → k ≤ maxRounds → limit k ≤ 268435456
 unfolding outputs
 limit-output k h = leb→le (limit k) 268435456 (below-at 7 outputs tt k (omega arith))

@@ -18,22 +18,31 @@ use Rattle.topology.specs.Quads.{oppositeCorner, fanEnd, fanPlace}
 -- "For a boundary vertex P in m faces, P* = 2P minus the mean of the far ends of its m - 1 inner edges; for m = 1, P* = 2P minus the opposite corner of its face."
 unfoldable pub extrapolatedAt : List ℕ → (ℕ → ℤ) → ℕ → Fraction
 extrapolatedAt l p v =
-    cond (eqb (valence l v) 1)
-    (extrapolatedCorner (whole (p v)) (whole (p (oppositeCorner l (boundaryFrom quads l v)))))
-    (extrapolated (whole (p v)) (valence l v - 1) (λ (i : ℕ). whole (p (fanEnd l (boundaryFrom quads l v) (suc i)))))
+    let m = valence l v in
+    let s = boundaryFrom quads l v in
+    cond (eqb m 1)
+    (extrapolatedCorner (whole (p v)) (whole (p (oppositeCorner l s))))
+    (extrapolated (whole (p v)) (m - 1) (λ (i : ℕ). whole (p (fanEnd l s (suc i)))))
 
 -- "For a boundary vertex P with end neighbours b and c, n = m + 2: P* joins the ring between b and c, and b*, c* are the two added opposite corners."
--- Neighbours are b to c, then P*; opposite corners those of the faces, then c* between c and P*, and b* between P* and b.
+-- The fan at P starts with the half-edge s. Neighbours 0 to m are b to c, and m + 1 is P*; opposite corners 0 to m - 1 are those of the faces, then come c* between c
+-- and P*, and b* between P* and b.
 unfoldable pub fanNeighbour : List ℕ → (ℕ → ℤ) → ℕ → ℕ → Fraction
 fanNeighbour l p v i =
-    cond (eqb i (valence l v + 1)) (extrapolatedAt l p v)
-    (whole (p (fanEnd l (boundaryFrom quads l v) i)))
+    let m = valence l v in
+    let s = boundaryFrom quads l v in
+    cond (eqb i (m + 1)) (extrapolatedAt l p v)
+    (whole (p (fanEnd l s i)))
 
 unfoldable pub fanCorner : List ℕ → (ℕ → ℤ) → ℕ → ℕ → Fraction
 fanCorner l p v i =
-    cond (eqb i (valence l v)) (extrapolatedAt l p (fanEnd l (boundaryFrom quads l v) (valence l v)))
-    (cond (eqb i (valence l v + 1)) (extrapolatedAt l p (fanEnd l (boundaryFrom quads l v) 0))
-    (whole (p (oppositeCorner l (turns quads l i (boundaryFrom quads l v))))))
+    let m = valence l v in
+    let s = boundaryFrom quads l v in
+    -- c*
+    cond (eqb i m) (extrapolatedAt l p (fanEnd l s m))
+    -- b*
+    (cond (eqb i (m + 1)) (extrapolatedAt l p (fanEnd l s 0))
+    (whole (p (oppositeCorner l (turns quads l i s)))))
 
 -- the virtual point at the vertex that h leaves, on the edge of h: the ring is taken from h on, or the fan from its start
 unfoldable pub ringVirtual : Weights → List ℕ → (ℕ → ℤ) → ℕ → Fraction
@@ -42,8 +51,9 @@ ringVirtual w l p h =
 
 unfoldable pub fanVirtual : Weights → List ℕ → (ℕ → ℤ) → ℕ → Fraction
 fanVirtual w l p h =
-    virtual w (valence l (from l h) + 2) (wrap (valence l (from l h) + 2) (fanNeighbour l p (from l h))) (wrap (valence l (from l h) + 2) (fanCorner l p (from l h)))
-    (fanPlace l (from l h) h)
+    let v = from l h in
+    let n = valence l v + 2 in
+    virtual w n (wrap n (fanNeighbour l p v)) (wrap n (fanCorner l p v)) (fanPlace l v h)
 
 unfoldable pub virtualAt : Weights → List ℕ → (ℕ → ℤ) → ℕ → Fraction
 virtualAt w l p h = cond (ltb (boundaryFrom quads l (from l h)) (length l)) (fanVirtual w l p h) (ringVirtual w l p h)

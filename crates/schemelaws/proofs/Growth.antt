@@ -5,6 +5,7 @@ use native.Mathlib.Nat.{mul-left-comm}
 use native.Mathlib.Omega.{arith}
 use lib.IntN.{ℤ, natAbs}
 use lib.ListN.{length}
+use Rattle.bounds.specs.Bounds.{maxRounds, maxCoordinate}
 use Rattle.curve.specs.Weights.{Weights}
 use Rattle.curve.proofs.Distance.{Tame, tame-near, tame-apart}
 use Rattle.rings.specs.Scales.{edgeScale, faceScale, coordinateRange}
@@ -51,14 +52,14 @@ step-within w tame m ok B t = record {
 
 module _ (w : Weights) (tame : Tame w) (m : Net) where
   -- from input coordinates
-  steps-limit : Refinable m → Within 1048576 (m .vertices) → (k : ℕ) → Within (limit k) (steps w k m .vertices)
+  steps-limit : Refinable m → Within maxCoordinate (m .vertices) → (k : ℕ) → Within (limit k) (steps w k m .vertices)
   unfolding steps limit
   steps-limit ok t zero = t
   steps-limit ok t (suc k) = step-within w tame (steps w k m) (refinable-steps w m ok k) (limit k) (steps-limit ok t k)
 
   -- what each round is given, and what any of six gives
-  pub steps-input : Refinable m → Within 1048576 (m .vertices) → (k : ℕ) → k ≤ 5 → Within coordinateRange (steps w k m .vertices)
+  pub steps-input : Refinable m → Within maxCoordinate (m .vertices) → (k : ℕ) → k ≤ 5 → Within coordinateRange (steps w k m .vertices)
   steps-input ok t k h = within-le (limit k) coordinateRange (steps w k m .vertices) (limit-input k h) (steps-limit ok t k)
 
-  pub steps-within : Refinable m → Within 1048576 (m .vertices) → (k : ℕ) → k ≤ 6 → Within 268435456 (steps w k m .vertices)
+  pub steps-within : Refinable m → Within maxCoordinate (m .vertices) → (k : ℕ) → k ≤ maxRounds → Within 268435456 (steps w k m .vertices)
   steps-within ok t k h = within-le (limit k) 268435456 (steps w k m .vertices) (limit-output k h) (steps-limit ok t k)

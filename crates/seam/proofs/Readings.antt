@@ -17,7 +17,7 @@ use Rattle.nets.specs.Net.{Net, marked, pointOf}
 use Rattle.curve.specs.Curve.{Kind, Open, Closed, Point}
 use Rattle.topology.specs.Shape.{Shape}
 use Rattle.topology.specs.HalfEdge.{from}
-use Rattle.topology.specs.Boundary.{boundaryFrom, Way, step}
+use Rattle.topology.specs.Boundary.{boundaryFrom, Way, boundaryStep}
 use Rattle.topology.proofs.Boundary.{boundaryFrom-on, boundaryFrom-at, from-inj}
 use Rattle.topology.proofs.Loops.{loop-three, steps-meet}
 use Rattle.seam.specs.Reading.{vertexAt, points, OpenReading, ClosedReading, ReadsIn}
@@ -66,12 +66,12 @@ open-long S m way u L r = omega (arith, simp length-points at (ap length (r .lis
 module _ (S : Shape) (m : Net) (ok : AdmissibleIn S m) (way : Way) (u : ℕ) where
   -- back at u the half-edge is that which leaves u
   pub loop-closed : boundaryFrom S (m .faces) u < length (m .faces) → (n : ℕ) → vertexAt S (m .faces) way u n ≡ u
-      → iterate (step S (m .faces) way) n (boundaryFrom S (m .faces) u) ≡ boundaryFrom S (m .faces) u
+      → iterate (boundaryStep S (m .faces) way) n (boundaryFrom S (m .faces) u) ≡ boundaryFrom S (m .faces) u
   loop-closed b n e =
       let v : ℕ = length (m .marks) in
       let l : List ℕ = m .faces in
       let h : ℕ = boundaryFrom S l u in
-      from-inj S v l ok (iterate (step S l way) n h) h (halfEdge-on S v l ok way u b n) (boundaryFrom-on S l u b)
+      from-inj S v l ok (iterate (boundaryStep S l way) n h) h (halfEdge-on S v l ok way u b n) (boundaryFrom-on S l u b)
       (sym (vertex-at S v l ok way u b n) ∙ e ∙ sym (boundaryFrom-at S l u b))
 
   pub three-edges : (n : ℕ) → boundaryFrom S (m .faces) u < length (m .faces) → 0 < n → vertexAt S (m .faces) way u n ≡ u → 3 ≤ n
@@ -89,7 +89,7 @@ module _ (S : Shape) (m : Net) (ok : AdmissibleIn S m) (way : Way) (u : ℕ) whe
       let v : ℕ = length (m .marks) in
       let l : List ℕ = m .faces in
       let h : ℕ = boundaryFrom S l u in
-      let q : ℕ → Bool = λ k. stop (from l (iterate (step S l way) (suc k) h)) in
+      let q : ℕ → Bool = λ k. stop (from l (iterate (boundaryStep S l way) (suc k) h)) in
       let c = steps-meet S v l ok way h (boundaryFrom-on S l u b) (λ (g : ℕ). stop (from l g)) (ap stop (boundaryFrom-at S l u b) ∙ t) in (
         first q (length l),
         ap stop (vertex-at S v l ok way u b (suc (first q (length l)))) ∙ first-holds q (length l) c,

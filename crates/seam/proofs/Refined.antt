@@ -9,11 +9,11 @@ use lib.Dec.{eqb}
 use Rattle.search.specs.Search.{iterate}
 use Rattle.search.proofs.Quarters.{parity}
 use Rattle.nets.specs.Net.{Net, marked, pointOf}
-use Rattle.curve.specs.Curve.{Kind, Open, Closed, Rules, Point, openStep, closedStep, step as curveStep}
+use Rattle.curve.specs.Curve.{Kind, Open, Closed, Rules, Point, openStep, closedStep, curveStep}
 use Rattle.curve.proofs.Symmetry.{Symmetric}
 use Rattle.topology.specs.Shape.{Shape, quads}
 use Rattle.topology.specs.HalfEdge.{from, to, edge}
-use Rattle.topology.specs.Boundary.{OnBoundary, boundaryFrom, along, back, Way, withSides, againstSides, other, step, passed}
+use Rattle.topology.specs.Boundary.{OnBoundary, boundaryFrom, along, back, Way, withSides, againstSides, other, boundaryStep, passed}
 use Rattle.topology.proofs.Boundary.{along-on, along-from, back-to, along-back}
 use Rattle.topology.proofs.Loops.{passed-on, step-undone}
 use Rattle.refinedfaces.proofs.Marks.{mark-old, mark-new}
@@ -35,10 +35,10 @@ turned ℛ 𝒮 true true p q r s = 𝒮 .single q r
 -- the point of the edge that a step from g passes, by the vertices on that way
 point-passed : (ℛ : Rules Point) → Symmetric ℛ → (S : Shape) (m : Net) → AdmissibleIn S m → (way : Way) (g : ℕ) → OnBoundary S (m .faces) g
     → boundaryPoint ℛ S m (pointOf m) (passed S (m .faces) way g)
-    ≡ boundaryRule ℛ (marked (m .marks) (from (m .faces) g)) (marked (m .marks) (from (m .faces) (step S (m .faces) way g)))
-    (pointOf m (from (m .faces) (step S (m .faces) (other way) g))) (pointOf m (from (m .faces) g)) (pointOf m (from (m .faces) (step S (m .faces) way g)))
-    (pointOf m (from (m .faces) (step S (m .faces) way (step S (m .faces) way g))))
-unfolding boundaryPoint passed step other
+    ≡ boundaryRule ℛ (marked (m .marks) (from (m .faces) g)) (marked (m .marks) (from (m .faces) (boundaryStep S (m .faces) way g)))
+    (pointOf m (from (m .faces) (boundaryStep S (m .faces) (other way) g))) (pointOf m (from (m .faces) g)) (pointOf m (from (m .faces) (boundaryStep S (m .faces) way g)))
+    (pointOf m (from (m .faces) (boundaryStep S (m .faces) way (boundaryStep S (m .faces) way g))))
+unfolding boundaryPoint passed boundaryStep other
 point-passed ℛ 𝒮 S m ok withSides g o =
     let v : ℕ = length (m .marks) in
     let l : List ℕ = m .faces in
@@ -58,7 +58,7 @@ module _ (ℛ : Rules Point) (𝒮 : Symmetric ℛ) (S : Shape) (a b : Net) (ok 
   at-even i = ap (λ (f : List ℕ). vertexAt quads f way u (2 * i)) (d .faces) ∙ vertex-even S (length (a .marks)) (a .faces) ok way u c i
 
   at-odd : (i : ℕ) → vertexAt quads (b .faces) way u (suc (2 * i))
-      ≡ length (a .marks) + edge S (a .faces) (passed S (a .faces) way (iterate (step S (a .faces) way) i (boundaryFrom S (a .faces) u)))
+      ≡ length (a .marks) + edge S (a .faces) (passed S (a .faces) way (iterate (boundaryStep S (a .faces) way) i (boundaryFrom S (a .faces) u)))
   at-odd i = ap (λ (f : List ℕ). vertexAt quads f way u (suc (2 * i))) (d .faces) ∙ vertex-odd S (length (a .marks)) (a .faces) ok way u c i
 
   marks-old : (p : ℕ) → p < length (a .marks) → marked (b .marks) p ≡ marked (a .marks) p
@@ -80,13 +80,13 @@ module _ (ℛ : Rules Point) (𝒮 : Symmetric ℛ) (S : Shape) (a b : Net) (ok 
 
   -- ---- the points after the round are interleaved with those before
   interleaved : Interleaved ℛ (λ (i : ℕ). marked (a .marks) (vertexAt S (a .faces) way u i))
-      (λ (i : ℕ). pointOf a (from (a .faces) (step S (a .faces) (other way) (iterate (step S (a .faces) way) i (boundaryFrom S (a .faces) u)))))
+      (λ (i : ℕ). pointOf a (from (a .faces) (boundaryStep S (a .faces) (other way) (iterate (boundaryStep S (a .faces) way) i (boundaryFrom S (a .faces) u)))))
       (λ (i : ℕ). pointOf a (vertexAt S (a .faces) way u i)) (λ (i : ℕ). pointOf b (vertexAt quads (b .faces) way u i))
   unfolding iterate
   interleaved =
       let v : ℕ = length (a .marks) in
       let l : List ℕ = a .faces in
-      let h : ℕ → ℕ = λ i. iterate (step S l way) i (boundaryFrom S l u) in
+      let h : ℕ → ℕ = λ i. iterate (boundaryStep S l way) i (boundaryFrom S l u) in
       let at : (i : ℕ) → vertexAt S l way u i ≡ from l (h i) = vertex-at S v l ok way u c in
       let on : (i : ℕ) → OnBoundary S l (h i) = halfEdge-on S v l ok way u c in
       record {
@@ -127,7 +127,7 @@ module _ (ℛ : Rules Point) (𝒮 : Symmetric ℛ) (S : Shape) (a b : Net) (ok 
       let l : List ℕ = a .faces in
       let i = interleaved in
       closed-list ℛ n i m
-      (sym (ap (λ (g : ℕ). pointOf a (from l (step S l (other way) g))) (loop-closed S a ok way u c (suc (suc n)) e)) ∙ i .follows (suc n))
+      (sym (ap (λ (g : ℕ). pointOf a (from l (boundaryStep S l (other way) g))) (loop-closed S a ok way u c (suc (suc n)) e)) ∙ i .follows (suc n))
       (ap (pointOf a) e) (ap (λ (x : ℕ). pointOf a (nextVertex S l way x)) e)
 
   once-after : (n : ℕ) → ((i : ℕ) → 0 < i → i < n → vertexAt S (a .faces) way u i ≡ u → ⊥) → (k : ℕ) → 0 < k → k < 2 * n → vertexAt quads (b .faces) way u k ≡ u → ⊥

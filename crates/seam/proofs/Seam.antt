@@ -6,7 +6,7 @@ use Prim.Native.Nat.{ℕ, zero, suc, _<_, _≤_}
 use native.Mathlib.Omega.{arith}
 use Rattle.nets.specs.Net.{Net}
 use Rattle.curve.specs.Weights.{Weights, tension, scale}
-use Rattle.curve.specs.Curve.{Kind, rounded, Point, each, step as curveStep, steps as curveSteps, curve}
+use Rattle.curve.specs.Curve.{Kind, rounded, Point, each, curveStep, curveSteps, curve}
 use Rattle.curve.proofs.Symmetry.{rounded-symmetric, each-symmetric}
 use Rattle.curve.proofs.Tension.{distance}
 use Rattle.topology.specs.Shape.{quads}

@@ -13,7 +13,7 @@ use Rattle.curve.specs.Curve.{Point}
 use Rattle.curve.proofs.Rotation.{rotate, flip}
 use Rattle.topology.specs.Shape.{Shape}
 use Rattle.topology.specs.HalfEdge.{from}
-use Rattle.topology.specs.Boundary.{boundaryFrom, Way, other, step}
+use Rattle.topology.specs.Boundary.{boundaryFrom, Way, other, boundaryStep}
 use Rattle.topology.proofs.Loops.{steps-undone}
 use Rattle.seam.specs.Reading.{nextVertex, vertexAt, points, OpenReading, ClosedReading}
 use Rattle.seam.specs.Seam.{AdmissibleIn}
@@ -42,11 +42,11 @@ module _ (S : Shape) (m : Net) (ok : AdmissibleIn S m) (way : Way) (u : ℕ) (b 
   undone n i c =
       let v : ℕ = length (m .marks) in
       let l : List ℕ = m .faces in
-      let h : ℕ → ℕ = λ j. iterate (step S l way) j (boundaryFrom S l u) in
+      let h : ℕ → ℕ = λ j. iterate (boundaryStep S l way) j (boundaryFrom S l u) in
       let e : n ≡ i + (n - i) = omega arith in
       ap (λ (x : ℕ). vertexAt S l (other way) x i) (vertex-at S v l ok way u b n)
       ∙ vertex-from S v l ok (other way) (h n) i (halfEdge-on S v l ok way u b n)
-      ∙ ap (λ (g : ℕ). from l (iterate (step S l (other way)) i g)) (ap h e ∙ iterate-add (step S l way) i (n - i) (boundaryFrom S l u))
+      ∙ ap (λ (g : ℕ). from l (iterate (boundaryStep S l (other way)) i g)) (ap h e ∙ iterate-add (boundaryStep S l way) i (n - i) (boundaryFrom S l u))
       ∙ ap (from l) (steps-undone S v l ok way i (h (n - i)) (halfEdge-on S v l ok way u b (n - i)))
       ∙ sym (vertex-at S v l ok way u b (n - i))
 

@@ -6,7 +6,7 @@ use mathlib.Core.List.{List}
 use Prim.Native.Nat.{ℕ}
 use lib.IntN.{ℤ, _+ℤ_}
 use Rattle.rounding.specs.Rounding.{round}
-use Rattle.curve.specs.Curve.{Kind, Rules, Point, each, step}
+use Rattle.curve.specs.Curve.{Kind, Rules, Point, each, curveStep}
 use Rattle.topology.specs.Boundary.{Way}
 use Rattle.polygons.specs.Polygons.{shapeOf}
 use Rattle.nets.specs.Net.{ControlNet, drawnTables}
@@ -25,8 +25,8 @@ midpoints = record {
 
 -- the list with a midpoint between each two neighbours. It is worked out from the list alone; no face is seen here.
 unfoldable pub halved : Kind → List Point → List Point
-unfolding step
-halved c L = step (each midpoints) c L
+unfolding curveStep
+halved c L = curveStep (each midpoints) c L
 
 -- a segment read from a net before its split
 abbrev pub ReadsControl : ControlNet → Way → Kind → ℕ → List Point → Type 0

@@ -3,6 +3,7 @@ use mathlib.Core.Path.{_≡_}
 use mathlib.Core.List.{List}
 use Prim.Native.Nat.{ℕ, _+_, _*_, _≤_, _<_}
 use lib.ListN.{length, getD, set}
+use Rattle.bounds.specs.Bounds.{maxHalfEdges}
 use Rattle.topology.specs.Shape.{Shape}
 use Rattle.polygons.specs.Polygons.{polygons, shapeOf, Sided}
 use Rattle.tables.specs.Tables.{SameOutside}
@@ -20,7 +21,7 @@ pub record ShapeTable (S : Shape) (n : ℕ) (w : List ℕ) (e : ℕ) : Type 0 wh
 
 -- side counts s of n corners, and room for the table where there are any
 pub record ShapeRoom (s : List ℕ) (n : ℕ) (w : List ℕ) : Type 0 where
-  pub few : n ≤ 262144
+  pub few : n ≤ maxHalfEdges
   pub sided : Sided s n
   pub room : 0 < length s → 7 * n ≤ length w
 

@@ -3,6 +3,7 @@
 ghost use mathlib.Core.Path.{_≡_};
 ghost use Prim.Native.Nat.{_+_, _*_, _≤_, _<_};
 ghost use lib.ListN.{length, getD, take};
+ghost use Rattle.bounds.specs.Bounds.{maxHalfEdges};
 ghost use Rattle.topology.specs.HalfEdge.{mate};
 ghost use Rattle.topology.specs.Vertex.{turn};
 ghost use Rattle.polygons.specs.Polygons.{sideAfter, sideBefore, polygons, shapeOf, total};
@@ -33,7 +34,7 @@ fn side_before(c: usize, j: usize) -> usize
 
 // Writes next, prev and face of the half-edge h.
 fn write_side(n: usize, work: &mut [u32], h: usize, next: u32, prev: u32, face: u32)
-    requires { ⌜ (n ≤ 262144) × (h < n) × (7 * n ≤ length (now work)) ⌝ }
+    requires { ⌜ (n ≤ maxHalfEdges) × (h < n) × (7 * n ≤ length (now work)) ⌝ }
     ensures { λ _. ⌜ now (work .exit) ≡ sideWritten n h next prev face (now (work .entry)) ⌝ }
 {
     work[4 * n + h] = next;

@@ -6,6 +6,7 @@ use native.Mathlib.Decide.{decLt}
 use native.Mathlib.Omega.{arith}
 use lib.ListN.{length, getD, set, length-set}
 use lib.Seq.{getD-set-same, getD-set-other}
+use Rattle.bounds.specs.Bounds.{maxHalfEdges}
 use Rattle.search.proofs.Quarters.{below-four}
 use Rattle.lists.specs.Tabulate.{tabulate}
 use Rattle.lists.proofs.Tabulate.{length-tabulate, getD-tabulate}
@@ -26,7 +27,7 @@ module _ (s l w : List ℕ) (v e : ℕ) (out : List ℕ) (ok : FacesDrawn s l w 
   lawful : Lawful (shapeOf s) (length l)
   lawful = shape-lawful s (length l) (ok .shaped .space .sided)
 
-  few : length l ≤ 262144
+  few : length l ≤ maxHalfEdges
   few = ok .shaped .space .few
 
   edges-few : e ≤ length l
@@ -58,7 +59,7 @@ module _ (s l w : List ℕ) (v e : ℕ) (out : List ℕ) (ok : FacesDrawn s l w 
 
   -- what stands in the tables at h, where g is the half-edge before it and f its face
   pub record Known (h g f : ℕ) : Type 0 where
-    pub few : length l ≤ 262144
+    pub few : length l ≤ maxHalfEdges
     pub vertices : v ≤ length l
     pub edges : e ≤ length l
     pub face : f ≤ length l

@@ -7,6 +7,7 @@ use native.Mathlib.Omega.{arith}
 use lib.IntN.{ℤ, pos, natAbs, _*ℤ_}
 use mir.Syntax.{w32, w64}
 use mir.Val.{SFits}
+use Rattle.bounds.specs.Bounds.{maxCoordinate}
 use Rattle.integers.specs.Sum.{sum}
 use Rattle.integers.proofs.AbsoluteValue.{abs-mul}
 use Rattle.integers.proofs.Range.{fits-abs}
@@ -23,7 +24,7 @@ pub record Sizes (z : ℤ) (d : ℕ) : Type 0 where
   pub mean : SFits w32 (round (pos 2 *ℤ z) (2 * d))
   pub same : round (pos 2 *ℤ z) (2 * d) ≡ round z d
 
-pub sizes : (z : ℤ) (d : ℕ) → 0 < d → d ≤ 8 → natAbs z ≤ d * 1048576 → Sizes z d
+pub sizes : (z : ℤ) (d : ℕ) → 0 < d → d ≤ 8 → natAbs z ≤ d * maxCoordinate → Sizes z d
 sizes z d p q h =
     let a = abs-mul (pos 2) z in
     let e : round (pos 2 *ℤ z) (2 * d) ≡ round z d = round-scale 2 z d (omega arith) (omega arith) in
@@ -37,9 +38,9 @@ sizes z d p q h =
       same = e;
     }
 
-pub sum-small : (t : List ℤ) (l : List ℕ) (h c a m : ℕ) → Corners t l h c → a < 3 → m ≤ c → natAbs (sum m (cornerOn t l h a)) ≤ m * 1048576
+pub sum-small : (t : List ℤ) (l : List ℕ) (h c a m : ℕ) → Corners t l h c → a < 3 → m ≤ c → natAbs (sum m (cornerOn t l h a)) ≤ m * maxCoordinate
 unfolding cornerOn
-sum-small t l h c a m ok b k = abs-sum m (cornerOn t l h a) 1048576 (λ j i. ok .each j (omega arith) .small a b)
+sum-small t l h c a m ok b k = abs-sum m (cornerOn t l h a) maxCoordinate (λ j i. ok .each j (omega arith) .small a b)
 
 pub sum-fits : (t : List ℤ) (l : List ℕ) (h c a m : ℕ) → Corners t l h c → a < 3 → m ≤ c → SFits w64 (sum m (cornerOn t l h a))
 sum-fits t l h c a m ok b k = let s = sum-small t l h c a m ok b k in let e = ok .eight in fits-abs w64 (sum m (cornerOn t l h a)) (omega arith)

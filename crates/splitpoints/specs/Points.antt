@@ -3,6 +3,7 @@ use mathlib.Core.List.{List}
 use Prim.Native.Nat.{ℕ, _+_, _≤_, _<_}
 use lib.IntN.{ℤ, natAbs, _+ℤ_}
 use lib.ListN.{length}
+use Rattle.bounds.specs.Bounds.{maxCoordinate}
 use Rattle.integers.specs.Sum.{sum}
 use Rattle.rounding.specs.Rounding.{round}
 use Rattle.topology.specs.HalfEdge.{from}
@@ -12,7 +13,7 @@ use Rattle.coordinates.specs.Points.{InTable}
 -- the coordinates of vertex v are in the table, and within the limit on coordinates
 pub record DrawnVertex (t : List ℤ) (v : ℕ) : Type 0 where
   pub room : InTable t v
-  pub small : (a : ℕ) → a < 3 → natAbs (axis t a v) ≤ 1048576
+  pub small : (a : ℕ) → a < 3 → natAbs (axis t a v) ≤ maxCoordinate
 
 -- c corners from h on, as many as a face may have
 pub record Corners (t : List ℤ) (l : List ℕ) (h c : ℕ) : Type 0 where

@@ -3,6 +3,7 @@ ghost use mathlib.Core.Path.{_≡_};
 ghost use Prim.Native.Nat.{_+_, _*_, _≤_, _<_};
 ghost use lib.IntN.{natAbs};
 ghost use lib.ListN.{length};
+ghost use Rattle.bounds.specs.Bounds.{maxCoordinate};
 ghost use Rattle.integers.specs.Sum.{sum};
 ghost use Rattle.rounding.specs.Rounding.{round};
 ghost use Rattle.coordinates.specs.Points.{putPoint};
@@ -10,7 +11,7 @@ ghost use Rattle.splitpoints.specs.Points.{DrawnVertex, Corners, midpoin
 
 // z / d, where z is a sum of d coordinates, rounded.
 fn rounded(z: i64, d: u32) -> i32
-    requires { ⌜ (0 < d) × (d ≤ 8) × (natAbs z ≤ d * 1048576) ⌝ }
+    requires { ⌜ (0 < d) × (d ≤ 8) × (natAbs z ≤ d * maxCoordinate) ⌝ }
     ensures { λ r. ⌜ r ≡ round z d ⌝ }
 {
     rounding::round_div(2 * z, d as u64) as i32

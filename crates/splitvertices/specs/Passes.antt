@@ -5,6 +5,7 @@ use mathlib.Core.List.{List}
 use Prim.Native.Nat.{ℕ, _+_, _*_, _/_, _%_, _≤_, _<_}
 use lib.IntN.{ℤ}
 use lib.ListN.{length, take}
+use Rattle.bounds.specs.Bounds.{maxCoordinate}
 use Rattle.lists.specs.Tabulate.{tabulate}
 use Rattle.integers.specs.Within.{Within}
 use Rattle.topology.specs.HalfEdge.{from, to, mate}
@@ -14,7 +15,7 @@ use Rattle.refinedfaces.specs.Refined.{refinedVertices}
 use Rattle.nets.specs.Net.{axis}
 use Rattle.splitting.specs.Splitting.{splitCoordinate}
 use Rattle.sidetable.specs.Table.{Linked}
-use Rattle.coordinates.specs.Points.{putPoint, Written}
+use Rattle.coordinates.specs.Points.{putPoint, PointsWritten}
 use Rattle.splitpoints.specs.Points.{DrawnVertex, midpointOn}
 
 -- what the passes assume: t has room for the vertices of the split
@@ -23,7 +24,7 @@ pub record Splittable (s l : List ℕ) (v : ℕ) (t : List ℤ) : Type 0 where
   pub counts : badSides s (length l) ≡ false
   pub oriented : Oriented (shapeOf s) v l
   pub room : 3 * refinedVertices (shapeOf s) v l ≤ length t
-  pub within : Within 1048576 (take (3 * v) t)
+  pub within : Within maxCoordinate (take (3 * v) t)
 
 -- coordinate a of vertex i of the split, and all of them as a table
 unfoldable pub splitAxis : (s l : List ℕ) (v : ℕ) → List ℤ → ℕ → ℕ → ℤ
@@ -34,7 +35,7 @@ splitVertices s l v t = tabulate (3 * refinedVertices (shapeOf s) v l) (λ (k : 
 
 -- t is o with the first i vertices of the split
 abbrev pub Made : (s l : List ℕ) (v : ℕ) (o t : List ℤ) → ℕ → Type 0
-Made s l v o t i = Written (splitAxis s l v o) o t i
+Made s l v o t i = PointsWritten (splitAxis s l v o) o t i
 
 -- before half-edge h, with e edges met: t has room for the midpoint of its edge
 pub record Turn (s l w : List ℕ) (v : ℕ) (t : List ℤ) (h e : ℕ) : Type 0 where

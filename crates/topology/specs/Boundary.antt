@@ -43,10 +43,10 @@ unfoldable pub other : Way → Way
 other withSides = againstSides
 other againstSides = withSides
 
--- one step round a loop, and the half-edge whose edge it passes: from the start of h it comes to the start of `step S l w h`
-unfoldable pub step : Shape → List ℕ → Way → ℕ → ℕ
-step S l withSides h = along S l h
-step S l againstSides h = back S l h
+-- one step round a loop, and the half-edge whose edge it passes: from the start of h it comes to the start of `boundaryStep S l w h`
+unfoldable pub boundaryStep : Shape → List ℕ → Way → ℕ → ℕ
+boundaryStep S l withSides h = along S l h
+boundaryStep S l againstSides h = back S l h
 
 unfoldable pub passed : Shape → List ℕ → Way → ℕ → ℕ
 passed S l withSides h = h

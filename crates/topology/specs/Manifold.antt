@@ -3,6 +3,7 @@ use mathlib.Core.Path.{_≡_}
 use mathlib.Core.List.{List}
 use Prim.Native.Nat.{ℕ, _≤_, _<_}
 use lib.ListN.{length}
+use Rattle.bounds.specs.Bounds.{minRing, maxRing, maxFan}
 use Rattle.topology.specs.Shape.{Shape, Lawful}
 use Rattle.topology.specs.HalfEdge.{from, to}
 use Rattle.topology.specs.Vertex.{Ring, Fan}
@@ -16,8 +17,8 @@ pub record Oriented (S : Shape) (v : ℕ) (l : List ℕ) : Type 0 where
 
 -- stands against refusals 8, 10 and 11 at p: one full ring of 3 to 8 faces, or one open fan of 1 to 6
 pub data Around (S : Shape) (l : List ℕ) (p : ℕ) : Type 0 where
-  ring : (h m : ℕ) → 3 ≤ m → m ≤ 8 → Ring S l p h m → Around S l p
-  fan : (h m : ℕ) → m ≤ 6 → Fan S l p h m → Around S l p
+  ring : (h m : ℕ) → minRing ≤ m → m ≤ maxRing → Ring S l p h m → Around S l p
+  fan : (h m : ℕ) → m ≤ maxFan → Fan S l p h m → Around S l p
 
 pub record Manifold (S : Shape) (v : ℕ) (l : List ℕ) : Type 0 where
   pub oriented : Oriented S v l

@@ -1,6 +1,6 @@
 -- What an accepted call has, and that a call for fewer rounds is accepted too. Assumes nothing.
 use mathlib.Core.Path.{_≡_, refl}
-use mathlib.Core.Bool.{Bool, true, false, cond, _&&_}
+use mathlib.Core.Bool.{Bool, true, false, cond, _&&_, _||_}
 use mathlib.Core.List.{List, [], _∷_}
 use Prim.Native.Nat.{ℕ, _*_, _/_, _%_, _^_, _≤_, _<_}
 use native.Mathlib.Nat.{pow-le-pow-right, mul-le-mul-left}
@@ -9,8 +9,10 @@ use lib.Dec.{ltb}
 use lib.IntN.{pos, natAbs}
 use lib.ListN.{length, getD}
 use borrow.Author.Tests.{ltb-false, eqb-true, not-false, lt-ltb, le-ltb, eq-eqb}
+use Rattle.bounds.specs.Bounds.{maxRounds, maxVertices, maxFaces, maxRefinedFaces, maxCoordinate}
 use Rattle.search.specs.Search.{first}
 use Rattle.search.proofs.First.{first-le, first-before}
+use Rattle.search.proofs.Tests.{or-left, or-right}
 use Rattle.topology.specs.Shape.{Lawful}
 use Rattle.topology.specs.Manifold.{Manifold}
 use Rattle.polygons.specs.Polygons.{shapeOf, badSides, Sided}
@@ -18,8 +20,8 @@ use Rattle.polygons.proofs.Counts.{shape-lawful}
 use Rattle.refusals.proofs.Manifold.{manifold-if}
 use Rattle.refusals.specs.Refusals.{badValence, markedRing}
 use Rattle.nets.specs.Net.{ControlNet}
-use Rattle.verdict.specs.Call.{Lengths, lengthsOf, Call, call, quadrilaterals}
-use Rattle.verdict.specs.Verdict.{Verdict, accepted, refused, orElse, refusedIf, refusedAt, cornersVerdict, tablesVerdict, sizeVerdict, roomVerdict, limitsVerdict, callVerdict, badCoordinate, coordinatesVerdict, vertexVerdict, adjacencyVerdict, facesVerdict, shapeVerdict, netVerdict, verdict}
+use Rattle.verdict.specs.Call.{Room, needed, Lengths, lengthsOf, Call, call, quadrilaterals}
+use Rattle.verdict.specs.Verdict.{Verdict, accepted, refused, orElse, refusedIf, refusedAt, shorter, cornersVerdict, tablesVerdict, sizeVerdict, roomVerdict, limitsVerdict, callVerdict, badCoordinate, coordinatesVerdict, vertexVerdict, adjacencyVerdict, facesVerdict, shapeVerdict, netVerdict, verdict}
 use Rattle.verdict.specs.LargeRing.{NoneOf5To10}
 use Rattle.verdict.proofs.Examples
 
@@ -63,13 +65,13 @@ by-sides (c ∷ s) n z = refl
 
 -- ---- 1 to 4 and 14 do not hold
 pub record WithinLimits (rounds : ℕ) (sides : List ℕ) (n : Lengths) : Type 0 where
-  pub few : rounds ≤ 6
+  pub few : rounds ≤ maxRounds
   pub points : n .coordinates % 3 ≡ 0
   pub sided : Sided sides (n .corners)
   pub marked : n .marks ≡ n .coordinates / 3
-  pub vertices : n .coordinates / 3 ≤ 8192
-  pub faces : quadrilaterals sides (n .corners) ≤ 4096
-  pub final : quadrilaterals sides (n .corners) * 4 ^ rounds ≤ 262144
+  pub vertices : n .coordinates / 3 ≤ maxVertices
+  pub faces : quadrilaterals sides (n .corners) ≤ maxFaces
+  pub final : quadrilaterals sides (n .corners) * 4 ^ rounds ≤ maxRefinedFaces
   pub roomVertices : 12 * (quadrilaterals sides (n .corners) * 4 ^ rounds) ≤ n .room .vertices
   pub roomFaces : 4 * (quadrilaterals sides (n .corners) * 4 ^ rounds) ≤ n .room .faces
   pub roomMarks : 4 * (quadrilaterals sides (n .corners) * 4 ^ rounds) ≤ n .room .marks
@@ -85,12 +87,12 @@ if-corners : (s : List ℕ) (n : ℕ) → Sided s n → cornersVerdict s n ≡ a
 if-corners [] n k = let e = eq-eqb (n % 4) 0 (k .fours refl) in rw e
 if-corners (c ∷ s) n k = let e : badSides (c ∷ s) n ≡ false = k .counts (omega arith) in rw e
 
-pub sized-faces : (v f g : ℕ) → sizeVerdict v f g ≡ accepted → f ≤ 4096
+pub sized-faces : (v f g : ℕ) → sizeVerdict v f g ≡ accepted → f ≤ maxFaces
 unfolding sizeVerdict
 sized-faces v f g e =
-    let a = or-both (refusedIf 3 (ltb 8192 v)) (orElse (refusedIf 3 (ltb 4096 f)) (refusedIf 3 (ltb 262144 g))) e in
-    let b = or-both (refusedIf 3 (ltb 4096 f)) (refusedIf 3 (ltb 262144 g)) (a .1) in
-    ltb-false 4096 f (if-false 3 _ (b .0))
+    let a = or-both (refusedIf 3 (ltb maxVertices v)) (orElse (refusedIf 3 (ltb maxFaces f)) (refusedIf 3 (ltb maxRefinedFaces g))) e in
+    let b = or-both (refusedIf 3 (ltb maxFaces f)) (refusedIf 3 (ltb maxRefinedFaces g)) (a .1) in
+    ltb-false maxFaces f (if-false 3 _ (b .0))
 
 -- letters that are asked for have room
 letters-if : (asked : Bool) (n least : ℕ) → (asked && ltb n least) ≡ false → asked ≡ true → least ≤ n
@@ -99,6 +101,32 @@ letters-if asked n least e a = ltb-false n least (rw a at e)
 if-letters : (asked : Bool) (n least : ℕ) → (asked ≡ true → least ≤ n) → (asked && ltb n least) ≡ false
 if-letters true n least h = le-ltb n least (h refl)
 if-letters false n least h = refl
+
+-- what passes 4
+record Ample (room stated : Room) : Type 0 where
+  vertices : stated .vertices ≤ room .vertices
+  faces : stated .faces ≤ room .faces
+  marks : stated .marks ≤ room .marks
+  letters : room .asked ≡ true → stated .letters ≤ room .letters
+  work : stated .work ≤ room .work
+
+ample-if : (room stated : Room) → shorter room stated ≡ false → Ample room stated
+ample-if room stated e =
+    let v = ltb (room .vertices) (stated .vertices) in
+    let f = ltb (room .faces) (stated .faces) in
+    let m = ltb (room .marks) (stated .marks) in
+    let l = room .asked && ltb (room .letters) (stated .letters) in
+    let w = ltb (room .work) (stated .work) in
+    let c = or-left (v || f || m || l) w e in
+    let b = or-left (v || f || m) l c in
+    let a = or-left (v || f) m b in
+    record {
+      vertices = ltb-false (room .vertices) (stated .vertices) (or-left v f a);
+      faces = ltb-false (room .faces) (stated .faces) (or-right v f a);
+      marks = ltb-false (room .marks) (stated .marks) (or-right (v || f) m b);
+      letters = letters-if (room .asked) (room .letters) (stated .letters) (or-right (v || f || m) l c);
+      work = ltb-false (room .work) (stated .work) (or-right (v || f || m || l) w e);
+    }
 
 module _ (k : ℕ) (s : List ℕ) (n : Lengths) where
   pub within-if : limitsVerdict k s n ≡ accepted → WithinLimits k s n
@@ -112,23 +140,20 @@ module _ (k : ℕ) (s : List ℕ) (n : Lengths) where
       let b₂ = or-both _ _ (b₁ .1) in
       let c₁ = or-both _ _ (a₃ .0) in
       let c₂ = or-both _ _ (c₁ .1) in
-      let d₁ = or-both _ _ (a₃ .1) in
-      let d₂ = or-both _ _ (d₁ .1) in
-      let d₃ = or-both _ _ (d₂ .1) in
-      let d₄ = or-both _ _ (d₃ .1) in
+      let d = ample-if (n .room) (needed g) (if-false 4 _ (a₃ .1)) in
       record {
-        few = ltb-false 6 k (if-false 1 _ (a₁ .0));
+        few = ltb-false maxRounds k (if-false 1 _ (a₁ .0));
         points = eqb-true (n .coordinates % 3) 0 (not-false _ (if-false 2 _ (b₁ .0)));
         sided = corners-if s (n .corners) (b₂ .0);
         marked = eqb-true (n .marks) (n .coordinates / 3) (not-false _ (if-false 2 _ (b₂ .1)));
-        vertices = ltb-false 8192 (n .coordinates / 3) (if-false 3 _ (c₁ .0));
-        faces = ltb-false 4096 (quadrilaterals s (n .corners)) (if-false 3 _ (c₂ .0));
-        final = ltb-false 262144 g (if-false 3 _ (c₂ .1));
-        roomVertices = ltb-false (n .room .vertices) (12 * g) (if-false 4 _ (d₁ .0));
-        roomFaces = ltb-false (n .room .faces) (4 * g) (if-false 4 _ (d₂ .0));
-        roomMarks = ltb-false (n .room .marks) (4 * g) (if-false 4 _ (d₃ .0));
-        roomLetters = letters-if (n .room .asked) (n .room .letters) (4 * g) (if-false 4 _ (d₄ .0));
-        roomWork = ltb-false (n .room .work) (16 * g) (if-false 4 _ (d₄ .1));
+        vertices = ltb-false maxVertices (n .coordinates / 3) (if-false 3 _ (c₁ .0));
+        faces = ltb-false maxFaces (quadrilaterals s (n .corners)) (if-false 3 _ (c₂ .0));
+        final = ltb-false maxRefinedFaces g (if-false 3 _ (c₂ .1));
+        roomVertices = d .vertices;
+        roomFaces = d .faces;
+        roomMarks = d .marks;
+        roomLetters = d .letters;
+        roomWork = d .work;
       }
 
   pub if-within : WithinLimits k s n → limitsVerdict k s n ≡ accepted
@@ -136,13 +161,13 @@ module _ (k : ℕ) (s : List ℕ) (n : Lengths) where
   if-within w =
       let g = quadrilaterals s (n .corners) * 4 ^ k in
       simp (
-        le-ltb 6 k (w .few),
+        le-ltb maxRounds k (w .few),
         eq-eqb (n .coordinates % 3) 0 (w .points),
         if-corners s (n .corners) (w .sided),
         eq-eqb (n .marks) (n .coordinates / 3) (w .marked),
-        le-ltb 8192 (n .coordinates / 3) (w .vertices),
-        le-ltb 4096 (quadrilaterals s (n .corners)) (w .faces),
-        le-ltb 262144 g (w .final),
+        le-ltb maxVertices (n .coordinates / 3) (w .vertices),
+        le-ltb maxFaces (quadrilaterals s (n .corners)) (w .faces),
+        le-ltb maxRefinedFaces g (w .final),
         le-ltb (n .room .vertices) (12 * g) (w .roomVertices),
         le-ltb (n .room .faces) (4 * g) (w .roomFaces),
         le-ltb (n .room .marks) (4 * g) (w .roomMarks),
@@ -239,12 +264,12 @@ accepted-fewer c j h e =
     or-accepted (or-accepted (if-within j (c .net .sides) n (within-fewer (c .rounds) (c .net .sides) n j h (accepted-limits c e))) (call-both c (or-both (callVerdict c) (netVerdict (c .net)) e .0) .1)) (or-both (callVerdict c) (netVerdict (c .net)) e .1)
 
 -- what 5 and 6 rule out is not there
-pub accepted-coordinate : (c : Call) → verdict c ≡ accepted → (i : ℕ) → i < length (c .net .vertices) → natAbs (getD (c .net .vertices) i (pos 0)) ≤ 1048576
+pub accepted-coordinate : (c : Call) → verdict c ≡ accepted → (i : ℕ) → i < length (c .net .vertices) → natAbs (getD (c .net .vertices) i (pos 0)) ≤ maxCoordinate
 unfolding badCoordinate
 accepted-coordinate c e i h =
     let n = accepted-net c e in
     let k = n .before .no5 in
-    ltb-false 1048576 _ (first-before (badCoordinate (c .net .vertices)) (length (c .net .vertices)) i (omega arith))
+    ltb-false maxCoordinate _ (first-before (badCoordinate (c .net .vertices)) (length (c .net .vertices)) i (omega arith))
 
 -- ---- how a check answers: the first test that hits, or the rest of the chain
 pub at-hit : (r : ℕ) (t : ℕ → Bool) (n : ℕ) (place : ℕ → ℕ) (v : Verdict) (i : ℕ) → i ≡ first t n → i < n → refused r (place i) ≡ orElse (refusedAt r t n place) v

@@ -8,6 +8,7 @@ use lib.Dec.{ltb}
 use lib.IntN.{ℤ, pos, natAbs}
 use lib.ListN.{length, getD}
 use borrow.Author.Tests.{ltb-true}
+use Rattle.bounds.specs.Bounds.{maxCoordinate}
 use Rattle.integers.specs.Within.{Within}
 use Rattle.tables.specs.Tables.{cleared}
 use Rattle.search.proofs.First.{first-none}
@@ -18,11 +19,11 @@ use Rattle.verdict.specs.Verdict.{Verdict, orElse, refusedIf, afterCall,
 use Rattle.verdict.proofs.Accepted.{at-pass}
 
 -- 5 does not hold
-within-accepted : (vs : List ℤ) → Within 1048576 vs → (v : Verdict) → orElse (coordinatesVerdict vs) v ≡ v
+within-accepted : (vs : List ℤ) → Within maxCoordinate vs → (v : Verdict) → orElse (coordinatesVerdict vs) v ≡ v
 unfolding coordinatesVerdict badCoordinate
 within-accepted vs t v =
     let n : ℕ = length vs in
-    let e = first-none (badCoordinate vs) n (λ i b h. let k = ltb-true 1048576 (natAbs (getD vs i (pos 0))) h in let l = t .at i b in omega arith) in
+    let e = first-none (badCoordinate vs) n (λ i b h. let k = ltb-true maxCoordinate (natAbs (getD vs i (pos 0))) h in let l = t .at i b in omega arith) in
     sym (at-pass 5 (badCoordinate vs) n (λ i. i / 3) v v n (sym e) (le-refl n) refl)
 
 module _ (rounds : ℕ) (vs ws : List ℤ) (faces sides marks : List ℕ) (tension : ℕ) (room : Room) (same : length ws ≡ length vs) where
@@ -37,7 +38,7 @@ module _ (rounds : ℕ) (vs ws : List ℤ) (faces sides marks : List ℕ) (tensi
   abbrev limits : ℕ → Verdict
   limits n = orElse (limitsVerdict rounds sides (lengths n (length faces) (length marks) room)) (refusedIf 16 (ltb 4 tension))
 
-  pub same-verdict : Within 1048576 vs → Within 1048576 ws → verdict other ≡ verdict one
+  pub same-verdict : Within maxCoordinate vs → Within maxCoordinate ws → verdict other ≡ verdict one
   unfolding verdict netVerdict
   same-verdict t u =
       let rest : Verdict = shapeVerdict (shapeOf sides) faces marks in

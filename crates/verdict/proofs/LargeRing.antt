@@ -7,6 +7,7 @@ use native.Mathlib.Omega.{arith}
 use lib.Dec.{ltb}
 use lib.ListN.{length}
 use borrow.Author.Tests.{lt-ltb}
+use Rattle.bounds.specs.Bounds.{minRing, maxRing}
 use Rattle.search.specs.Search.{first}
 use Rattle.search.proofs.First.{first-reach}
 use Rattle.search.proofs.Tests.{or-on}
@@ -26,10 +27,10 @@ use Rattle.verdict.specs.LargeRing.{NoneBefore11, LargeRing}
 use Rattle.verdict.proofs.Accepted.{call-both, within-if, at-hit, at-pass}
 
 -- 11 holds at a full ring of more than eight faces
-ring-bad : (S : Shape) (v : ℕ) (l : List ℕ) → Oriented S v l → (p h m : ℕ) → Ring S l p h m → 8 < m → badValence S l p ≡ true
+ring-bad : (S : Shape) (v : ℕ) (l : List ℕ) → Oriented S v l → (p h m : ℕ) → Ring S l p h m → maxRing < m → badValence S l p ≡ true
 ring-bad S v l ok p h m r k =
     let e = ring-valence S v l ok p h m r in
-    badValence-ring S l p (ring-boundaryFrom S v l ok p h m r) ∙ or-on (ltb (valence l p) 3) (ltb 8 (valence l p)) (lt-ltb 8 (valence l p) (omega arith))
+    badValence-ring S l p (ring-boundaryFrom S v l ok p h m r) ∙ or-on (ltb (valence l p) minRing) (ltb maxRing (valence l p)) (lt-ltb maxRing (valence l p) (omega arith))
 
 module _ (c : Call) (n : NoneBefore11 c) where
   abbrev S : Shape

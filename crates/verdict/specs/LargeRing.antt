@@ -2,6 +2,7 @@
 use mathlib.Core.Path.{_≡_}
 use Prim.Native.Nat.{ℕ, _≤_, _<_}
 use lib.ListN.{length}
+use Rattle.bounds.specs.Bounds.{maxRing}
 use Rattle.search.specs.Search.{first}
 use Rattle.topology.specs.Vertex.{Ring}
 use Rattle.polygons.specs.Polygons.{shapeOf}
@@ -26,5 +27,5 @@ pub record NoneBefore11 (c : Call) : Type 0 where
 
 -- a full ring of m faces at p gets 11, at p or at a vertex before it
 pub record LargeRing : Type 0 where
-  pub refuses : (c : Call) → NoneBefore11 c → (p h m : ℕ) → p < length (c .net .marks) → Ring (shapeOf (c .net .sides)) (c .net .faces) p h m → 8 < m
+  pub refuses : (c : Call) → NoneBefore11 c → (p h m : ℕ) → p < length (c .net .marks) → Ring (shapeOf (c .net .sides)) (c .net .faces) p h m → maxRing < m
       → (q : ℕ) × (q ≤ p) × (verdict c ≡ refused 11 q)

@@ -1,11 +1,12 @@
 -- The verdict of the check on a call: refused with a number and a place, or accepted. The first refusal that holds is given, in this order: 1; 2 for the vertex
 -- table; 14 with side counts, without them 2 for the face table; 2 for the marks; 3; 4; 16; 5 to 12. 15, which a refining call may get after them, is in `outcome`. "Places are the lowest number concerned."
-use mathlib.Core.Bool.{Bool, cond, not, _&&_}
+use mathlib.Core.Bool.{Bool, cond, not, _&&_, _||_}
 use mathlib.Core.List.{List, [], _∷_}
 use Prim.Native.Nat.{ℕ, _*_, _/_, _%_, _^_}
 use lib.Dec.{eqb, ltb}
 use lib.IntN.{ℤ, pos, natAbs}
 use lib.ListN.{length, getD}
+use Rattle.bounds.specs.Bounds.{maxRounds, maxVertices, maxFaces, maxRefinedFaces, maxCoordinate}
 use Rattle.tables.specs.Tables.{cleared}
 use Rattle.search.specs.Search.{first}
 use Rattle.topology.specs.Shape.{Shape}
@@ -52,27 +53,29 @@ tablesVerdict coordinates corners sides marks =
 
 -- 3: "V above 8,192, F above 4,096, or G above 262,144."
 unfoldable pub sizeVerdict : (v f g : ℕ) → Verdict
-sizeVerdict v f g = orElse (refusedIf 3 (ltb 8192 v)) (orElse (refusedIf 3 (ltb 4096 f)) (refusedIf 3 (ltb 262144 g)))
+sizeVerdict v f g = orElse (refusedIf 3 (ltb maxVertices v)) (orElse (refusedIf 3 (ltb maxFaces f)) (refusedIf 3 (ltb maxRefinedFaces g)))
 
 -- 4: "an output or the work table shorter than stated". Paper 02 on the letter table, where letters are asked for: "a shorter one counts among the outputs of 4"
-abbrev pub shorter : (room stated : Room) → Verdict
+abbrev pub shorter : (room stated : Room) → Bool
 shorter room stated =
-    orElse (refusedIf 4 (ltb (room .vertices) (stated .vertices)))
-    (orElse (refusedIf 4 (ltb (room .faces) (stated .faces)))
-    (orElse (refusedIf 4 (ltb (room .marks) (stated .marks)))
-    (orElse (refusedIf 4 (room .asked && ltb (room .letters) (stated .letters)))
-    (refusedIf 4 (ltb (room .work) (stated .work))))))
+    ltb (room .vertices) (stated .vertices)
+    || ltb (room .faces) (stated .faces)
+    || ltb (room .marks) (stated .marks)
+    || (room .asked && ltb (room .letters) (stated .letters))
+    || ltb (room .work) (stated .work)
 
 unfoldable pub roomVerdict : (g : ℕ) → Room → Verdict
-roomVerdict g room = shorter room (needed g)
+roomVerdict g room = refusedIf 4 (shorter room (needed g))
 
 -- 1: "rounds above 6."; then 2 and 14, 3 and 4
 unfoldable pub limitsVerdict : (rounds : ℕ) (sides : List ℕ) → Lengths → Verdict
 limitsVerdict rounds sides n =
-    orElse (refusedIf 1 (ltb 6 rounds))
+    let f = quadrilaterals sides (n .corners) in
+    let g = f * 4 ^ rounds in
+    orElse (refusedIf 1 (ltb maxRounds rounds))
     (orElse (tablesVerdict (n .coordinates) (n .corners) sides (n .marks))
-    (orElse (sizeVerdict (n .coordinates / 3) (quadrilaterals sides (n .corners)) (quadrilaterals sides (n .corners) * 4 ^ rounds))
-    (roomVerdict (quadrilaterals sides (n .corners) * 4 ^ rounds) (n .room))))
+    (orElse (sizeVerdict (n .coordinates / 3) f g)
+    (roomVerdict g (n .room))))
 
 -- 16 of paper 02: "t above 4, place 0, nothing touched, tested after 4"
 abbrev pub callVerdict : Call → Verdict
@@ -81,7 +84,7 @@ callVerdict c = orElse (limitsVerdict (c .rounds) (c .net .sides) (lengthsOf (c 
 -- ---- "Whoever drew the net"
 -- 5: "a coordinate outside -1,048,576 to 1,048,576; vertex."
 unfoldable pub badCoordinate : List ℤ → ℕ → Bool
-badCoordinate vs i = ltb 1048576 (natAbs (getD vs i (pos 0)))
+badCoordinate vs i = ltb maxCoordinate (natAbs (getD vs i (pos 0)))
 
 unfoldable pub coordinatesVerdict : List ℤ → Verdict
 coordinatesVerdict vs = refusedAt 5 (badCoordinate vs) (length vs) (λ i. i / 3)

@@ -4,10 +4,11 @@ use Prim.Native.Nat.{ℕ, _*_, _≤_}
 use native.Mathlib.Nat.{mul-le-mul-left}
 use native.Mathlib.Omega.{arith}
 use borrow.Author.Needs.{needs}
+use Rattle.bounds.specs.Bounds.{maxProduct}
 use Rattle.limits.proofs.final_faces.Statement.{statement}
 use Rattle.limits.proofs.final_faces.Tie as tie
 
-below : (c : tie.After-pow4) → c .before .before .before .args .faces * c .pow4 .result ≤ 16777216
+below : (c : tie.After-pow4) → c .before .before .before .args .faces * c .pow4 .result ≤ maxProduct
 below c =
     let f = c .before .before .before .args .faces in
     let g : f * c .pow4 .result ≤ f * 4096 = mul-le-mul-left f (c .pow4 .ensures .1) in

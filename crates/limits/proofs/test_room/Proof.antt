@@ -1,9 +1,9 @@
 -- `limits::test_room` meets its contract: each return rewrites with the tests that led there. Assumes nothing.
-use mathlib.Core.Path.{_≡_, sym, _∙_}
-use mathlib.Core.Bool.{_&&_}
+use mathlib.Core.Path.{_≡_, sym, ap, _∙_}
+use mathlib.Core.Bool.{_&&_, _||_}
 use lib.Dec.{ltb}
 use Rattle.verdict.specs.Call.{Room}
-use Rattle.verdict.specs.Verdict.{orElse, refusedIf, shorter}
+use Rattle.verdict.specs.Verdict.{refusedIf, shorter}
 use borrow.Author.Tests.{lt-ltb, le-ltb}
 use Rattle.limits.specs.Answer.{roomIn, lengthsIn}
 use Rattle.limits.proofs.Laws.{outputs-long, by-needed}
@@ -45,8 +45,10 @@ returns-3 c =
       lt-ltb _ _ (c .if3 .taken),
     ))
 
-outputs : (x : tie.Else3) → (let y = first x in shorter (given y) (least y) ≡ orElse (refusedIf 4 (given y .asked && ltb (given y .letters) (least y .letters))) (refusedIf 4 (ltb (given y .work) (least y .work))))
-outputs x = let y = first x in outputs-long (given y) (least y) (x .before .before .before .before .before .before .if1 .left) (x .before .before .before .if2 .left) (x .if3 .left)
+outputs : (x : tie.Else3) → (let y = first x in refusedIf 4 (shorter (given y) (least y)) ≡ refusedIf 4 ((given y .asked && ltb (given y .letters) (least y .letters)) || ltb (given y .work) (least y .work)))
+outputs x =
+    let y = first x in
+    ap (refusedIf 4) (outputs-long (given y) (least y) (x .before .before .before .before .before .before .if1 .left) (x .before .before .before .if2 .left) (x .if3 .left))
 
 letters-short-requires : tie.Need-letters-short-requires
 letters-short-requires c κs = search needs
@@ -59,7 +61,7 @@ returns-4 c =
     by-needed _ _ (least y) (y .needed .ensures) (outputs x ∙ simp (sym (z .letters-short .ensures) ∙ c .if4 .taken))
 
 -- past the letters
-past-letters : (l : tie.Else4) → (let y = first (l .before .before) in shorter (given y) (least y) ≡ refusedIf 4 (ltb (given y .work) (least y .work)))
+past-letters : (l : tie.Else4) → (let y = first (l .before .before) in refusedIf 4 (shorter (given y) (least y)) ≡ refusedIf 4 (ltb (given y .work) (least y .work)))
 past-letters l = let z = l .before in outputs (z .before) ∙ simp (sym (z .letters-short .ensures) ∙ l .if4 .left)
 
 returns-5 : tie.Need-returns-5

@@ -7,6 +7,7 @@ use lib.IntN.{ℤ, natAbs}
 use mir.Syntax.{w32, w64}
 use mir.Val.{SFits}
 use mir.Facts.{toZ-ofZ}
+use Rattle.bounds.specs.Bounds.{maxCoordinate}
 use Rattle.rounding.specs.Rounding.{round}
 use Rattle.splitpoints.specs.Points.{meanOn}
 use Rattle.splitpoints.proofs.Sizes.{sum-small}
@@ -24,7 +25,7 @@ rounded-requires c κs =
     let s = c .before .before in
     let p = s .pre .0 in
     let f : SFits w64 (c .corner-sum .result) = search needs in
-    let b : natAbs (c .corner-sum .result) ≤ s .args .c * 1048576 =
+    let b : natAbs (c .corner-sum .result) ≤ s .args .c * maxCoordinate =
     rw (c .corner-sum .ensures) (sum-small (s .args .points .now) (s .args .faces .now) (s .args .h) (s .args .c) (s .args .a) (s .args .c) p (s .pre .1) (omega arith)) in
     simp toZ-ofZ (p .some, p .eight, b)
 

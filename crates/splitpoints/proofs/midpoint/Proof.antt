@@ -7,6 +7,7 @@ use lib.IntN.{ℤ, natAbs, _+ℤ_}
 use mir.Syntax.{w32, w64}
 use mir.Val.{SFits}
 use mir.Facts.{toZ-ofZ}
+use Rattle.bounds.specs.Bounds.{maxCoordinate}
 use Rattle.integers.proofs.AbsoluteValue.{abs-add}
 use Rattle.integers.proofs.Range.{fits-abs}
 use Rattle.rounding.specs.Rounding.{round}
@@ -24,13 +25,13 @@ coordinate-requires-2 c κs = search needs
 abbrev both : tie.After-coordinate2 → ℤ
 both c = c .before .coordinate .result +ℤ c .coordinate2 .result
 
-small : (c : tie.After-coordinate2) → natAbs (both c) ≤ 2 * 1048576
+small : (c : tie.After-coordinate2) → natAbs (both c) ≤ 2 * maxCoordinate
 small c =
     let s = c .before .before in
     let x = c .before .coordinate in
     let y = c .coordinate2 in
-    let p : natAbs (x .result) ≤ 1048576 = rw (x .ensures) (s .pre .0 .small (s .args .a) (s .pre .2)) in
-    let q : natAbs (y .result) ≤ 1048576 = rw (y .ensures) (s .pre .1 .small (s .args .a) (s .pre .2)) in
+    let p : natAbs (x .result) ≤ maxCoordinate = rw (x .ensures) (s .pre .0 .small (s .args .a) (s .pre .2)) in
+    let q : natAbs (y .result) ≤ maxCoordinate = rw (y .ensures) (s .pre .1 .small (s .args .a) (s .pre .2)) in
     omega (arith, abs-add (x .result) (y .result))
 
 fits : (c : tie.After-coordinate2) → SFits w64 (both c)
