@@ -29,6 +29,10 @@ maxRing = 8
 abbrev pub maxFan : ℕ
 maxFan = 6
 
+-- 15: "the tally after the call would be above 4,000,000,000"
+abbrev pub maxTally : ℕ
+maxTally = 4000000000
+
 -- ---- what follows from them
 -- corners where refining begins: four for each face
 abbrev pub maxCorners : ℕ

@@ -21,3 +21,6 @@ pub const MIN_RING: u16 = 3;
 pub const MAX_RING: u16 = 8;
 
 pub const MAX_FAN: u16 = 6;
+
+// Refusal 15.
+pub const MAX_TALLY: u64 = 4000000000;

@@ -3,9 +3,8 @@ ghost use mathlib.Core.Path.{_≡_};
 ghost use Prim.Native.Nat.{_+_, _≤_};
 ghost use lib.Dec.{ltb};
 ghost use lib.ListN.{length};
-ghost use Rattle.bounds.specs.Bounds.{maxCorners, maxHalfEdges};
+ghost use Rattle.bounds.specs.Bounds.{maxCorners, maxHalfEdges, maxTally};
 ghost use Rattle.polygons.specs.Polygons.{shapeOf};
-ghost use Rattle.outcome.specs.Tally.{tallyLimit};
 ghost use Rattle.edgenumbers.specs.Edges.{edgeCountBy};
 ghost use Rattle.growth.specs.Growth.{counts, countsOf, grownBy, splits, Bounded, Growable};
 
@@ -61,13 +60,10 @@ pub fn final_vertices(rounds: u32, faces: &[u32], sides: &[u8], v: usize, work: 
     vertices_after(v, edges, sides.len(), n, rounds + 1)
 }
 
-// The largest tally that an accepted call may leave.
-const TALLY_LIMIT: u64 = 4000000000;
-
 // Whether a tally of `points` would pass its limit with `new` points more.
 pub fn exceeds(points: u64, new: u64) -> bool
-    requires { ⌜ new ≤ tallyLimit ⌝ }
-    ensures { λ r. ⌜ r ≡ ltb tallyLimit (points + new) ⌝ }
+    requires { ⌜ new ≤ maxTally ⌝ }
+    ensures { λ r. ⌜ r ≡ ltb maxTally (points + new) ⌝ }
 {
-    TALLY_LIMIT - new < points
+    bounds::MAX_TALLY - new < points
 }

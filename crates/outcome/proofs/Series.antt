@@ -4,9 +4,10 @@ use mathlib.Core.List.{List, [], _∷_}
 use Prim.Native.Nat.{ℕ, _+_, _≤_}
 use native.Mathlib.Omega.{arith}
 use lib.ListN.{length}
+use Rattle.bounds.specs.Bounds.{maxTally}
 use Rattle.verdict.specs.Verdict.{Verdict, accepted, refused, verdict}
 use Rattle.verdict.proofs.Accepted.{or-both}
-use Rattle.outcome.specs.Tally.{newPoints, tallyLimit, tallyVerdict}
+use Rattle.outcome.specs.Tally.{newPoints, tallyVerdict}
 use Rattle.outcome.specs.Outcome.{refinedTo, refusedWith, Request, fromTally, Outcome, callOf, toAdd, requestVerdict, refinedNet, outcomeBy, outcome}
 use Rattle.outcome.specs.Series.{TallyByReport, tallyAfter, acceptedOf, pointsOf, TallyIsSum}
 use Rattle.outcome.proofs.Counts.{control-among}
@@ -47,7 +48,7 @@ module _ (tally : ℕ) (a : Request) where
   is-given v e = ap given e
 
   -- what is accepted stays within the limit
-  within-limit : requestVerdict b ≡ accepted → tally + toAdd a ≤ tallyLimit
+  within-limit : requestVerdict b ≡ accepted → tally + toAdd a ≤ maxTally
   unfolding requestVerdict
   within-limit e = tally-le tally (toAdd a) (or-both (verdict (callOf b)) (tallyVerdict tally (toAdd a)) e .1)
 
@@ -72,12 +73,12 @@ sum-from tally (a ∷ calls) = go (requestVerdict (b tally a)) refl (sum-from (t
     go accepted e s q = let f = first-accepted tally a calls e in omega (arith, f .0, f .1)
     go (refused r p) e s q = let f = first-refused tally a calls r p e in omega (arith, f .0, f .1)
 
-pub within-from : (tally : ℕ) (calls : List Request) → tally ≤ tallyLimit → tallyAfter tally calls ≤ tallyLimit
+pub within-from : (tally : ℕ) (calls : List Request) → tally ≤ maxTally → tallyAfter tally calls ≤ maxTally
 unfolding tallyAfter
 within-from tally [] h = h
 within-from tally (a ∷ calls) h = go (requestVerdict (b tally a)) refl (λ l. within-from (tally + toAdd a) calls l) (within-from tally calls h)
   where
-    go : (v : Verdict) → requestVerdict (b tally a) ≡ v → (tally + toAdd a ≤ tallyLimit → tallyAfter (tally + toAdd a) calls ≤ tallyLimit) → tallyAfter tally calls ≤ tallyLimit → tallyAfter tally (a ∷ calls) ≤ tallyLimit
+    go : (v : Verdict) → requestVerdict (b tally a) ≡ v → (tally + toAdd a ≤ maxTally → tallyAfter (tally + toAdd a) calls ≤ maxTally) → tallyAfter tally calls ≤ maxTally → tallyAfter tally (a ∷ calls) ≤ maxTally
     go accepted e f q = let s = f (within-limit tally a e) in omega (arith, first-accepted tally a calls e .0)
     go (refused r p) e f q = omega (arith, first-refused tally a calls r p e .0)
 

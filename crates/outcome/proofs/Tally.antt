@@ -7,6 +7,7 @@ use native.Mathlib.Omega.{arith}
 use lib.IntN.{ℤ}
 use lib.ListN.{length}
 use borrow.Author.Tests.{le-ltb, lt-ltb}
+use Rattle.bounds.specs.Bounds.{maxTally}
 use Rattle.curve.specs.Weights.{tension}
 use Rattle.nets.specs.Net.{ControlNet, controlNet}
 use Rattle.refinedfaces.specs.Refined.{verticesAfter}
@@ -16,25 +17,25 @@ use Rattle.splitting.proofs.Split.{start-faces, start-marks}
 use Rattle.verdict.specs.Call.{Call}
 use Rattle.verdict.specs.Verdict.{Verdict, accepted, refused, orElse, verdict}
 use Rattle.verdict.proofs.Accepted.{never, or-accepted, accepted-limits, accepted-fewer}
-use Rattle.outcome.specs.Tally.{newPoints, tallyLimit, tallyVerdict}
+use Rattle.outcome.specs.Tally.{newPoints, tallyVerdict}
 use Rattle.outcome.specs.Outcome.{Request, forRounds, callOf, toAdd, requestVerdict}
 use Rattle.outcome.specs.SharedSegment.{Accepted}
 use Rattle.outcome.proofs.Accepted.{accepted-verdict, accepted-tally}
 use Rattle.outcome.proofs.Counts.{more-vertices, few-vertices}
 
 -- ---- 15
-pub tally-if : (tally n : ℕ) → tally + n ≤ tallyLimit → tallyVerdict tally n ≡ accepted
+pub tally-if : (tally n : ℕ) → tally + n ≤ maxTally → tallyVerdict tally n ≡ accepted
 unfolding tallyVerdict
-tally-if tally n h = rw (le-ltb tallyLimit (tally + n) h)
+tally-if tally n h = rw (le-ltb maxTally (tally + n) h)
 
-pub tally-refused : (tally n : ℕ) → tallyLimit < tally + n → tallyVerdict tally n ≡ refused 15 0
+pub tally-refused : (tally n : ℕ) → maxTally < tally + n → tallyVerdict tally n ≡ refused 15 0
 unfolding tallyVerdict
-tally-refused tally n h = rw (lt-ltb tallyLimit (tally + n) h)
+tally-refused tally n h = rw (lt-ltb maxTally (tally + n) h)
 
-pub tally-le : (tally n : ℕ) → tallyVerdict tally n ≡ accepted → tally + n ≤ tallyLimit
-tally-le tally n e = go (decLt tallyLimit (tally + n))
+pub tally-le : (tally n : ℕ) → tallyVerdict tally n ≡ accepted → tally + n ≤ maxTally
+tally-le tally n e = go (decLt maxTally (tally + n))
   where
-    go : Dec (tallyLimit < tally + n) → tally + n ≤ tallyLimit
+    go : Dec (maxTally < tally + n) → tally + n ≤ maxTally
     go (yes h) = never 15 0 (sym (tally-refused tally n h) ∙ e)
     go (no h) = omega arith
 

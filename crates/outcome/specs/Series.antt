@@ -3,7 +3,7 @@ use mathlib.Core.Path.{_≡_}
 use mathlib.Core.List.{List, [], _∷_}
 use Prim.Native.Nat.{ℕ, _+_, _≤_}
 use lib.ListN.{length}
-use Rattle.outcome.specs.Tally.{tallyLimit}
+use Rattle.bounds.specs.Bounds.{maxTally}
 use Rattle.outcome.specs.Outcome.{Result, refinedTo, refusedWith, Request, fromTally, toAdd, outcome}
 
 -- by what the call reports: "An accepted call adds refined vertices minus drawn vertices; a refused call adds nothing."
@@ -35,4 +35,4 @@ pub record TallyIsSum : Type 0 where
   -- "Over any series of calls from zero .. the tally equals the sum over the accepted nets, worked out from the nets and not from stored sums."
   pub sum : (calls : List Request) → tallyAfter 0 calls ≡ pointsOf (acceptedOf 0 calls)
   -- 15 holds it to its limit
-  pub within : (calls : List Request) → tallyAfter 0 calls ≤ tallyLimit
+  pub within : (calls : List Request) → tallyAfter 0 calls ≤ maxTally

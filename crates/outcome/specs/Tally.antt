@@ -2,6 +2,7 @@
 use Prim.Native.Nat.{ℕ, _+_, _-_}
 use lib.Dec.{ltb}
 use lib.ListN.{length}
+use Rattle.bounds.specs.Bounds.{maxTally}
 use Rattle.curve.specs.Weights.{tension}
 use Rattle.nets.specs.Net.{ControlNet}
 use Rattle.verdict.specs.Call.{vertexCount}
@@ -13,10 +14,6 @@ use Rattle.splitting.specs.Splitting.{startNet}
 unfoldable pub newPoints : (t k : ℕ) → ControlNet → ℕ
 newPoints t k m = vertexCount (steps (tension t) k (startNet m)) - length (m .marks)
 
--- the largest tally that an accepted call may leave
-abbrev pub tallyLimit : ℕ
-tallyLimit = 4000000000
-
 -- 15: "the tally after the call would be above 4,000,000,000, even if nothing is added": the record holds tally, and the call would add n
 unfoldable pub tallyVerdict : (tally n : ℕ) → Verdict
-tallyVerdict tally n = refusedIf 15 (ltb tallyLimit (tally + n))
+tallyVerdict tally n = refusedIf 15 (ltb maxTally (tally + n))

@@ -4,6 +4,7 @@ use mathlib.Core.List.{List}
 use Prim.Native.Nat.{ℕ, _+_, _-_, _*_, _/_, _≤_, _<_}
 use native.Mathlib.Omega.{arith}
 use lib.ListN.{length, drop}
+use Rattle.bounds.specs.Bounds.{maxTally}
 use Rattle.curve.specs.Weights.{tension}
 use Rattle.polygons.specs.Polygons.{shapeOf}
 use Rattle.tables.specs.Tables.{filled, cleared}
@@ -18,7 +19,7 @@ use Rattle.admission.proofs.Laws.{admitted-cleared}
 use Rattle.growth.specs.Growth.{splits, countsOf, grownBy, Growable}
 use Rattle.growth.proofs.Laws.{vertices-after}
 use Rattle.origins.specs.Origins.{letters}
-use Rattle.outcome.specs.Tally.{newPoints, tallyLimit, tallyVerdict}
+use Rattle.outcome.specs.Tally.{newPoints, tallyVerdict}
 use Rattle.outcome.specs.Outcome.{refinedTo, refusedWith, Request, request, Outcome, outcomeOn, callOf, toAdd, requestVerdict, lettered, refinedNet, workLeft, outcomeBy, outcome}
 use Rattle.outcome.proofs.Accepted.{accepted-drawn}
 use Rattle.outcome.proofs.Counts.{control-among}
@@ -94,14 +95,14 @@ module _ (a : Request) where
     few-new = few-points (callOf a) (ok .accepts)
 
     -- ---- 15
-    pub refused-15 : tallyLimit < a .tally + toAdd a → (w : List ℕ) → w ≡ cleared (16 * last) (a .buffers .work) → answered (record { answer = Refused 15 0; points = a .tally }) (a .buffers .vertices) (a .buffers .faces) (a .buffers .marks) (a .letters .table) w ≡ outcome a
+    pub refused-15 : maxTally < a .tally + toAdd a → (w : List ℕ) → w ≡ cleared (16 * last) (a .buffers .work) → answered (record { answer = Refused 15 0; points = a .tally }) (a .buffers .vertices) (a .buffers .faces) (a .buffers .marks) (a .letters .table) w ≡ outcome a
     unfolding outcome requestVerdict
     refused-15 h w c =
         let e = admitted-cleared (callOf a) last (a .buffers .work) ok (a .buffers .work) w refl c in
         rw (ok .accepts, tally-refused (a .tally) (toAdd a) h) (λ i. outcomeOn (refusedWith 15 0) (a .tally) (a .buffers .vertices) (a .buffers .faces) (a .buffers .marks) (a .letters .table) (e i))
 
     -- ---- the rounds
-    pub refined-outcome : a .tally + toAdd a ≤ tallyLimit → (r : ℕ) (o : Buffers) → Ran (a .tension) (a .rounds) (a .net) (a .buffers) o last r
+    pub refined-outcome : a .tally + toAdd a ≤ maxTally → (r : ℕ) (o : Buffers) → Ran (a .tension) (a .rounds) (a .net) (a .buffers) o last r
         → (l : List ℕ) → l ≡ lettered (letters (tension (a .tension)) (a .net) (a .rounds)) (a .letters) → answered (record { answer = Refined r last; points = a .tally + toAdd a }) (o .vertices) (o .faces) (o .marks) l (o .work) ≡ outcome a
     unfolding outcome requestVerdict
     refined-outcome h r o b l q =

@@ -6,7 +6,7 @@ use native.Mathlib.Omega.{arith}
 use lib.ListN.{length}
 use Rattle.nets.specs.Buffers.{Buffers, buffers}
 use Rattle.outcome.specs.Outcome.{Request, requestOn, toAdd}
-use Rattle.outcome.specs.Tally.{tallyLimit}
+use Rattle.bounds.specs.Bounds.{maxTally}
 use Rattle.splitting.specs.Splitting.{startNet}
 use Rattle.refine.specs.Answer.{answered}
 use Rattle.refine.specs.declared.Answer.the-variants.{Refined}
@@ -72,10 +72,10 @@ exceeds-requires : tie.Need-exceeds-requires
 exceeds-requires c κs = let n = new c .1 in let f = few c in omega arith
 
 -- after the test of the sum
-above : (y : tie.Then1) → (let x = y .before .before in tallyLimit < start x .args .points + (x .final-vertices .result - length (start x .args .marks .now)))
+above : (y : tie.Then1) → (let x = y .before .before in maxTally < start x .args .points + (x .final-vertices .result - length (start x .args .marks .now)))
 above y = ltb-true _ _ (sym (y .before .exceeds .ensures) ∙ y .if1 .taken)
 
-within : (y : tie.Else1) → (let x = y .before .before in start x .args .points + (x .final-vertices .result - length (start x .args .marks .now)) ≤ tallyLimit)
+within : (y : tie.Else1) → (let x = y .before .before in start x .args .points + (x .final-vertices .result - length (start x .args .marks .now)) ≤ maxTally)
 within y = ltb-false _ _ (sym (y .before .exceeds .ensures) ∙ y .if1 .left)
 
 mul-clear : tie.Need-mul-clear
