@@ -8,14 +8,17 @@ import sys
 
 sys.path.append(str(pathlib.Path(__file__).resolve().parent.parent / "tools"))
 import antt  # noqa: E402
+import guarantees  # noqa: E402
 
 
 def promised():
-    """(crate, name) of each name in a row of GUARANTEES, for each crate that the row names."""
+    """(crate, name) of each name in a row of the tables of GUARANTEES, for each crate that the row names."""
     crates = {antt.crate(path) for path in antt.tree()}
-    for line in (antt.ROOT / "docs" / "GUARANTEES.md").read_text(encoding="utf-8").splitlines():
-        names = {part for word in re.findall(r"`([^`]+)`", line) for part in re.split(r"::|/| |\.", word)} if line.startswith("|") else set()
-        yield from ((crate, name) for crate in names & crates for name in names)
+    page = guarantees.PAGE.read_text(encoding="utf-8")
+    for heading in (guarantees.CALLS, guarantees.TEXTS, guarantees.LAWS, guarantees.CODE):
+        for cells in guarantees.rows(page, heading):
+            names = {part for cell in cells for word in re.findall(r"`([^`]+)`", cell) for part in re.split(r"::|/| |\.", word)}
+            yield from ((crate, name) for crate in names & crates for name in names)
 
 
 def roots(files):
