@@ -35,16 +35,7 @@ def roots(files):
 
 
 def unreached(files):
-    owner = {(path, member): (path, name) for path, file in files.items() for name in file.declarations for member in file.members(name)}
-    alive, todo = set(), list(roots(files))
-    while todo:
-        path, name = todo.pop()
-        if path not in files or name not in files[path].declarations:
-            path, name = owner.get((path, name), (path, name))
-        if (path, name) in alive or path not in files or name not in files[path].declarations:
-            continue
-        alive.add((path, name))
-        todo += files[path].reached("\n".join(files[path].declarations[name].lines))[0]
+    alive = antt.reached_from(roots(files))
     return [(path, name) for path, file in files.items() for name in file.declarations if (path, name) not in alive]
 
 

@@ -45,8 +45,20 @@ def stands(name, plain):
 
 
 class Declaration:
+    """A declaration: its own lines, and before them the headers of the blocks that it stands in."""
+
     def __init__(self, kind, words_before):
-        self.kind, self.computes, self.lines = kind, bool({"abbrev", "unfoldable"} & set(words_before.split())), []
+        self.kind, self.computes, self.headers, self.own = kind, bool({"abbrev", "unfoldable"} & set(words_before.split())), [], []
+
+    @property
+    def lines(self):
+        return self.headers + self.own
+
+    @property
+    def statement(self):
+        """What is declared of a name, without its proof."""
+        end = [place for place, line in enumerate(self.own) if place and re.match(r" *(unfolding\b|\S+( .*)? =( |$))", line)]
+        return self.headers + (self.own[: end[0]] if end and not self.kind else self.own)
 
 
 class File:
@@ -91,15 +103,16 @@ class File:
             head = HEAD.match(line)
             if head and depth == level and (head[3] or re.match(r"(?: \{[^}]*\})* :( |$)", line[head.end() :])):
                 current = found.setdefault(head[4].strip("«»"), Declaration(head[3] or "", head[2]))
-                current.lines += [text for _, lines in blocks for text in lines]
+                current.headers += [text for _, lines in blocks for text in lines]
             if current is not None:
-                current.lines.append(line)
+                current.own.append(line)
         return found
 
     def members(self, name):
         """The constructors of data and the fields of a record."""
         declaration = self.declarations[name]
-        return set(re.findall(r"^ +(?:pub )?(\S+) :", "\n".join(declaration.lines), re.M)) if declaration.kind else set()
+        lines = re.findall(r"^ +(?:pub )?([^:\n(){}]+?) :", "\n".join(declaration.own), re.M) if declaration.kind else []
+        return {member for line in lines for member in line.split()}
 
     def reached(self, text):
         """What a text in this file names: (path, name) of declarations in the tree; and the imports that it uses."""
@@ -130,6 +143,25 @@ def tree():
     """Every file of specs/, proofs/ and src/, by its path."""
     paths = [path for ending in ("antt", "rt") for path in sorted(ROOT.glob(f"crates/*/**/*.{ending}")) if "must-fail" not in path.parts]
     return {path: File(path) for path in paths if path.name != "Lib.antt"}
+
+
+@functools.cache
+def owners():
+    """The declaration that each constructor and each field belongs to."""
+    return {(path, member): (path, name) for path, file in tree().items() for name in file.declarations for member in file.members(name)}
+
+
+def reached_from(roots):
+    """The declarations, (path, name), that these come to."""
+    found, todo = set(), list(roots)
+    while todo:
+        path, name = todo.pop()
+        if path in tree() and name not in tree()[path].declarations:
+            path, name = owners().get((path, name), (None, None))
+        if path in tree() and (path, name) not in found:
+            found.add((path, name))
+            todo += tree()[path].reached("\n".join(tree()[path].declarations[name].lines))[0]
+    return found
 
 
 def crate(path):

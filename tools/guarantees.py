@@ -1,8 +1,8 @@
 #!/usr/bin/env python3
-"""Makes the parts of docs/GUARANTEES.md that the tree decides: which files of specs/ each kind of promise rests on, worked out from imports, and the list of must-fail edits.
+"""Makes the parts of docs/GUARANTEES.md that the tree decides: which definitions of specs/ each kind of promise rests on, worked out from what they import and name, and the list of must-fail edits.
 
-A promise rests on the files that declare what its row names under 'definition', and on those that these import, and so on; the calls for C also on what the contracts in
-crates/capi/src name. A file stands in the first list that it belongs to; a file of specs/ in no list stands in the last one. A line is bare if it is neither empty nor a comment nor an import.
+A promise rests on what its row names under 'definition', on what the statements of its theorems name, on what these definitions name, and so on; promises on calls also on what the contracts in crates/capi/src
+name, those on texts on what the contracts in crates/program/src name. A definition stands in the first list that it belongs to, or in the last. A line is bare if it is neither empty nor a comment nor an import.
 
 usage: tools/guarantees.py            writes them
        tools/guarantees.py --check    says what is not as the tree has it; the exit status is then 1
@@ -35,10 +35,12 @@ def rows(text, heading):
     """The rows of the table under a heading, four cells each: what is promised, its definitions, its theorems or contracts, where they are proved."""
     if text.count(heading + "\n") != 1:
         sys.exit(f"{PAGE.name} has no '{heading}'")
+    inside = False
     for line in text.split(heading + "\n")[1].split("\n## ")[0].splitlines():
         cells = [cell.strip() for cell in re.split(r"(?<!\\)\|", line)[1:-1]]
-        if len(cells) == 4 and not cells[0].startswith("---") and cells[1] != "definition":
+        if inside and len(cells) == 4 and not cells[0].startswith("---"):
             yield cells
+        inside = len(cells) == 4 and (inside or cells[1] == "definition")
 
 
 def cited(definitions):
@@ -54,8 +56,11 @@ def spec_files():
     found = []
 
     def visit(path, crate):
-        for under in sorted(under for under in imported(path) if antt.crate(under) == crate and under not in found and under != path):
-            visit(under, crate)
+        file = antt.tree()[path]
+        modules = [module for module, _ in file.imports.values()] + [*file.modules.values(), *file.whole.values()]
+        for under in sorted({under for under in map(antt.place, modules) if under in antt.tree() and under not in found and under != path}):
+            if antt.crate(under) == crate and antt.folder(under) == "specs":
+                visit(under, crate)
         if path not in found:
             found.append(path)
 
@@ -65,50 +70,50 @@ def spec_files():
     return found
 
 
-def imported(path):
-    """The files of specs/ that a file imports."""
-    file = antt.tree()[path]
-    modules = [module for module, _ in file.imports.values()] + [*file.modules.values(), *file.whole.values()]
-    return {found for found in map(antt.place, modules) if found in antt.tree() and antt.folder(found) == "specs"}
-
-
-def closure(paths):
-    found, todo = set(), list(paths)
-    while todo:
-        path = todo.pop()
-        if path not in found:
-            found.add(path)
-            todo += imported(path)
-    return found
-
-
-def declaring(text, heading):
-    """The files that declare what the rows under a heading name as definitions."""
-    names = {pair for _, definitions, _, _ in rows(text, heading) for pair in cited(definitions)}
-    for path, file in antt.tree().items():
-        members = {member for name in file.declarations for member in file.members(name)}
-        if antt.folder(path) == "specs" and any((antt.crate(path), name) in names for name in {*file.declarations, *members}):
-            yield path
+def statements(text, heading):
+    """What the rows under a heading name as definitions, and what the statements of their theorems name."""
+    files, crates = antt.tree(), {antt.crate(path) for path in antt.tree()}
+    for _, definitions, theorems, places in rows(text, heading):
+        names = {*cited(definitions)}
+        named = {word for cell in (definitions, theorems, places) for word in re.findall(r"`(\w+)", cell) if word in crates}
+        proved = {(crate, name) for crate in named for name in re.findall(r"`([^`]+)`", theorems)}
+        for path, file in files.items():
+            for name, declaration in file.declarations.items():
+                if antt.folder(path) == "specs" and (antt.crate(path), name) in names:
+                    yield path, name
+                elif antt.folder(path) == "proofs" and (antt.crate(path), name) in proved:
+                    yield from ((under, word) for under, word in file.reached("\n".join(declaration.statement))[0] if antt.folder(under) == "specs")
 
 
 def contracts(crate):
     """What the contracts of a crate name."""
-    return {found for path in antt.tree() if antt.crate(path) == crate and antt.folder(path) == "src" for found in imported(path)}
+    files = [file for path, file in antt.tree().items() if antt.crate(path) == crate and file.rattle]
+    return {found for file in files for found in file.reached(file.body.replace("::", " "))[0]}
 
 
-def bare_lines(path):
-    return sum(1 for line in antt.tree()[path].body.splitlines() if line.strip())
+def bare_lines(path, name):
+    return sum(1 for line in antt.tree()[path].declarations[name].own if line.strip())
 
 
-def table(paths, exported=frozenset()):
-    paths = [path for path in spec_files() if path in paths]
-    yield f"{len(paths)} files, {sum(map(bare_lines, paths)):,} bare lines."
+def table(needed, starred=frozenset()):
+    """A row for each file that has declarations among those needed."""
+    files = [(path, [name for name in antt.tree()[path].declarations if (path, name) in needed]) for path in spec_files()]
+    files = [(path, names) for path, names in files if names]
+    lines = {path: sum(bare_lines(path, name) for name in names) for path, names in files}
+    yield f"{len(files)} files, {sum(lines.values()):,} bare lines."
     yield ""
-    yield "| file | bare lines | says |"
-    yield "| --- | --- | --- |"
-    for path in paths:
-        star = " *" if path in exported else ""
-        yield f"| `{path.relative_to(antt.ROOT)}`{star} | {bare_lines(path)} | {opening_sentence(path)} |"
+    yield "| file | bare lines | says | of it |"
+    yield "| --- | --- | --- | --- |"
+    for path, names in files:
+        star = " *" if any((path, name) in starred for name in names) else ""
+        yield f"| `{path.relative_to(antt.ROOT)}`{star} | {lines[path]} | {opening_sentence(path)} | {part(path, names)} |"
+
+
+def part(path, names):
+    """Which declarations of a file are meant."""
+    left = [name for name in antt.tree()[path].declarations if name not in names]
+    told = names if len(names) < len(left) else left
+    return ("" if told is names else "all but " if left else "all") + ", ".join(f"`{name}`" for name in told)
 
 
 def edits():
@@ -119,15 +124,16 @@ def edits():
 
 
 def made(text):
-    exported = closure(contracts("capi"))
-    calls = exported | closure(declaring(text, CALLS))
-    texts = closure({*contracts("program"), *declaring(text, TEXTS)}) - calls
-    laws = closure(declaring(text, LAWS)) - calls - texts
+    every = {(path, name) for path in spec_files() for name in antt.tree()[path].declarations}
+    exported = antt.reached_from(contracts("capi"))
+    calls = exported | antt.reached_from(statements(text, CALLS))
+    texts = antt.reached_from([*contracts("program"), *statements(text, TEXTS)]) - calls
+    laws = antt.reached_from(statements(text, LAWS)) - calls - texts
     parts = {
         "calls": table(calls, exported),
         "texts": table(texts),
         "laws": table(laws),
-        "others": table(set(spec_files()) - calls - texts - laws),
+        "others": table(every - calls - texts - laws),
         "edits": edits(),
     }
     for name, lines in parts.items():
