@@ -75,7 +75,7 @@ lane() {
 }
 
 # two commands `rt` on one tree must not meet: the archive is made before the lanes, and only one of them calls ./refine
-run "documents agree with the tree" python3 tests/documents.py
+run "documents agree with the tree" python3 tests/documents.py "$log"
 run "archive for C" rt staticlib capi
 lane program_lane
 lane archive_lane

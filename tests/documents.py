@@ -1,12 +1,20 @@
 #!/usr/bin/env python3
-"""Holds the documents to the tree: what tools/guarantees.py and tools/walk.py make, every name in the promises, the layers of docs/ARCHITECTURE.md, the lines of crates.txt."""
+"""Holds the documents to the tree: what tools/guarantees.py and tools/walk.py make, every name in the promises, the sentences that are quoted, the version of the long run, the layers of
+docs/ARCHITECTURE.md, the lines of crates.txt; and nothing in specs/ or proofs/ is unused (tests/unused.py).
+
+usage: tests/documents.py [LOG]    LOG is what `rt ci` printed: the crates whose must-fail edits take longest are then told
+"""
 import pathlib
 import re
 import subprocess
 import sys
 
 ROOT = pathlib.Path(__file__).resolve().parent.parent
+sys.path.append(str(ROOT / "tools"))
+import guarantees  # noqa: E402
+
 KIT = ["libc", "io", "os"]
+TABLES = [guarantees.CALLS, guarantees.TEXTS, guarantees.LAWS, guarantees.CODE]
 
 
 def read(name):
@@ -26,22 +34,33 @@ def files_of(crate, endings):
     return [path for path in sorted((ROOT / "crates" / crate).rglob("*")) if path.suffix in endings and "must-fail" not in path.parts]
 
 
-def made_faults():
-    for tool in ("guarantees.py", "walk.py"):
-        made = subprocess.run([sys.executable, str(ROOT / "tools" / tool), "--check"], capture_output=True, text=True)
-        if made.returncode != 0:
-            yield made.stderr.strip()
+def tool_faults():
+    for command in (["tools/guarantees.py", "--check"], ["tools/walk.py", "--check"], ["tests/unused.py"]):
+        done = subprocess.run([sys.executable, str(ROOT / command[0]), *command[1:]], capture_output=True, text=True)
+        if done.returncode != 0:
+            yield (done.stdout + done.stderr).strip()
 
 
-def promise_faults():
-    """Every word between backticks in the table of promises is a name in the tree."""
+def promise_rows():
+    """The rows of all tables of promises, laws and functions."""
+    page = read("docs/GUARANTEES.md")
+    return [cells for heading in TABLES for cells in guarantees.rows(page, heading)]
+
+
+def unquoted(text):
+    return re.sub(r'"[^"]*"', "", text)
+
+
+def name_faults():
+    """Every word between backticks in these tables, but for quoted sentences, and in that of the functions is a name in the tree."""
     known = set()
     for path in ROOT.glob("crates/**/*"):
         known.add(path.stem)
         if path.suffix in (".antt", ".rt"):
             known.update(re.findall(r"[^\s(){}.,;:λ«»]+", path.read_text(encoding="utf-8")))
-    promises = read("docs/GUARANTEES.md").split("## Functions that a maker can call")[1].split("## Must-fail edits")[0]
-    for word in sorted(set(re.findall(r"`([^`]+)`", promises))):
+    functions = read("docs/GUARANTEES.md").split("## Functions that a maker can call")[1].split("\n## ")[0]
+    text = unquoted("\n".join([functions, *(cell for cells in promise_rows() for cell in cells)]))
+    for word in sorted(set(re.findall(r"`([^`]+)`", text))):
         if (ROOT / word).exists():
             continue
         for part in re.split(r"::|/| ", word):
@@ -64,17 +83,8 @@ def declared(crate, folders):
     return names
 
 
-def promise_rows():
-    """The rows of the table of promises: what is promised, its definitions, its theorems or contracts, where they are proved."""
-    table = read("docs/GUARANTEES.md").split("## Promises")[1].split("\n## ")[0]
-    for line in table.splitlines():
-        cells = [cell.strip() for cell in re.split(r"(?<!\\)\|", line)[1:-1]]
-        if len(cells) == 4 and not cells[0].startswith("---") and cells[0] != "promise":
-            yield cells
-
-
 def row_faults():
-    """A definition that a promise cites stands in specs/ of the crate named before it, a theorem in a crate that its row names."""
+    """A definition that a row cites stands in specs/ of the crate named before it, a theorem in a crate that its row names."""
     crates = {name for _, layer in crate_lines() for name in layer}
     for promise, definitions, theorems, places in promise_rows():
         told = f"GUARANTEES, '{promise[:40]}..'"
@@ -89,6 +99,72 @@ def row_faults():
         for word in re.findall(r"`([^`]+)`", theorems + " " + places):
             if re.fullmatch(r"[\w./: -]+", word) and not (ROOT / word).exists():
                 yield from (f"{told}: the crates that it names have no `{word}`" for part in re.split(r"::|/| ", word) if part not in known)
+
+
+def first_page_faults():
+    """The first page has the promises of the README, by number and name, each with a theorem in the file that it names."""
+    promises = re.findall(r"^(\d+)\. \*(.+?)\.\*", read("README.md").split("## What is promised")[1].split("\n## ")[0], re.M)
+    page = read("docs/GUARANTEES.md").split("### What is promised")[1].split("\n### ")[0]
+    rows = re.findall(r"^\| (\d+) \| (.+?) \| .* \| `([^`]+)`[^|]* \| `([^`]+)` \|$", page, re.M)
+    if [(number, name) for number, name, _, _ in rows] != promises:
+        yield f"GUARANTEES: its first page has not the promises of README: {', '.join(name for _, name in promises)}"
+    for number, _, theorem, file in rows:
+        if not (ROOT / file).exists() or not re.search(rf"^ *(?:pub )?{re.escape(theorem)} :", read(file), re.M):
+            yield f"GUARANTEES: promise {number}: {file} has no {theorem}"
+
+
+def quotable(text):
+    """A text as its quotations are compared: one line, without backticks, list numbers and comment signs."""
+    return re.sub(r"\s+", " ", re.sub(r"^(?:\d+\. |> ?)", "", text, flags=re.M).replace("`", ""))
+
+
+def quote_faults():
+    """What GUARANTEES and the comments of specs/ quote stands in PROMISES, SCHEME or REFUSALS; ' .. ' leaves words out, words between brackets are added."""
+    sources = [quotable(read(f"docs/{name}.md")) for name in ("PROMISES", "SCHEME", "REFUSALS")]
+    places = {"docs/GUARANTEES.md": read("docs/GUARANTEES.md")}
+    for path in sorted(ROOT.glob("crates/*/specs/*.antt")):
+        comments = (re.sub(r"^.*?(?:^|\s)-- ?", " ", line) if re.search(r"(?:^|\s)--(?: |$)", line) else "\n" for line in path.read_text(encoding="utf-8").splitlines())
+        places[str(path.relative_to(ROOT))] = "".join(comments)
+    for place, text in places.items():
+        for quote in re.findall(r'"([^"\n]+)"', text):
+            parts = [quotable(part).strip(" .;:,") for part in re.split(r" \.\. | \[[^\]]*\] ", quote)]
+            if not any(in_order(parts, source) for source in sources):
+                yield f'{place} quotes "{quote}", which stands in none of PROMISES, SCHEME and REFUSALS'
+
+
+def in_order(parts, source):
+    at = 0
+    for part in parts:
+        at = source.find(part, at)
+        if at < 0:
+            return False
+        at += len(part)
+    return True
+
+
+def edit_faults():
+    """Each program of paper 01's list of those that must fall short has an edit that is there."""
+    owed = re.search(r"^\d+\. Programs that must fall short: (.*)$", read("docs/PROMISES.md"), re.M)[1]
+    rows = re.findall(r'^\| "([^"]+)" \| (`[^|]+`) \|$', read("docs/GUARANTEES.md").split("## Must-fail edits")[1], re.M)
+    programs = [re.sub(r" \(.*?\)|\.$", "", part).strip() for part in re.split(r";|, or (?=saying)", owed)]
+    if [program for program, _ in rows] != programs:
+        yield f"GUARANTEES: the programs that must fall short are: {'; '.join(programs)}"
+    for program, edits in rows:
+        for crate, name in re.findall(r"`(\w+)/(\w+)`", edits) or [("no crate", "no edit")]:
+            if not (ROOT / "crates" / crate / "must-fail" / f"{name}.edit").exists():
+                yield f"GUARANTEES: '{program}': there is no edit {crate}/{name}"
+
+
+def version_faults():
+    """The long runs of tests/definitions.py that GUARANTEES tells were made with this version."""
+    text = "\n".join(path.read_text(encoding="utf-8") for path in sorted(ROOT.glob("crates/*/specs/Version.antt")))
+    version = ".".join(re.search(rf"^{part} = (\d+)$", text, re.M)[1] for part in ("major", "minor", "patch"))
+    runs = re.findall(r"^\| `(tests/definitions\.py[^`]*)` \| (\S+) \| \d{4}-\d\d-\d\d \|", read("docs/GUARANTEES.md"), re.M)
+    if len(runs) != 2:
+        yield "GUARANTEES tells not both long runs of tests/definitions.py, each with a version and a date"
+    for command, told in runs:
+        if told != version:
+            yield f"GUARANTEES: the long run of {command} was made with {told}, and this is {version}: make it, and tell its date, result and time"
 
 
 def layer_faults():
@@ -121,7 +197,28 @@ def dependency_faults():
             yield f"crates.txt: {name} stands before {later}, which it names"
 
 
-faults = [*made_faults(), *promise_faults(), *row_faults(), *layer_faults(), *dependency_faults()]
-for fault in faults:
-    print(fault)
-sys.exit(1 if faults else 0)
+def print_dearest(log):
+    """The five crates whose edits take longest: each edit checks its whole crate."""
+    seconds = {name: int(time) for name, time in re.findall(r"^rt: (\w+) proved \((\d+) s\)", log, re.M)}
+    dear = [(len(list(ROOT.glob(f"crates/{name}/must-fail/*.edit"))) * time, name, time) for name, time in seconds.items()]
+    for total, name, time in sorted(dear, reverse=True)[:5]:
+        if total:
+            print(f"dear edits: {name}, {total // time} edits of {time} s{over(name, total // time, time)}")
+
+
+def over(name, edits, time):
+    code = "".join(path.read_text(encoding="utf-8") for path in files_of(name, (".rt",)))
+    return ": more than three in a crate with functions" if edits > 3 and time > 10 and re.search(r"\bfn \w", code) else ""
+
+
+def main():
+    checks = (tool_faults, name_faults, row_faults, first_page_faults, quote_faults, edit_faults, version_faults, layer_faults, dependency_faults)
+    faults = [fault for check in checks for fault in check()]
+    for fault in faults:
+        print(fault)
+    if sys.argv[1:]:
+        print_dearest(pathlib.Path(sys.argv[1]).read_text(encoding="utf-8", errors="replace"))
+    sys.exit(1 if faults else 0)
+
+
+main()

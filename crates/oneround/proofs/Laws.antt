@@ -80,9 +80,6 @@ module _ (t v n at initial : ℕ) (B : Buffers) (c : Current t v n at initial B)
   sides : Quadrilaterals (length l)
   sides = let e = corners in let s = c .small in record { fours = c .refinable .fours; few = omega arith }
 
-  room : 2 * length l ≤ length w
-  room = let e = corners in let r = c .roomWork in omega arith
-
   -- the new number of vertices
   pub count-le : v + edgeCount quads l + n / 4 ≤ 4 * n
   unfolding quads

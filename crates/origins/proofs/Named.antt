@@ -20,7 +20,7 @@ use Rattle.nets.specs.Net.{Net, ControlNet, marked, axis}
 use Rattle.scheme.specs.Points.{startOfSegment, endOfSegment, edgeRule, edgeValue, edgePoint, FaceRule, firstAlone, secondAlone, bothInner, neitherInner, faceRule, faceValue, facePoint}
 use Rattle.scheme.specs.Step.{refinedCoordinate, step, steps}
 use Rattle.schemelaws.proofs.Steps.{step-count, step-axis, step-kept, steps-count, steps-kept}
-use Rattle.splitting.specs.Splitting.{split, startNet}
+use Rattle.splitting.specs.Splitting.{startNet}
 use Rattle.splitting.proofs.Coordinates.{split-new}
 use Rattle.splitting.proofs.Split.{split-count, split-axis, start-none, start-split, start-grows}
 use Rattle.origins.specs.Origins.{Rule, endEdge, fourInnerEdges, Origin, controlVertex, splitPoint, madeBy, edgeCase, faceCase, sideOf, faceOf, newRule, fourInnerRule, ruleValue, startOrigin, originFrom, originAfter}

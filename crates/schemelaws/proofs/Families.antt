@@ -139,9 +139,6 @@ module _ (v : ℕ) (l : List ℕ) (ok : Manifold quads v l) where
     unfolding x
     x-is = mate₀ quads v l (ok .oriented) h k m
 
-    j : ℕ
-    j = quads .next h
-
     j-lt : quads .next h < length l
     j-lt = ok .oriented .shape .next-lt h k
 

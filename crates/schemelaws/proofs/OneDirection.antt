@@ -2,7 +2,7 @@
 -- corners. So one direction is enough where all eight edges of both are inner and have ordinary ends: then no end is a fan. Nothing is asked of edges that join two
 -- opposite corners. Assumes a manifold net.
 use mathlib.Core.Path.{_≡_, refl, sym, ap, ap₂, _∙_, subst}
-use mathlib.Core.List.{List, []}
+use mathlib.Core.List.{List}
 use Prim.Native.Nat.{ℕ, zero, suc, _+_, _-_, _*_, _%_, _≤_, _<_}
 use native.Mathlib.Nat.{add-comm, mul-one}
 use native.Mathlib.Omega.{arith}
