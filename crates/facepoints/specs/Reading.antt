@@ -3,6 +3,7 @@ use Prim.Native.Nat.{ℕ, _+_, _*_, _^_, _≤_, _<_}
 use mathlib.Core.List.{List}
 use lib.IntN.{ℤ, natAbs}
 use lib.ListN.{length, getD}
+use Rattle.bounds.specs.Bounds.{maxHalfEdges}
 use Rattle.rounding.specs.Rounding.{round}
 use Rattle.curve.specs.Weights.{Weights, tension, scale, interior}
 use Rattle.rings.specs.Scales.{edgeRange}
@@ -13,7 +14,7 @@ use Rattle.edgeentries.specs.Entry.{edgeOf, pointPlace, placeOf, exactAt}
 pub record Readable (t n : ℕ) (w : List ℕ) (a entry : ℕ) : Type 0 where
   pub on : a < 3
   pub low : t ≤ 4
-  pub few : n ≤ 262144
+  pub few : n ≤ maxHalfEdges
   pub room : 8 * n ≤ length w
   pub number : edgeOf entry < n
   pub high : getD w (placeOf n entry + 2 * a + 1) 0 < 2 ^ 31
@@ -27,7 +28,7 @@ pub record PlainAt (w : List ℕ) (i : ℕ) : Type 0 where
 
 -- the numbers of the point of an edge can be read, on each axis
 pub record PlainEdge (n : ℕ) (w : List ℕ) (entry : ℕ) : Type 0 where
-  pub few : n ≤ 262144
+  pub few : n ≤ maxHalfEdges
   pub number : entry < n
   pub on₀ : PlainAt w (pointPlace n entry)
   pub on₁ : PlainAt w (pointPlace n entry + 2)

@@ -3,6 +3,7 @@ use mathlib.Core.Path.{_≡_}
 use mathlib.Core.List.{List}
 use Prim.Native.Nat.{ℕ, _*_, _≤_}
 use lib.ListN.{length}
+use Rattle.bounds.specs.Bounds.{maxRefinedFaces}
 use Rattle.curve.specs.Weights.{tension}
 use Rattle.tables.specs.Tables.{filled, cleared}
 use Rattle.scheme.specs.Step.{steps}
@@ -29,5 +30,5 @@ pub record Finished (t k v n last r : ℕ) (B B′ : Buffers) : Type 0 where
 -- what that asks: the rounds can be made, and the work table is as long as what is cleared
 pub record Finishing (t k v n last : ℕ) (B : Buffers) : Type 0 where
   pub prepared : Prepared t k v n last B
-  pub few : last ≤ 262144
+  pub few : last ≤ maxRefinedFaces
   pub room : 16 * last ≤ length (B .work)

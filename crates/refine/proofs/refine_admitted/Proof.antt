@@ -4,6 +4,7 @@ use mathlib.Core.List.{List}
 use Prim.Native.Nat.{ℕ, _+_, _-_, _≤_}
 use native.Mathlib.Omega.{arith}
 use lib.ListN.{length}
+use Rattle.bounds.specs.Bounds.{maxRefinedCorners}
 use Rattle.nets.specs.Net.{controlNet}
 use Rattle.nets.specs.Buffers.{Buffers, buffers, letterTable}
 use Rattle.outcome.specs.Outcome.{Request, request, toAdd}
@@ -27,7 +28,7 @@ start x = x .before .before .before .before .before .before .before .before .bef
 new : (x : tie.After-final-vertices) → (length (start x .args .marks .now) ≤ x .final-vertices .result) × (x .final-vertices .result - length (start x .args .marks .now) ≡ toAdd (asked (start x)))
 new x = new-points (asked (start x)) (start x .args .last) (start x .pre) (x .final-vertices .result) (x .final-vertices .ensures)
 
-few : (x : tie.After-final-vertices) → toAdd (asked (start x)) ≤ 1048576
+few : (x : tie.After-final-vertices) → toAdd (asked (start x)) ≤ maxRefinedCorners
 few x = few-new (asked (start x)) (start x .args .last) (start x .pre)
 
 -- after the rounds: the caller's tables, and the letters
