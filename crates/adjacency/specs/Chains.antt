@@ -6,6 +6,7 @@ use mathlib.Core.List.{List}
 use Prim.Native.Nat.{ℕ, _+_, _-_, _*_, _≤_, _<_}
 use lib.ListN.{length, getD}
 use lib.Dec.{eqb}
+use Rattle.bounds.specs.Bounds.{maxCorners}
 use Rattle.search.specs.Search.{firstFrom}
 use Rattle.topology.specs.Shape.{Shape}
 use Rattle.topology.specs.HalfEdge.{from, to}
@@ -30,7 +31,7 @@ pub record CornersBelow (v : ℕ) (l : List ℕ) : Type 0 where
 -- number of faces at a vertex has 16 bits
 pub record Tables (s l w : List ℕ) : Type 0 where
   pub shaped : Shaped s (length l) w
-  pub few : length l ≤ 16384
+  pub few : length l ≤ maxCorners
   pub corners : CornersBelow (length l) l
   pub room : 3 * length l ≤ length w
 

@@ -8,6 +8,7 @@ use native.Mathlib.Decide.{decLt}
 use lib.Dec.{lit≤}
 use borrow.Author.Tests.{eq-eqb, ne-eqb}
 use lib.ListN.{length, drop}
+use Rattle.bounds.specs.Bounds.{maxRefinedFaces}
 use Rattle.polygons.specs.Polygons.{shapeOf, Sided}
 use Rattle.nets.specs.Net.{ControlNet}
 use Rattle.tables.specs.Tables.{cleared}
@@ -115,7 +116,7 @@ module _ (c : Call) (g : ℕ) (w : List ℕ) (a : AdmittedCall c g w) where
   pub admitted-within : WithinLimits (c .rounds) (c .net .sides) (lengthsOf (c .net) (c .room))
   admitted-within = accepted-limits c (a .accepts)
 
-  pub admitted-faces : g ≤ 262144
+  pub admitted-faces : g ≤ maxRefinedFaces
   admitted-faces = let l = admitted-within in let b = l .final in let e = a .final in omega arith
 
   pub admitted-room : 16 * g ≤ c .room .work

@@ -6,6 +6,7 @@ use native.Mathlib.Omega.{arith}
 use lib.ListN.{length, getD, take, drop}
 use lib.Seq.{length-take-le, getD-take, ext-getD}
 use lib.Dec.{ltb}
+use Rattle.bounds.specs.Bounds.{maxHalfEdges}
 use Rattle.search.specs.Search.{count}
 use Rattle.search.proofs.Count.{count-le, count-cong}
 use Rattle.topology.specs.Shape.{Shape}
@@ -63,7 +64,7 @@ module _ (S : Shape) (l : List ℕ) where
 
   -- and has room for the edge numbers behind them
   module _ (w : List ℕ) (r : 2 * length l ≤ length w) (f : (g : ℕ) → g < length l → getD w g 0 ≡ mate S l g) where
-    pub mates-paired : (v : ℕ) → Oriented S v l → length l ≤ 262144 → PairedIn (length l) w
+    pub mates-paired : (v : ℕ) → Oriented S v l → length l ≤ maxHalfEdges → PairedIn (length l) w
     mates-paired v ok few = record { few = few; room = r; paired = rw (take-is-mates w (omega arith) f) (paired-mates v ok) }
 
     -- what `number_edges` leaves

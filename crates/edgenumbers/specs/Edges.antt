@@ -6,6 +6,7 @@ use mathlib.Core.List.{List, _++_}
 use Prim.Native.Nat.{ℕ, _+_, _*_, _≤_, _<_, min}
 use lib.ListN.{length, getD, take}
 use lib.Dec.{ltb}
+use Rattle.bounds.specs.Bounds.{maxHalfEdges}
 use Rattle.lists.specs.Tabulate.{tabulate}
 use Rattle.search.specs.Search.{count}
 use Rattle.topology.specs.Shape.{Shape}
@@ -33,7 +34,7 @@ pub record Paired (ms : List ℕ) : Type 0 where
 
 -- the mates of n half-edges at the front of w, and room behind them for the edge numbers
 pub record PairedIn (n : ℕ) (w : List ℕ) : Type 0 where
-  pub few : n ≤ 262144
+  pub few : n ≤ maxHalfEdges
   pub room : 2 * n ≤ length w
   pub paired : Paired (take n w)
 

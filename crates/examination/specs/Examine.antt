@@ -3,6 +3,7 @@ use mathlib.Core.Path.{_≡_}
 use mathlib.Core.List.{List}
 use Prim.Native.Nat.{ℕ, _*_, _≤_}
 use lib.ListN.{length, drop}
+use Rattle.bounds.specs.Bounds.{maxCorners}
 use Rattle.search.specs.Search.{first}
 use Rattle.refusals.specs.Refusals.{isolated}
 use Rattle.polygons.specs.Polygons.{shapeOf}
@@ -20,7 +21,7 @@ verdictOf (Refused number place) = refused number place
 -- corners l of faces with the side counts s, at most as many as those of 4,096 quadrilaterals, and a work table w with room for four numbers per half-edge, and with the shape
 pub record CheckTables (s l w : List ℕ) : Type 0 where
   pub shaped : Shaped s (length l) w
-  pub few : length l ≤ 16384
+  pub few : length l ≤ maxCorners
   pub room : 4 * length l ≤ length w
 
 -- each of v vertices is in a face

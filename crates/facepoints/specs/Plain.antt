@@ -16,7 +16,7 @@ pub record PlainAt (w : List ℕ) (i : ℕ) : Type 0 where
 
 -- the numbers of the point of an edge can be read, on each axis
 pub record PlainEdge (n : ℕ) (w : List ℕ) (entry : ℕ) : Type 0 where
-  pub few : n ≤ 262144
+  pub few : n ≤ maxHalfEdges
   pub number : entry < n
   pub on₀ : PlainAt w (pointPlace n entry)
   pub on₁ : PlainAt w (pointPlace n entry + 2)

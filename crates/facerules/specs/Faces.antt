@@ -6,6 +6,7 @@ use Prim.Native.Nat.{ℕ, _+_, _*_, _/_, _%_, _^_, _≤_, _<_}
 use lib.Dec.{ltb}
 use lib.IntN.{ℤ, natAbs, _+ℤ_}
 use lib.ListN.{length, getD}
+use Rattle.bounds.specs.Bounds.{maxHalfEdges}
 use Rattle.lists.specs.Tabulate.{tabulate}
 use Rattle.rounding.specs.Rounding.{round}
 use Rattle.curve.specs.Weights.{Weights, tension, interior, mirror}
@@ -75,7 +76,7 @@ pub record AllPlain (n : ℕ) (w : List ℕ) (f : ℕ) : Type 0 where
 -- n half-edges by fours; every entry leads to an exact point that can be read; an edge without a mate has the flag of the boundary
 pub record EntryTable (n : ℕ) (w : List ℕ) : Type 0 where
   pub fours : n % 4 ≡ 0
-  pub few : n ≤ 262144
+  pub few : n ≤ maxHalfEdges
   pub room : 8 * n ≤ length w
   pub numbers : (h : ℕ) → h < n → edgeOf (entryOf n w h) < n
   pub boundary : (h : ℕ) → h < n → entryOf n w h < boundaryFlag → getD w h 0 < n

@@ -3,6 +3,7 @@ use Prim.Native.Nat.{ℕ, _+_, _*_, _^_, _≤_, _<_}
 use mathlib.Core.List.{List}
 use lib.IntN.{natAbs}
 use lib.ListN.{length, getD}
+use Rattle.bounds.specs.Bounds.{maxHalfEdges}
 use Rattle.curve.specs.Weights.{tension}
 use Rattle.rings.specs.Scales.{edgeRange}
 use Rattle.edgeentries.specs.Entry.{edgeOf, placeOf, exactAt}
@@ -11,7 +12,7 @@ use Rattle.edgeentries.specs.Entry.{edgeOf, placeOf, exactAt}
 pub record Readable (t n : ℕ) (w : List ℕ) (a entry : ℕ) : Type 0 where
   pub on : a < 3
   pub low : t ≤ 4
-  pub few : n ≤ 262144
+  pub few : n ≤ maxHalfEdges
   pub room : 8 * n ≤ length w
   pub number : edgeOf entry < n
   pub high : getD w (placeOf n entry + 2 * a + 1) 0 < 2 ^ 31

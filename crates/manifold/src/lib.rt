@@ -27,12 +27,12 @@ fn bad_valence(faces: &[u32], sides: &[u8], nv: usize, work: &[u32], p: usize) -
 {
     let m = vertexcounts::faces_at(faces, sides, nv, work, p);
     if vertexcounts::is_open(faces, sides, nv, work, p) {
-        return 6 < m;
+        return bounds::MAX_FAN < m;
     }
-    if m < 3 {
+    if m < bounds::MIN_RING {
         return true;
     }
-    8 < m
+    bounds::MAX_RING < m
 }
 
 // 12 at the vertex p: mark 1 on a full ring.

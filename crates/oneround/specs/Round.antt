@@ -2,6 +2,7 @@
 use mathlib.Core.Path.{_≡_}
 use Prim.Native.Nat.{ℕ, _*_, _≤_}
 use lib.ListN.{length, take, drop}
+use Rattle.bounds.specs.Bounds.{maxHalfEdges}
 use Rattle.curve.specs.Weights.{tension}
 use Rattle.rings.specs.Scales.{coordinateRange}
 use Rattle.nets.specs.Buffers.{Buffers, front}
@@ -17,7 +18,7 @@ pub record Current (t v n at initial : ℕ) (B : Buffers) : Type 0 where
   pub low : t ≤ 4
   pub refinable : Refinable (front v n B)
   pub within : Within coordinateRange (take (3 * v) (B .vertices))
-  pub small : n ≤ 262144
+  pub small : n ≤ maxHalfEdges
   pub vertices : v ≤ n
   pub roomPoints : 12 * n ≤ length (B .vertices)
   pub roomFaces : 4 * n ≤ length (B .faces)

@@ -2,6 +2,7 @@
 use mathlib.Core.Path.{sym, subst}
 use Prim.Native.Nat.{ℕ, _≤_}
 use native.Mathlib.Omega.{arith}
+use Rattle.bounds.specs.Bounds.{maxCoordinate}
 use Rattle.curve.specs.Weights.{tension}
 use Rattle.curve.proofs.Tension.{tame}
 use Rattle.nets.specs.Net.{Net}
@@ -22,7 +23,7 @@ stays a h k b =
     let e = accepted-verdict a (a .rounds) h in
     let f = accepted-limits c e .few in
     subst (λ (n : Net). Within 268435456 (n .vertices)) (sym (accepted-after a k (accepted-for-fewer a h k b)))
-    (steps-within (tension (a .tension)) (tame (a .tension) (accepted-tension c e)) (startNet (a .net)) (accepted-refinable c e) (start-within (a .net) (accepted-drawn c e) 1048576 (record { at = accepted-coordinate c e })) k (omega arith))
+    (steps-within (tension (a .tension)) (tame (a .tension) (accepted-tension c e)) (startNet (a .net)) (accepted-refinable c e) (start-within (a .net) (accepted-drawn c e) maxCoordinate (record { at = accepted-coordinate c e })) k (omega arith))
 
 pub coordinates-stay : CoordinatesStay
 coordinates-stay = record { stay = stays }

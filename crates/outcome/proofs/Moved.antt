@@ -3,6 +3,7 @@ use mathlib.Core.Path.{_≡_, refl, sym, ap, ap₂, _∙_}
 use mathlib.Core.List.{List, []}
 use Prim.Native.Nat.{ℕ, _+_}
 use lib.IntN.{ℤ}
+use Rattle.bounds.specs.Bounds.{maxCoordinate}
 use Rattle.lists.specs.Tabulate.{tabulate}
 use Rattle.integers.specs.Within.{Within}
 use Rattle.curve.specs.Curve.{Point}
@@ -38,7 +39,7 @@ none-filled : (s : Point) (o : List ℤ) → filled (movedVertices s []) o ≡ o
 unfolding movedVertices tabulate filled
 none-filled s o = refl
 
-module _ (s : Point) (a : Request) (here : Within 1048576 (a .net .vertices)) (there : Within 1048576 (movedVertices s (a .net .vertices))) (k : ℕ) where
+module _ (s : Point) (a : Request) (here : Within maxCoordinate (a .net .vertices)) (there : Within maxCoordinate (movedVertices s (a .net .vertices))) (k : ℕ) where
   -- the request, asked for k rounds; the net that it refines to, and that of the moved net
   abbrev c : Call
   c = callOf (forRounds k a)

@@ -7,7 +7,7 @@ use native.Mathlib.Omega.{arith}
 use lib.IntN.{ℤ}
 use lib.ListN.{length}
 use borrow.Author.Tests.{le-ltb, lt-ltb}
-use Rattle.bounds.specs.Bounds.{maxTally}
+use Rattle.bounds.specs.Bounds.{maxRefinedCorners, maxTally}
 use Rattle.curve.specs.Weights.{tension}
 use Rattle.nets.specs.Net.{ControlNet, controlNet}
 use Rattle.refinedfaces.specs.Refined.{verticesAfter}
@@ -55,7 +55,7 @@ same-points t k v v′ l s marks =
     omega arith
 
 -- at most 4G
-pub few-points : (c : Call) → verdict c ≡ accepted → newPoints (c .tension) (c .rounds) (c .net) ≤ 1048576
+pub few-points : (c : Call) → verdict c ≡ accepted → newPoints (c .tension) (c .rounds) (c .net) ≤ maxRefinedCorners
 unfolding newPoints
 few-points c e = let a = few-vertices c e in let b = accepted-limits c e .final in omega arith
 

@@ -1,6 +1,7 @@
 -- A net moved by whole numbers, over what calls give.
 use mathlib.Core.Path.{_≡_}
 use Prim.Native.Nat.{ℕ}
+use Rattle.bounds.specs.Bounds.{maxCoordinate}
 use Rattle.curve.specs.Curve.{Point}
 use Rattle.integers.specs.Within.{Within}
 use Rattle.tables.specs.Tables.{filled}
@@ -29,4 +30,4 @@ pub record MovedAfter (s : Point) (a : Request) (k : ℕ) : Type 0 where
 
 -- Paper 02: "Refining a net moved by whole counts must equal moving the refined net, wherever both are within the coordinate limit": both control nets
 pub record MovedNets : Type 0 where
-  pub moves : (s : Point) (a : Request) → Within 1048576 (a .net .vertices) → Within 1048576 (movedVertices s (a .net .vertices)) → (k : ℕ) → MovedAfter s a k
+  pub moves : (s : Point) (a : Request) → Within maxCoordinate (a .net .vertices) → Within maxCoordinate (movedVertices s (a .net .vertices)) → (k : ℕ) → MovedAfter s a k

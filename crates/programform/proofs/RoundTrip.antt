@@ -9,6 +9,7 @@ use lib.IntN.{ℤ, pos, negsuc, natAbs}
 use lib.Signed.{mag}
 use lib.ListN.{length, getD}
 use borrow.Author.Tests.{ltb-false}
+use Rattle.bounds.specs.Bounds.{maxCoordinate, maxRefinedCorners}
 use Rattle.lists.specs.Tabulate.{tabulate}
 use Rattle.lists.proofs.Tabulate.{length-tabulate, tabulate-cong, tabulate-getD}
 use Rattle.search.proofs.First.{first-before}
@@ -155,7 +156,7 @@ module _ (c : Call) (e : verdict c ≡ accepted) (j : ℕ) (h : j ≤ c .rounds)
   abbrev m : nets.Net
   m = startNet (c .net)
 
-  corners-few : length (steps (tension (c .tension)) j m .faces) ≤ 1048576
+  corners-few : length (steps (tension (c .tension)) j m .faces) ≤ maxRefinedCorners
   corners-few =
       let w = accepted-limits c e in
       let p : 4 ^ j ≤ 4 ^ c .rounds = pow-le-pow-right {n = 4} (omega arith) h in
@@ -169,7 +170,7 @@ module _ (c : Call) (e : verdict c ≡ accepted) (j : ℕ) (h : j ≤ c .rounds)
   accepted-back k few rule =
       let d = accepted-drawn c e in
       let ok = accepted-refinable c e in
-      let near = steps-within (tension (c .tension)) (tame (c .tension) (accepted-tension c e)) m ok (start-within (c .net) d 1048576 (record { at = accepted-coordinate c e })) j (let w = accepted-limits c e .few in omega arith) in
+      let near = steps-within (tension (c .tension)) (tame (c .tension) (accepted-tension c e)) m ok (start-within (c .net) d maxCoordinate (record { at = accepted-coordinate c e })) j (let w = accepted-limits c e .few in omega arith) in
       let l = refinable-vertices-le (steps (tension (c .tension)) j m) (refinable-steps (tension (c .tension)) m ok j) in
       let n = corners-few in
       reads-back k few rule (steps (tension (c .tension)) j m) (refinable-steps (tension (c .tension)) m ok j) near (omega arith) (omega arith)

@@ -8,6 +8,7 @@ use native.Mathlib.Omega.{arith}
 use lib.Dec.{lit≤}
 use lib.IntN.{ℤ}
 use lib.ListN.{length, take}
+use Rattle.bounds.specs.Bounds.{maxFaces, maxRefinedFaces, maxCoordinate, maxCorners}
 use Rattle.lists.proofs.Parts.{drop-later}
 use Rattle.curve.specs.Weights.{tension}
 use Rattle.integers.specs.Within.{Within}
@@ -101,17 +102,17 @@ module _ (a : Request) (last : ℕ) (ok : AdmittedCall (callOf a) last (a .buffe
   start-fewer : length (m .marks) ≤ length (steps (tension t) k m .marks)
   start-fewer = omega (arith, more-vertices t m 0 k (omega arith), zero-steps t m)
 
-  within : Within 1048576 (control .vertices)
+  within : Within maxCoordinate (control .vertices)
   within = record { at = accepted-coordinate asked (ok .accepts) }
 
   pub room-work : 16 * last ≤ length (o .work)
   room-work = admitted-room asked last (o .work) ok
 
-  pub last-le : last ≤ 262144
+  pub last-le : last ≤ maxRefinedFaces
   last-le = admitted-faces asked last (o .work) ok
 
   -- the faces that count, before the rounds
-  pub faces-few : quadrilaterals (control .sides) (length (control .faces)) ≤ 4096
+  pub faces-few : quadrilaterals (control .sides) (length (control .faces)) ≤ maxFaces
   faces-few = limits .faces
 
   pub loadable : Loadable control o
@@ -143,7 +144,7 @@ module _ (a : Request) (last : ℕ) (ok : AdmittedCall (callOf a) last (a .buffe
   pub corners-start : 4 * quadrilaterals (control .sides) (length (control .faces)) ≡ length (m .faces)
   corners-start = sym (start-four control (limits .sided))
 
-  pub corners-limit : length (control .faces) ≤ 16384
+  pub corners-limit : length (control .faces) ≤ maxCorners
   corners-limit = loadable .few
 
   pub corners-room : length (control .faces) ≤ length (o .work)
@@ -197,7 +198,7 @@ module _ (a : Request) (last : ℕ) (ok : AdmittedCall (callOf a) last (a .buffe
         record {
           low = accepted-tension asked (ok .accepts);
           refinable = rw front-is refinable;
-          within = rw (ap (λ (j : Net). j .vertices) front-is) (start-within control drawn 1048576 within);
+          within = rw (ap (λ (j : Net). j .vertices) front-is) (start-within control drawn maxCoordinate within);
           few = w .few;
           vertices = omega arith;
           size = omega arith;

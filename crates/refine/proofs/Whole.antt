@@ -4,7 +4,7 @@ use mathlib.Core.List.{List}
 use Prim.Native.Nat.{ℕ, _+_, _-_, _*_, _/_, _≤_, _<_}
 use native.Mathlib.Omega.{arith}
 use lib.ListN.{length, drop}
-use Rattle.bounds.specs.Bounds.{maxTally}
+use Rattle.bounds.specs.Bounds.{maxRefinedCorners, maxTally}
 use Rattle.curve.specs.Weights.{tension}
 use Rattle.polygons.specs.Polygons.{shapeOf}
 use Rattle.tables.specs.Tables.{filled, cleared}
@@ -91,7 +91,7 @@ module _ (a : Request) where
         let m = control-among (a .tension) (a .net) (a .rounds) in
         (omega arith, omega arith)
 
-    pub few-new : toAdd a ≤ 1048576
+    pub few-new : toAdd a ≤ maxRefinedCorners
     few-new = few-points (callOf a) (ok .accepts)
 
     -- ---- 15

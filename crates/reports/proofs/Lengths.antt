@@ -6,6 +6,7 @@ use native.Mathlib.Decide.{decLt}
 use native.Mathlib.Omega.{arith}
 use lib.Dec.{ltb}
 use borrow.Author.Tests.{lt-ltb, eq-eqb, ne-eqb}
+use Rattle.bounds.specs.Bounds.{maxRounds, maxFaces}
 use Rattle.verdict.specs.Call.{Room, needed, lengths, quadrilaterals}
 use Rattle.verdict.specs.Verdict.{Verdict, accepted, refused, orElse, refusedIf, limitsVerdict, tablesVerdict, sizeVerdict}
 use Rattle.verdict.proofs.Accepted.{or-refused, sized-faces, within-if}
@@ -18,14 +19,14 @@ module _ (k nv nf : ℕ) (s : List ℕ) (nm : ℕ) where
   F = quadrilaterals s nf
 
   -- past these limits the room does not matter
-  many-rounds : (a b : Room) → 6 < k → limitsVerdict k s (lengths nv nf nm a) ≡ limitsVerdict k s (lengths nv nf nm b)
+  many-rounds : (a b : Room) → maxRounds < k → limitsVerdict k s (lengths nv nf nm a) ≡ limitsVerdict k s (lengths nv nf nm b)
   unfolding limitsVerdict
-  many-rounds a b h = rw (lt-ltb 6 k h)
+  many-rounds a b h = rw (lt-ltb maxRounds k h)
 
-  many-faces : (a b : Room) → 4096 < F → limitsVerdict k s (lengths nv nf nm a) ≡ limitsVerdict k s (lengths nv nf nm b)
+  many-faces : (a b : Room) → maxFaces < F → limitsVerdict k s (lengths nv nf nm a) ≡ limitsVerdict k s (lengths nv nf nm b)
   unfolding limitsVerdict
   many-faces a b h =
-      ap (λ (v : Verdict). orElse (refusedIf 1 (ltb 6 k)) (orElse (tablesVerdict nv nf s nm) v))
+      ap (λ (v : Verdict). orElse (refusedIf 1 (ltb maxRounds k)) (orElse (tablesVerdict nv nf s nm) v))
       (or-refused (sizeVerdict (nv / 3) (F) (F * 4 ^ k)) _ _ (λ e. let l = sized-faces (nv / 3) (F) (F * 4 ^ k) e in omega arith))
 
   -- g is worked out, and the room is what it needs
@@ -34,9 +35,9 @@ module _ (k nv nf : ℕ) (s : List ℕ) (nm : ℕ) where
     f = subst (λ (x : ℕ). FinalFaces k x g) same f₀
 
     same-verdict : limitsVerdict k s (lengths nv nf nm least) ≡ limitsVerdict k s (lengths nv nf nm (needed (F * 4 ^ k)))
-    same-verdict = go (decLt 6 k) (decLt 4096 (F))
+    same-verdict = go (decLt maxRounds k) (decLt maxFaces (F))
       where
-        go : Dec (6 < k) → Dec (4096 < F) → limitsVerdict k s (lengths nv nf nm least) ≡ limitsVerdict k s (lengths nv nf nm (needed (F * 4 ^ k)))
+        go : Dec (maxRounds < k) → Dec (maxFaces < F) → limitsVerdict k s (lengths nv nf nm least) ≡ limitsVerdict k s (lengths nv nf nm (needed (F * 4 ^ k)))
         go (yes h) d = many-rounds _ _ h
         go (no h) (yes d) = many-faces _ _ d
         go (no h) (no d) = ap (λ (x : Room). limitsVerdict k s (lengths nv nf nm x)) (n ∙ ap needed (f .final (omega arith) (omega arith)))

@@ -3,6 +3,7 @@ ghost use mathlib.Core.Path.{_≡_};
 ghost use mathlib.Core.Bool.{true};
 ghost use Prim.Native.Nat.{ℕ, _+_, _*_, _/_, _%_, _≤_, _<_};
 ghost use lib.ListN.{getD, take};
+ghost use Rattle.bounds.specs.Bounds.{maxHalfEdges};
 ghost use Rattle.topology.specs.Shape.{quads};
 ghost use Rattle.refinedfaces.specs.Mates.{refinedMate, refinedMates};
 ghost use Rattle.tables.specs.Tables.{filled, Written};
@@ -10,7 +11,7 @@ ghost use Rattle.roundmates.specs.Mates.{firstMate, SidesIn, MatesIn, Fa
 
 // The mate of side 0 of a refined face at a half-edge with the mate m, of n half-edges.
 fn first_mate(n: u32, m: u32) -> u32
-    requires { ⌜ (m ≤ n) × (n ≤ 262144) ⌝ }
+    requires { ⌜ (m ≤ n) × (n ≤ maxHalfEdges) ⌝ }
     ensures { λ r. ⌜ r ≡ firstMate n m ⌝ }
 {
     if m < n {
@@ -56,7 +57,7 @@ fn refine_mates(work: &mut [u32], n: usize)
 
 // The mate of side 0 of a refined face at a half-edge with the mate m, of n half-edges, where m is a side 3.
 fn outer_first(n: u32, m: u32) -> u32
-    requires { ⌜ (m ≤ n) × (n ≤ 262144) × (m < n → m % 4 ≡ 3) ⌝ }
+    requires { ⌜ (m ≤ n) × (n ≤ maxHalfEdges) × (m < n → m % 4 ≡ 3) ⌝ }
     ensures { λ r. ⌜ r ≡ firstMate n m ⌝ }
 {
     if m < n {
@@ -67,7 +68,7 @@ fn outer_first(n: u32, m: u32) -> u32
 
 // The same where m is a side 0.
 fn outer_last(n: u32, m: u32) -> u32
-    requires { ⌜ (m ≤ n) × (n ≤ 262144) × (m < n → m % 4 ≡ 0) ⌝ }
+    requires { ⌜ (m ≤ n) × (n ≤ maxHalfEdges) × (m < n → m % 4 ≡ 0) ⌝ }
     ensures { λ r. ⌜ r ≡ firstMate n m ⌝ }
 {
     if m < n {
@@ -78,7 +79,7 @@ fn outer_last(n: u32, m: u32) -> u32
 
 // The same where m is a side 1 or 2.
 fn inner_mate(m: u32) -> u32
-    requires { ⌜ m < 262144 ⌝ }
+    requires { ⌜ m < maxHalfEdges ⌝ }
     ensures { λ r. ⌜ r ≡ 4 * m + 7 ⌝ }
 {
     4 * m + 7

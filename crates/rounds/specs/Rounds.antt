@@ -4,6 +4,7 @@ use mathlib.Core.Bool.{Bool, true}
 use mathlib.Core.List.{List}
 use Prim.Native.Nat.{ℕ, _*_, _^_, _≤_}
 use lib.ListN.{length, take, drop}
+use Rattle.bounds.specs.Bounds.{maxRounds, maxCoordinate, maxRefinedCorners}
 use Rattle.curve.specs.Weights.{tension}
 use Rattle.tables.specs.Tables.{filled}
 use Rattle.scheme.specs.Step.{steps}
@@ -19,11 +20,11 @@ use Rattle.letters.specs.Letters.{WrittenIf}
 pub record Prepared (t k v n last : ℕ) (B : Buffers) : Type 0 where
   pub low : t ≤ 4
   pub refinable : Refinable (front v n B)
-  pub within : Within 1048576 (take (3 * v) (B .vertices))
-  pub few : k ≤ 6
+  pub within : Within maxCoordinate (take (3 * v) (B .vertices))
+  pub few : k ≤ maxRounds
   pub vertices : v ≤ n
   pub size : n * 4 ^ k ≡ 4 * last
-  pub final : n * 4 ^ k ≤ 1048576
+  pub final : n * 4 ^ k ≤ maxRefinedCorners
   pub roomPoints : 3 * (n * 4 ^ k) ≤ length (B .vertices)
   pub roomFaces : n * 4 ^ k ≤ length (B .faces)
   pub roomMarks : n * 4 ^ k ≤ length (B .marks)

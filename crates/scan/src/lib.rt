@@ -18,10 +18,10 @@ pub fn first_bad_coordinate(vertices: &[i32]) -> usize
     let mut i = 0;
     while i < vertices.len() {
         let x = vertices[i];
-        if x < -1048576 {
+        if x < bounds::MIN_COORDINATE {
             return i;
         }
-        if x > 1048576 {
+        if x > bounds::MAX_COORDINATE {
             return i;
         }
         i += 1;

@@ -28,7 +28,7 @@ use Rattle.coordinates.specs.Points.{putPoint}
 use Rattle.coordinates.proofs.Points.{written-next}
 use Rattle.coordinates.proofs.Points.{put-point-is}
 use Rattle.splitpoints.specs.Points.{DrawnVertex, Corners, midpointOn, cornerOn, meanOn}
-use Rattle.splitvertices.specs.Passes.{Splittable, splitAxis, splitVertices, Made, Turn, Turned, met, passed}
+use Rattle.splitvertices.specs.Passes.{Splittable, splitAxis, splitVertices, Made, SplitTurn, SplitTurned, met, passed}
 
 -- an entry of a table is the coordinate of a vertex
 entry-axis : (t : List ℤ) (k : ℕ) → getD t k (pos 0) ≡ axis t (k % 3) (k / 3)
@@ -176,10 +176,10 @@ module _ (s l : List ℕ) (v : ℕ) (o : List ℤ) (ok : Splittable s l v o) whe
     edge-room : h < mate S l h → 3 * (v + e) + 3 ≤ length t
     edge-room a = let x = edge-new S l h a in let y = edge-lt S v l (ok .oriented) h b in let r = ok .room in let z = m .kept in omega arith
 
-    pub turn-in : Turn s l w v t h e
+    pub turn-in : SplitTurn s l w v t h e
     turn-in = record { linked = k; lt = b; ends = corner-vertex t (v + e) (omega arith) m; room = edge-room }
 
-    pub turned-made : (r : ℕ) (t′ : List ℤ) → Turned s l v h e r t t′ → Made s l v o t′ (v + r)
+    pub turned-made : (r : ℕ) (t′ : List ℤ) → SplitTurned s l v h e r t t′ → Made s l v o t′ (v + r)
     turned-made r t′ (met a er et) =
         let G : ℕ → ℕ → ℤ = splitAxis s l v o in
         let x : v + edge S l h ≡ v + e = ap (λ (j : ℕ). v + j) (edge-new S l h a ∙ sym c) in
@@ -191,7 +191,7 @@ module _ (s l : List ℕ) (v : ℕ) (o : List ℤ) (ok : Splittable s l v o) whe
         (written-next G o t t′ (v + e) (omega arith) m (put-point-is t t′ (v + e) _ _ _ (G 0 (v + e)) (G 1 (v + e)) (G 2 (v + e)) et (at 0 (omega arith)) (at 1 (omega arith)) (at 2 (omega arith))))
     turned-made r t′ (passed a er et) = subst (λ (j : ℕ). Made s l v o t′ (v + j)) (sym er) (subst (λ (q : List ℤ). Made s l v o q (v + e)) (sym et) m)
 
-    pub turned-count : (r : ℕ) (t′ : List ℤ) → Turned s l v h e r t t′ → r ≡ count (firstMet S l) (h + 1)
+    pub turned-count : (r : ℕ) (t′ : List ℤ) → SplitTurned s l v h e r t t′ → r ≡ count (firstMet S l) (h + 1)
     turned-count r t′ (met a er et) = rw (add-one h) (er ∙ ap (λ (j : ℕ). j + 1) c ∙ sym (count-new S l h a))
     turned-count r t′ (passed a er et) = rw (add-one h) (er ∙ c ∙ sym (count-old S l h a))
 

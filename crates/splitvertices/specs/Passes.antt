@@ -38,14 +38,14 @@ abbrev pub Made : (s l : List ℕ) (v : ℕ) (o t : List ℤ) → ℕ → Type 0
 Made s l v o t i = PointsWritten (splitAxis s l v o) o t i
 
 -- before half-edge h, with e edges met: t has room for the midpoint of its edge
-pub record Turn (s l w : List ℕ) (v : ℕ) (t : List ℤ) (h e : ℕ) : Type 0 where
+pub record SplitTurn (s l w : List ℕ) (v : ℕ) (t : List ℤ) (h e : ℕ) : Type 0 where
   pub linked : Linked s l w
   pub lt : h < length l
   pub ends : (g : ℕ) → g < length l → DrawnVertex t (from l g)
   pub room : h < mate (shapeOf s) l h → 3 * (v + e) + 3 ≤ length t
 
 -- after it, with r edges met: the midpoint of its edge went to the table, or the edge was met before
-pub data Turned (s l : List ℕ) (v h e r : ℕ) (t t′ : List ℤ) : Type 0 where
+pub data SplitTurned (s l : List ℕ) (v h e r : ℕ) (t t′ : List ℤ) : Type 0 where
   met : h < mate (shapeOf s) l h → r ≡ e + 1 → t′ ≡ putPoint t (v + e) (midpointOn t (from l h) (to (shapeOf s) l h) 0)
-      (midpointOn t (from l h) (to (shapeOf s) l h) 1) (midpointOn t (from l h) (to (shapeOf s) l h) 2) → Turned s l v h e r t t′
-  passed : mate (shapeOf s) l h ≤ h → r ≡ e → t′ ≡ t → Turned s l v h e r t t′
+      (midpointOn t (from l h) (to (shapeOf s) l h) 1) (midpointOn t (from l h) (to (shapeOf s) l h) 2) → SplitTurned s l v h e r t t′
+  passed : mate (shapeOf s) l h ≤ h → r ≡ e → t′ ≡ t → SplitTurned s l v h e r t t′

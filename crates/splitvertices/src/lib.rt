@@ -6,7 +6,7 @@ ghost use Rattle.topology.specs.HalfEdge.{edgeCount};
 ghost use Rattle.polygons.specs.Polygons.{shapeOf};
 ghost use Rattle.tables.specs.Tables.{filled};
 ghost use Rattle.sidetable.specs.Table.{Linked};
-ghost use Rattle.splitvertices.specs.Passes.{Splittable, splitVertices, Made, Turn, Turned};
+ghost use Rattle.splitvertices.specs.Passes.{Splittable, splitVertices, Made, SplitTurn, SplitTurned};
 
 // Makes the midpoint of the edge of half-edge h if the edge is first met there, where `edges` are met before; the answer is how many are met then.
 fn edge_side(
@@ -18,8 +18,8 @@ fn edge_side(
     h: usize,
     edges: usize,
 ) -> usize
-    requires { ⌜ Turn (now sides) (now faces) (now work) v (now points) h edges ⌝ }
-    ensures { λ r. ⌜ Turned (now (sides .entry)) (now (faces .entry)) v h edges r (now (points .entry)) (now (points .exit)) ⌝ }
+    requires { ⌜ SplitTurn (now sides) (now faces) (now work) v (now points) h edges ⌝ }
+    ensures { λ r. ⌜ SplitTurned (now (sides .entry)) (now (faces .entry)) v h edges r (now (points .entry)) (now (points .exit)) ⌝ }
 {
     let mate = sidetable::mate_in(faces, sides, work, h);
     if h < mate {

@@ -5,6 +5,7 @@ use Prim.Native.Nat.{ℕ, _+_, _-_, _≤_, _<_}
 use native.Mathlib.Omega.{arith}
 use borrow.Author.Needs.{needs}
 use lib.ListN.{length}
+use Rattle.bounds.specs.Bounds.{maxHalfEdges}
 use Rattle.topology.specs.Shape.{quads}
 use Rattle.topology.specs.HalfEdge.{from, mate}
 use Rattle.edgetable.specs.EdgeTable.{Turn}
@@ -16,7 +17,7 @@ use Rattle.familyedges.proofs.family_edges.Tie as tie
 turn : (s : tie.Start) → Turn (s .args .t) (s .args .faces .now) (s .args .marks .now) (s .args .points .now) (s .args .work .now) (s .pre .0 .at) (s .pre .0 .initial) (s .args .h) (s .args .edges)
 turn s = let a = s .pre .1 .last₂ .lt in turn-now _ _ _ _ _ _ _ (s .pre .0) (omega arith)
 
-few : (s : tie.Start) → (s .args .h + 15 < length (s .args .faces .now)) × (length (s .args .faces .now) ≤ 262144)
+few : (s : tie.Start) → (s .args .h + 15 < length (s .args .faces .now)) × (length (s .args .faces .now) ≤ maxHalfEdges)
 few s = (s .pre .1 .last₂ .lt, turn s .ready .table .sides .few)
 
 abbrev some : (s : tie.Start) → ℕ → Type 0

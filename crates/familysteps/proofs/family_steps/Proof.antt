@@ -5,12 +5,13 @@ use Prim.Native.Nat.{ℕ, _+_, _≤_, _<_}
 use native.Mathlib.Omega.{arith}
 use lib.IntN.{ℤ}
 use lib.ListN.{length}
+use Rattle.bounds.specs.Bounds.{maxHalfEdges}
 use Rattle.familylines.specs.Steps.{Carries}
 use Rattle.familylines.proofs.Going.{turn-now, going-on, carries-next, carries-lengths}
 use Rattle.familysteps.proofs.family_steps.Statement.{statement}
 use Rattle.familysteps.proofs.family_steps.Tie as tie
 
-few : (s : tie.Start) → (s .args .h + 15 < length (s .args .faces .now)) × (length (s .args .faces .now) ≤ 262144)
+few : (s : tie.Start) → (s .args .h + 15 < length (s .args .faces .now)) × (length (s .args .faces .now) ≤ maxHalfEdges)
 few s = let a = s .pre .1 .last₂ .lt in let t = turn-now _ _ _ _ _ _ _ (s .pre .0) (omega arith) in (a, t .ready .table .sides .few)
 
 -- the pass has gone on from the start to so many half-edges further

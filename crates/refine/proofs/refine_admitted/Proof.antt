@@ -6,7 +6,7 @@ use native.Mathlib.Omega.{arith}
 use lib.ListN.{length}
 use Rattle.nets.specs.Buffers.{Buffers, buffers}
 use Rattle.outcome.specs.Outcome.{Request, requestOn, toAdd}
-use Rattle.bounds.specs.Bounds.{maxTally}
+use Rattle.bounds.specs.Bounds.{maxRefinedCorners, maxTally}
 use Rattle.splitting.specs.Splitting.{startNet}
 use Rattle.refine.specs.Answer.{answered}
 use Rattle.refine.specs.declared.Answer.the-variants.{Refined}
@@ -29,7 +29,7 @@ start x = x .before .before .before .before .before .before .before .before .bef
 new : (x : tie.After-final-vertices) → (length (start x .args .marks .now) ≤ x .final-vertices .result) × (x .final-vertices .result - length (start x .args .marks .now) ≡ toAdd (asked (start x)))
 new x = new-points (asked (start x)) (start x .args .last) (start x .pre) (x .final-vertices .result) (x .final-vertices .ensures)
 
-few : (x : tie.After-final-vertices) → toAdd (asked (start x)) ≤ 1048576
+few : (x : tie.After-final-vertices) → toAdd (asked (start x)) ≤ maxRefinedCorners
 few x = few-new (asked (start x)) (start x .args .last) (start x .pre)
 
 -- after the load: the start, and the caller's tables
