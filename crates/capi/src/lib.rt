@@ -8,6 +8,7 @@ ghost use Rattle.outcome.specs.Outcome.{requestOn, outcome};
 ghost use Rattle.reports.specs.Report.{sizes};
 ghost use Rattle.reports.specs.Version.{version};
 ghost use Rattle.capi.specs.Export.{checkExportOf, checkExport, exportOf, refineExport};
+use examination::Examination;
 use limits::Room;
 use reports::Finding;
 use reports::Report;
@@ -52,7 +53,7 @@ pub extern "C" fn gedrovit_check(
         letters,
         work: work.len(),
     };
-    let answer = admission::check(
+    let examination: Examination = admission::check(
         rounds,
         vertices,
         faces,
@@ -62,7 +63,7 @@ pub extern "C" fn gedrovit_check(
         room,
         &mut *work,
     );
-    reports::finding_of(answer)
+    reports::finding_of(examination)
 }
 
 // The refining call from a record of this many points.

@@ -43,7 +43,8 @@ use Rattle.edgeentries.specs.Entry.{wideFlag, boundaryFlag, entryOf, edgeOf, po
 use Rattle.coordinates.proofs.Points.{take-point, written-next}
 use Rattle.edgeentries.proofs.Packed.{holds-kept, length-put-three, put-three-other, put-three-first, put-three-second, put-three-third}
 use Rattle.exactedges.specs.Edge.{ClassedCorners, Flagged, plain, wide, boundary, ExactEdge, ExactPoint}
-use Rattle.edgetable.specs.EdgeTable.{roundedBy, Small, oldAxis, refinedAxis, edgeAxis, Round, Turn, Turned, met, passed, Entry, StoredAt, Edges}
+use Rattle.edgerounding.specs.Rounded.{roundedBy, Small}
+use Rattle.edgetable.specs.EdgeTable.{oldAxis, refinedAxis, edgeAxis, Round, Turn, Turned, met, passed, Entry, StoredAt, Edges}
 
 -- ---- flags
 module _ (l : List ℕ) (h flag : ℕ) where

@@ -1,3 +1,2 @@
-pub mod Rounded
 pub mod EdgeTable
 pub mod Faces

@@ -2,12 +2,11 @@
 use mathlib.Core.Path.{_≡_}
 use mathlib.Core.List.{List}
 use Prim.Native.Nat.{ℕ, _+_, _*_, _≤_, _<_}
-use lib.IntN.{ℤ, pos, natAbs, _*ℤ_}
+use lib.IntN.{ℤ, pos, _*ℤ_}
 use lib.ListN.{length, getD, take}
 use Rattle.integers.specs.Within.{Within}
-use Rattle.rounding.specs.Rounding.{round}
 use Rattle.curve.specs.Weights.{Weights, tension}
-use Rattle.rings.specs.Scales.{virtualScale, edgeScale, coordinateRange, edgeRange}
+use Rattle.rings.specs.Scales.{coordinateRange}
 use Rattle.topology.specs.Shape.{quads}
 use Rattle.topology.specs.HalfEdge.{mate, edge}
 use Rattle.topology.specs.Manifold.{Manifold}
@@ -20,19 +19,9 @@ use Rattle.walks.specs.Ready.{Ready}
 use Rattle.classes.specs.Classes.{Classes}
 use Rattle.coordinates.specs.Points.{Points, Marks, putPoint, PointsWritten}
 use Rattle.edgeentries.specs.Packed.{Holds}
-use Rattle.edgeentries.specs.Entry.{wideFlag, entryOf, pointPlace, placeOf, putEdge, copied, unitOf}
+use Rattle.edgeentries.specs.Entry.{entryOf, pointPlace, placeOf, putEdge, copied, unitOf}
 use Rattle.exactedges.specs.Edge.{Flagged, ExactPoint}
-
--- a stored numerator of an edge with this flag, rounded
-unfoldable pub roundedBy : Weights → ℕ → ℤ → ℤ
-roundedBy weights flag z = round (pos (unitOf weights flag) *ℤ z) (edgeScale weights)
-
--- an exact point in the range of edges, with a flag that tells its denominator
-pub record Small (weights : Weights) (flag : ℕ) (x y z : ℤ) : Type 0 where
-  pub plain : (flag ≡ wideFlag → ⊥) → unitOf weights flag ≡ virtualScale weights
-  pub on₀ : natAbs (pos (unitOf weights flag) *ℤ x) ≤ edgeRange weights
-  pub on₁ : natAbs (pos (unitOf weights flag) *ℤ y) ≤ edgeRange weights
-  pub on₂ : natAbs (pos (unitOf weights flag) *ℤ z) ≤ edgeRange weights
+use Rattle.edgerounding.specs.Rounded.{roundedBy}
 
 -- coordinate a of the old vertices, of the refined ones, and of the exact points of edges
 unfoldable pub oldAxis : List ℕ → List ℤ → ℕ → ℕ → ℤ

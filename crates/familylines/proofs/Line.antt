@@ -14,9 +14,9 @@ use Rattle.edgeentries.specs.Entry.{unitOf}
 use Rattle.exactedges.specs.Edge.{Flagged, ExactPoint}
 use Rattle.exactedges.proofs.Plain.{on-axes-as, corner-room}
 use Rattle.exactedges.proofs.Wide.{plain-point, inner-point}
-use Rattle.edgetable.specs.EdgeTable.{roundedBy, Small}
+use Rattle.edgerounding.specs.Rounded.{roundedBy, Small}
 use Rattle.familylines.specs.Steps.{Place, Line}
-use Rattle.edgetable.proofs.Rounded.{plain-small, round-plain, plain-is}
+use Rattle.edgerounding.proofs.Rounded.{plain-small, round-plain, plain-is}
 use Rattle.edgetable.proofs.EdgeTable.{small-of}
 
 module _ (t : ℕ) (l marks : List ℕ) (points : List ℤ) (w : List ℕ) (h e o p q r : ℕ) (at : Place t l marks points w h e) (line : Line l h o p q r) where

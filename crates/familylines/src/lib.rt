@@ -27,9 +27,9 @@ pub fn make_edge(
     let v = marks.len();
     let end = 3 * v;
     let e = coordinates::interior_exact(&points[..end], o, p, q, r, t);
-    let x = edgetable::rounded_plain(e.x);
-    let y = edgetable::rounded_plain(e.y);
-    let z = edgetable::rounded_plain(e.z);
+    let x = edgerounding::rounded_plain(e.x);
+    let y = edgerounding::rounded_plain(e.y);
+    let z = edgerounding::rounded_plain(e.z);
     coordinates::put_point(&mut *points, v + edges, x, y, z);
     edgeentries::store_edge(&mut *work, n, h, edges, 0, e);
     edges + 1

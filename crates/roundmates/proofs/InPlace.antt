@@ -14,7 +14,8 @@ use Rattle.refinedfaces.proofs.Families.{next-other}
 use Rattle.refinedfaces.specs.Mates.{refinedMate, refinedMates}
 use Rattle.tables.specs.Tables.{filled, putFour, Written}
 use Rattle.tables.proofs.Written.{written-as, written-face, Refining, refining-all}
-use Rattle.roundmates.specs.Mates.{firstMate, SidesIn, MatesIn, FacingSides, LaterIn}
+use Rattle.sidemates.specs.FirstMate.{firstMate}
+use Rattle.roundmates.specs.Mates.{SidesIn, MatesIn, FacingSides, LaterIn}
 
 -- one face
 module _ (n f : ℕ) (w : List ℕ) where

@@ -1,16 +1,9 @@
 -- The mates of a round's refined faces, in a work table w. The mate of h is at h, of n half-edges; the refined mates take the place of the old ones.
-use mathlib.Core.Bool.{cond}
 use mathlib.Core.List.{List}
 use Prim.Native.Nat.{ℕ, _+_, _*_, _≤_, _<_}
 use lib.ListN.{length, getD}
-use lib.Dec.{ltb}
-use Rattle.topology.specs.Shape.{quads}
 use Rattle.halfedges.specs.Tables.{Quadrilaterals}
 use Rattle.refinedfaces.specs.Families.{Facing}
-
--- the mate of side 0 of a refined face at a half-edge with the mate m, of n half-edges
-unfoldable pub firstMate : ℕ → ℕ → ℕ
-firstMate n m = cond (ltb m n) (4 * quads .next m + 3) (4 * n)
 
 -- the mates of face f of n half-edges, in a table that has room for the refined ones
 pub record SidesIn (n f : ℕ) (w : List ℕ) : Type 0 where

@@ -1,24 +1,12 @@
 // The mates of one round's refined faces, in place on the work table.
 ghost use mathlib.Core.Path.{_≡_};
 ghost use mathlib.Core.Bool.{true};
-ghost use Prim.Native.Nat.{ℕ, _+_, _*_, _/_, _%_, _≤_, _<_};
+ghost use Prim.Native.Nat.{ℕ, _+_, _*_, _/_, _%_};
 ghost use lib.ListN.{getD, take};
-ghost use Rattle.bounds.specs.Bounds.{maxHalfEdges};
 ghost use Rattle.topology.specs.Shape.{quads};
 ghost use Rattle.refinedfaces.specs.Mates.{refinedMate, refinedMates};
 ghost use Rattle.tables.specs.Tables.{filled, Written};
-ghost use Rattle.roundmates.specs.Mates.{firstMate, SidesIn, MatesIn, FacingSides, LaterIn};
-
-// The mate of side 0 of a refined face at a half-edge with the mate m, of n half-edges.
-fn first_mate(n: u32, m: u32) -> u32
-    requires { ⌜ (m ≤ n) × (n ≤ maxHalfEdges) ⌝ }
-    ensures { λ r. ⌜ r ≡ firstMate n m ⌝ }
-{
-    if m < n {
-        return 16 * (m / 4) + 4 * ((m + 1) % 4) + 3;
-    }
-    4 * n
-}
+ghost use Rattle.roundmates.specs.Mates.{SidesIn, MatesIn, FacingSides, LaterIn};
 
 // Writes the mates of the refined faces of face f, the last first, from the mates a to d of its sides.
 fn refine_sides(work: &mut [u32], n: usize, f: usize)
@@ -32,10 +20,10 @@ fn refine_sides(work: &mut [u32], n: usize, f: usize)
     let c = work[h + 2];
     let d = work[h + 3];
     let none = n as u32;
-    let p = first_mate(none, a);
-    let q = first_mate(none, b);
-    let r = first_mate(none, c);
-    let s = first_mate(none, d);
+    let p = sidemates::first_mate(none, a);
+    let q = sidemates::first_mate(none, b);
+    let r = sidemates::first_mate(none, c);
+    let s = sidemates::first_mate(none, d);
     let g = at as u32;
     tables::put_four(&mut *work, at + 12, s, g + 2, g + 9, 4 * c);
     tables::put_four(&mut *work, at + 8, r, g + 14, g + 5, 4 * b);
@@ -55,36 +43,6 @@ fn refine_mates(work: &mut [u32], n: usize)
     }
 }
 
-// The mate of side 0 of a refined face at a half-edge with the mate m, of n half-edges, where m is a side 3.
-fn outer_first(n: u32, m: u32) -> u32
-    requires { ⌜ (m ≤ n) × (n ≤ maxHalfEdges) × (m < n → m % 4 ≡ 3) ⌝ }
-    ensures { λ r. ⌜ r ≡ firstMate n m ⌝ }
-{
-    if m < n {
-        return 4 * m - 9;
-    }
-    4 * n
-}
-
-// The same where m is a side 0.
-fn outer_last(n: u32, m: u32) -> u32
-    requires { ⌜ (m ≤ n) × (n ≤ maxHalfEdges) × (m < n → m % 4 ≡ 0) ⌝ }
-    ensures { λ r. ⌜ r ≡ firstMate n m ⌝ }
-{
-    if m < n {
-        return 4 * m + 7;
-    }
-    4 * n
-}
-
-// The same where m is a side 1 or 2.
-fn inner_mate(m: u32) -> u32
-    requires { ⌜ m < maxHalfEdges ⌝ }
-    ensures { λ r. ⌜ r ≡ 4 * m + 7 ⌝ }
-{
-    4 * m + 7
-}
-
 // As refine_sides, for a face that a round made: side 0 has a side 3 as its mate or none, side 3 a side 0 or none, and sides 1 and 2 a side 2 and a side 1.
 fn refine_later(work: &mut [u32], n: usize, f: usize)
     requires { ⌜ SidesIn n f (now work) × FacingSides n f (now work) ⌝ }
@@ -97,10 +55,10 @@ fn refine_later(work: &mut [u32], n: usize, f: usize)
     let c = work[h + 2];
     let d = work[h + 3];
     let none = n as u32;
-    let p = outer_first(none, a);
-    let q = inner_mate(b);
-    let r = inner_mate(c);
-    let s = outer_last(none, d);
+    let p = sidemates::outer_first(none, a);
+    let q = sidemates::inner_mate(b);
+    let r = sidemates::inner_mate(c);
+    let s = sidemates::outer_last(none, d);
     let g = at as u32;
     tables::put_four(&mut *work, at + 12, s, g + 2, g + 9, 4 * c);
     tables::put_four(&mut *work, at + 8, r, g + 14, g + 5, 4 * b);

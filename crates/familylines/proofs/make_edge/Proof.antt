@@ -36,7 +36,11 @@ slice-aggregate-interior-exact : tie.Need-slice-aggregate-interior-exact
 slice-aggregate-interior-exact c = let s = c .before .before .before .before in sym (length-take-le (3 * length (s .args .marks .now)) (s .args .points .now) (place s .old))
 
 interior-exact-requires : tie.Need-interior-exact-requires
-interior-exact-requires c κs = let s = c .before .before .before .before in (place s .points .bounded, line-in _ _ _ _ _ _ _ _ _ _ _ (place s) (s .pre .1))
+interior-exact-requires c κs =
+    let s = c .before .before .before .before in
+    let b = place s .points .bounded in
+    let k = line-in _ _ _ _ _ _ _ _ _ _ _ (place s) (s .pre .1) in
+    search needs
 
 rounded-plain-requires : tie.Need-rounded-plain-requires
 rounded-plain-requires c κs = let e = c .before in let s = start e in let r = e .interior-exact .result in

@@ -3,7 +3,7 @@ use Prim.Native.Nat.{ℕ, _+_, _*_, _≤_, _<_}
 use native.Mathlib.Omega.{arith}
 use mathlib.Core.Path.{_≡_, sym, _∙_}
 use lib.ListN.{getD}
-use Rattle.roundmates.specs.Mates.{firstMate}
+use Rattle.sidemates.specs.FirstMate.{firstMate}
 use Rattle.roundmates.proofs.InPlace.{mates-written, first-inner}
 use Rattle.roundmates.proofs.refine_later.Statement.{statement}
 use Rattle.roundmates.proofs.refine_later.Tie as tie

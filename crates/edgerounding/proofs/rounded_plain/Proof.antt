@@ -8,8 +8,8 @@ use mir.Facts.{toZ-ofZ}
 use Rattle.integers.proofs.Range.{fits-abs}
 use Rattle.rounding.specs.Rounding.{round}
 use Rattle.rounding.proofs.Laws.{round-size}
-use Rattle.edgetable.proofs.rounded_plain.Statement.{statement}
-use Rattle.edgetable.proofs.rounded_plain.Tie as tie
+use Rattle.edgerounding.proofs.rounded_plain.Statement.{statement}
+use Rattle.edgerounding.proofs.rounded_plain.Tie as tie
 
 value : (c : tie.After-round-shift) → c .round-shift .result ≡ round (c .before .args .z) 64
 value c = let f : SFits w64 (c .before .args .z) = c .before .fits .z in simp toZ-ofZ at (c .round-shift .ensures)

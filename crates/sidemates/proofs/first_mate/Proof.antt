@@ -3,9 +3,9 @@ use native.Mathlib.Omega.{arith}
 use borrow.Author.Needs.{needs}
 use borrow.Author.Tests.{lt-ltb, le-ltb}
 use Rattle.topology.specs.Shape.{quads}
-use Rattle.roundmates.specs.Mates.{firstMate}
-use Rattle.roundmates.proofs.first_mate.Statement.{statement}
-use Rattle.roundmates.proofs.first_mate.Tie as tie
+use Rattle.sidemates.specs.FirstMate.{firstMate}
+use Rattle.sidemates.proofs.first_mate.Statement.{statement}
+use Rattle.sidemates.proofs.first_mate.Tie as tie
 
 mul-result : tie.Need-mul-result
 mul-result c = search needs

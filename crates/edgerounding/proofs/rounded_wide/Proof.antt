@@ -9,9 +9,9 @@ use Rattle.rounding.specs.Rounding.{round}
 use Rattle.curve.specs.Weights.{tension}
 use Rattle.rings.proofs.Tension.{edge-range-at}
 use Rattle.rings.specs.Scales.{edgeScale}
-use Rattle.edgetable.proofs.Rounded.{rounded-fits}
-use Rattle.edgetable.proofs.rounded_wide.Statement.{statement}
-use Rattle.edgetable.proofs.rounded_wide.Tie as tie
+use Rattle.edgerounding.proofs.Rounded.{rounded-fits}
+use Rattle.edgerounding.proofs.rounded_wide.Statement.{statement}
+use Rattle.edgerounding.proofs.rounded_wide.Tie as tie
 
 value : (c : tie.After-round-div) → let s = c .before .before in c .round-div .result ≡ round (s .args .z) (edgeScale (tension (s .args .t)))
 value c =

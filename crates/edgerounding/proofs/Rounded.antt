@@ -15,7 +15,7 @@ use Rattle.curve.specs.Weights.{tension}
 use Rattle.rings.proofs.Tension.{edge-scale-at, edge-range-at}
 use Rattle.rings.specs.Scales.{virtualScale, edgeScale, edgeRange}
 use Rattle.edgeentries.specs.Entry.{wideFlag, unitOf}
-use Rattle.edgetable.specs.EdgeTable.{roundedBy}
+use Rattle.edgerounding.specs.Rounded.{roundedBy}
 
 module _ (t : ℕ) where
   pub rounded-fits : (z : ℤ) → natAbs z ≤ edgeRange (tension t) → SFits w32 (round z (edgeScale (tension t)))

@@ -8,9 +8,9 @@ use Rattle.curve.specs.Weights.{tension}
 use Rattle.rings.specs.Scales.{virtualScale}
 use Rattle.edgeentries.specs.Entry.{unitOf}
 use Rattle.coordinates.proofs.Points.{put-point-is}
-use Rattle.edgetable.proofs.Rounded.{wide-is, wide-range, plain-is, plain-range, plain-small, round-plain}
-use Rattle.edgetable.proofs.put_rounded.Statement.{statement}
-use Rattle.edgetable.proofs.put_rounded.Tie as tie
+use Rattle.edgerounding.proofs.Rounded.{wide-is, wide-range, plain-is, plain-range, plain-small, round-plain}
+use Rattle.edgerounding.proofs.put_rounded.Statement.{statement}
+use Rattle.edgerounding.proofs.put_rounded.Tie as tie
 
 -- the unit of a flag that is not the wide one
 unit : (c : tie.Else1) → unitOf (tension (c .before .before .args .t)) (c .before .before .args .e .flag) ≡ virtualScale (tension (c .before .before .args .t))

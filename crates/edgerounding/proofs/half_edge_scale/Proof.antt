@@ -2,8 +2,8 @@
 use native.Mathlib.Omega.{arith}
 use borrow.Author.Needs.{needs}
 use Rattle.rings.proofs.Tension.{edge-scale-at}
-use Rattle.edgetable.proofs.half_edge_scale.Statement.{statement}
-use Rattle.edgetable.proofs.half_edge_scale.Tie as tie
+use Rattle.edgerounding.proofs.half_edge_scale.Statement.{statement}
+use Rattle.edgerounding.proofs.half_edge_scale.Tie as tie
 
 add-result : tie.Need-add-result
 add-result c = search needs
