@@ -42,34 +42,47 @@ COORDINATE, REFINED, RING, FAN = C["MAX_COORDINATE"], C["MAX_REFINED_COORDINATE"
 SIDES, TALLY, TENSION, DEFAULT_TENSION = (C["MIN_SIDES"], C["MAX_SIDES"]), C["MAX_TALLY"], C["MAX_TENSION"], C["DEFAULT_TENSION"]
 RING_LEAST = 3
 
-# ---- the definitions
-VERDICT, REFUSALS = read("crates/verdict/specs/Verdict.antt"), read("crates/refusals/specs/Refusals.antt")
+# ---- the definitions. A limit stands there by its name, and the number is put in its place
+ALL_SPECS = "".join(path.read_text(encoding="utf-8") for path in sorted(ROOT.glob("crates/*/specs/*.antt")))
+NAMED = dict(re.findall(r"(?m)^abbrev pub (\w+) : ℕ\n\1 = (\d+)$", ALL_SPECS))
+
+
+def with_numbers(text):
+    return re.sub(r"\b[a-z]\w+\b", lambda found: NAMED.get(found.group(), found.group()), text)
+
+
+VERDICT, REFUSALS = with_numbers(read("crates/verdict/specs/Verdict.antt")), with_numbers(read("crates/refusals/specs/Refusals.antt"))
 hold("verdict", r"refusedIf 1 \(ltb N ", VERDICT, [(ROUNDS,)])
 if numbers(r"refusedIf 3 \(ltb N ", VERDICT) != [(V,), (F,), (G,)]:
     faults.append("verdict: refusal 3 has other limits")
 hold("verdict", r"badCoordinate .* = ltb N ", VERDICT, [(COORDINATE,)])
 hold("refusals", r"badValence .* \(ltb N \(valence l p\)\) \(ltb \(valence l p\) N \|\| ltb N ", REFUSALS, [(FAN, RING_LEAST, RING)])
-SPECS = "".join(path.read_text(encoding="utf-8") for path in sorted(ROOT.glob("crates/*/specs/*.antt")))
+SPECS = with_numbers(ALL_SPECS)
 hold("side counts", r"(?m)^badCount .* = ltb \w+ N \|\| ltb N ", SPECS, [SIDES])
 hold("record of new points", r"refusedIf 15 \(ltb N ", SPECS, [(TALLY,)])
 hold("tension", r"refusedIf 16 \(ltb N ", VERDICT, [(TENSION,)])
 hold("old points", r"\.tension ≡ N\b", read("crates/outcome/specs/OldPoints.antt"), [(DEFAULT_TENSION,)])
-hold("outcome", r"Within N ", read("crates/outcome/specs/Coordinates.antt"), [(REFINED,)])
+hold("outcome", r"Within N ", with_numbers(read("crates/outcome/specs/Coordinates.antt")), [(REFINED,)])
+# in code they are constants: MAX_FACES is maxFaces and GEDROVIT_MAX_FACES
+for name, value in re.findall(r"(?m)^pub const (\w+): \w+ = (\d+);$", read("crates/bounds/src/lib.rt")):
+    first, *others = name.lower().split("_")
+    if NAMED.get(first + "".join(word.capitalize() for word in others)) != value or C.get(name, int(value)) != int(value):
+        faults.append(f"bounds: {name} is {value} in code alone")
 FACTORS = numbers(r"\bN \* g", "".join(re.findall(r"(?m)^needed g = .*", SPECS)))
 if len(FACTORS) != 5:
     faults.append("the lengths to provide were not found in the definitions")
 for name, factor in zip(("out_vertices", "out_faces", "out_marks", "letters", "work"), FACTORS):
     hold("header", rf"{name} +N G\b", header, [factor])
-PROGRAM = read("crates/readingform/specs/Loaded.antt")
+PROGRAM = with_numbers(read("crates/readingform/specs/Loaded.antt"))
 [(PROGRAM_G,)] = numbers(r"serve G up to N", PROGRAM)
 [(PROGRAM_V,)] = numbers(r"refusedIf 4 \(ltb N ", PROGRAM)
-[(TEXT,)] = set(numbers(r"ltb N \(length text\)", PROGRAM + read("crates/programform/specs/Answer.antt")))
+[(TEXT,)] = set(numbers(r"ltb N \(length text\)", PROGRAM + with_numbers(read("crates/programform/specs/Answer.antt"))))
 
 # ---- the version
 version = [C[f"VERSION_{part}"] for part in ("MAJOR", "MINOR", "PATCH")]
 dotted = ".".join(map(str, version))
 for part, value in zip(("major", "minor", "patch"), version):
-    hold("capi", rf"(?m)^{part} = N$", read("crates/capi/specs/Version.antt"), [(value,)])
+    hold("version", rf"(?m)^{part} = N$", "".join(path.read_text(encoding="utf-8") for path in ROOT.glob("crates/*/specs/Version.antt")), [(value,)])
 for path, line in (("package/include/gedrovit.h", f'#define GEDROVIT_VERSION "{dotted}"'), ("package/rust/Cargo.toml", f'version = "{dotted}"')):
     if line not in read(path).splitlines():
         faults.append(f"{path}: no line {line}")
@@ -82,7 +95,8 @@ LIMITS = [
     (r"[Rr]ounds above N", [(ROUNDS,)], 1),
     (r"[Mm]ore than N rounds", [(ROUNDS,)], 1),
     (r"from 0 to N; 0 copies", [(ROUNDS,)], 1),
-    (r"V above N", [(V,)], 1),
+    (r"(?<!in the program, also )V above N", [(V,)], 1),
+    (r"in the program, also V above N", [(PROGRAM_V,)], 0),
     (r"F above N", [(F,)], 1),
     (r"G above N", [(G,)], 1),
     (r"[Mm]ore than N vertices", [(V,), (PROGRAM_V,)], 1),
