@@ -43,7 +43,7 @@ chain-past : (l : List ℕ) (v g : ℕ) → g < length l → (getD l g 0 ≡ v �
 unfolding chainFrom
 chain-past l v g h n = from-pass (leaves l v) (length l) g h (refuted (leaves l v g) (λ t. n (leaves-at l v g t)))
 
-pub chain-end : (l : List ℕ) (v : ℕ) → chainFrom l v (length l) ≡ length l
+chain-end : (l : List ℕ) (v : ℕ) → chainFrom l v (length l) ≡ length l
 unfolding chainFrom
 chain-end l v = from-end (leaves l v) (length l) (length l) (le-refl _)
 
@@ -51,7 +51,7 @@ pub chain-first : (l : List ℕ) (v : ℕ) → chainFrom l v 0 ≡ first (leaves
 unfolding chainFrom first
 chain-first l v = rw sub-zero
 
-pub chain-ge : (l : List ℕ) (v i : ℕ) → i ≤ chainFrom l v i
+chain-ge : (l : List ℕ) (v i : ℕ) → i ≤ chainFrom l v i
 unfolding chainFrom
 chain-ge l v i = from-ge (leaves l v) (length l - i) i
 
@@ -75,7 +75,7 @@ on-chain l v i h =
     }
 
 -- a search q that only half-edges that leave v pass goes along the chain of v
-pub passed-chain : (q : ℕ → Bool) (l : List ℕ) (v i : ℕ) → ((j : ℕ) → q j ≡ true → leaves l v j ≡ true) → Passed q i → Passed q (chainFrom l v i)
+passed-chain : (q : ℕ → Bool) (l : List ℕ) (v i : ℕ) → ((j : ℕ) → q j ≡ true → leaves l v j ≡ true) → Passed q i → Passed q (chainFrom l v i)
 passed-chain q l v i imp w = passed-skip q i (chainFrom l v i) w (λ j a b. refuted (q j) (λ t. clash (leaves l v j) (imp j t) (chain-gap l v i j a b)))
 
 -- ---- the table, half-edge by half-edge
@@ -117,7 +117,7 @@ module _ (l w : List ℕ) (j : ℕ) (ok : CornersBelow (length l) l) (r : 3 * le
   }
 
 -- all heads are none
-pub chained-none : (l w : List ℕ) → ((v : ℕ) → v < length l → getD w (length l + v) 0 ≡ length l) → Chained l w (length l)
+chained-none : (l w : List ℕ) → ((v : ℕ) → v < length l → getD w (length l + v) 0 ≡ length l) → Chained l w (length l)
 chained-none l w f = record {
   heads = λ v h. f v h ∙ sym (chain-end l v);
   nexts = λ g a b. let z : ⊥ = omega arith in absurd z;

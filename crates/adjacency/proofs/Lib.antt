@@ -1,4 +1,4 @@
 pub mod Chains
 pub mod Sides
 pub mod Queries
-pub mod Turning
+mod Turning

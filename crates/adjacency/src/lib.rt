@@ -45,7 +45,7 @@ pub fn build_chains(faces: &[u32], sides: &[u8], work: &mut [u32])
 }
 
 // The first half-edge from the vertex a to the vertex b, or the number of half-edges.
-pub fn find_side(faces: &[u32], sides: &[u8], work: &[u32], a: u32, b: u32) -> usize
+fn find_side(faces: &[u32], sides: &[u8], work: &[u32], a: u32, b: u32) -> usize
     requires { ⌜ Tables (now sides) (now faces) (now work) ⌝ }
     requires { ⌜ Chained (now faces) (now work) 0 ⌝ }
     requires { ⌜ a < length (now faces) ⌝ }

@@ -48,7 +48,7 @@ module _ (l : List ℕ) (p : ℕ) where
   ring-size-boundary b = let a = lt-ltb (boundaryFrom quads l p) (length l) b in rw a
 
   -- a vertex whose ring size is four is ordinary
-  pub four-ordinary : ringSize l p ≡ 4 → Ordinary l p
+  four-ordinary : ringSize l p ≡ 4 → Ordinary l p
   four-ordinary e = go (decLt (boundaryFrom quads l p) (length l))
     where
       go : Dec (boundaryFrom quads l p < length l) → Ordinary l p

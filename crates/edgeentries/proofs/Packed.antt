@@ -26,11 +26,11 @@ bias-natural z h =
 pub bias-fits : (z : ℤ) → natAbs z < 2 ^ 55 → SFits w64 (z +ℤ pos 72057596185411584)
 bias-fits z h = let a = abs-add z (pos 72057596185411584) in fits-abs w64 (z +ℤ pos 72057596185411584) (omega arith)
 
-pub biased-lt : (z : ℤ) → natAbs z < 2 ^ 55 → biased z < 2 ^ 63
+biased-lt : (z : ℤ) → natAbs z < 2 ^ 55 → biased z < 2 ^ 63
 unfolding biased
 biased-lt z h = let a = abs-add z (pos 72057596185411584) in omega arith
 
-pub high-lt : (z : ℤ) → natAbs z < 2 ^ 55 → highHalf z < 2 ^ 31
+high-lt : (z : ℤ) → natAbs z < 2 ^ 55 → highHalf z < 2 ^ 31
 unfolding highHalf
 high-lt z h = let a = biased-lt z h in omega arith
 
@@ -38,7 +38,7 @@ natural-fits : (b : ℕ) → b < 2 ^ 63 → SFits w64 (pos b -ℤ pos 7205759618
 natural-fits b h = let a = abs-by (whole (pos b) ⊖ whole (pos 72057596185411584)) [] 9223372036854775807 (omega arith) (omega arith) in fits-abs w64 (pos b -ℤ pos 72057596185411584) (omega arith)
 
 -- packing and back
-pub joined-halves : (z : ℤ) → natAbs z < 2 ^ 55 → joined (lowHalf z) (highHalf z) ≡ z
+joined-halves : (z : ℤ) → natAbs z < 2 ^ 55 → joined (lowHalf z) (highHalf z) ≡ z
 unfolding joined lowHalf highHalf biased
 joined-halves z h =
     let b : ℕ = natAbs (z +ℤ pos 72057596185411584) in
@@ -82,17 +82,17 @@ pub put-three-is : (w w₁ w₂ w₃ : List ℕ) (i : ℕ) (x y z : ℤ) → w�
 unfolding putThree
 put-three-is w w₁ w₂ w₃ i x y z e₁ e₂ e₃ = e₃ ∙ ap (λ (t : List ℕ). put t (i + 4) z) (e₂ ∙ ap (λ (t : List ℕ). put t (i + 2) y) e₁)
 
-pub length-put : (w : List ℕ) (i : ℕ) (z : ℤ) → length (put w i z) ≡ length w
+length-put : (w : List ℕ) (i : ℕ) (z : ℤ) → length (put w i z) ≡ length w
 unfolding put
 length-put w i z = simp length-set
 
-pub put-other : (w : List ℕ) (i j : ℕ) (z : ℤ) → ((j ≡ i) → ⊥) → ((j ≡ i + 1) → ⊥) → getD (put w i z) j 0 ≡ getD w j 0
+put-other : (w : List ℕ) (i j : ℕ) (z : ℤ) → ((j ≡ i) → ⊥) → ((j ≡ i + 1) → ⊥) → getD (put w i z) j 0 ≡ getD w j 0
 unfolding put
 put-other w i j z a b =
     getD-set-other (set w i (lowHalf z)) (i + 1) j (highHalf z) 0 b
     ∙ getD-set-other w i j (lowHalf z) 0 a
 
-pub put-holds : (w : List ℕ) (i : ℕ) (z : ℤ) → i + 2 ≤ length w → natAbs z < 2 ^ 55 → Holds (put w i z) i z
+put-holds : (w : List ℕ) (i : ℕ) (z : ℤ) → i + 2 ≤ length w → natAbs z < 2 ^ 55 → Holds (put w i z) i z
 unfolding put
 put-holds w i z h s =
     let l = length-set w i (lowHalf z) in
@@ -102,7 +102,7 @@ put-holds w i z h s =
       small = s;
     }
 
-pub put-kept : (w : List ℕ) (i j : ℕ) (x z : ℤ) → (j + 2 ≤ i) ⊎ (i + 2 ≤ j) → Holds w j x → Holds (put w i z) j x
+put-kept : (w : List ℕ) (i j : ℕ) (x z : ℤ) → (j + 2 ≤ i) ⊎ (i + 2 ≤ j) → Holds w j x → Holds (put w i z) j x
 put-kept w i j x z (inl h) k = holds-kept w (put w i z) j x (put-other w i j z (λ e. omega arith) (λ e. omega arith)) (put-other w i (j + 1) z (λ e. omega arith) (λ e. omega arith)) k
 put-kept w i j x z (inr h) k = holds-kept w (put w i z) j x (put-other w i j z (λ e. omega arith) (λ e. omega arith)) (put-other w i (j + 1) z (λ e. omega arith) (λ e. omega arith)) k
 

@@ -1,2 +1,2 @@
-pub mod Edges
+mod Edges
 pub mod Net

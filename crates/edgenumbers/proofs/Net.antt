@@ -30,18 +30,18 @@ module _ (S : Shape) (l : List ℕ) where
   met-mates h k = ap (ltb h) (getD-mates S l h k)
 
   -- how many edges there are
-  pub count-mates : edgeCountBy (mates S l) ≡ edgeCount S l
+  count-mates : edgeCountBy (mates S l) ≡ edgeCount S l
   unfolding edgeCountBy edgeCount
   count-mates = ap (count (metBy (mates S l))) (length-mates S l) ∙ count-cong (metBy (mates S l)) (firstMet S l) (length l) met-mates
 
   -- the number of the edge of h
-  pub edge-mates : (h : ℕ) → h < length l → edgeBy (mates S l) h ≡ edge S l h
+  edge-mates : (h : ℕ) → h < length l → edgeBy (mates S l) h ≡ edge S l h
   unfolding edgeBy edge
   edge-mates h k =
       ap (λ (m : ℕ). count (metBy (mates S l)) (min h m)) (getD-mates S l h k)
       ∙ count-cong (metBy (mates S l)) (firstMet S l) (min h (mate S l h)) (λ g b. met-mates g (omega arith))
 
-  pub paired-mates : (v : ℕ) → Oriented S v l → Paired (mates S l)
+  paired-mates : (v : ℕ) → Oriented S v l → Paired (mates S l)
   paired-mates v ok =
       let n = length-mates S l in
       record {
@@ -53,7 +53,7 @@ module _ (S : Shape) (l : List ℕ) where
 
   -- a table that starts with the mates of the net
   module _ (w : List ℕ) (r : length l ≤ length w) (f : (g : ℕ) → g < length l → getD w g 0 ≡ mate S l g) where
-    pub take-is-mates : take (length l) w ≡ mates S l
+    take-is-mates : take (length l) w ≡ mates S l
     take-is-mates =
         let a = length-mates S l in
         let b = length-take-le (length l) w r in

@@ -58,7 +58,7 @@ module _ (l : List ℕ) (h flag : ℕ) where
   entry-edge e b (wide c o g) = omega arith
   entry-edge e b (boundary c g) = omega arith
 
-  pub entry-place : (n e : ℕ) → e < wideFlag → Flagged l h flag → placeOf n (e + flag) ≡ pointPlace n e
+  entry-place : (n e : ℕ) → e < wideFlag → Flagged l h flag → placeOf n (e + flag) ≡ pointPlace n e
   unfolding placeOf
   entry-place n e b f = ap (pointPlace n) (entry-edge e b f)
 
@@ -77,7 +77,7 @@ classed-of l marks w at initial m c = record { room = c .room; ordinary = λ h b
 module _ (t : ℕ) where
   -- ---- what makes a stored number one over `edgeScale`
   module _ (l : List ℕ) (h flag : ℕ) where
-    pub flag-unit : Flagged l h flag → (flag ≡ wideFlag → ⊥) → unitOf (tension t) flag ≡ virtualScale (tension t)
+    flag-unit : Flagged l h flag → (flag ≡ wideFlag → ⊥) → unitOf (tension t) flag ≡ virtualScale (tension t)
     unfolding unitOf
     flag-unit (plain a b c e) n = ap (unitOf (tension t)) e
     flag-unit (wide a o e) n = absurd (n e)

@@ -35,7 +35,7 @@ use Rattle.edgetable.proofs.EdgeTable.{entry-edge, edge-few, edge-small
 
 -- ---- an entry tells what its edge is
 module _ (l : List ℕ) (h entry : ℕ) (few : edge quads l h < wideFlag) (o : Entry l h entry) where
-  pub entry-inner : ltb entry boundaryFlag ≡ ltb (mate quads l h) (length l)
+  entry-inner : ltb entry boundaryFlag ≡ ltb (mate quads l h) (length l)
   entry-inner = go (o .flagged)
     where
       go : Flagged l h (o .flag) → ltb entry boundaryFlag ≡ ltb (mate quads l h) (length l)
@@ -43,7 +43,7 @@ module _ (l : List ℕ) (h entry : ℕ) (few : edge quads l h < wideFlag) (o : E
       go (wide m x e) = let q = o .is in lt-ltb entry boundaryFlag (omega arith) ∙ sym (lt-ltb (mate quads l h) (length l) m)
       go (boundary m e) = let q = o .is in le-ltb entry boundaryFlag (omega arith) ∙ sym (le-ltb (mate quads l h) (length l) (omega arith))
 
-  pub entry-plain : entry < wideFlag → (mate quads l h < length l) × Ordinary l (from l h) × Ordinary l (to quads l h)
+  entry-plain : entry < wideFlag → (mate quads l h < length l) × Ordinary l (from l h) × Ordinary l (to quads l h)
   entry-plain b = go (o .flagged)
     where
       go : Flagged l h (o .flag) → (mate quads l h < length l) × Ordinary l (from l h) × Ordinary l (to quads l h)

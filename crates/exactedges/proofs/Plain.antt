@@ -75,14 +75,14 @@ far-by t false o k = far-at t o k
 
 -- ---- straight across
 module _ (v : ℕ) (l : List ℕ) (ok : Manifold quads v l) (h : ℕ) (k : h < length l) (m : mate quads l h < length l) (o : Ordinary l (from l h)) (g : ℕ) (eg : g ≡ turn quads l h) where
-  pub straight-is : (e : ℕ → ℤ) → straight l e h ≡ cond (ltb g (length l)) (e (from l (quads .prev g))) (mirror (e (from l h)) (e (to quads l h)))
+  straight-is : (e : ℕ → ℤ) → straight l e h ≡ cond (ltb g (length l)) (e (from l (quads .prev g))) (mirror (e (from l h)) (e (to quads l h)))
   unfolding turn
   straight-is e = straight-read v l ok h k m e o ∙ ap (λ (i : ℕ). cond (ltb i (length l)) (e (from l (quads .prev i))) (mirror (e (from l h)) (e (to quads l h)))) (sym eg)
 
-  pub straight-vertex : g < length l → (e : ℕ → ℤ) → straight l e h ≡ e (from l (quads .prev g))
+  straight-vertex : g < length l → (e : ℕ → ℤ) → straight l e h ≡ e (from l (quads .prev g))
   straight-vertex b e = let t = lt-ltb g (length l) b in straight-is e ∙ ap (λ (c : Bool). cond c (e (from l (quads .prev g))) (mirror (e (from l h)) (e (to quads l h)))) t
 
-  pub straight-mirror : length l ≤ g → (e : ℕ → ℤ) → straight l e h ≡ mirror (e (from l h)) (e (to quads l h))
+  straight-mirror : length l ≤ g → (e : ℕ → ℤ) → straight l e h ≡ mirror (e (from l h)) (e (to quads l h))
   straight-mirror b e = let t = le-ltb g (length l) b in straight-is e ∙ ap (λ (c : Bool). cond c (e (from l (quads .prev g))) (mirror (e (from l h)) (e (to quads l h)))) t
 
   pub far-vertex : g < length l → (r : ℕ) → r ≡ from l (quads .prev g) → StraightFar l h (At r)

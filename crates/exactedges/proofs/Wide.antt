@@ -62,7 +62,7 @@ module _ (t : ℕ) (low : t ≤ 4) where
 
   -- ---- virtual points in whole numbers
   module _ (v : ℕ) (l : List ℕ) (ok : Manifold quads v l) (e : ℕ → ℤ) (h : ℕ) (k : h < length l) where
-    pub straight-virtual : mate quads l h < length l → Ordinary l (from l h) → pos (virtualScale (tension t)) *ℤ straight l e h ≡ virtualAtZ (tension t) l e h
+    straight-virtual : mate quads l h < length l → Ordinary l (from l h) → pos (virtualScale (tension t)) *ℤ straight l e h ≡ virtualAtZ (tension t) l e h
     straight-virtual m o =
         equals-one (pos (virtualScale (tension t)) *ℤ straight l e h) (virtualAtZ (tension t) l e h)
         (equals-cong refl (mul-one (virtualScale (tension t))) (equals-scaled (virtualScale (tension t)) (virtual-ordinary (tension t) (omega arith) v l ok e h k m o))) (equals-virtualAt (tension t) (omega arith) v l ok e h k)

@@ -30,7 +30,7 @@ use Rattle.extrapolation.specs.Exact.{Extrapolated, extrapolatedOn}
 use Rattle.ringsums.proofs.Sums.{farOf}
 
 module _ (v : ℕ) (l : List ℕ) (ok : Manifold quads v l) (s : ℕ) (o : OnBoundary quads l s) where
-  pub starts : boundaryFrom quads l (from l s) ≡ s
+  starts : boundaryFrom quads l (from l s) ≡ s
   starts = boundaryFrom-is quads v l ok (from l s) s o refl
 
   -- the ends of a fan's edges are those of its half-edges
@@ -40,7 +40,7 @@ module _ (v : ℕ) (l : List ℕ) (ok : Manifold quads v l) (s : ℕ) (o : OnBou
   end-inside (suc i) b = sym (turn-to quads v l (ok .oriented) (turns quads l i s) (fan-from quads v l ok s o .walk .inside (suc i) b))
 
   -- it is within three times the largest coordinate
-  pub extrapolated-size : (t : List ℤ) → Within coordinateRange t → (a : ℕ) → natAbs (extrapolatedOn l t s a) ≤ extrapolatedRange
+  extrapolated-size : (t : List ℤ) → Within coordinateRange t → (a : ℕ) → natAbs (extrapolatedOn l t s a) ≤ extrapolatedRange
   extrapolated-size t b a =
       let e = starts in
       let q : boundaryFrom quads l (from l s) < length l = rw e (o .lt) in

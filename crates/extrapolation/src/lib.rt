@@ -86,7 +86,11 @@ fn extrapolated_on(
         );
     }
     let r = m - 1;
-    reflected(p, ringsums::far_sum(points, l, r, a), EXTRAPOLATED_SHARES / r)
+    reflected(
+        p,
+        ringsums::far_sum(points, l, r, a),
+        EXTRAPOLATED_SHARES / r,
+    )
 }
 
 // The same on all axes.
@@ -110,7 +114,12 @@ pub fn extrapolated_from(
 }
 
 // The extrapolated point of the vertex that the boundary half-edge s leaves.
-pub fn extrapolated_point(points: &[i32], faces: &[u32], work: &[u32], s: usize) -> coordinates::Exact
+pub fn extrapolated_point(
+    points: &[i32],
+    faces: &[u32],
+    work: &[u32],
+    s: usize,
+) -> coordinates::Exact
     requires { ⌜ Ready (now faces) (now work) ⌝ }
     requires { ⌜ Points (now faces) (now points) × OnBoundary quads (now faces) s ⌝ }
     ensures { λ r. ⌜ OnAxes (extrapolatedOn (now (faces .entry)) (now (points .entry)) s) (r .x) (r .y) (r .z) ⌝ }

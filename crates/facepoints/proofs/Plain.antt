@@ -115,7 +115,7 @@ module _ (t : ℕ) where
           small = rw i (omega arith);
         }
 
-    pub plain-edge : (h entry : ℕ) → FaceTable t n w → h < n → entry ≡ entryOf n w h → entry < wideFlag → PlainEdge n w entry
+    plain-edge : (h entry : ℕ) → FaceTable t n w → h < n → entry ≡ entryOf n w h → entry < wideFlag → PlainEdge n w entry
     plain-edge h entry ok lt i k =
         let b = ok .entries .numbers h lt in
         let e : pointPlace n entry + 2 * 0 ≡ pointPlace n entry = omega arith in

@@ -1,2 +1,2 @@
-pub mod Lines
+mod Lines
 pub mod PlainFamily

@@ -1,2 +1,2 @@
-pub mod Line
+mod Line
 pub mod Going

@@ -1,2 +1,2 @@
-pub mod Letters
-pub mod Boundary
+mod Letters
+mod Boundary

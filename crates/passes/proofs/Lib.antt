@@ -1,3 +1,3 @@
-pub mod FacePass
+mod FacePass
 pub mod FamilyTable
-pub mod Turns
+mod Turns

@@ -111,7 +111,7 @@ pub far-small : (t : List ℤ) (a : ℕ) (L : List ℕ) (m : ℕ) → Within coo
 far-small t a L m b = abs-sum m (farOf t a L) coordinateRange (λ i c. axis-bound t a (getD L (i + 1) 0) b)
 
 -- ---- the weights of the row
-pub weighed-row : (weights : Weights) (n d : ℕ) (x y : ℤ) → d < n → n ≤ 8 → weighed (row weights n) d x y ≡ weightL weights n d *ℤ x +ℤ weightK weights n d *ℤ y
+weighed-row : (weights : Weights) (n d : ℕ) (x y : ℤ) → d < n → n ≤ 8 → weighed (row weights n) d x y ≡ weightL weights n d *ℤ x +ℤ weightK weights n d *ℤ y
 weighed-row weights n d x y b k = ap₂ (λ (u v : ℤ). u *ℤ x +ℤ v *ℤ y) (row-l weights n d b k) (row-k weights n d b k)
 
 -- a scaled sum is the sum of scaled values

@@ -1,3 +1,3 @@
 pub mod Faces
-pub mod Marks
+mod Marks
 pub mod Round

@@ -13,7 +13,7 @@ use Rattle.tables.specs.Tables.{filled}
 use Rattle.roundfaces.specs.Faces.{extended}
 
 module _ (v count : ℕ) (marks : List ℕ) where
-  pub length-extended : length (extended v count marks) ≡ count
+  length-extended : length (extended v count marks) ≡ count
   unfolding extended
   length-extended = length-tabulate count (λ (p : ℕ). cond (ltb p v) (getD marks p 0) 0)
 

@@ -1,2 +1,2 @@
-pub mod InPlace
+mod InPlace
 pub mod Round

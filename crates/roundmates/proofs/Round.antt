@@ -31,7 +31,7 @@ mates-front l w r t =
     ext-getD 0 (take (length l) w) (mates quads l) (a ∙ sym b) (λ k h. getD-take (length l) w k 0 (omega arith) ∙ t .mates k (omega arith) ∙ sym (getD-mates quads l k (omega arith)))
 
 -- mates refined in place are the mates of the refined net
-pub refined-mates : (v : ℕ) (l w : List ℕ) → Oriented quads v l → length l ≤ length w → MateTable l w → refinedMates quads (take (length l) w) ≡ mates quads (refined quads v l)
+refined-mates : (v : ℕ) (l w : List ℕ) → Oriented quads v l → length l ≤ length w → MateTable l w → refinedMates quads (take (length l) w) ≡ mates quads (refined quads v l)
 refined-mates v l w ok r t = ap (refinedMates quads) (mates-front l w r t) ∙ sym (mates-refined quads v l ok)
 
 pub mated-refined : (v : ℕ) (l w : List ℕ) → Oriented quads v l → length l ≤ length w → MateTable l w → MateTable (refined quads v l) (filled (refinedMates quads (take (length l) w)) w)

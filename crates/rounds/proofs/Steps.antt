@@ -46,7 +46,7 @@ filled-self : {A : Type 0} (n : ℕ) (d : List A) → n ≤ length d → d ≡ f
 unfolding filled
 filled-self n d h = rw (length-take-le n d h) (sym (take-append-drop n d))
 
-pub next-size : (n i : ℕ) → n * 4 ^ (i + 1) ≡ 4 * (n * 4 ^ i)
+next-size : (n i : ℕ) → n * 4 ^ (i + 1) ≡ 4 * (n * 4 ^ i)
 next-size n i =
     let q : i + 1 ≡ suc i = omega arith in
     ap (λ (x : ℕ). n * 4 ^ x) q ∙ ap (λ (x : ℕ). n * x) (pow-suc 4 i) ∙ sym (mul-assoc n (4 ^ i) 4) ∙ mul-comm (n * 4 ^ i) 4
@@ -118,7 +118,7 @@ module _ (t k v n last : ℕ) (B : Buffers) (ok : Prepared t k v n last B) where
   vertices-here : length (m .marks) ≡ v
   vertices-here = let o = once in let q = ok .vertices in let r = ok .roomMarks in length-take-le v marks (omega arith)
 
-  pub manifold-here : Manifold quads v (take n faces)
+  manifold-here : Manifold quads v (take n faces)
   manifold-here = subst (λ (j : ℕ). Manifold quads j (take n faces)) vertices-here (refinable-manifold m (ok .refinable))
 
   pub classes-none : RingSizes v (8 * last) (take n faces) w → Classes v (8 * last) v (steps (tension t) 0 m .faces) w

@@ -26,7 +26,7 @@ pub end : (t : ℕ → Bool) (n i : ℕ) → i ≤ n → n ≤ i → ((k : ℕ) 
 end t n i h g f = let e : i ≡ n = omega arith in e ∙ sym (first-none t n (λ j k u. clash (t j) u (f j (omega arith))))
 
 -- a longer search that ends early is the shorter one
-pub first-shorter : (t : ℕ → Bool) (m n : ℕ) → m ≤ n → first t n < m → first t m ≡ first t n
+first-shorter : (t : ℕ → Bool) (m n : ℕ) → m ≤ n → first t n < m → first t m ≡ first t n
 first-shorter t m n h k = first-is t m (first t n) k (first-holds t n (omega arith)) (λ j l. first-before t n j l)
 
 -- ---- one more number

@@ -1,1 +1,1 @@
-pub mod Rings
+mod Rings

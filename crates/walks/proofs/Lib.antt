@@ -1,3 +1,3 @@
 pub mod Around
-pub mod Unwinding
-pub mod Winding
+mod Unwinding
+mod Winding
