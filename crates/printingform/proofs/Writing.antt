@@ -15,7 +15,7 @@ use Rattle.tables.specs.Tables.{filled}
 use Rattle.decimalform.specs.Stored.{Stored}
 use Rattle.decimalform.proofs.Writing.{stored-then}
 use Rattle.textform.specs.Bytes.{bytes}
-use Rattle.textform.specs.Form.{Vertex, namesText, corners}
+use Rattle.textform.specs.Form.{Vertex, cornerNames}
 use Rattle.textform.specs.Text.{field, texts, pairText, numbersText, columnsText, endText, letteredText, faceText, answerText}
 use Rattle.printingform.specs.Tables.{vertexAt, letteredAt, faceAt, letteredOf, facesOf, tablesText, endRoom, roomFor}
 use Rattle.printingform.specs.Lines.{Printed, Written}
@@ -89,7 +89,7 @@ at-front d o r s m most w h k =
 -- the answer has the counts that were given
 pub answer-is : (rule : Bool) (v f : ℕ) (vs : List ℤ) (fs ms ls : List ℕ)
     → tablesText rule v f vs fs ms ls
-    ≡ bytes "vertices faces\n" ++ pairText v f ++ columnsText rule ++ texts (letteredText rule) (letteredOf v vs ms ls) ++ namesText corners ++ texts faceText (facesOf f fs)
+    ≡ bytes "vertices faces\n" ++ pairText v f ++ columnsText rule ++ texts (letteredText rule) (letteredOf v vs ms ls) ++ cornerNames tt ++ texts faceText (facesOf f fs)
 unfolding answerText letteredOf facesOf
 answer-is rule v f vs fs ms ls = rw (length-tabulate v (letteredAt vs ms ls), length-tabulate f (faceAt fs))
 
@@ -112,7 +112,7 @@ tables-same rule v f vs us fs gs ms ns ls ks hv hf hl =
     let a = texts-same (letteredText rule) v (letteredAt vs ms ls) (letteredAt us ns ks) (λ i b. line-same rule (vertexAt vs ms i) (vertexAt us ns i) (getD ls i 0) (getD ks i 0) (hv i b) (λ e. hl e i b)) in
     let b = texts-same faceText f (faceAt fs) (faceAt gs) (λ i b. ap faceText (hf i b)) in
     answer-is rule v f vs fs ms ls
-    ∙ ap₂ (λ (s t : List ℕ). bytes "vertices faces\n" ++ pairText v f ++ columnsText rule ++ s ++ namesText corners ++ t) a b
+    ∙ ap₂ (λ (s t : List ℕ). bytes "vertices faces\n" ++ pairText v f ++ columnsText rule ++ s ++ cornerNames tt ++ t) a b
     ∙ sym (answer-is rule v f us gs ns ks)
 
 -- Paper 01: "Its tables serve G up to 256 and V up to 1,024": a buffer of 54,355 bytes holds every answer and every refusal

@@ -8,7 +8,7 @@ use lib.Seq.{drop-drop}
 use borrow.Author.Tests.{eq-eqb, ne-eqb}
 use Rattle.decimalform.specs.Decimal.{Read, found, bad}
 use Rattle.decimal.proofs.Reading.{part-rest}
-use Rattle.textform.specs.Form.{Head, Vertex, Face, Net, corners, Rows, rows, readVertex, readFace, readNames, only, isCorners, parsed, badLine, lines, ended, parseBody}
+use Rattle.textform.specs.Form.{Head, Vertex, Face, Net, Rows, rows, readVertex, readFace, readCornerNames, parsed, badLine, lines, ended, parseBody}
 use Rattle.reading.specs.declared.Block.{Block}
 use Rattle.reading.specs.Answers.{Counted}
 
@@ -52,14 +52,14 @@ module _ (h : Head) (m : List ℕ) where
   unfolding parseBody
   body-vertex e = rw (lines-some 4 (h .counts .vertices) (vertex-rows h m) e)
 
-  pub body-names : length (vertex-rows h m .values) ≡ h .counts .vertices → only isCorners (readNames (vertex-rows h m .rest)) ≡ bad → badLine (4 + h .counts .vertices) ≡ parseBody h m
+  pub body-names : length (vertex-rows h m .values) ≡ h .counts .vertices → readCornerNames (vertex-rows h m .rest) ≡ bad → badLine (4 + h .counts .vertices) ≡ parseBody h m
   unfolding parseBody
   body-names all e = rw (lines-all 4 (h .counts .vertices) (vertex-rows h m) all, e)
 
 -- the vertex lines and the names are good, and j is left
 pub record NamesRead (h : Head) (m j : List ℕ) : Type 0 where
   pub all : length (vertex-rows h m .values) ≡ h .counts .vertices
-  pub names : readNames (vertex-rows h m .rest) ≡ found corners j
+  pub names : readCornerNames (vertex-rows h m .rest) ≡ found tt j
 
 module _ {h : Head} {m j : List ℕ} (r : NamesRead h m j) where
   pub body-face : (length (face-rows h j .values) ≡ h .counts .faces → ⊥) → badLine (5 + h .counts .vertices + length (face-rows h j .values)) ≡ parseBody h m

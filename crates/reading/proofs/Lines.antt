@@ -1,6 +1,6 @@
 -- Reading lines one after another: what is left to read after each turn. Assumes nothing.
 use mathlib.Core.Path.{_≡_, refl, sym, _∙_}
-use mathlib.Core.List.{List, [], _∷_}
+use mathlib.Core.List.{List}
 use Prim.Native.Nat.{ℕ, zero, suc, _+_, _-_, _≤_, _<_}
 use native.Mathlib.Omega.{arith}
 use lib.ListN.{length, take, drop}
@@ -8,13 +8,7 @@ use lib.Seq.{drop-drop}
 use Rattle.decimalform.specs.Decimal.{Read, found, bad}
 use Rattle.decimal.specs.Answers.{Gives}
 use Rattle.decimal.proofs.Reading.{says-at, took-at}
-use types.Run.{OneOf, miss}
-use denote.Enum.Declared.{tagOf}
-use Rattle.textform.specs.Form.{rows, rowsAfter, noRows, oneMore, only, isInput, isCorners, readNames}
-use Rattle.text.specs.Answers.{namesOf, namesUsed}
-use Rattle.text.specs.declared.NamesLine.{NamesLine}
-use Rattle.text.specs.declared.NamesLine.the-variants as names
-use Rattle.text.proofs.NamesLine as generated
+use Rattle.textform.specs.Form.{rows, rowsAfter, noRows, oneMore}
 use Rattle.reading.specs.Answers.{Counted}
 
 module _ {A : Type 0} (read : List ℕ → Read A) where
@@ -87,25 +81,3 @@ pub record LineAt {R A : Type 0} (of : R → List ℕ → Read A) (used : R → 
 pub line-at : {R A : Type 0} {of : R → List ℕ → Read A} {used : R → ℕ} {r q : R} (read : List ℕ → Read A) (l : List ℕ) (at : ℕ)
     → Gives of used r (take (length l - at) (drop at l)) (read (take (length l - at) (drop at l))) → r ≡ q → at ≤ length l → LineAt of used read l at q
 line-at read l at g e h = record { reads = says-at read l at g e; within = took-at read l at g e h }
-
--- ---- lines of other names
-not-input-tag : (r : NamesLine) (l : List ℕ) → OneOf (1 ∷ 2 ∷ 3 ∷ 4 ∷ []) (tagOf generated.the-type r) → only isInput (namesOf r l) ≡ bad
-not-input-tag (names.Input r n) l h = absurd (miss (1 ∷ 2 ∷ 3 ∷ 4 ∷ []) 0 tt h)
-not-input-tag (names.Marked n) l h = refl
-not-input-tag (names.Unmarked n) l h = refl
-not-input-tag (names.Corners n) l h = refl
-not-input-tag names.Other l h = refl
-
-pub not-input : (r : NamesLine) (l : List ℕ) → Gives namesOf namesUsed r l (readNames l) → OneOf (1 ∷ 2 ∷ 3 ∷ 4 ∷ []) (tagOf generated.the-type r) → only isInput (readNames l) ≡ bad
-not-input r l e h = rw (← e .reads) (not-input-tag r l h)
-
-not-corners : (r : NamesLine) (l : List ℕ) → OneOf (0 ∷ 1 ∷ 2 ∷ 4 ∷ []) (tagOf generated.the-type r) → only isCorners (namesOf r l) ≡ bad
-not-corners (names.Input r n) l h = refl
-not-corners (names.Marked n) l h = refl
-not-corners (names.Unmarked n) l h = refl
-not-corners (names.Corners n) l h = absurd (miss (0 ∷ 1 ∷ 2 ∷ 4 ∷ []) 3 tt h)
-not-corners names.Other l h = refl
-
-pub not-corners-at : (l : List ℕ) (a : ℕ) (r : NamesLine) → Gives namesOf namesUsed r (take (length l - a) (drop a l)) (readNames (take (length l - a) (drop a l)))
-    → OneOf (0 ∷ 1 ∷ 2 ∷ 4 ∷ []) (tagOf generated.the-type r) → only isCorners (readNames (drop a l)) ≡ bad
-not-corners-at l a r e h = rw (says-at readNames l a e refl) (not-corners r (drop a l) h)

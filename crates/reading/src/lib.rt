@@ -1,8 +1,9 @@
 // A net read from a text in two passes: the first decides refusal 13 and finds where the lines stand, the second stores them.
 use limits::Lengths;
+use text::ColumnsLine;
 use text::CountsLine;
 use text::FaceLine;
-use text::NamesLine;
+use text::InputLine;
 use text::VertexLine;
 ghost use mathlib.Core.Path.{_≡_};
 ghost use Prim.Native.Nat.{_*_, _≤_, _<_};
@@ -111,7 +112,7 @@ fn count_faces(text: &[u8], count: usize) -> Block
 fn check_head(text: &[u8]) -> HeadLines
     ensures { λ r. ⌜ Gives headOf headUsed r (now (text .entry)) (parseHead (now (text .entry))) ⌝ }
 {
-    let NamesLine::Input { rule, used: i } = text::read_names(text) else {
+    let InputLine::Input { rule, used: i } = text::read_input(text) else {
         return HeadLines::Bad(1);
     };
     let CountsLine::Counts {
@@ -124,8 +125,8 @@ fn check_head(text: &[u8]) -> HeadLines
         return HeadLines::Bad(2);
     };
     let j = i + used;
-    match text::read_names(&text[j..]) {
-        NamesLine::Marked(n) => HeadLines::Head {
+    match text::read_columns(&text[j..]) {
+        ColumnsLine::Marked(n) => HeadLines::Head {
             vertices,
             faces,
             rounds,
@@ -133,7 +134,7 @@ fn check_head(text: &[u8]) -> HeadLines
             marks: true,
             used: j + n,
         },
-        NamesLine::Unmarked(n) => HeadLines::Head {
+        ColumnsLine::Unmarked(n) => HeadLines::Head {
             vertices,
             faces,
             rounds,
@@ -141,9 +142,7 @@ fn check_head(text: &[u8]) -> HeadLines
             marks: false,
             used: j + n,
         },
-        NamesLine::Input { rule: _, used: _ } => HeadLines::Bad(3),
-        NamesLine::Corners(_) => HeadLines::Bad(3),
-        NamesLine::Other => HeadLines::Bad(3),
+        ColumnsLine::Bad => HeadLines::Bad(3),
     }
 }
 
@@ -166,10 +165,10 @@ fn check_body(
         return BodyLines::Bad(4 + vs.good);
     }
     let i = at + vs.used;
-    let NamesLine::Corners(n) = text::read_names(&text[i..]) else {
+    if !text::starts_with(&text[i..], b"a b c d\n") {
         return BodyLines::Bad(4 + v);
-    };
-    let j = i + n;
+    }
+    let j = i + 8;
     let fs = count_faces(&text[j..], f);
     if fs.good != f {
         return BodyLines::Bad(5 + v + fs.good);

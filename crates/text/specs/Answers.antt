@@ -1,11 +1,14 @@
 -- What the answers of the line readers say of a text l: the values, and how many bytes of l they took.
+use mathlib.Core.Bool.{Bool}
 use mathlib.Core.List.{List}
 use Prim.Native.Nat.{ℕ}
 use lib.ListN.{drop}
 use Rattle.decimalform.specs.Decimal.{Read, found, bad}
-use Rattle.textform.specs.Form.{Names, input, marked, unmarked, corners, Counts, Vertex, Face}
-use Rattle.text.specs.declared.NamesLine.{NamesLine}
-use Rattle.text.specs.declared.NamesLine.the-variants as names
+use Rattle.textform.specs.Form.{Columns, marked, unmarked, Counts, Vertex, Face}
+use Rattle.text.specs.declared.InputLine.{InputLine}
+use Rattle.text.specs.declared.InputLine.the-variants as input
+use Rattle.text.specs.declared.ColumnsLine.{ColumnsLine}
+use Rattle.text.specs.declared.ColumnsLine.the-variants as columns
 use Rattle.text.specs.declared.CountsLine.{CountsLine}
 use Rattle.text.specs.declared.CountsLine.the-variants as counts
 use Rattle.text.specs.declared.VertexLine.{VertexLine}
@@ -13,19 +16,23 @@ use Rattle.text.specs.declared.VertexLine.the-variants as vertex
 use Rattle.text.specs.declared.FaceLine.{FaceLine}
 use Rattle.text.specs.declared.FaceLine.the-variants as face
 
-abbrev pub namesOf : NamesLine → List ℕ → Read Names
-namesOf (names.Input r n) l = found (input r) (drop n l)
-namesOf (names.Marked n) l = found marked (drop n l)
-namesOf (names.Unmarked n) l = found unmarked (drop n l)
-namesOf (names.Corners n) l = found corners (drop n l)
-namesOf names.Other l = bad
+abbrev pub inputOf : InputLine → List ℕ → Read Bool
+inputOf (input.Input r n) l = found r (drop n l)
+inputOf input.Bad l = bad
 
-abbrev pub namesUsed : NamesLine → ℕ
-namesUsed (names.Input r n) = n
-namesUsed (names.Marked n) = n
-namesUsed (names.Unmarked n) = n
-namesUsed (names.Corners n) = n
-namesUsed names.Other = 0
+abbrev pub inputUsed : InputLine → ℕ
+inputUsed (input.Input r n) = n
+inputUsed input.Bad = 0
+
+abbrev pub columnsOf : ColumnsLine → List ℕ → Read Columns
+columnsOf (columns.Marked n) l = found marked (drop n l)
+columnsOf (columns.Unmarked n) l = found unmarked (drop n l)
+columnsOf columns.Bad l = bad
+
+abbrev pub columnsUsed : ColumnsLine → ℕ
+columnsUsed (columns.Marked n) = n
+columnsUsed (columns.Unmarked n) = n
+columnsUsed columns.Bad = 0
 
 abbrev pub countsOf : CountsLine → List ℕ → Read Counts
 countsOf (counts.Counts v f k n) l = found (record { vertices = v; faces = f; rounds = k }) (drop n l)

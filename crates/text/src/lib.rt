@@ -5,16 +5,20 @@ ghost use mathlib.Core.Path.{_≡_};
 ghost use Prim.Native.Nat.{_≤_};
 ghost use lib.ListN.{length, drop};
 ghost use Rattle.decimal.specs.Answers.{Gives, GivesNumber, GivesInteger};
-ghost use Rattle.textform.specs.Form.{startsWith, readNames, coordinate, natural, readCounts, readVertex, readFace};
-ghost use Rattle.text.specs.Answers.{namesOf, namesUsed, countsOf, countsUsed, vertexOf, vertexUsed, faceOf, faceUsed};
+ghost use Rattle.textform.specs.Form.{startsWith, readInput, readColumns, coordinate, natural, readCounts, readVertex, readFace};
+ghost use Rattle.text.specs.Answers.{inputOf, inputUsed, columnsOf, columnsUsed, countsOf, countsUsed, vertexOf, vertexUsed, faceOf, faceUsed};
 
-// The first line with the word `rule` or without it; the names of the columns; those of the corners.
-pub enum NamesLine {
+// The first line, with the word `rule` or without it.
+pub enum InputLine {
     Input { rule: bool, used: usize },
+    Bad,
+}
+
+// The names of the columns, with `corner` or without it.
+pub enum ColumnsLine {
     Marked(usize),
     Unmarked(usize),
-    Corners(usize),
-    Other,
+    Bad,
 }
 
 pub enum CountsLine {
@@ -65,32 +69,35 @@ pub fn starts_with(text: &[u8], s: &[u8]) -> bool
     true
 }
 
-// A line of names, with its newline.
-pub fn read_names(text: &[u8]) -> NamesLine
-    ensures { λ r. ⌜ Gives namesOf namesUsed r (now (text .entry)) (readNames (now (text .entry))) ⌝ }
+// Lines of names, with their newlines.
+pub fn read_input(text: &[u8]) -> InputLine
+    ensures { λ r. ⌜ Gives inputOf inputUsed r (now (text .entry)) (readInput (now (text .entry))) ⌝ }
 {
     if starts_with(text, b"vertices faces rounds\n") {
-        return NamesLine::Input {
+        return InputLine::Input {
             rule: false,
             used: 22,
         };
     }
     if starts_with(text, b"vertices faces rounds rule\n") {
-        return NamesLine::Input {
+        return InputLine::Input {
             rule: true,
             used: 27,
         };
     }
+    InputLine::Bad
+}
+
+pub fn read_columns(text: &[u8]) -> ColumnsLine
+    ensures { λ r. ⌜ Gives columnsOf columnsUsed r (now (text .entry)) (readColumns (now (text .entry))) ⌝ }
+{
     if starts_with(text, b"x y z corner\n") {
-        return NamesLine::Marked(13);
+        return ColumnsLine::Marked(13);
     }
     if starts_with(text, b"x y z\n") {
-        return NamesLine::Unmarked(6);
+        return ColumnsLine::Unmarked(6);
     }
-    if starts_with(text, b"a b c d\n") {
-        return NamesLine::Corners(8);
-    }
-    NamesLine::Other
+    ColumnsLine::Bad
 }
 
 // The number at `at` and the byte `end` after it; the answer's length counts from the start of the line.

@@ -10,7 +10,7 @@ use borrow.Author.Tests.{eq-eqb}
 use Rattle.decimalform.specs.Decimal.{Read, found, isDigit, naturalText, integerText}
 use Rattle.decimalform.proofs.Back.{natural-back, integer-back}
 use Rattle.textform.specs.Bytes.{bytes}
-use Rattle.textform.specs.Form.{Counts, Vertex, Face, Net, Names, input, marked, unmarked, corners, namesText, isColumns, isMarked, readNames, endedBy, coordinate, natural, readCounts, readVertex, readFace, rows, parsed, parseHead, parseBody, parse}
+use Rattle.textform.specs.Form.{Counts, Vertex, Face, Net, inputNames, Columns, marked, unmarked, columnNames, hasMark, cornerNames, readNames, readInput, readColumns, readCornerNames, endedBy, coordinate, natural, readCounts, readVertex, readFace, rows, parsed, parseHead, parseBody, parse}
 use Rattle.textform.specs.Text.{countsText, numbersText, vertexText, pointText, faceText, texts, netText, unmarkedText}
 use Rattle.textform.specs.Written.{CountsFit, VertexFits, PointFits, FaceFits, Each, NetFits}
 
@@ -28,13 +28,19 @@ module _ (e : ℕ) (d : isDigit e ≡ false) where
   integer-field z rest h = ap (endedBy e) (integer-back z (e ∷ rest) h (record { none = d })) ∙ ends e z rest
 
 -- ---- lines
-pub names-back : (n : Names) (rest : List ℕ) → readNames (namesText n ++ rest) ≡ found n rest
+pub input-back : (r : Bool) (rest : List ℕ) → readInput (inputNames r ++ rest) ≡ found r rest
 unfolding readNames bytes
-names-back (input false) rest = refl
-names-back (input true) rest = refl
-names-back marked rest = refl
-names-back unmarked rest = refl
-names-back corners rest = refl
+input-back false rest = refl
+input-back true rest = refl
+
+columns-back : (c : Columns) (rest : List ℕ) → readColumns (columnNames c ++ rest) ≡ found c rest
+unfolding readNames bytes
+columns-back marked rest = refl
+columns-back unmarked rest = refl
+
+corners-back : (rest : List ℕ) → readCornerNames (cornerNames tt ++ rest) ≡ found tt rest
+unfolding readNames bytes
+corners-back rest = refl
 
 pub counts-back : (n : Counts) (rest : List ℕ) → CountsFit n → readCounts (countsText n ++ rest) ≡ found n rest
 unfolding readCounts countsText
@@ -69,46 +75,46 @@ rows-back read text back (v ∷ vs) rest h =
     rw (append-assoc (text v) (texts text vs) rest, back v (h .0) (texts text vs ++ rest), rows-back read text back vs rest (h .1))
 
 -- ---- the whole text, with the columns c
-module _ (c : Names) (is : isColumns c ≡ true) where
+module _ (c : Columns) where
   head-back : (r : Bool) (n : Counts) (rest : List ℕ) → CountsFit n
-      → parseHead (namesText (input r) ++ (countsText n ++ (namesText c ++ rest))) ≡ parsed (record { rule = r; counts = n; marks = isMarked c }) rest
+      → parseHead (inputNames r ++ (countsText n ++ (columnNames c ++ rest))) ≡ parsed (record { rule = r; counts = n; marks = hasMark c }) rest
   unfolding parseHead
-  head-back r n rest h = rw (names-back (input r) (countsText n ++ (namesText c ++ rest)), counts-back n (namesText c ++ rest) h, names-back c rest, is)
+  head-back r n rest h = rw (input-back r (countsText n ++ (columnNames c ++ rest)), counts-back n (columnNames c ++ rest) h, columns-back c rest)
 
-  module _ {P : Vertex → Type 0} (text : Vertex → List ℕ) (back : (v : Vertex) → P v → (rest : List ℕ) → readVertex (isMarked c) (text v ++ rest) ≡ found v rest)
+  module _ {P : Vertex → Type 0} (text : Vertex → List ℕ) (back : (v : Vertex) → P v → (rest : List ℕ) → readVertex (hasMark c) (text v ++ rest) ≡ found v rest)
       (n : Net) (h : NetFits n) (fit : Each P (n .vertices)) where
-    body-back : parseBody (record { rule = n .rule; counts = n .counts; marks = isMarked c }) (texts text (n .vertices) ++ (namesText corners ++ (texts faceText (n .faces) ++ []))) ≡ parsed n []
+    body-back : parseBody (record { rule = n .rule; counts = n .counts; marks = hasMark c }) (texts text (n .vertices) ++ (cornerNames tt ++ (texts faceText (n .faces) ++ []))) ≡ parsed n []
     unfolding parseBody
     body-back =
-        let k = namesText corners ++ (texts faceText (n .faces) ++ []) in
-        let a = rows-back (readVertex (isMarked c)) text back (n .vertices) k fit in
+        let k = cornerNames tt ++ (texts faceText (n .faces) ++ []) in
+        let a = rows-back (readVertex (hasMark c)) text back (n .vertices) k fit in
         let b = rows-back readFace faceText face-back (n .faces) [] (h .faces) in
         rw (
           ← (h .vertexCount),
           ← (h .faceCount),
           a,
           eq-eqb (length (n .vertices)) (length (n .vertices)) refl,
-          names-back corners (texts faceText (n .faces) ++ []),
+          corners-back (texts faceText (n .faces) ++ []),
           b,
           eq-eqb (length (n .faces)) (length (n .faces)) refl,
           h .vertexCount,
           h .faceCount,
         )
 
-    whole-back : parse ((namesText (input (n .rule)) ++ countsText (n .counts)) ++ namesText c ++ texts text (n .vertices) ++ namesText corners ++ texts faceText (n .faces)) ≡ parsed n []
+    whole-back : parse ((inputNames (n .rule) ++ countsText (n .counts)) ++ columnNames c ++ texts text (n .vertices) ++ cornerNames tt ++ texts faceText (n .faces)) ≡ parsed n []
     unfolding parse
     whole-back =
         let f = append-nil (texts faceText (n .faces)) in
         rw (← f)
         (simp append-assoc
-        (rw (head-back (n .rule) (n .counts) (texts text (n .vertices) ++ (namesText corners ++ (texts faceText (n .faces) ++ []))) (h .counts)) body-back))
+        (rw (head-back (n .rule) (n .counts) (texts text (n .vertices) ++ (cornerNames tt ++ (texts faceText (n .faces) ++ []))) (h .counts)) body-back))
 
 -- Reading what is written for a net gives that net back.
 pub net-back : (n : Net) → NetFits n → parse (netText n) ≡ parsed n []
 unfolding netText
-net-back n h = whole-back marked refl vertexText vertex-back n h (h .vertices)
+net-back n h = whole-back marked vertexText vertex-back n h (h .vertices)
 
 -- The same of a net without marks, written without them.
 pub unmarked-back : (n : Net) → NetFits n → Each PointFits (n .vertices) → parse (unmarkedText n) ≡ parsed n []
 unfolding unmarkedText
-unmarked-back n h fit = whole-back unmarked refl pointText point-back n h fit
+unmarked-back n h fit = whole-back unmarked pointText point-back n h fit

@@ -1,4 +1,4 @@
--- Reading lines: a text by its first bytes, a number with the byte after it. Assumes nothing.
+-- Reading lines: a text by its first bytes, a line of names, a number with the byte after it. Assumes nothing.
 use mathlib.Core.Path.{_≡_, refl, ap, _∙_}
 use mathlib.Core.Bool.{Bool, true, false, cond, _&&_}
 use mathlib.Core.List.{List, [], _∷_}
@@ -12,7 +12,7 @@ use lib.Seq.{drop-cons, drop-drop}
 use borrow.Author.Tests.{eq-eqb, ne-eqb}
 use Rattle.decimalform.specs.Decimal.{Read, found, bad, readNatural}
 use Rattle.decimalform.proofs.Reading.{natural-at-most}
-use Rattle.textform.specs.Form.{startsWith, endedBy, natural}
+use Rattle.textform.specs.Form.{startsWith, readNames, endedBy, natural}
 
 -- ---- a text that starts with s, one byte a turn
 module _ (s l : List ℕ) (i : ℕ) (h : i < length s) (k : i < length l) where
@@ -43,6 +43,20 @@ starts-length s l e = go (decLt (length l) (length s))
     go : Dec (length l < length s) → length s ≤ length l
     go (yes h) = let f = starts-short s l h in let z : _≡_ {A = ℕ} 0 1 = cc in absurd (omega arith)
     go (no h) = omega arith
+
+-- ---- a line of names: the text starts with that of the first meaning, or with a later one, or with none
+module _ {A : Type 0} (names : A → List ℕ) (m : A) (ms : List A) (l : List ℕ) where
+  pub names-here : startsWith (names m) l ≡ true → readNames names (m ∷ ms) l ≡ found m (drop (length (names m)) l)
+  unfolding readNames
+  names-here e = rw e
+
+  pub names-later : startsWith (names m) l ≡ false → readNames names (m ∷ ms) l ≡ readNames names ms l
+  unfolding readNames
+  names-later e = rw e
+
+pub names-none : {A : Type 0} (names : A → List ℕ) (l : List ℕ) → readNames names [] l ≡ bad
+unfolding readNames
+names-none names l = refl
 
 -- ---- the byte after a number that ends at s
 module _ {A : Type 0} (l : List ℕ) (s e : ℕ) (v : A) where

@@ -34,69 +34,51 @@ pub record Net : Type 0 where
   pub vertices : List Vertex
   pub faces : List Face
 
--- ---- lines of names
+-- ---- lines of names: the line for each meaning that it can have
 
--- Paper 02: "prints the letter as a last column named `rule` if the first input line reads `vertices faces rounds rule`": that line is `input true`
-pub data Names : Type 0 where
-  input : (rule : Bool) → Names
-  marked unmarked corners : Names
+-- Paper 02: "prints the letter as a last column named `rule` if the first input line reads `vertices faces rounds rule`"
+abbrev pub inputNames : (rule : Bool) → List ℕ
+inputNames false = bytes "vertices faces rounds\n"
+inputNames true = bytes "vertices faces rounds rule\n"
 
-abbrev pub namesText : Names → List ℕ
-namesText (input false) = bytes "vertices faces rounds\n"
-namesText (input true) = bytes "vertices faces rounds rule\n"
-namesText marked = bytes "x y z corner\n"
-namesText unmarked = bytes "x y z\n"
-namesText corners = bytes "a b c d\n"
+-- Paper 01: "`x y z` without `corner` means all marks 0"
+pub data Columns : Type 0 where
+  marked unmarked : Columns
+
+abbrev pub columnNames : Columns → List ℕ
+columnNames marked = bytes "x y z corner\n"
+columnNames unmarked = bytes "x y z\n"
+
+-- a vertex line ends with a mark
+abbrev pub hasMark : Columns → Bool
+hasMark marked = true
+hasMark unmarked = false
+
+abbrev pub cornerNames : Unit {0} → List ℕ
+cornerNames _ = bytes "a b c d\n"
 
 abbrev pub startsWith : List ℕ → List ℕ → Bool
 startsWith [] l = true
 startsWith (c ∷ s) [] = false
 startsWith (c ∷ s) (b ∷ l) = eqb b c && startsWith s l
 
--- the names n, or else what `other` gives
-abbrev pub readOr : Names → List ℕ → Read Names → Read Names
-readOr n l other = cond (startsWith (namesText n) l) (found n (drop (length (namesText n)) l)) other
+-- the first of these meanings whose line the text starts with
+unfoldable pub readNames : {A : Type 0} → (names : A → List ℕ) → List A → List ℕ → Read A
+readNames names [] l = bad
+readNames names (m ∷ ms) l = cond (startsWith (names m) l) (found m (drop (length (names m)) l)) (readNames names ms l)
 
-unfoldable pub readNames : List ℕ → Read Names
-readNames l = readOr (input false) l (readOr (input true) l (readOr marked l (readOr unmarked l (readOr corners l bad))))
+abbrev pub readInput : List ℕ → Read Bool
+readInput l = readNames inputNames (false ∷ true ∷ []) l
 
-abbrev pub isInput : Names → Bool
-isInput (input r) = true
-isInput marked = false
-isInput unmarked = false
-isInput corners = false
+abbrev pub readColumns : List ℕ → Read Columns
+readColumns l = readNames columnNames (marked ∷ unmarked ∷ []) l
 
--- the names ask for letters
-abbrev pub asksRule : Names → Bool
-asksRule (input r) = r
-asksRule marked = false
-asksRule unmarked = false
-asksRule corners = false
+abbrev pub readCornerNames : List ℕ → Read (Unit {0})
+readCornerNames l = readNames cornerNames (tt ∷ []) l
 
-abbrev pub isMarked : Names → Bool
-isMarked (input r) = false
-isMarked marked = true
-isMarked unmarked = false
-isMarked corners = false
-
-abbrev pub isColumns : Names → Bool
-isColumns (input r) = false
-isColumns marked = true
-isColumns unmarked = true
-isColumns corners = false
-
-abbrev pub isCorners : Names → Bool
-isCorners (input r) = false
-isCorners marked = false
-isCorners unmarked = false
-isCorners corners = true
+-- ---- fields
 
 module _ {A : Type 0} where
-  -- a value that passes the test
-  abbrev pub only : (A → Bool) → Read A → Read A
-  only p (found v l) = cond (p v) (found v l) bad
-  only p bad = bad
-
   -- Paper 01: "with one blank between and a newline after each line": the byte e follows
   abbrev pub endedBy : ℕ → Read A → Read A
   endedBy e (found v []) = bad
@@ -197,13 +179,13 @@ pub record Head : Type 0 where
 -- Paper 02: "the second line keeps its three numbers"
 unfoldable pub parseHead : List ℕ → Parsed Head
 parseHead l =
-    next (line 1 (only isInput (readNames l))) (λ i l. next (line 2 (readCounts l)) (λ n l. next (line 3 (only isColumns (readNames l))) (λ c l.
-    parsed (record { rule = asksRule i; counts = n; marks = isMarked c }) l)))
+    next (line 1 (readInput l)) (λ r l. next (line 2 (readCounts l)) (λ n l. next (line 3 (readColumns l)) (λ c l.
+    parsed (record { rule = r; counts = n; marks = hasMark c }) l)))
 
 unfoldable pub parseBody : Head → List ℕ → Parsed Net
 parseBody h l =
     next (lines 4 (h .counts .vertices) (rows (readVertex (h .marks)) (h .counts .vertices) l)) (λ vs l.
-    next (line (4 + h .counts .vertices) (only isCorners (readNames l))) (λ _ l.
+    next (line (4 + h .counts .vertices) (readCornerNames l)) (λ _ l.
     next (lines (5 + h .counts .vertices) (h .counts .faces) (rows readFace (h .counts .faces) l)) (λ fs l.
     ended (5 + h .counts .vertices + h .counts .faces) (record { rule = h .rule; counts = h .counts; vertices = vs; faces = fs }) l)))
 

@@ -5,7 +5,7 @@ use Prim.Native.Nat.{ℕ}
 use lib.ListN.{length}
 use Rattle.decimalform.specs.Decimal.{naturalText, integerText}
 use Rattle.textform.specs.Bytes.{bytes}
-use Rattle.textform.specs.Form.{Counts, Vertex, Face, Net, namesText, input, marked, unmarked, corners}
+use Rattle.textform.specs.Form.{Counts, Vertex, Face, Net, inputNames, marked, unmarked, columnNames, cornerNames}
 
 -- a number and the byte after it. Paper 01: "with one blank between and a newline after each line"
 abbrev pub field : List ℕ → ℕ → List ℕ
@@ -39,15 +39,15 @@ texts f (v ∷ vs) = f v ++ texts f vs
 
 -- the first two lines, the names of the columns, the lines of the vertices, and those of the faces
 abbrev pub withBody : (head columns lines : List ℕ) → List Face → List ℕ
-withBody head columns lines fs = head ++ columns ++ lines ++ namesText corners ++ texts faceText fs
+withBody head columns lines fs = head ++ columns ++ lines ++ cornerNames tt ++ texts faceText fs
 
 -- the text that writes a net for the program
 unfoldable pub netText : Net → List ℕ
-netText n = withBody (namesText (input (n .rule)) ++ countsText (n .counts)) (namesText marked) (texts vertexText (n .vertices)) (n .faces)
+netText n = withBody (inputNames (n .rule) ++ countsText (n .counts)) (columnNames marked) (texts vertexText (n .vertices)) (n .faces)
 
 -- the same without marks. Paper 01: "`x y z` without `corner`"
 unfoldable pub unmarkedText : Net → List ℕ
-unmarkedText n = withBody (namesText (input (n .rule)) ++ countsText (n .counts)) (namesText unmarked) (texts pointText (n .vertices)) (n .faces)
+unmarkedText n = withBody (inputNames (n .rule) ++ countsText (n .counts)) (columnNames unmarked) (texts pointText (n .vertices)) (n .faces)
 
 -- ---- the answer, with letters if they are asked for
 
@@ -58,7 +58,7 @@ pub record LetteredVertex : Type 0 where
 
 -- Paper 01: "The output always has the `corner` column". Paper 02: "prints the letter as a last column named `rule`"
 abbrev pub columnsText : (rule : Bool) → List ℕ
-columnsText rule = cond rule (bytes "x y z corner rule\n") (namesText marked)
+columnsText rule = cond rule (bytes "x y z corner rule\n") (columnNames marked)
 
 abbrev pub endText : (rule : Bool) (letter : ℕ) → List ℕ
 endText rule letter = cond rule (32 ∷ letter ∷ 10 ∷ []) (10 ∷ [])
