@@ -11,7 +11,8 @@ use Rattle.decimal.proofs.Reading.{says-at, took-at}
 use Rattle.decimalform.proofs.Writing.{sets-after}
 use Rattle.textform.specs.Form.{Vertex, Face, Rows, rows, oneMore}
 use Rattle.readingform.specs.Loaded.{coordinates, marksOf, cornersOf}
-use Rattle.reading.proofs.Lines.{rows-length, rows-bad, rows-next, Passed, passed-none, passed-bad, passed-more}
+use Rattle.textform.proofs.Lines.{rows-length}
+use Rattle.reading.proofs.Lines.{rows-bad, rows-next, Passed, passed-none, passed-bad, passed-more}
 use Rattle.readingform.proofs.Lengths.{length-coordinates, length-marks, length-corners}
 use Rattle.reading.proofs.Storing.{three-stores, four-stores, Filling, filling-none, filling-more, filling-bad}
 use Rattle.objform.proofs.Net.{item-none, vertices-one, faces-one, vertices-length, faces-length, vertices-most, faces-most}

@@ -11,7 +11,7 @@ use Rattle.decimalform.proofs.Back.{NoDigit, natural-back}
 use Rattle.textform.specs.Bytes.{bytes}
 use Rattle.textform.specs.Form.{Vertex, Face, Net, endedBy, Rows, rows, parsed, next, line, ended}
 use Rattle.textform.specs.Text.{texts}
-use Rattle.textform.specs.Written.{Each, PointFits}
+use Rattle.textform.specs.Fits.{Each, PointFits}
 use Rattle.textform.proofs.Back.{ends, natural-field, point-back}
 use Rattle.objform.specs.Form.{Item, vertex, face, comment, mapped, skipTo, skipPart, named, corner, readCorners, readComment, readItem, readRounds, verticesIn, facesIn, netOf, parseItems, parseObj}
 use Rattle.objform.specs.Text.{Part, none, slash, Corner, TextLine, vertexLine, faceLine, commentLine, partText, cornerText, lineText, roundsText, objText, Without, PartFits, CornerFits, LineFits, itemOf, itemsOf, Writes, plainFaces, plainLines, CornersFit, ObjFits, ObjBack}
@@ -154,7 +154,7 @@ module _ (fs : List Face) where
 
 plain-writes : (n : Net) → ObjFits n → Writes (plainLines (n .vertices) (n .faces)) n
 plain-writes n h = record {
-  fit = plain-fit (n .faces) (h .faces) (n .vertices) (h .vertices);
+  fit = plain-fit (n .faces) (h .faces) (n .vertices) (h .fits .vertices);
   vertices = plain-vertices (n .faces) (n .vertices);
   faces = plain-faces (n .faces) (n .vertices);
   vertexCount = h .fits .vertexCount;

@@ -9,9 +9,9 @@ use lib.Dec.{eqb}
 use lib.IntN.{ℤ, pos, negsuc}
 use Rattle.decimalform.specs.Decimal.{readDigits, readNatural, readInteger, naturalText, integerText}
 use Rattle.textform.specs.Bytes.{bytes}
-use Rattle.textform.specs.Form.{Vertex, Net, Parsed, parsed, badLine, coordinate, natural, readVertex, rows}
-use Rattle.textform.specs.Text.{countsText, pointText, faceText, texts, unmarkedText}
-use Rattle.textform.specs.Written.{Each}
+use Rattle.textform.specs.Form.{Vertex, Net, unmarked, Parsed, parsed, badLine, coordinate, natural, readVertex, rows}
+use Rattle.textform.specs.Text.{countsText, pointText, faceText, texts, netLines, netText}
+use Rattle.textform.specs.Fits.{Each}
 use Rattle.objform.specs.Form.{skipTo, corner, readCorners, readComment, readItem, readRounds, verticesIn, facesIn, netOf, parseItems, parseObj}
 use Rattle.objform.specs.Text.{TextLine, vertexLine, faceLine, commentLine, slash, cornerText, lineText, roundsText, objText, plain, plainFaces, plainLines, ObjFits}
 
@@ -19,8 +19,8 @@ abbrev at : ℤ → ℤ → ℤ → Vertex
 at x y z = record { x = x; y = y; z = z; mark = 0 }
 
 -- one face, with a coordinate below zero
-abbrev panel : ℕ → Net
-panel k =
+abbrev quad : ℕ → Net
+quad k =
     record {
       rule = false;
       counts = record { vertices = 4; faces = 1; rounds = k };
@@ -29,8 +29,8 @@ panel k =
     }
 
 -- as it is; with comments, slashes, `v` and `f` in another order, and a later line of rounds
-abbrev panels : List String
-panels =
+abbrev quads : List String
+quads =
     "# rounds 3\nv 0 0 0\nv 16 0 0\nv 16 16 0\nv 0 -16 0\nf 1 2 3 4\n"
     ∷ "# rounds 3\n# rounds 1\nv 0 0 0\nf 1/ 2/7 3//7 4/7/7\nv 16 0 0\n#\nv 16 16 0\nv 0 -16 0\n##\r\t\n"
     ∷ "# rounds 3\nf 1/é/\t/\r 2/f 3/- 4/.\nv 0 0 0\nv 16 0 0\nv 16 16 0\nv 0 -16 0\n# rounds 2 \n"
@@ -40,9 +40,9 @@ readAll : List String → List (Parsed Net)
 readAll [] = []
 readAll (s ∷ ss) = parseObj (bytes s) ∷ readAll ss
 
-panels-read : readAll panels ≡ parsed (panel 3) [] ∷ parsed (panel 3) [] ∷ parsed (panel 3) [] ∷ []
+quads-read : readAll quads ≡ parsed (quad 3) [] ∷ parsed (quad 3) [] ∷ parsed (quad 3) [] ∷ []
 unfolding readAll parseObj parseItems readRounds readItem readCorners readComment corner skipTo verticesIn facesIn netOf readVertex coordinate natural rows readInteger readNatural readDigits bytes
-panels-read = refl
+quads-read = refl
 
 -- a text written by its lines
 abbrev lines : List TextLine
@@ -58,13 +58,13 @@ unfolding objText roundsText lineText cornerText pointText texts naturalText int
 lines-written = refl
 
 -- its own lines, and its text of the other form
-panel-written : objText 3 (plainLines (panel 3 .vertices) (panel 3 .faces)) ≡ bytes "# rounds 3\nv 0 0 0\nv 16 0 0\nv 16 16 0\nv 0 -16 0\nf 1 2 3 4\n"
+quad-written : objText 3 (plainLines (quad 3 .vertices) (quad 3 .faces)) ≡ bytes "# rounds 3\nv 0 0 0\nv 16 0 0\nv 16 16 0\nv 0 -16 0\nf 1 2 3 4\n"
 unfolding objText roundsText lineText cornerText plainLines plainFaces pointText texts naturalText integerText bytes
-panel-written = refl
+quad-written = refl
 
-panel-unmarked : unmarkedText (panel 3) ≡ bytes "vertices faces rounds\n4 1 3\nx y z\n0 0 0\n16 0 0\n16 16 0\n0 -16 0\na b c d\n0 1 2 3\n"
-unfolding unmarkedText countsText pointText faceText texts naturalText integerText bytes
-panel-unmarked = refl
+quad-unmarked : netText unmarked (quad 3) ≡ bytes "vertices faces rounds\n4 1 3\nx y z\n0 0 0\n16 0 0\n16 16 0\n0 -16 0\na b c d\n0 1 2 3\n"
+unfolding netText netLines countsText pointText faceText texts naturalText integerText bytes
+quad-unmarked = refl
 
 -- the largest numbers fit
 abbrev largest : Net
@@ -83,10 +83,9 @@ largest-fits = record {
     counts = record { vertices = omega arith; faces = omega arith; rounds = omega arith };
     vertexCount = refl;
     faceCount = refl;
-    vertices = (record { x = omega arith; y = omega arith; z = omega arith; mark = omega arith }, tt);
+    vertices = (record { fits = record { x = omega arith; y = omega arith; z = omega arith; mark = omega arith }; unmarked = refl }, tt);
     faces = (record { a = omega arith; b = omega arith; c = omega arith; d = omega arith }, tt);
   };
-  vertices = (record { fits = record { x = omega arith; y = omega arith; z = omega arith; mark = omega arith }; unmarked = refl }, tt);
   faces = (record { a = omega arith; b = omega arith; c = omega arith; d = omega arith }, tt);
   rule = refl;
 }

@@ -13,7 +13,7 @@ use Rattle.decimalform.proofs.Found.{natural-found}
 use Rattle.textform.specs.Bytes.{bytes}
 use Rattle.textform.specs.Form.{Vertex, Face, Net, startsWith, natural, readVertex, Rows, rows, rowsAfter, parsed, badLine, next, line, ended}
 use Rattle.textform.specs.Text.{texts}
-use Rattle.textform.specs.Written.{Each}
+use Rattle.textform.specs.Fits.{Each}
 use Rattle.textform.proofs.Lines.{natural-limit}
 use Rattle.textform.proofs.Found.{starts-found, ended-found, then-found, field-found, point-found}
 use Rattle.objform.specs.Form.{Item, vertex, face, comment, mapped, skipTo, skipPart, named, corner, readCorners, readComment, readItem, readRounds, verticesIn, facesIn, netOf, items, parseItems, parseObj}
@@ -279,7 +279,16 @@ module _ (l : List ℕ) (k : ℕ) (r : List ℕ) (e : readRounds l ≡ found k r
 
   -- something is left
   some-left : 0 < length (items r .rest) → FirstBad l (2 + length (f .lines))
-  some-left s = laterLine k (f .lines) (items r .rest) (h .few) (f .fit) whole s (no-line (items r .rest) (rows-stop (length r) r (omega arith)))
+  some-left s = laterLine (record {
+    rounds = k;
+    lines = f .lines;
+    rest = items r .rest;
+    few = h .few;
+    fit = f .fit;
+    text = whole;
+    left = s;
+    noLine = no-line (items r .rest) (rows-stop (length r) r (omega arith));
+  })
 
 ended-parsed : (p : ℕ) (v : Net) (s : List ℕ) (n : Net) (m : List ℕ) → ended p v s ≡ parsed n m → (s ≡ []) × (v ≡ n)
 ended-parsed p v [] n m e = (refl, cc)

@@ -4,9 +4,9 @@ use mathlib.Core.List.{List, [], _∷_}
 use Prim.Native.Nat.{_≤_}
 use native.Mathlib.Omega.{arith}
 use lib.ListN.{length, length-append}
-use Rattle.textform.specs.Form.{Vertex, Net}
+use Rattle.textform.specs.Form.{Net, unmarked}
 use Rattle.textform.specs.Text.{texts}
-use Rattle.textform.specs.Written.{VertexFits, PointFits, FaceFits, Each, NetFits}
+use Rattle.textform.specs.Fits.{PointFits, FaceFits, Each, NetFits}
 use Rattle.objform.specs.Form.{verticesIn, facesIn}
 use Rattle.objform.specs.Text.{TextLine, vertexLine, faceLine, commentLine, lineText, roundsText, objText, LineFits, itemsOf, Writes}
 use Rattle.objform.proofs.Net.{vertices-most, faces-most}
@@ -31,20 +31,12 @@ faces-fit (faceLine a b c d ∷ ls) h =
     (record { a = omega arith; b = omega arith; c = omega arith; d = omega arith }, faces-fit ls (h .1))
 faces-fit (commentLine s ∷ ls) h = faces-fit ls (h .1)
 
-each-vertex : (vs : List Vertex) → Each PointFits vs → Each VertexFits vs
-unfolding Each
-each-vertex [] h = tt
-each-vertex (v ∷ vs) h = (h .0 .fits, each-vertex vs (h .1))
-
 module _ (n : Net) (ls : List TextLine) (w : Writes ls n) where
-  pub written-points : Each PointFits (n .vertices)
-  written-points = subst (Each PointFits) (w .vertices) (points-fit ls (w .fit))
-
   lines-long : length ls ≤ length (objText (n .counts .rounds) ls)
   unfolding objText
   lines-long = let a = lines-few ls in omega (arith, length-append (roundsText (n .counts .rounds)) (texts lineText ls))
 
-  pub written-fits : length (objText (n .counts .rounds) ls) ≤ 2147483647 → NetFits n
+  pub written-fits : length (objText (n .counts .rounds) ls) ≤ 2147483647 → NetFits unmarked n
   written-fits short =
       let l = lines-long in
       let i = length-items ls in
@@ -56,6 +48,6 @@ module _ (n : Net) (ls : List TextLine) (w : Writes ls n) where
         counts = record { vertices = omega arith; faces = omega arith; rounds = w .rounds };
         vertexCount = w .vertexCount;
         faceCount = w .faceCount;
-        vertices = each-vertex (n .vertices) written-points;
+        vertices = subst (Each PointFits) (w .vertices) (points-fit ls (w .fit));
         faces = subst (Each FaceFits) (w .faces) (faces-fit ls (w .fit));
       }

@@ -7,9 +7,9 @@ use lib.Dec.{eqb}
 use lib.ListN.{length}
 use Rattle.decimalform.specs.Decimal.{naturalText}
 use Rattle.textform.specs.Bytes.{bytes}
-use Rattle.textform.specs.Form.{Vertex, Face, Net, parsed, badLine}
+use Rattle.textform.specs.Form.{Vertex, Face, Net, unmarked, parsed, badLine}
 use Rattle.textform.specs.Text.{field, pointText, texts}
-use Rattle.textform.specs.Written.{Each, PointFits, NetFits}
+use Rattle.textform.specs.Fits.{Each, PointFits, NetFits}
 use Rattle.objform.specs.Form.{Item, vertex, face, comment, verticesIn, facesIn, parseObj}
 
 -- what stands behind a number of an `f` line: nothing, or a slash and the bytes s
@@ -106,8 +106,7 @@ pub record CornersFit (f : Face) : Type 0 where
 
 -- a net that the form can write
 pub record ObjFits (n : Net) : Type 0 where
-  pub fits : NetFits n
-  pub vertices : Each PointFits (n .vertices)
+  pub fits : NetFits unmarked n
   pub faces : Each CornersFit (n .faces)
   pub rule : n .rule ≡ false
 
@@ -133,10 +132,21 @@ NoRounds l = (k : ℕ) (rest : List ℕ) → k ≤ 2147483647 → l ≡ roundsTe
 abbrev pub NoLine : List ℕ → Type 0
 NoLine l = (x : TextLine) (rest : List ℕ) → LineFits x → l ≡ lineText x ++ rest → ⊥
 
--- line p of l is the first bad one: those before it have the form, and something that does not is left
+-- the lines of l before a later one: they have the form, and something that does not is left
+pub record LinesBefore (l : List ℕ) : Type 0 where
+  pub rounds : ℕ
+  pub lines : List TextLine
+  pub rest : List ℕ
+  pub few : rounds ≤ 2147483647
+  pub fit : Each LineFits lines
+  pub text : l ≡ objText rounds lines ++ rest
+  pub left : 0 < length rest
+  pub noLine : NoLine rest
+
+-- line p of l is the first bad one
 pub data FirstBad (l : List ℕ) : ℕ → Type 0 where
   firstLine : NoRounds l → FirstBad l 1
-  laterLine : (k : ℕ) (ls : List TextLine) (rest : List ℕ) → k ≤ 2147483647 → Each LineFits ls → l ≡ objText k ls ++ rest → 0 < length rest → NoLine rest → FirstBad l (2 + length ls)
+  laterLine : (b : LinesBefore l) → FirstBad l (2 + length (b .lines))
 
 -- Paper 02: "A text is accepted if it has this form and otherwise gets 13 at its first bad line"
 pub record Recognizes : Type 0 where

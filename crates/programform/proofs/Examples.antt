@@ -66,9 +66,9 @@ unfolding programText parseAny bytes parse parseHead parseBody readNames readCou
 lettered-square = refl
 
 -- an OBJ text with a slash and a comment; a corner that is no vertex, with its face
-obj-panel : programText (bytes "# rounds 0\nf 1/1 2 3 4\nv 0 0 0\nv 16 0 0\n#\nv 16 16 0\nv 0 -16 0\n") ≡ bytes "vertices faces\n4 1\nx y z corner\n0 0 0 0\n16 0 0 0\n16 16 0 0\n0 -16 0 0\na b c d\n0 1 2 3\n"
+obj-quad : programText (bytes "# rounds 0\nf 1/1 2 3 4\nv 0 0 0\nv 16 0 0\n#\nv 16 16 0\nv 0 -16 0\n") ≡ bytes "vertices faces\n4 1\nx y z corner\n0 0 0 0\n16 0 0 0\n16 16 0 0\n0 -16 0 0\na b c d\n0 1 2 3\n"
 unfolding programText parseAny bytes parse parseHead parseBody readNames readCounts readVertex readFace coordinate natural rows readInteger readNatural readDigits naturalText integerText pairText numbersText letteredText faceText refusalText answerText texts countsVerdict limitsVerdict tablesVerdict sizeVerdict roomVerdict badCoordinate netVerdict coordinatesVerdict shapeVerdict facesVerdict adjacencyVerdict vertexVerdict badMark badCorner isolated repeatedSide nonManifold badValence markedRing shapeOf first firstFrom any count iterate quads from to opposed mate isBoundaryFrom boundaryFrom leaves valence turn start stops facesMet startNet startOrigin originFrom originAfter letters steps coordinates marksOf cornersOf letteredOf facesOf tabulate parseObj parseItems readRounds readItem readCorners readComment corner skipTo verticesIn facesIn netOf
-obj-panel = refl
+obj-quad = refl
 
 obj-refused : programText (bytes "# rounds 0\nv 0 0 0\nv 16 0 0\nv 16 16 0\nv 0 -16 0\nf 1 2 3 4\nf 1 2 3 5\n") ≡ bytes "refusal place\n7 1\n"
 unfolding programText parseAny bytes parse parseHead parseBody readNames readCounts readVertex readFace coordinate natural rows readInteger readNatural readDigits naturalText integerText pairText numbersText letteredText faceText refusalText answerText texts countsVerdict limitsVerdict tablesVerdict sizeVerdict roomVerdict badCoordinate netVerdict coordinatesVerdict shapeVerdict facesVerdict adjacencyVerdict vertexVerdict badMark badCorner isolated repeatedSide nonManifold badValence markedRing shapeOf first firstFrom any count iterate quads from to opposed mate isBoundaryFrom boundaryFrom leaves valence turn start stops facesMet startNet startOrigin originFrom originAfter letters steps coordinates marksOf cornersOf letteredOf facesOf tabulate parseObj parseItems readRounds readItem readCorners readComment corner skipTo verticesIn facesIn netOf

@@ -1,7 +1,7 @@
 -- Reading what is written for a net gives that net back. Assumes nothing.
 use mathlib.Core.Path.{_≡_, refl, ap, _∙_}
 use mathlib.Core.Bool.{Bool}
-use mathlib.Core.List.{List, [], _∷_, append-assoc}
+use mathlib.Core.List.{List, [], _∷_}
 use Prim.Native.Nat.{ℕ, zero, suc, _+_, _*_, _/_, _^_, _≤_, _<_}
 use native.Mathlib.Omega.{arith}
 use native.Mathlib.Nat.{mul-le-mul-left, pow-le-pow-right}
@@ -31,9 +31,9 @@ use Rattle.splitting.proofs.Growth.{start-within}
 use Rattle.splitting.proofs.Room.{refinable-vertices-le}
 use Rattle.outcome.proofs.Accepted.{accepted-drawn, accepted-refinable}
 use Rattle.outcome.proofs.Counts.{corners-grown, start-corners}
-use Rattle.textform.specs.Form.{Vertex, Face, parsed}
-use Rattle.textform.specs.Written.{VertexFits, FaceFits, Each, NetFits}
-use Rattle.textform.specs.Text.{netText}
+use Rattle.textform.specs.Form.{Vertex, Face, marked, parsed}
+use Rattle.textform.specs.Fits.{VertexFits, FaceFits, Each, NetFits}
+use Rattle.textform.specs.Text.{texts, netLines, netText}
 use Rattle.textform.proofs.Back.{net-back}
 use Rattle.readingform.specs.Loaded.{netRead, loaded, coordinates, marksOf, cornersOf, tablesOf}
 use Rattle.readingform.proofs.Back.{read-back}
@@ -118,7 +118,7 @@ module _ (k : ℕ) (few : k ≤ 2147483647) (rule : Bool) (m : nets.Net) (ok : R
       let q = ok .fours in
       record { a = corner-small (4 * i) (omega arith); b = corner-small (4 * i + 1) (omega arith); c = corner-small (4 * i + 2) (omega arith); d = corner-small (4 * i + 3) (omega arith) }
 
-  net-fits : NetFits (linesOf k rule m)
+  net-fits : NetFits marked (linesOf k rule m)
   unfolding verticesOf facesOf
   net-fits = record {
     counts = record { vertices = v; faces = omega arith; rounds = few };
@@ -137,16 +137,16 @@ module _ (k : ℕ) (few : k ≤ 2147483647) (rule : Bool) (m : nets.Net) (ok : R
       let c = marks-tabulate (length (m .marks)) (vertexAt (m .vertices) (m .marks)) ∙ tabulate-getD (m .marks) 0 in
       λ i. record { vertices = a i; faces = b i; marks = c i }
 
-  form-back : parseAny (netText (linesOf k rule m)) ≡ parsed (linesOf k rule m) []
-  unfolding netText
-  form-back = parse-text (netText (linesOf k rule m)) (simp append-assoc (names-other rule _)) ∙ net-back (linesOf k rule m) net-fits
+  form-back : parseAny (netText marked (linesOf k rule m)) ≡ parsed (linesOf k rule m) []
+  unfolding netText netLines texts
+  form-back = parse-text (netText marked (linesOf k rule m)) (names-other rule _) ∙ net-back marked (linesOf k rule m) net-fits
 
   pub reads-back : ReadsBack k rule m
   reads-back = record {
     form = form-back;
     tables = tables-back;
     read = λ vs fs ms short passes.
-        read-back parseAny (netText (linesOf k rule m)) (linesOf k rule m) vs fs ms form-back short passes
+        read-back parseAny (netText marked (linesOf k rule m)) (linesOf k rule m) vs fs ms form-back short passes
         ∙ ap (λ (n : nets.Net). loaded (netRead k rule (vertexCount m) (faceCount m)) (filled (n .vertices) vs) (filled (n .faces) fs) (filled (n .marks) ms)) tables-back;
   }
 

@@ -12,7 +12,7 @@ use Rattle.verdict.specs.Call.{Call, vertexCount, faceCount}
 use Rattle.verdict.specs.Verdict.{accepted, verdict}
 use Rattle.scheme.specs.Step.{steps}
 use Rattle.splitting.specs.Splitting.{startNet}
-use Rattle.textform.specs.Form.{Net, parsed}
+use Rattle.textform.specs.Form.{Net, marked, parsed}
 use Rattle.textform.specs.Text.{netText}
 use Rattle.readingform.specs.Loaded.{netRead, loaded, tablesOf, countsVerdict, readBy}
 use Rattle.printingform.specs.Tables.{verticesOf, facesOf}
@@ -30,11 +30,11 @@ linesOf k rule m =
 
 pub record ReadsBack (k : ℕ) (rule : Bool) (m : nets.Net) : Type 0 where
   -- the text has the form, the lines read are those written, and their tables are those of m
-  pub form : parseAny (netText (linesOf k rule m)) ≡ parsed (linesOf k rule m) []
+  pub form : parseAny (netText marked (linesOf k rule m)) ≡ parsed (linesOf k rule m) []
   pub tables : tablesOf (linesOf k rule m) ≡ m
   -- a text of at most 32,768 bytes whose counts the program serves fills its tables with m
-  pub read : (vs : List ℤ) (fs ms : List ℕ) → length (netText (linesOf k rule m)) ≤ 32768 → countsVerdict (linesOf k rule m .counts) ≡ accepted
-      → readBy parseAny (netText (linesOf k rule m)) vs fs ms ≡ loaded (netRead k rule (vertexCount m) (faceCount m)) (filled (m .vertices) vs) (filled (m .faces) fs) (filled (m .marks) ms)
+  pub read : (vs : List ℤ) (fs ms : List ℕ) → length (netText marked (linesOf k rule m)) ≤ 32768 → countsVerdict (linesOf k rule m .counts) ≡ accepted
+      → readBy parseAny (netText marked (linesOf k rule m)) vs fs ms ≡ loaded (netRead k rule (vertexCount m) (faceCount m)) (filled (m .vertices) vs) (filled (m .faces) fs) (filled (m .marks) ms)
 
 -- of the net after any round of a call that the check accepts, the net where refining begins among them
 pub record RoundTrip : Type 0 where

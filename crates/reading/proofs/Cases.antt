@@ -12,7 +12,7 @@ use Rattle.textform.specs.Form.{Net, rows, readVertex, readFace, Parsed, parsed
 use Rattle.limits.specs.Answer.{limitsOf}
 use Rattle.readingform.specs.Loaded.{netRead, refusedWith, loaded, stored, coordinates, marksOf, cornersOf, countsVerdict, readBy}
 use Rattle.reading.specs.Answers.{headIs, netAt, VerticesStored, Tables}
-use Rattle.reading.proofs.Lines.{rows-length}
+use Rattle.textform.proofs.Lines.{rows-length}
 use Rattle.readingform.proofs.Limits.{Served, passed-served}
 use Rattle.readingform.proofs.Lengths.{length-coordinates, length-marks, length-corners}
 use Rattle.reading.proofs.Storing.{placed}

@@ -27,15 +27,6 @@ module _ {A : Type 0} (read : List ℕ → Read A) where
   rows-found zero l v m h e = absurd (omega arith)
   rows-found (suc n) l v m h e = let q : suc n - 1 ≡ n = omega arith in rw (e, q)
 
-  pub rows-length : (n : ℕ) (l : List ℕ) → length (rows read n l .values) ≤ n
-  unfolding rows
-  rows-length zero l = omega arith
-  rows-length (suc n) l = go (read l) (λ m. rows-length n m)
-    where
-      go : (r : Read A) → ((m : List ℕ) → length (rows read n m .values) ≤ n) → length (rowsAfter l r (rows read n) .values) ≤ suc n
-      go (found v m) h = let k = h m in omega arith
-      go bad h = omega arith
-
   -- i of `count` lines are read: the lines from `at` on, where none is left, or the next one is v
   module _ (count : ℕ) (l : List ℕ) (i at : ℕ) where
     pub rows-over : count ≤ i → rows read (count - i) (drop at l) ≡ noRows (drop at l)

@@ -1,7 +1,7 @@
 -- Reading the text that a net is written as gives the net back. Assumes nothing.
 use mathlib.Core.Path.{_≡_, refl, sym, ap, _∙_}
 use mathlib.Core.Bool.{Bool, true, false}
-use mathlib.Core.List.{List, [], _∷_, _++_, append-assoc, append-nil}
+use mathlib.Core.List.{List, [], _∷_, _++_, map, append-assoc, append-nil}
 use Prim.Native.Nat.{ℕ, _≤_}
 use lib.IntN.{ℤ}
 use lib.Signed.{mag}
@@ -11,8 +11,8 @@ use Rattle.decimalform.specs.Decimal.{Read, found, isDigit, naturalText, intege
 use Rattle.decimalform.proofs.Back.{natural-back, integer-back}
 use Rattle.textform.specs.Bytes.{bytes}
 use Rattle.textform.specs.Form.{Counts, Vertex, Face, Net, inputNames, Columns, marked, unmarked, columnNames, hasMark, cornerNames, readNames, readInput, readColumns, readCornerNames, endedBy, coordinate, natural, readCounts, readVertex, readFace, rows, parsed, parseHead, parseBody, parse}
-use Rattle.textform.specs.Text.{countsText, numbersText, vertexText, pointText, faceText, texts, netText, unmarkedText}
-use Rattle.textform.specs.Written.{CountsFit, VertexFits, PointFits, FaceFits, Each, NetFits}
+use Rattle.textform.specs.Text.{countsText, numbersText, vertexText, pointText, faceText, texts, vertexLineText, netLines, joined, netText}
+use Rattle.textform.specs.Fits.{CountsFit, VertexFits, PointFits, FaceFits, Each, FitsUnder, NetFits}
 
 -- ---- a number and the byte after it
 pub ends : {A : Type 0} (e : ℕ) (v : A) (rest : List ℕ) → endedBy e (found v (e ∷ rest)) ≡ found v rest
@@ -38,7 +38,7 @@ unfolding readNames bytes
 columns-back marked rest = refl
 columns-back unmarked rest = refl
 
-corners-back : (rest : List ℕ) → readCornerNames (cornerNames tt ++ rest) ≡ found tt rest
+pub corners-back : (rest : List ℕ) → readCornerNames (cornerNames tt ++ rest) ≡ found tt rest
 unfolding readNames bytes
 corners-back rest = refl
 
@@ -67,6 +67,16 @@ face-back f h rest =
     (rw (natural-field 32 refl 2147483647 (f .a) _ (h .a), natural-field 32 refl 2147483647 (f .b) _ (h .b), natural-field 32 refl 2147483647 (f .c) _ (h .c), natural-field 10 refl 2147483647 (f .d) rest (h .d)))
 
 -- ---- lines after each other
+pub joined-map : {A : Type 0} (text : A → List ℕ) (vs : List A) → joined (map text vs) ≡ texts text vs
+unfolding texts
+joined-map text [] = refl
+joined-map text (v ∷ vs) = ap (λ (l : List ℕ). text v ++ l) (joined-map text vs)
+
+pub joined-append : (ls ms : List (List ℕ)) → joined (ls ++ ms) ≡ joined ls ++ joined ms
+unfolding texts
+joined-append [] ms = refl
+joined-append (l ∷ ls) ms = ap (λ (k : List ℕ). l ++ k) (joined-append ls ms) ∙ sym (append-assoc l (joined ls) (joined ms))
+
 pub rows-back : {A : Type 0} {P : A → Type 0} (read : List ℕ → Read A) (text : A → List ℕ) → ((v : A) → P v → (rest : List ℕ) → read (text v ++ rest) ≡ found v rest)
     → (vs : List A) (rest : List ℕ) → Each P vs → rows read (length vs) (texts text vs ++ rest) ≡ record { values = vs; rest = rest }
 unfolding rows texts Each
@@ -76,18 +86,24 @@ rows-back read text back (v ∷ vs) rest h =
 
 -- ---- the whole text, with the columns c
 module _ (c : Columns) where
-  head-back : (r : Bool) (n : Counts) (rest : List ℕ) → CountsFit n
+  pub under-back : (v : Vertex) → FitsUnder c v → (rest : List ℕ) → readVertex (hasMark c) (vertexLineText c v ++ rest) ≡ found v rest
+  under-back = go c
+    where
+      go : (c : Columns) (v : Vertex) → FitsUnder c v → (rest : List ℕ) → readVertex (hasMark c) (vertexLineText c v ++ rest) ≡ found v rest
+      go marked v h rest = vertex-back v h rest
+      go unmarked v h rest = point-back v h rest
+
+  pub head-back : (r : Bool) (n : Counts) (rest : List ℕ) → CountsFit n
       → parseHead (inputNames r ++ (countsText n ++ (columnNames c ++ rest))) ≡ parsed (record { rule = r; counts = n; marks = hasMark c }) rest
   unfolding parseHead
   head-back r n rest h = rw (input-back r (countsText n ++ (columnNames c ++ rest)), counts-back n (columnNames c ++ rest) h, columns-back c rest)
 
-  module _ {P : Vertex → Type 0} (text : Vertex → List ℕ) (back : (v : Vertex) → P v → (rest : List ℕ) → readVertex (hasMark c) (text v ++ rest) ≡ found v rest)
-      (n : Net) (h : NetFits n) (fit : Each P (n .vertices)) where
-    body-back : parseBody (record { rule = n .rule; counts = n .counts; marks = hasMark c }) (texts text (n .vertices) ++ (cornerNames tt ++ (texts faceText (n .faces) ++ []))) ≡ parsed n []
+  module _ (n : Net) (h : NetFits c n) where
+    body-back : parseBody (record { rule = n .rule; counts = n .counts; marks = hasMark c }) (texts (vertexLineText c) (n .vertices) ++ (cornerNames tt ++ (texts faceText (n .faces) ++ []))) ≡ parsed n []
     unfolding parseBody
     body-back =
         let k = cornerNames tt ++ (texts faceText (n .faces) ++ []) in
-        let a = rows-back (readVertex (hasMark c)) text back (n .vertices) k fit in
+        let a = rows-back (readVertex (hasMark c)) (vertexLineText c) under-back (n .vertices) k (h .vertices) in
         let b = rows-back readFace faceText face-back (n .faces) [] (h .faces) in
         rw (
           ← (h .vertexCount),
@@ -101,20 +117,15 @@ module _ (c : Columns) where
           h .faceCount,
         )
 
-    whole-back : parse ((inputNames (n .rule) ++ countsText (n .counts)) ++ columnNames c ++ texts text (n .vertices) ++ cornerNames tt ++ texts faceText (n .faces)) ≡ parsed n []
-    unfolding parse
-    whole-back =
+    -- Reading what is written for a net gives that net back.
+    pub net-back : parse (netText c n) ≡ parsed n []
+    unfolding parse netText netLines texts
+    net-back =
         let f = append-nil (texts faceText (n .faces)) in
-        rw (← f)
-        (simp append-assoc
-        (rw (head-back (n .rule) (n .counts) (texts text (n .vertices) ++ (cornerNames tt ++ (texts faceText (n .faces) ++ []))) (h .counts)) body-back))
-
--- Reading what is written for a net gives that net back.
-pub net-back : (n : Net) → NetFits n → parse (netText n) ≡ parsed n []
-unfolding netText
-net-back n h = whole-back marked vertexText vertex-back n h (h .vertices)
-
--- The same of a net without marks, written without them.
-pub unmarked-back : (n : Net) → NetFits n → Each PointFits (n .vertices) → parse (unmarkedText n) ≡ parsed n []
-unfolding unmarkedText
-unmarked-back n h fit = whole-back unmarked pointText point-back n h fit
+        rw (
+          joined-append (map (vertexLineText c) (n .vertices)) (cornerNames tt ∷ map faceText (n .faces)),
+          joined-map (vertexLineText c) (n .vertices),
+          joined-map faceText (n .faces),
+          ← f,
+          head-back (n .rule) (n .counts) (texts (vertexLineText c) (n .vertices) ++ (cornerNames tt ++ (texts faceText (n .faces) ++ []))) (h .counts),
+        ) body-back

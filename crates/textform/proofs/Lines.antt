@@ -2,7 +2,7 @@
 use mathlib.Core.Path.{_≡_, refl, ap, _∙_}
 use mathlib.Core.Bool.{Bool, true, false, cond, _&&_}
 use mathlib.Core.List.{List, [], _∷_}
-use Prim.Native.Nat.{ℕ, _+_, _≤_, _<_}
+use Prim.Native.Nat.{ℕ, zero, suc, _+_, _≤_, _<_}
 use native.Mathlib.Decide.{decLt}
 use native.Mathlib.Numerals.{add-one}
 use native.Mathlib.Omega.{arith}
@@ -12,7 +12,7 @@ use lib.Seq.{drop-cons, drop-drop}
 use borrow.Author.Tests.{eq-eqb, ne-eqb}
 use Rattle.decimalform.specs.Decimal.{Read, found, bad, readNatural}
 use Rattle.decimalform.proofs.Reading.{natural-at-most}
-use Rattle.textform.specs.Form.{startsWith, readNames, endedBy, natural}
+use Rattle.textform.specs.Form.{startsWith, readNames, endedBy, natural, rows, rowsAfter}
 
 -- ---- a text that starts with s, one byte a turn
 module _ (s l : List ℕ) (i : ℕ) (h : i < length s) (k : i < length l) where
@@ -99,3 +99,14 @@ natural-limit limit e l v m p = go (readNatural limit l) refl p
     go : (w : Read ℕ) → readNatural limit l ≡ w → endedBy e w ≡ found v m → v ≤ limit
     go bad q s = let z : _≡_ {A = ℕ} 0 1 = cc in absurd (omega arith)
     go (found x k) q s = ended-limit limit l e x v k m q s
+
+-- ---- lines after each other: at most n of them
+module _ {A : Type 0} (read : List ℕ → Read A) where
+  pub rows-length : (n : ℕ) (l : List ℕ) → length (rows read n l .values) ≤ n
+  unfolding rows
+  rows-length zero l = omega arith
+  rows-length (suc n) l = go (read l) (λ m. rows-length n m)
+    where
+      go : (r : Read A) → ((m : List ℕ) → length (rows read n m .values) ≤ n) → length (rowsAfter l r (rows read n) .values) ≤ suc n
+      go (found v m) h = let k = h m in omega arith
+      go bad h = omega arith

@@ -1,4 +1,5 @@
 pub mod Bytes
 pub mod Form
 pub mod Text
-pub mod Written
+pub mod Fits
+pub mod Recognizes

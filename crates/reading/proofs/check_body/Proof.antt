@@ -10,10 +10,9 @@ use borrow.Author.Tests.{not-true, not-false}
 use Rattle.decimalform.specs.Decimal.{found}
 use Rattle.textform.specs.Bytes.{bytes}
 use Rattle.textform.specs.Form.{Head, Vertex, Face, Rows, rows, badLine, startsWith, cornerNames, readVertex, readFace}
-use Rattle.textform.proofs.Lines.{starts-length, names-here, names-later, names-none}
+use Rattle.textform.proofs.Lines.{starts-length, names-here, names-later, names-none, rows-length}
 use Rattle.decimal.proofs.Reading.{part-rest}
 use Rattle.reading.specs.Answers.{headIs}
-use Rattle.reading.proofs.Lines.{rows-length}
 use Rattle.reading.proofs.Body.{block-good, block-rest, block-within, NamesRead, body-vertex, body-names, body-face, body-surplus, body-whole}
 use borrow.Author.Needs.{needs}
 use Rattle.reading.proofs.check_body.Statement.{statement}

@@ -1,10 +1,10 @@
--- The nets that the form can write.
+-- The nets that the form can write, under the columns that they are written with.
 use mathlib.Core.Path.{_≡_}
 use mathlib.Core.List.{List, [], _∷_}
 use Prim.Native.Nat.{_≤_}
 use lib.Signed.{mag}
 use lib.ListN.{length}
-use Rattle.textform.specs.Form.{Counts, Vertex, Face, Net}
+use Rattle.textform.specs.Form.{Counts, Vertex, Face, Net, Columns, marked, unmarked}
 
 -- Paper 01: no number is "beyond signed 32 bits"
 pub record CountsFit (n : Counts) : Type 0 where
@@ -35,9 +35,14 @@ unfoldable pub Each : {A : Type 0} → (A → Type 0) → List A → Type 0
 Each P [] = Unit {0}
 Each P (v ∷ vs) = P v × Each P vs
 
-pub record NetFits (n : Net) : Type 0 where
+-- what a line under these columns can write
+abbrev pub FitsUnder : Columns → Vertex → Type 0
+FitsUnder marked v = VertexFits v
+FitsUnder unmarked v = PointFits v
+
+pub record NetFits (c : Columns) (n : Net) : Type 0 where
   pub counts : CountsFit (n .counts)
   pub vertexCount : length (n .vertices) ≡ n .counts .vertices
   pub faceCount : length (n .faces) ≡ n .counts .faces
-  pub vertices : Each VertexFits (n .vertices)
+  pub vertices : Each (FitsUnder c) (n .vertices)
   pub faces : Each FaceFits (n .faces)
