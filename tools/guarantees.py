@@ -21,8 +21,8 @@ rounding/Rounding curve/Weights curve/Curve curve/Near fractions/Fraction rings/
 refinedfaces/Refined scheme/Rings scheme/Points scheme/Step splitting/Splitting origins/Origins origins/Named outcome/Tally outcome/Outcome outcome/Series outcome/AsBefore
 seam/Reading seam/Seam outcome/SharedSegment seam/Split outcome/SplitSegment integers/Within outcome/Coordinates nets/Moved outcome/Moved outcome/Traced outcome/OldPoints outcome/Midpoints schemelaws/Nets splitting/Drawn schemelaws/Agreement
 admission/Answer admission/Admission refine/Answer capi/Export capi/Version cases/Cases
-decimalform/Decimal textform/Bytes textform/Form textform/Text textform/Fits textform/Recognizes objform/Form objform/Text readingform/Loaded printingform/Tables printingform/Lines
-programform/Answer programform/RoundTrip programform/Forms
+decimalform/Decimal textform/Limits textform/Bytes textform/Form textform/Text textform/Fits textform/Recognition objform/Form objform/Text readingform/Loaded printingform/Tables printingform/Lines
+programform/Answer programform/Input programform/RoundTrip programform/Forms
 """.split()
 
 

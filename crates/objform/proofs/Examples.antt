@@ -9,17 +9,17 @@ use lib.Dec.{eqb}
 use lib.IntN.{ℤ, pos, negsuc}
 use Rattle.decimalform.specs.Decimal.{readDigits, readNatural, readInteger, naturalText, integerText}
 use Rattle.textform.specs.Bytes.{bytes}
-use Rattle.textform.specs.Form.{Vertex, Net, unmarked, Parsed, parsed, badLine, coordinate, natural, readVertex, rows}
+use Rattle.textform.specs.Form.{Vertex, TextNet, withoutCorner, Parsed, parsed, badLine, coordinate, natural, readVertex, rows}
 use Rattle.textform.specs.Text.{countsText, pointText, faceText, texts, netLines, netText}
-use Rattle.textform.specs.Fits.{Each}
-use Rattle.objform.specs.Form.{skipTo, corner, readCorners, readComment, readItem, readRounds, verticesIn, facesIn, netOf, parseItems, parseObj}
-use Rattle.objform.specs.Text.{TextLine, vertexLine, faceLine, commentLine, slash, cornerText, lineText, roundsText, objText, plain, plainFaces, plainLines, ObjFits}
+use Rattle.textform.specs.Fits.{Every}
+use Rattle.objform.specs.Form.{skipTo, readCorner, readCorners, readComment, readItem, readRounds, verticesIn, facesIn, netOf, parseItems, parseObj}
+use Rattle.objform.specs.Text.{TextLine, vertexLine, faceLine, commentLine, slash, cornerText, lineText, roundsText, objText, bareCorner, plainFaces, plainLines, ObjFits}
 
 abbrev at : ℤ → ℤ → ℤ → Vertex
 at x y z = record { x = x; y = y; z = z; mark = 0 }
 
 -- one face, with a coordinate below zero
-abbrev quad : ℕ → Net
+abbrev quad : ℕ → TextNet
 quad k =
     record {
       rule = false;
@@ -36,12 +36,12 @@ quads =
     ∷ "# rounds 3\nf 1/é/\t/\r 2/f 3/- 4/.\nv 0 0 0\nv 16 0 0\nv 16 16 0\nv 0 -16 0\n# rounds 2 \n"
     ∷ []
 
-readAll : List String → List (Parsed Net)
+readAll : List String → List (Parsed TextNet)
 readAll [] = []
 readAll (s ∷ ss) = parseObj (bytes s) ∷ readAll ss
 
 quads-read : readAll quads ≡ parsed (quad 3) [] ∷ parsed (quad 3) [] ∷ parsed (quad 3) [] ∷ []
-unfolding readAll parseObj parseItems readRounds readItem readCorners readComment corner skipTo verticesIn facesIn netOf readVertex coordinate natural rows readInteger readNatural readDigits bytes
+unfolding readAll parseObj parseItems readRounds readItem readCorners readComment readCorner skipTo verticesIn facesIn netOf readVertex coordinate natural rows readInteger readNatural readDigits bytes
 quads-read = refl
 
 -- a text written by its lines
@@ -49,7 +49,7 @@ abbrev lines : List TextLine
 lines =
     commentLine (bytes " rounds 1")
     ∷ vertexLine (at (pos 0) (pos 0) (pos 0))
-    ∷ faceLine (record { vertex = 0; part = slash [] }) (record { vertex = 1; part = slash (bytes "7") }) (record { vertex = 2; part = slash (bytes "/7") }) (plain 3)
+    ∷ faceLine (record { vertex = 0; part = slash [] }) (record { vertex = 1; part = slash (bytes "7") }) (record { vertex = 2; part = slash (bytes "/7") }) (bareCorner 3)
     ∷ vertexLine (at (negsuc 15) (pos 0) (pos 0))
     ∷ []
 
@@ -62,12 +62,12 @@ quad-written : objText 3 (plainLines (quad 3 .vertices) (quad 3 .faces)) ≡ byt
 unfolding objText roundsText lineText cornerText plainLines plainFaces pointText texts naturalText integerText bytes
 quad-written = refl
 
-quad-unmarked : netText unmarked (quad 3) ≡ bytes "vertices faces rounds\n4 1 3\nx y z\n0 0 0\n16 0 0\n16 16 0\n0 -16 0\na b c d\n0 1 2 3\n"
+quad-unmarked : netText withoutCorner (quad 3) ≡ bytes "vertices faces rounds\n4 1 3\nx y z\n0 0 0\n16 0 0\n16 16 0\n0 -16 0\na b c d\n0 1 2 3\n"
 unfolding netText netLines countsText pointText faceText texts naturalText integerText bytes
 quad-unmarked = refl
 
 -- the largest numbers fit
-abbrev largest : Net
+abbrev largest : TextNet
 largest =
     record {
       rule = false;
@@ -77,7 +77,7 @@ largest =
     }
 
 largest-fits : ObjFits largest
-unfolding Each
+unfolding Every
 largest-fits = record {
   fits = record {
     counts = record { vertices = omega arith; faces = omega arith; rounds = omega arith };
@@ -91,7 +91,7 @@ largest-fits = record {
 }
 
 -- ---- the first bad line of damaged texts, 0 for a text that has the form
-abbrev damage : Parsed Net → ℕ
+abbrev damage : Parsed TextNet → ℕ
 damage (parsed n l) = 0
 damage (badLine n) = n
 
@@ -159,5 +159,5 @@ same [] = true
 same (d ∷ ds) = eqb (damage (parseObj (bytes (d .text)))) (d .place) && same ds
 
 all-damaged : same damaged ≡ true
-unfolding same parseObj parseItems readRounds readItem readCorners readComment corner skipTo verticesIn facesIn netOf readVertex coordinate natural rows readInteger readNatural readDigits bytes
+unfolding same parseObj parseItems readRounds readItem readCorners readComment readCorner skipTo verticesIn facesIn netOf readVertex coordinate natural rows readInteger readNatural readDigits bytes
 all-damaged = refl

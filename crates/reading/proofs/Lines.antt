@@ -5,14 +5,14 @@ use Prim.Native.Nat.{ℕ, zero, suc, _+_, _-_, _≤_, _<_}
 use native.Mathlib.Omega.{arith}
 use lib.ListN.{length, take, drop}
 use lib.Seq.{drop-drop}
-use Rattle.decimalform.specs.Decimal.{Read, found, bad}
+use Rattle.decimalform.specs.Decimal.{Read, readAs, bad}
 use Rattle.decimal.specs.Answers.{Gives}
 use Rattle.decimal.proofs.Reading.{says-at, took-at}
-use Rattle.textform.specs.Form.{rows, rowsAfter, noRows, oneMore}
-use Rattle.reading.specs.Answers.{Counted}
+use Rattle.textform.specs.Form.{rows, noRows, oneMore}
+use Rattle.reading.specs.Answers.{LinesCounted}
 
 module _ {A : Type 0} (read : List ℕ → Read A) where
-  pub rows-none : (n : ℕ) (l : List ℕ) → n ≡ 0 → rows read n l ≡ noRows l
+  rows-none : (n : ℕ) (l : List ℕ) → n ≡ 0 → rows read n l ≡ noRows l
   unfolding rows
   rows-none zero l e = refl
   rows-none (suc n) l e = absurd (omega arith)
@@ -22,7 +22,7 @@ module _ {A : Type 0} (read : List ℕ → Read A) where
   rows-bad zero l e = refl
   rows-bad (suc n) l e = rw e
 
-  pub rows-found : (n : ℕ) (l : List ℕ) (v : A) (m : List ℕ) → 0 < n → read l ≡ found v m → rows read n l ≡ oneMore v (rows read (n - 1) m)
+  rows-found : (n : ℕ) (l : List ℕ) (v : A) (m : List ℕ) → 0 < n → read l ≡ readAs v m → rows read n l ≡ oneMore v (rows read (n - 1) m)
   unfolding rows
   rows-found zero l v m h e = absurd (omega arith)
   rows-found (suc n) l v m h e = let q : suc n - 1 ≡ n = omega arith in rw (e, q)
@@ -32,7 +32,7 @@ module _ {A : Type 0} (read : List ℕ → Read A) where
     pub rows-over : count ≤ i → rows read (count - i) (drop at l) ≡ noRows (drop at l)
     rows-over h = rows-none (count - i) (drop at l) (omega arith)
 
-    pub rows-next : (v : A) (n : ℕ) → i < count → read (drop at l) ≡ found v (drop n (drop at l))
+    pub rows-next : (v : A) (n : ℕ) → i < count → read (drop at l) ≡ readAs v (drop n (drop at l))
         → rows read (count - i) (drop at l) ≡ oneMore v (rows read (count - (i + 1)) (drop (at + n) l))
     rows-next v n h e =
         let q : count - i - 1 ≡ count - (i + 1) = omega arith in
@@ -50,16 +50,16 @@ module _ {A : Type 0} (read : List ℕ → Read A) where
 
 module _ {A : Type 0} {read : List ℕ → Read A} {count : ℕ} {l : List ℕ} {good used : ℕ} (p : Passed read count l good used) where
   -- the lines end here
-  stopped : rows read (count - good) (drop used l) ≡ noRows (drop used l) → Counted (record { good = good; used = used }) l (rows read count l)
+  stopped : rows read (count - good) (drop used l) ≡ noRows (drop used l) → LinesCounted (record { good = good; used = used }) l (rows read count l)
   stopped e = record { good = sym (p .number ∙ rw e (omega arith)); rest = sym (p .rest ∙ rw e); within = p .within }
 
-  pub passed-end : count ≤ good → Counted (record { good = good; used = used }) l (rows read count l)
+  pub passed-end : count ≤ good → LinesCounted (record { good = good; used = used }) l (rows read count l)
   passed-end h = stopped (rows-over read count l good used h)
 
-  pub passed-bad : read (drop used l) ≡ bad → Counted (record { good = good; used = used }) l (rows read count l)
+  pub passed-bad : read (drop used l) ≡ bad → LinesCounted (record { good = good; used = used }) l (rows read count l)
   passed-bad e = stopped (rows-bad read (count - good) (drop used l) e)
 
-  pub passed-more : (v : A) (n : ℕ) → good < count → read (drop used l) ≡ found v (drop n (drop used l)) → used + n ≤ length l → Passed read count l (good + 1) (used + n)
+  pub passed-more : (v : A) (n : ℕ) → good < count → read (drop used l) ≡ readAs v (drop n (drop used l)) → used + n ≤ length l → Passed read count l (good + 1) (used + n)
   passed-more v n h e w =
       let k = rows-next read count l good used v n h e in
       record { few = omega arith; within = w; number = p .number ∙ rw k (omega arith); rest = p .rest ∙ rw k }

@@ -1,5 +1,5 @@
 -- A text whose first k lines are those of a net has its first bad line after them. Assumes nothing.
-use mathlib.Core.Path.{_≡_, refl, sym, ap, _∙_, subst}
+use mathlib.Core.Path.{_≡_, refl, sym, subst}
 use mathlib.Core.Bool.{Bool, true, false, cond}
 use mathlib.Core.List.{List, [], _∷_, _++_, map, append-assoc, append-nil}
 use mathlib.Core.Logic.{_⊎_, inl, inr}
@@ -8,11 +8,11 @@ use native.Mathlib.Omega.{arith}
 use lib.Dec.{eqb}
 use lib.ListN.{length, take, length-append, length-map}
 use borrow.Author.Tests.{eq-eqb}
-use Rattle.decimalform.specs.Decimal.{Read, found, bad}
-use Rattle.textform.specs.Form.{Counts, Vertex, Face, Net, Columns, Head, hasMark, inputNames, columnNames, cornerNames, readInput, readColumns, readCornerNames, readCounts, readVertex, readFace, Rows, rows, oneMore, Parsed, parsed, badLine, next, line, lines, ended, parseHead, parseBody, parse}
-use Rattle.textform.specs.Text.{countsText, faceText, texts, vertexLineText, netLines, joined}
-use Rattle.textform.specs.Fits.{FaceFits, Each, NetFits}
-use Rattle.textform.specs.Recognizes.{Begins}
+use Rattle.decimalform.specs.Decimal.{Read, readAs, bad}
+use Rattle.textform.specs.Form.{TextCounts, Vertex, Face, TextNet, Columns, Head, hasMark, inputNames, columnNames, cornerNames, readInput, readColumns, readCornerNames, readCounts, readVertex, readFace, Rows, rows, oneMore, Parsed, parsed, badLine, next, line, lines, ended, parseHead, parseBody, parse}
+use Rattle.textform.specs.Text.{countsText, faceText, texts, vertexLineText, netLines, linesText}
+use Rattle.textform.specs.Fits.{Every, NetFits}
+use Rattle.textform.specs.Recognition.{Begins}
 use Rattle.textform.proofs.Back.{input-back, counts-back, corners-back, under-back, face-back, head-back}
 use Rattle.textform.proofs.Lines.{rows-length}
 
@@ -31,7 +31,7 @@ module _ {A : Type 0} where
   beyond-next k (badLine p) f h more = h
 
   beyond-line : (k n : ℕ) (r : Read A) → k < n → Beyond k (line n r)
-  beyond-line k n (found v l) h = tt
+  beyond-line k n (readAs v l) h = tt
   beyond-line k n bad h = h
 
   beyond-lines : (k n count : ℕ) (w : Rows A) → k < n + length (w .values) → Beyond k (lines n count w)
@@ -46,25 +46,25 @@ module _ {A : Type 0} where
   beyond-ended k n v (b ∷ l) h = h
 
 -- ---- what the parser does after each line
-abbrev pub after-counts : Bool → Counts → List ℕ → Parsed Head
+abbrev pub after-counts : Bool → TextCounts → List ℕ → Parsed Head
 after-counts r n l = next (line 3 (readColumns l)) (λ c m. parsed (record { rule = r; counts = n; marks = hasMark c }) m)
 
 abbrev pub after-input : Bool → List ℕ → Parsed Head
 after-input r l = next (line 2 (readCounts l)) (after-counts r)
 
 module _ (h : Head) (vs : List Vertex) where
-  abbrev pub after-faces : List Face → List ℕ → Parsed Net
+  abbrev pub after-faces : List Face → List ℕ → Parsed TextNet
   after-faces fs l = ended (5 + h .counts .vertices + h .counts .faces) (record { rule = h .rule; counts = h .counts; vertices = vs; faces = fs }) l
 
-  abbrev pub after-names : Unit {0} → List ℕ → Parsed Net
+  abbrev pub after-names : Unit {0} → List ℕ → Parsed TextNet
   after-names u l = next (lines (5 + h .counts .vertices) (h .counts .faces) (rows readFace (h .counts .faces) l)) after-faces
 
-  abbrev pub after-vertices : List ℕ → Parsed Net
+  abbrev pub after-vertices : List ℕ → Parsed TextNet
   after-vertices l = next (line (4 + h .counts .vertices) (readCornerNames l)) after-names
 
 -- ---- wherever it stops, the lines that were read are good ones
 module _ (r : Bool) where
-  counts-beyond : (n : Counts) (l : List ℕ) → Beyond 2 (after-counts r n l)
+  counts-beyond : (n : TextCounts) (l : List ℕ) → Beyond 2 (after-counts r n l)
   counts-beyond n l = beyond-next 2 (line 3 (readColumns l)) _ (beyond-line 2 3 (readColumns l) (omega arith)) (λ c m. tt)
 
   input-beyond : (l : List ℕ) → Beyond 1 (after-input r l)
@@ -97,60 +97,60 @@ module _ (h : Head) where
       (λ vs m. beyond-less (3 + j) (3 + v) (after-vertices h vs m) (omega arith) (vertices-beyond vs m))
 
 -- ---- the first j of the lines of vs and of those after them: all j are read, or all of vs and then the others are left
-module _ {A : Type 0} {P : A → Type 0} (read : List ℕ → Read A) (text : A → List ℕ) (back : (v : A) → P v → (rest : List ℕ) → read (text v ++ rest) ≡ found v rest) (tail : List (List ℕ)) (rest : List ℕ) where
+module _ {A : Type 0} {P : A → Type 0} (read : List ℕ → Read A) (text : A → List ℕ) (back : (v : A) → P v → (rest : List ℕ) → read (text v ++ rest) ≡ readAs v rest) (tail : List (List ℕ)) (rest : List ℕ) where
   abbrev first : List A → ℕ → List ℕ
-  first vs j = joined (take j (map text vs ++ tail)) ++ rest
+  first vs j = linesText (take j (map text vs ++ tail)) ++ rest
 
   abbrev Reached : List A → (count j : ℕ) → Type 0
-  Reached vs count j = (j ≤ length (rows read count (first vs j) .values)) ⊎ ((count ≤ j) × (rows read count (first vs j) ≡ record { values = vs; rest = joined (take (j - count) tail) ++ rest }))
+  Reached vs count j = (j ≤ length (rows read count (first vs j) .values)) ⊎ ((count ≤ j) × (rows read count (first vs j) ≡ record { values = vs; rest = linesText (take (j - count) tail) ++ rest }))
 
-  reached : (vs : List A) → Each P vs → (j : ℕ) → Reached vs (length vs) j
-  unfolding rows texts Each
+  reached : (vs : List A) → Every P vs → (j : ℕ) → Reached vs (length vs) j
+  unfolding rows texts Every
   reached [] h j = let e : j - 0 ≡ j = omega arith in inr (omega arith, rw e refl)
   reached (v ∷ vs) h zero = inl (omega arith)
   reached (v ∷ vs) h (suc j) = go (reached vs (h .1) j)
     where
       one : rows read (suc (length vs)) (first (v ∷ vs) (suc j)) ≡ oneMore v (rows read (length vs) (first vs j))
-      one = rw (append-assoc (text v) (joined (take j (map text vs ++ tail))) rest, back v (h .0) (first vs j))
+      one = rw (append-assoc (text v) (linesText (take j (map text vs ++ tail))) rest, back v (h .0) (first vs j))
 
       go : Reached vs (length vs) j → Reached (v ∷ vs) (suc (length vs)) (suc j)
       go (inl k) = inl (rw one (omega arith))
       go (inr k) = let l = k .0 in let e : suc j - suc (length vs) ≡ j - length vs = omega arith in inr (omega arith, rw (one, k .1, e) refl)
 
-  pub reached-at : (vs : List A) → Each P vs → (count : ℕ) → length vs ≡ count → (j : ℕ) → Reached vs count j
+  reached-at : (vs : List A) → Every P vs → (count : ℕ) → length vs ≡ count → (j : ℕ) → Reached vs count j
   reached-at vs h count e j = subst (λ (n : ℕ). Reached vs n j) e (reached vs h j)
 
 -- ---- the lines of a net that fits
-module _ (c : Columns) (n : Net) (h : NetFits c n) (rest : List ℕ) where
+module _ (c : Columns) (n : TextNet) (h : NetFits c n) (rest : List ℕ) where
   abbrev head : Head
   head = record { rule = n .rule; counts = n .counts; marks = hasMark c }
 
-  faces-reached : (i : ℕ) → i ≤ n .counts .faces → i ≤ length (rows readFace (n .counts .faces) (joined (take i (map faceText (n .faces))) ++ rest) .values)
+  faces-reached : (i : ℕ) → i ≤ n .counts .faces → i ≤ length (rows readFace (n .counts .faces) (linesText (take i (map faceText (n .faces))) ++ rest) .values)
   faces-reached i k =
       let e = append-nil (map faceText (n .faces)) in
-      subst (λ (ls : List (List ℕ)). i ≤ length (rows readFace (n .counts .faces) (joined (take i ls) ++ rest) .values)) e (go (reached-at readFace faceText face-back [] rest (n .faces) (h .faces) (n .counts .faces) (h .faceCount) i))
+      subst (λ (ls : List (List ℕ)). i ≤ length (rows readFace (n .counts .faces) (linesText (take i ls) ++ rest) .values)) e (go (reached-at readFace faceText face-back [] rest (n .faces) (h .faces) (n .counts .faces) (h .faceCount) i))
     where
-      go : Reached readFace faceText face-back [] rest (n .faces) (n .counts .faces) i → i ≤ length (rows readFace (n .counts .faces) (joined (take i (map faceText (n .faces) ++ [])) ++ rest) .values)
+      go : Reached readFace faceText face-back [] rest (n .faces) (n .counts .faces) i → i ≤ length (rows readFace (n .counts .faces) (linesText (take i (map faceText (n .faces) ++ [])) ++ rest) .values)
       go (inl d) = d
       go (inr d) = rw (d .1) (let e = h .faceCount in omega arith)
 
-  vertices-reached : (i : ℕ) → i ≤ 1 + n .counts .faces → Beyond (3 + n .counts .vertices + i) (after-vertices head (n .vertices) (joined (take i (cornerNames tt ∷ map faceText (n .faces))) ++ rest))
+  vertices-reached : (i : ℕ) → i ≤ 1 + n .counts .faces → Beyond (3 + n .counts .vertices + i) (after-vertices head (n .vertices) (linesText (take i (cornerNames tt ∷ map faceText (n .faces))) ++ rest))
   unfolding texts
   vertices-reached zero k = beyond-less (3 + n .counts .vertices + 0) (3 + n .counts .vertices) (after-vertices head (n .vertices) rest) (omega arith) (vertices-beyond head (n .vertices) rest)
   vertices-reached (suc i) k =
-      let l = joined (take i (map faceText (n .faces))) ++ rest in
-      rw (append-assoc (cornerNames tt) (joined (take i (map faceText (n .faces)))) rest, corners-back l)
+      let l = linesText (take i (map faceText (n .faces))) ++ rest in
+      rw (append-assoc (cornerNames tt) (linesText (take i (map faceText (n .faces)))) rest, corners-back l)
       (beyond-less (3 + n .counts .vertices + suc i) (4 + n .counts .vertices + i) (after-names head (n .vertices) tt l) (omega arith) (names-beyond head (n .vertices) l i (faces-reached i (omega arith))))
 
   abbrev body : List (List ℕ)
   body = map (vertexLineText c) (n .vertices) ++ (cornerNames tt ∷ map faceText (n .faces))
 
-  body-reached : (j : ℕ) → j ≤ 1 + n .counts .vertices + n .counts .faces → Beyond (3 + j) (parseBody head (joined (take j body) ++ rest))
+  body-reached : (j : ℕ) → j ≤ 1 + n .counts .vertices + n .counts .faces → Beyond (3 + j) (parseBody head (linesText (take j body) ++ rest))
   unfolding parseBody
   body-reached j k = go (reached-at (readVertex (hasMark c)) (vertexLineText c) (under-back c) (cornerNames tt ∷ map faceText (n .faces)) rest (n .vertices) (h .vertices) (n .counts .vertices) (h .vertexCount) j)
     where
-      go : Reached (readVertex (hasMark c)) (vertexLineText c) (under-back c) (cornerNames tt ∷ map faceText (n .faces)) rest (n .vertices) (n .counts .vertices) j → Beyond (3 + j) (parseBody head (joined (take j body) ++ rest))
-      go (inl d) = body-beyond head (joined (take j body) ++ rest) j d
+      go : Reached (readVertex (hasMark c)) (vertexLineText c) (under-back c) (cornerNames tt ∷ map faceText (n .faces)) rest (n .vertices) (n .counts .vertices) j → Beyond (3 + j) (parseBody head (linesText (take j body) ++ rest))
+      go (inl d) = body-beyond head (linesText (take j body) ++ rest) j d
       go (inr d) =
           let few = d .0 in
           let e : 3 + n .counts .vertices + (j - n .counts .vertices) ≡ 3 + j = omega arith in
@@ -169,7 +169,7 @@ module _ (c : Columns) (n : Net) (h : NetFits c n) (rest : List ℕ) where
       let f = h .faceCount in
       omega arith
 
-  lines-reached : (k : ℕ) → k ≤ length (netLines c n) → Beyond k (parse (joined (take k (netLines c n)) ++ rest))
+  lines-reached : (k : ℕ) → k ≤ length (netLines c n) → Beyond k (parse (linesText (take k (netLines c n)) ++ rest))
   unfolding parse parseHead netLines texts
   lines-reached zero f = any-body 0 (parseHead rest) (omega arith) (head-beyond rest)
   lines-reached (suc zero) f =
@@ -179,7 +179,7 @@ module _ (c : Columns) (n : Net) (h : NetFits c n) (rest : List ℕ) where
       rw (append-assoc (inputNames (n .rule)) (countsText (n .counts) ++ []) rest, append-assoc (countsText (n .counts)) [] rest, input-back (n .rule) l, counts-back (n .counts) rest (h .counts))
       (any-body 2 (after-counts (n .rule) (n .counts) rest) (omega arith) (counts-beyond (n .rule) (n .counts) rest))
   lines-reached (suc (suc (suc j))) f =
-      let m = joined (take j body) in
+      let m = linesText (take j body) in
       let b = body-length in
       rw (
         append-assoc (inputNames (n .rule)) (countsText (n .counts) ++ (columnNames c ++ m)) rest,

@@ -9,11 +9,11 @@ use lib.IntN.{pos}
 use lib.ListN.{length, take, drop, replicate, length-append, length-map, length-replicate, take-append-drop}
 use lib.Seq.{take-append-seam, take-take}
 use borrow.Author.Tests.{eqb-true}
-use Rattle.decimalform.specs.Decimal.{Read, found, bad}
-use Rattle.textform.specs.Form.{Counts, Vertex, Face, Net, Columns, marked, unmarked, Head, hasMark, inputNames, columnNames, cornerNames, readInput, readColumns, readCornerNames, readCounts, readVertex, readFace, Rows, rows, Parsed, parsed, badLine, next, line, lines, ended, parseHead, parseBody, parse}
-use Rattle.textform.specs.Text.{countsText, faceText, texts, vertexLineText, netLines, joined, netText}
-use Rattle.textform.specs.Fits.{CountsFit, VertexFits, FaceFits, Each, FitsUnder, NetFits}
-use Rattle.textform.specs.Recognizes.{WrittenAs, Begins, FirstBadLine, RecognizesText}
+use Rattle.decimalform.specs.Decimal.{Read, readAs, bad}
+use Rattle.textform.specs.Form.{TextCounts, Vertex, Face, TextNet, Columns, withCorner, withoutCorner, Head, hasMark, inputNames, columnNames, cornerNames, readInput, readColumns, readCornerNames, readCounts, readVertex, readFace, Rows, rows, Parsed, parsed, badLine, next, line, lines, ended, parseHead, parseBody, parse}
+use Rattle.textform.specs.Text.{countsText, faceText, texts, vertexLineText, netLines, linesText, netText}
+use Rattle.textform.specs.Fits.{CountsFit, FaceFits, Every, FitsUnder, NetFits}
+use Rattle.textform.specs.Recognition.{WrittenAs, Begins, FirstBadLine, RecognizesText}
 use Rattle.textform.proofs.Back.{joined-map, joined-append, net-back}
 use Rattle.textform.proofs.Found.{LineFound, counts-found, vertex-found, point-found, face-found, names-found, rows-found}
 use Rattle.textform.proofs.Beyond.{Beyond, after-counts, after-input, after-faces, after-names, after-vertices, reaches}
@@ -24,26 +24,26 @@ begins-fewer l j k h b =
     let ls = netLines (b .columns) (b .net) in
     let t = take k ls in
     let few = b .few in
-    let e : joined t ≡ joined (take j ls) ++ joined (drop j t) =
-    ap joined (sym (take-append-drop j t)) ∙ joined-append (take j t) (drop j t) ∙ ap (λ (m : List (List ℕ)). joined m ++ joined (drop j t)) (take-take j k ls h) in
+    let e : linesText t ≡ linesText (take j ls) ++ linesText (drop j t) =
+    ap linesText (sym (take-append-drop j t)) ∙ joined-append (take j t) (drop j t) ∙ ap (λ (m : List (List ℕ)). linesText m ++ linesText (drop j t)) (take-take j k ls h) in
     record {
       columns = b .columns;
       net = b .net;
       fits = b .fits;
       few = omega arith;
-      rest = joined (drop j t) ++ b .rest;
-      text = b .text ∙ ap (λ (m : List ℕ). m ++ b .rest) e ∙ append-assoc (joined (take j ls)) (joined (drop j t)) (b .rest);
+      rest = linesText (drop j t) ++ b .rest;
+      text = b .text ∙ ap (λ (m : List ℕ). m ++ b .rest) e ∙ append-assoc (linesText (take j ls)) (linesText (drop j t)) (b .rest);
     }
 
 -- the lines of a net that stand before others
-begins-with : (c : Columns) (n : Net) → NetFits c n → (before after : List (List ℕ)) → netLines c n ≡ before ++ after → (l rest : List ℕ) → l ≡ joined before ++ rest → Begins l (length before)
+begins-with : (c : Columns) (n : TextNet) → NetFits c n → (before after : List (List ℕ)) → netLines c n ≡ before ++ after → (l rest : List ℕ) → l ≡ linesText before ++ rest → Begins l (length before)
 begins-with c n h before after e l rest t = record {
   columns = c;
   net = n;
   fits = h;
   few = let a = ap length e ∙ length-append before after in omega arith;
   rest = rest;
-  text = t ∙ ap (λ (m : List (List ℕ)). joined m ++ rest) (sym (ap (take (length before)) e ∙ take-append-seam before after));
+  text = t ∙ ap (λ (m : List (List ℕ)). linesText m ++ rest) (sym (ap (take (length before)) e ∙ take-append-seam before after));
 }
 
 -- ---- lines that are there, with others that could follow
@@ -54,17 +54,17 @@ abbrev zeroFace : Face
 zeroFace = record { a = 0; b = 0; c = 0; d = 0 }
 
 zero-fits : (c : Columns) → FitsUnder c zeroVertex
-zero-fits marked = record { x = omega arith; y = omega arith; z = omega arith; mark = omega arith }
-zero-fits unmarked = record { fits = record { x = omega arith; y = omega arith; z = omega arith; mark = omega arith }; unmarked = refl }
+zero-fits withCorner = record { x = omega arith; y = omega arith; z = omega arith; mark = omega arith }
+zero-fits withoutCorner = record { fits = record { x = omega arith; y = omega arith; z = omega arith; mark = omega arith }; unmarked = refl }
 
 module _ {A : Type 0} (P : A → Type 0) where
-  each-replicate : (n : ℕ) (v : A) → P v → Each P (replicate n v)
-  unfolding Each
+  each-replicate : (n : ℕ) (v : A) → P v → Every P (replicate n v)
+  unfolding Every
   each-replicate zero v h = tt
   each-replicate (suc n) v h = (h, each-replicate n v h)
 
-  each-append : (vs ws : List A) → Each P vs → Each P ws → Each P (vs ++ ws)
-  unfolding Each
+  each-append : (vs ws : List A) → Every P vs → Every P ws → Every P (vs ++ ws)
+  unfolding Every
   each-append [] ws h k = k
   each-append (v ∷ vs) ws h k = (h .0, each-append vs ws (h .1) k)
 
@@ -79,8 +79,8 @@ filledUp n v vs = vs ++ replicate (n - length vs) v
 length-filled : {A : Type 0} (n : ℕ) (v : A) (vs : List A) → length vs ≤ n → length (filledUp n v vs) ≡ n
 length-filled n v vs h = let a = length-append vs (replicate (n - length vs) v) in let b = length-replicate (n - length vs) v in omega arith
 
-module _ (c : Columns) (r : Bool) (n : Counts) (few : CountsFit n) (vs : List Vertex) (fit : Each (FitsUnder c) vs) (v : length vs ≤ n .vertices) (fs : List Face) (fit′ : Each FaceFits fs) (f : length fs ≤ n .faces) where
-  abbrev whole : Net
+module _ (c : Columns) (r : Bool) (n : TextCounts) (few : CountsFit n) (vs : List Vertex) (fit : Every (FitsUnder c) vs) (v : length vs ≤ n .vertices) (fs : List Face) (fit′ : Every FaceFits fs) (f : length fs ≤ n .faces) where
+  abbrev whole : TextNet
   whole = record { rule = r; counts = n; vertices = filledUp (n .vertices) zeroVertex vs; faces = filledUp (n .faces) zeroFace fs }
 
   whole-fits : NetFits c whole
@@ -129,7 +129,7 @@ module _ (c : Columns) (r : Bool) (n : Counts) (few : CountsFit n) (vs : List Ve
         (rw (joined-append (map g vs) ks, joined-map g vs, joined-map faceText fs) (simp append-assoc t)))
 
 -- ---- what the parser's answer shows of a text: it is that of the net, or the lines before the bad one are those of a net
-abbrev Shown : List ℕ → Parsed Net → Type 0
+abbrev Shown : List ℕ → Parsed TextNet → Type 0
 Shown l (parsed n m) = WrittenAs l n
 Shown l (badLine p) = (k : ℕ) → k < p → Begins l k
 
@@ -137,19 +137,19 @@ module _ (l : List ℕ) (n p : ℕ) (next-one : p ≡ suc n) (b : Begins l n) wh
   before-bad : (k : ℕ) → k < p → Begins l k
   before-bad k h = begins-fewer l k n (omega arith) b
 
-  shown-line : {A : Type 0} (r : Read A) (f : A → List ℕ → Parsed Net) → ((v : A) (m : List ℕ) → r ≡ found v m → Shown l (f v m)) → Shown l (next (line p r) f)
-  shown-line (found v m) f more = more v m refl
+  shown-line : {A : Type 0} (r : Read A) (f : A → List ℕ → Parsed TextNet) → ((v : A) (m : List ℕ) → r ≡ readAs v m → Shown l (f v m)) → Shown l (next (line p r) f)
+  shown-line (readAs v m) f more = more v m refl
   shown-line bad f more = before-bad
 
-  shown-then : {A B : Type 0} (r : Read A) (f : A → List ℕ → Parsed B) (g : B → List ℕ → Parsed Net) → ((v : A) (m : List ℕ) → r ≡ found v m → Shown l (next (f v m) g)) → Shown l (next (next (line p r) f) g)
-  shown-then (found v m) f g more = more v m refl
+  shown-then : {A B : Type 0} (r : Read A) (f : A → List ℕ → Parsed B) (g : B → List ℕ → Parsed TextNet) → ((v : A) (m : List ℕ) → r ≡ readAs v m → Shown l (next (f v m) g)) → Shown l (next (next (line p r) f) g)
+  shown-then (readAs v m) f g more = more v m refl
   shown-then bad f g more = before-bad
 
-  shown-ended : (v : Net) (m : List ℕ) → (m ≡ [] → WrittenAs l v) → Shown l (ended p v m)
+  shown-ended : (v : TextNet) (m : List ℕ) → (m ≡ [] → WrittenAs l v) → Shown l (ended p v m)
   shown-ended v [] more = more refl
   shown-ended v (x ∷ m) more = before-bad
 
-shown-lines : {A : Type 0} (l : List ℕ) (n p : ℕ) → p ≡ suc n → (count : ℕ) (w : Rows A) (f : List A → List ℕ → Parsed Net) → Begins l (n + length (w .values))
+shown-lines : {A : Type 0} (l : List ℕ) (n p : ℕ) → p ≡ suc n → (count : ℕ) (w : Rows A) (f : List A → List ℕ → Parsed TextNet) → Begins l (n + length (w .values))
     → (length (w .values) ≡ count → Shown l (f (w .values) (w .rest))) → Shown l (next (lines p count w) f)
 shown-lines l n p e count w f b more = go (eqb (length (w .values)) count) refl
   where
@@ -158,12 +158,12 @@ shown-lines l n p e count w f b more = go (eqb (length (w .values)) count) refl
     go false d = before-bad l (n + length (w .values)) (p + length (w .values)) (omega arith) b
 
 -- ---- the whole text
-under-found : (c : Columns) (l : List ℕ) (v : Vertex) (m : List ℕ) → readVertex (hasMark c) l ≡ found v m → LineFound (FitsUnder c) (vertexLineText c) l v m
-under-found marked l v m p = vertex-found l v m p
-under-found unmarked l v m p = point-found l v m p
+under-found : (c : Columns) (l : List ℕ) (v : Vertex) (m : List ℕ) → readVertex (hasMark c) l ≡ readAs v m → LineFound (FitsUnder c) (vertexLineText c) l v m
+under-found withCorner l v m p = vertex-found l v m p
+under-found withoutCorner l v m p = point-found l v m p
 
 module _ (l : List ℕ) where
-  module _ (c : Columns) (r : Bool) (n : Counts) (few : CountsFit n) (vs : List Vertex) (fit : Each (FitsUnder c) vs) (fs : List Face) (fit′ : Each FaceFits fs) where
+  module _ (c : Columns) (r : Bool) (n : TextCounts) (few : CountsFit n) (vs : List Vertex) (fit : Every (FitsUnder c) vs) (fs : List Face) (fit′ : Every FaceFits fs) where
     all-written : length vs ≡ n .vertices → length fs ≡ n .faces → l ≡ inputNames r ++ (countsText n ++ (columnNames c ++ (texts (vertexLineText c) vs ++ (cornerNames tt ++ (texts faceText fs ++ [])))))
         → WrittenAs l (record { rule = r; counts = n; vertices = vs; faces = fs })
     unfolding netText netLines texts
@@ -173,8 +173,8 @@ module _ (l : List ℕ) where
       text = rw (joined-append (map (vertexLineText c) vs) (cornerNames tt ∷ map faceText fs), joined-map (vertexLineText c) vs, joined-map faceText fs) (rw (append-nil (texts faceText fs)) at t);
     }
 
-  body-shown : (c : Columns) (r : Bool) (n : Counts) → CountsFit n → (m : List ℕ) → l ≡ inputNames r ++ (countsText n ++ (columnNames c ++ m)) → Shown l (parseBody (record { rule = r; counts = n; marks = hasMark c }) m)
-  unfolding parseBody Each texts
+  body-shown : (c : Columns) (r : Bool) (n : TextCounts) → CountsFit n → (m : List ℕ) → l ≡ inputNames r ++ (countsText n ++ (columnNames c ++ m)) → Shown l (parseBody (record { rule = r; counts = n; marks = hasMark c }) m)
+  unfolding parseBody Every texts
   body-shown c r n few m t =
       let h : Head = record { rule = r; counts = n; marks = hasMark c } in
       let w = rows (readVertex (hasMark c)) (n .vertices) m in
@@ -194,20 +194,20 @@ module _ (l : List ℕ) where
       (t₂ ∙ ap (λ (k : List ℕ). inputNames r ++ (countsText n ++ (columnNames c ++ (texts (vertexLineText c) (w .values) ++ (cornerNames tt ++ (texts faceText (v .values) ++ k)))))) none)))))
 
   shown : Shown l (parse l)
-  unfolding parse parseHead Each netLines texts
+  unfolding parse parseHead Every netLines texts
   shown =
-      let none : Counts = record { vertices = 0; faces = 0; rounds = 0 } in
+      let none : TextCounts = record { vertices = 0; faces = 0; rounds = 0 } in
       let few : CountsFit none = record { vertices = omega arith; faces = omega arith; rounds = omega arith } in
-      let b = begins-with marked _ (whole-fits marked false none few [] tt (omega arith) [] tt (omega arith)) [] _ refl l l refl in
+      let b = begins-with withCorner _ (whole-fits withCorner false none few [] tt (omega arith) [] tt (omega arith)) [] _ refl l l refl in
       shown-then l 0 1 refl b (readInput l) after-input parseBody (λ r l₁ e₁.
       let t₁ = names-found inputNames (false ∷ true ∷ []) l r l₁ e₁ in
-      shown-then l 1 2 refl (begins-input marked r none few [] tt (omega arith) [] tt (omega arith) l l₁ t₁) (readCounts l₁) (after-counts r) parseBody (λ n l₂ e₂.
+      shown-then l 1 2 refl (begins-input withCorner r none few [] tt (omega arith) [] tt (omega arith) l l₁ t₁) (readCounts l₁) (after-counts r) parseBody (λ n l₂ e₂.
       let x = counts-found l₁ n l₂ e₂ in
       let t₂ = t₁ ∙ ap (λ (k : List ℕ). inputNames r ++ k) (x .text) in
-      shown-then l 2 3 refl (begins-counts marked r n (x .fits) [] tt (omega arith) [] tt (omega arith) l l₂ t₂) (readColumns l₂) (λ c m. parsed (record { rule = r; counts = n; marks = hasMark c }) m) parseBody (λ c l₃ e₃.
-      body-shown c r n (x .fits) l₃ (t₂ ∙ ap (λ (k : List ℕ). inputNames r ++ (countsText n ++ k)) (names-found columnNames (marked ∷ unmarked ∷ []) l₂ c l₃ e₃)))))
+      shown-then l 2 3 refl (begins-counts withCorner r n (x .fits) [] tt (omega arith) [] tt (omega arith) l l₂ t₂) (readColumns l₂) (λ c m. parsed (record { rule = r; counts = n; marks = hasMark c }) m) parseBody (λ c l₃ e₃.
+      body-shown c r n (x .fits) l₃ (t₂ ∙ ap (λ (k : List ℕ). inputNames r ++ (countsText n ++ k)) (names-found columnNames (withCorner ∷ withoutCorner ∷ []) l₂ c l₃ e₃)))))
 
-  accepted : (n : Net) (m : List ℕ) → parse l ≡ parsed n m → WrittenAs l n
+  accepted : (n : TextNet) (m : List ℕ) → parse l ≡ parsed n m → WrittenAs l n
   accepted n m e = subst (Shown l) e shown
 
   refused : (p : ℕ) → parse l ≡ badLine p → FirstBadLine l p

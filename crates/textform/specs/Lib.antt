@@ -1,5 +1,6 @@
+pub mod Limits
 pub mod Bytes
 pub mod Form
 pub mod Text
 pub mod Fits
-pub mod Recognizes
+pub mod Recognition

@@ -5,13 +5,13 @@ use Prim.Native.Nat.{ℕ}
 use lib.ListN.{length}
 use Rattle.decimalform.specs.Decimal.{naturalText, integerText}
 use Rattle.textform.specs.Bytes.{bytes}
-use Rattle.textform.specs.Form.{Counts, Vertex, Face, Net, inputNames, Columns, marked, unmarked, columnNames, cornerNames}
+use Rattle.textform.specs.Form.{TextCounts, Vertex, Face, TextNet, inputNames, Columns, withCorner, withoutCorner, columnNames, cornerNames}
 
 -- a number and the byte after it. Paper 01: "with one blank between and a newline after each line"
 abbrev pub field : List ℕ → ℕ → List ℕ
 field s e = s ++ (e ∷ [])
 
-unfoldable pub countsText : Counts → List ℕ
+unfoldable pub countsText : TextCounts → List ℕ
 countsText n = field (naturalText (n .vertices)) 32 ++ field (naturalText (n .faces)) 32 ++ field (naturalText (n .rounds)) 10
 
 -- two numbers in a line
@@ -39,20 +39,20 @@ texts f (v ∷ vs) = f v ++ texts f vs
 
 -- a vertex under these columns. Paper 01: "`x y z` without `corner` means all marks 0"
 abbrev pub vertexLineText : Columns → Vertex → List ℕ
-vertexLineText marked v = vertexText v
-vertexLineText unmarked v = pointText v
+vertexLineText withCorner v = vertexText v
+vertexLineText withoutCorner v = pointText v
 
 -- the lines of a net. Paper 01: "a line of names, then values in that order"
-unfoldable pub netLines : Columns → Net → List (List ℕ)
+unfoldable pub netLines : Columns → TextNet → List (List ℕ)
 netLines c n = inputNames (n .rule) ∷ countsText (n .counts) ∷ columnNames c ∷ (map (vertexLineText c) (n .vertices) ++ (cornerNames tt ∷ map faceText (n .faces)))
 
 -- lines after each other
-abbrev pub joined : List (List ℕ) → List ℕ
-joined ls = texts (λ l. l) ls
+abbrev pub linesText : List (List ℕ) → List ℕ
+linesText ls = texts (λ l. l) ls
 
 -- the text that writes a net for the program
-unfoldable pub netText : Columns → Net → List ℕ
-netText c n = joined (netLines c n)
+unfoldable pub netText : Columns → TextNet → List ℕ
+netText c n = linesText (netLines c n)
 
 -- ---- the answer, with letters if they are asked for
 
@@ -63,7 +63,7 @@ pub record LetteredVertex : Type 0 where
 
 -- Paper 01: "The output always has the `corner` column". Paper 02: "prints the letter as a last column named `rule`"
 abbrev pub columnsText : (rule : Bool) → List ℕ
-columnsText rule = cond rule (bytes "x y z corner rule\n") (columnNames marked)
+columnsText rule = cond rule (bytes "x y z corner rule\n") (columnNames withCorner)
 
 abbrev pub endText : (rule : Bool) (letter : ℕ) → List ℕ
 endText rule letter = cond rule (32 ∷ letter ∷ 10 ∷ []) (10 ∷ [])

@@ -7,7 +7,7 @@ use native.Mathlib.Omega.{arith}
 use lib.ListN.{length, drop, length-drop, drop-of-length-le}
 use lib.Seq.{drop-drop}
 use borrow.Author.Tests.{not-true, not-false}
-use Rattle.decimalform.specs.Decimal.{found}
+use Rattle.decimalform.specs.Decimal.{readAs}
 use Rattle.textform.specs.Bytes.{bytes}
 use Rattle.textform.specs.Form.{Head, Vertex, Face, Rows, rows, badLine, startsWith, cornerNames, readVertex, readFace}
 use Rattle.textform.proofs.Lines.{starts-length, names-here, names-later, names-none, rows-length}
@@ -76,7 +76,7 @@ names-good n =
     let d = drop-drop 8 (names-at v) (begin v .args .text .now) in
     record {
       all = sym (vertices-good v) ∙ n .before .before .before .before .before .if1 .left;
-      names = rw (vertices-rest v) (names-here cornerNames tt [] (left-of (n .before)) (there n) ∙ ap (found tt) d);
+      names = rw (vertices-rest v) (names-here cornerNames tt [] (left-of (n .before)) (there n) ∙ ap (readAs tt) d);
     }
 
 -- ---- the face lines

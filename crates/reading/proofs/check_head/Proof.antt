@@ -3,11 +3,11 @@ use mathlib.Core.Path.{_≡_}
 use Prim.Native.Nat.{ℕ, _+_, _≤_}
 use native.Mathlib.Omega.{arith}
 use lib.ListN.{length, drop}
-use Rattle.decimalform.specs.Decimal.{found}
+use Rattle.decimalform.specs.Decimal.{readAs}
 use Rattle.decimal.proofs.Reading.{says, took, says-at}
 use Rattle.text.specs.declared.ColumnsLine.{ColumnsLine}
-use Rattle.textform.specs.Form.{marked, unmarked, readInput, readColumns, readCounts}
-use Rattle.text.specs.Answers.{columnsOf, columnsUsed}
+use Rattle.textform.specs.Form.{withCorner, withoutCorner, readInput, readColumns, readCounts}
+use Rattle.text.specs.Answers.{columnsLineOf, columnsUsed}
 use Rattle.reading.proofs.Head.{CountsRead, names-bad, counts-bad, columns-bad, head-good}
 use Rattle.reading.proofs.Lines.{LineAt, line-at}
 use borrow.Author.Needs.{needs}
@@ -18,7 +18,7 @@ use Rattle.reading.proofs.check_head.Tie as tie
 abbrev begin : tie.After-rule → tie.Start
 begin p = p .before .before .before .before
 
-names-given : (p : tie.After-rule) → (let l = begin p .args .text .now in let g = p .rule .given .0 in readInput l ≡ found (g .0) (drop (g .1 .0) l))
+names-given : (p : tie.After-rule) → (let l = begin p .args .text .now in let g = p .rule .given .0 in readInput l ≡ readAs (g .0) (drop (g .1 .0) l))
 names-given p = says (p .before .before .read-input .ensures) (p .rule .given .1)
 
 names-within : (p : tie.After-rule) → p .rule .given .0 .1 .0 ≤ length (begin p .args .text .now)
@@ -40,7 +40,7 @@ second p = p .before .before .before
 abbrev j : tie.After-read-columns → ℕ
 j p = first (second p) .rule .given .0 .1 .0 + second p .vertices .given .0 .1 .1 .1 .0
 
-columns : (p : tie.After-read-columns) {q : ColumnsLine} → p .read-columns .result ≡ q → LineAt columnsOf columnsUsed readColumns (begin (first (second p)) .args .text .now) (j p) q
+columns : (p : tie.After-read-columns) {q : ColumnsLine} → p .read-columns .result ≡ q → LineAt columnsLineOf columnsUsed readColumns (begin (first (second p)) .args .text .now) (j p) q
 columns p e = line-at _ _ _ (p .read-columns .ensures) e (counts (second p) .within)
 
 read-input-requires : tie.Need-read-input-requires
@@ -113,13 +113,13 @@ returns-3 : tie.Need-returns-3
 returns-3 c =
     let p = c .before .before .before in
     let e = columns p (c .before .n .given .1) in
-    head-good (counts (second p)) marked _ (e .reads) (e .within)
+    head-good (counts (second p)) withCorner _ (e .reads) (e .within)
 
 returns-4 : tie.Need-returns-4
 returns-4 c =
     let p = c .before .before .before in
     let e = columns p (c .before .n2 .given .1) in
-    head-good (counts (second p)) unmarked _ (e .reads) (e .within)
+    head-good (counts (second p)) withoutCorner _ (e .reads) (e .within)
 
 returns-5 : tie.Need-returns-5
 returns-5 c = let p = c .before .before in columns-bad (counts (second p)) (columns p (c .enum-told3 .given .1) .reads)
