@@ -73,10 +73,10 @@ if len(FACTORS) != 5:
     faults.append("the lengths to provide were not found in the definitions")
 for name, factor in zip(("out_vertices", "out_faces", "out_marks", "letters", "work"), FACTORS):
     hold("header", rf"{name} +N G\b", header, [factor])
-PROGRAM = with_numbers(read("crates/readingform/specs/Loaded.antt"))
-[(PROGRAM_G,)] = numbers(r"serve G up to N", PROGRAM)
-[(PROGRAM_V,)] = numbers(r"refusedIf 4 \(ltb N ", PROGRAM)
-[(TEXT,)] = set(numbers(r"ltb N \(length text\)", PROGRAM + with_numbers(read("crates/programform/specs/Answer.antt"))))
+PROGRAM = read("crates/textform/specs/Limits.antt")
+[(PROGRAM_G,)] = numbers(r"(?m)^programFaces = N$", PROGRAM)
+[(PROGRAM_V,)] = numbers(r"(?m)^programVertices = N$", PROGRAM)
+[(TEXT,)] = numbers(r"(?m)^longestText = N$", PROGRAM)
 
 # ---- the version
 version = [C[f"VERSION_{part}"] for part in ("MAJOR", "MINOR", "PATCH")]

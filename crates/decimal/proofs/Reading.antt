@@ -9,7 +9,7 @@ use lib.ListN.{length, getD, take, drop, length-drop}
 use lib.IntN.{ℤ, pos, negℤ}
 use lib.Seq.{take-all, drop-drop}
 use borrow.Author.Tests.{eq-eqb, ne-eqb, le-leb}
-use Rattle.decimalform.specs.Decimal.{found, isDigit, readDigits, atMost, readNatural, negated, unsigned, readInteger}
+use Rattle.decimalform.specs.Decimal.{readAs, isDigit, readDigits, atMost, readNatural, negated, unsigned, readInteger, largestNumber, largestMagnitude}
 use Rattle.decimalform.proofs.Reading.{digits-above, natural-at-most, integer-negative, integer-positive, negated-some, negated-zero}
 use Rattle.decimal.specs.declared.Number.the-variants as number
 use Rattle.decimal.specs.declared.Number.{Number}
@@ -17,7 +17,7 @@ use Rattle.decimal.specs.declared.Integer.the-variants as integer
 use Rattle.decimal.specs.Answers.{numberOf, Gives, GivesNumber, GivesInteger}
 
 -- the digits have ended at i, with the value v
-pub digits-given : (l : List ℕ) (limit i v : ℕ) → i ≤ length l → v ≤ limit → readDigits 0 l ≡ readDigits v (drop i l) → readDigits v (drop i l) ≡ found v (drop i l)
+pub digits-given : (l : List ℕ) (limit i v : ℕ) → i ≤ length l → v ≤ limit → readDigits 0 l ≡ readDigits v (drop i l) → readDigits v (drop i l) ≡ readAs v (drop i l)
     → GivesNumber (number.Value v i) l (atMost limit (readDigits 0 l))
 digits-given l limit i v h k e s = record { reads = sym (ap (atMost limit) (e ∙ s) ∙ rw (le-leb v limit k)); within = h }
 
@@ -75,11 +75,11 @@ integer-none (b ∷ l) e = absurd (omega arith)
 pub record AfterMinus (l : List ℕ) (r : Number) : Type 0 where
   pub some : 0 < length l
   pub minus : getD l 0 0 ≡ 45
-  pub gives : GivesNumber r (take (length l - 1) (drop 1 l)) (readNatural 2147483648 (take (length l - 1) (drop 1 l)))
+  pub gives : GivesNumber r (take (length l - 1) (drop 1 l)) (readNatural largestMagnitude (take (length l - 1) (drop 1 l)))
 
 module _ {l : List ℕ} {r : Number} (a : AfterMinus l r) where
-  after : {q : Number} → r ≡ q → readNatural 2147483648 (drop 1 l) ≡ numberOf q (drop 1 l)
-  after e = says-at (readNatural 2147483648) l 1 (a .gives) e
+  after : {q : Number} → r ≡ q → readNatural largestMagnitude (drop 1 l) ≡ numberOf q (drop 1 l)
+  after e = says-at (readNatural largestMagnitude) l 1 (a .gives) e
 
   reads : {q : Number} → r ≡ q → readInteger l ≡ negated (numberOf q (drop 1 l))
   reads e = integer-negative l (a .some) (a .minus) ∙ ap negated (after e)
@@ -92,10 +92,10 @@ module _ {l : List ℕ} {r : Number} (a : AfterMinus l r) where
     negative-zero z = record { reads = sym (reads e ∙ negated-zero m (drop n (drop 1 l)) z); within = omega arith }
 
     pub negative-within : n + 1 ≤ length l
-    negative-within = let w = took-at (readNatural 2147483648) l 1 (a .gives) e (a .some) in omega arith
+    negative-within = let w = took-at (readNatural largestMagnitude) l 1 (a .gives) e (a .some) in omega arith
 
-    pub negative-limit : m ≤ 2147483648
-    negative-limit = natural-at-most 2147483648 _ m _ (after e)
+    pub negative-limit : m ≤ largestMagnitude
+    negative-limit = natural-at-most largestMagnitude _ m _ (after e)
 
     pub negative-found : {z : ℤ} → (m ≡ 0 → ⊥) → z ≡ negℤ (pos m) → GivesInteger (integer.Value z (n + 1)) l (readInteger l)
     negative-found {z} k q =
@@ -106,7 +106,7 @@ module _ {l : List ℕ} {r : Number} (a : AfterMinus l r) where
 pub record NoMinus (l : List ℕ) (r : Number) : Type 0 where
   pub some : 0 < length l
   pub other : getD l 0 0 ≡ 45 → ⊥
-  pub gives : GivesNumber r l (readNatural 2147483647 l)
+  pub gives : GivesNumber r l (readNatural largestNumber l)
 
 module _ {l : List ℕ} {r : Number} (a : NoMinus l r) where
   whole : {q : Number} → r ≡ q → readInteger l ≡ unsigned (numberOf q l)
@@ -116,8 +116,8 @@ module _ {l : List ℕ} {r : Number} (a : NoMinus l r) where
   positive-bad e = record { reads = sym (whole e); within = omega arith }
 
   module _ {m n : ℕ} (e : r ≡ number.Value m n) where
-    pub positive-limit : m ≤ 2147483647
-    positive-limit = natural-at-most 2147483647 l m _ (says (a .gives) e)
+    pub positive-limit : m ≤ largestNumber
+    positive-limit = natural-at-most largestNumber l m _ (says (a .gives) e)
 
     pub positive-found : {z : ℤ} → z ≡ pos m → GivesInteger (integer.Value z n) l (readInteger l)
-    positive-found q = record { reads = sym (whole e ∙ ap (λ (x : ℤ). found x (drop n l)) (sym q)); within = took (a .gives) e }
+    positive-found q = record { reads = sym (whole e ∙ ap (λ (x : ℤ). readAs x (drop n l)) (sym q)); within = took (a .gives) e }

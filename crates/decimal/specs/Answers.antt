@@ -8,15 +8,15 @@ use Rattle.decimal.specs.declared.Number.{Number}
 use Rattle.decimal.specs.declared.Number.the-variants as number
 use Rattle.decimal.specs.declared.Integer.{Integer}
 use Rattle.decimal.specs.declared.Integer.the-variants as integer
-use Rattle.decimalform.specs.Decimal.{Read, found, bad}
+use Rattle.decimalform.specs.Decimal.{Read, readAs, bad}
 
 -- a value and the number of bytes that it took from the front of l
 abbrev pub numberOf : Number → List ℕ → Read ℕ
-numberOf (number.Value v n) l = found v (drop n l)
+numberOf (number.Value v n) l = readAs v (drop n l)
 numberOf number.Bad l = bad
 
 abbrev pub integerOf : Integer → List ℕ → Read ℤ
-integerOf (integer.Value z n) l = found z (drop n l)
+integerOf (integer.Value z n) l = readAs z (drop n l)
 integerOf integer.Bad l = bad
 
 -- the number of bytes

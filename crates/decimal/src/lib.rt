@@ -3,9 +3,14 @@ ghost use mathlib.Core.Path.{_≡_};
 ghost use Prim.Native.Nat.{_+_, _≤_};
 ghost use lib.ListN.{length};
 ghost use lib.IntN.{natAbs, pos, negℤ};
-ghost use Rattle.decimalform.specs.Decimal.{naturalText, integerText, isDigit, readDigits, atMost, readNatural, readInteger};
+ghost use Rattle.decimalform.specs.Decimal.{naturalText, integerText, isDigit, readDigits, atMost, readNatural, readInteger, largestNumber, largestMagnitude};
 ghost use Rattle.decimalform.specs.Stored.{Stored};
 ghost use Rattle.decimal.specs.Answers.{GivesNumber, GivesInteger};
+
+// The largest number of signed 32 bits, and the largest magnitude after a minus.
+pub const LARGEST: u32 = 2147483647;
+
+const LARGEST_MAGNITUDE: u32 = 2147483648;
 
 // A number and how many bytes it took.
 pub enum Number {
@@ -64,14 +69,14 @@ pub fn read_natural(text: &[u8], limit: u32) -> Number
 }
 
 fn minus(m: u32) -> i32
-    requires { ⌜ m ≤ 2147483648 ⌝ }
+    requires { ⌜ m ≤ largestMagnitude ⌝ }
     ensures { λ r. ⌜ r ≡ negℤ (pos m) ⌝ }
 {
     (0 - m as i64) as i32
 }
 
 fn plus(m: u32) -> i32
-    requires { ⌜ m ≤ 2147483647 ⌝ }
+    requires { ⌜ m ≤ largestNumber ⌝ }
     ensures { λ r. ⌜ r ≡ pos m ⌝ }
 {
     m as i32
@@ -85,7 +90,7 @@ pub fn read_integer(text: &[u8]) -> Integer
         return Integer::Bad;
     }
     if text[0] == 45 {
-        let Number::Value(m, n) = read_natural(&text[1..], 2147483648) else {
+        let Number::Value(m, n) = read_natural(&text[1..], LARGEST_MAGNITUDE) else {
             return Integer::Bad;
         };
         if m == 0 {
@@ -93,7 +98,7 @@ pub fn read_integer(text: &[u8]) -> Integer
         }
         return Integer::Value(minus(m), n + 1);
     }
-    let Number::Value(m, n) = read_natural(text, 2147483647) else {
+    let Number::Value(m, n) = read_natural(text, LARGEST) else {
         return Integer::Bad;
     };
     Integer::Value(plus(m), n)

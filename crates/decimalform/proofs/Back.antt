@@ -9,7 +9,7 @@ use lib.IntN.{ℤ, pos, negsuc}
 use lib.Signed.{mag}
 use lib.ListN.{getD}
 use borrow.Author.Tests.{lt-ltb, le-ltb, le-leb, ne-eqb}
-use Rattle.decimalform.specs.Decimal.{found, digits, naturalText, integerText, isDigit, readDigits, atMost, readNatural, readInteger, negated, unsigned}
+use Rattle.decimalform.specs.Decimal.{readAs, digits, naturalText, integerText, isDigit, readDigits, atMost, readNatural, readInteger, negated, unsigned, largestNumber, largestMagnitude}
 
 -- 48 + n is a digit whose value is n
 digit-is : (n : ℕ) → n < 10 → isDigit (48 + n) ≡ true
@@ -53,7 +53,7 @@ begins (suc f) n p h = go (decLt n 10) (λ l. begins f (n / 10) (omega arith) (o
 pub record NoDigit (l : List ℕ) : Type 0 where
   pub none : isDigit (getD l 0 0) ≡ false
 
-no-digit-ends : (v : ℕ) (l : List ℕ) → NoDigit l → readDigits v l ≡ found v l
+no-digit-ends : (v : ℕ) (l : List ℕ) → NoDigit l → readDigits v l ≡ readAs v l
 unfolding readDigits
 no-digit-ends v [] h = refl
 no-digit-ends v (b ∷ l) h = rw (h .none)
@@ -65,7 +65,7 @@ natural-after limit l rest b =
     let d : isDigit (b .first) ≡ true = rw (le-leb 48 (b .first) (omega arith), le-leb (b .first) 57 (b .high)) in
     rw (b .is, ne-eqb (b .first) 48 n, d)
 
-pub natural-back : (limit n : ℕ) (rest : List ℕ) → n ≤ limit → NoDigit rest → readNatural limit (naturalText n ++ rest) ≡ found n rest
+pub natural-back : (limit n : ℕ) (rest : List ℕ) → n ≤ limit → NoDigit rest → readNatural limit (naturalText n ++ rest) ≡ readAs n rest
 unfolding naturalText readNatural
 natural-back limit zero rest h e = refl
 natural-back limit (suc n) rest h e =
@@ -73,25 +73,25 @@ natural-back limit (suc n) rest h e =
     ∙ ap (atMost limit) (digits-back (suc n) (suc n) rest (omega arith) ∙ no-digit-ends (suc n) rest e)
     ∙ rw (le-leb (suc n) limit h)
 
-unsigned-after : (l rest : List ℕ) (b : Begins l) → readInteger (l ++ rest) ≡ unsigned (readNatural 2147483647 (l ++ rest))
+unsigned-after : (l rest : List ℕ) (b : Begins l) → readInteger (l ++ rest) ≡ unsigned (readNatural largestNumber (l ++ rest))
 unfolding readInteger
 unsigned-after l rest b = let n : (b .first ≡ 45) → ⊥ = omega (arith, b .low) in rw (b .is, ne-eqb (b .first) 45 n)
 
-zero-back : (rest : List ℕ) → readInteger (naturalText 0 ++ rest) ≡ found (pos 0) rest
+zero-back : (rest : List ℕ) → readInteger (naturalText 0 ++ rest) ≡ readAs (pos 0) rest
 unfolding naturalText readInteger readNatural
 zero-back rest = refl
 
-some-back : (n : ℕ) (rest : List ℕ) → readInteger (naturalText (suc n) ++ rest) ≡ unsigned (readNatural 2147483647 (naturalText (suc n) ++ rest))
+some-back : (n : ℕ) (rest : List ℕ) → readInteger (naturalText (suc n) ++ rest) ≡ unsigned (readNatural largestNumber (naturalText (suc n) ++ rest))
 unfolding naturalText
 some-back n rest = unsigned-after (digits (suc n) (suc n)) rest (begins (suc n) (suc n) (omega arith) (omega arith))
 
-minus-back : (l : List ℕ) → readInteger (45 ∷ l) ≡ negated (readNatural 2147483648 l)
+minus-back : (l : List ℕ) → readInteger (45 ∷ l) ≡ negated (readNatural largestMagnitude l)
 unfolding readInteger
 minus-back l = refl
 
 -- the same of every signed 32-bit number
-pub integer-back : (z : ℤ) (rest : List ℕ) → mag z ≤ 2147483647 → NoDigit rest → readInteger (integerText z ++ rest) ≡ found z rest
+pub integer-back : (z : ℤ) (rest : List ℕ) → mag z ≤ largestNumber → NoDigit rest → readInteger (integerText z ++ rest) ≡ readAs z rest
 unfolding integerText
-integer-back (negsuc n) rest h e = minus-back (naturalText (suc n) ++ rest) ∙ ap negated (natural-back 2147483648 (suc n) rest (omega arith) e)
+integer-back (negsuc n) rest h e = minus-back (naturalText (suc n) ++ rest) ∙ ap negated (natural-back largestMagnitude (suc n) rest (omega arith) e)
 integer-back (pos zero) rest h e = zero-back rest
-integer-back (pos (suc n)) rest h e = some-back n rest ∙ ap unsigned (natural-back 2147483647 (suc n) rest h e)
+integer-back (pos (suc n)) rest h e = some-back n rest ∙ ap unsigned (natural-back largestNumber (suc n) rest h e)

@@ -1,6 +1,7 @@
 // The program: a text on standard input, the answer on standard output. A read or write that fails is told on standard error.
 ghost use Prim.Native.Nat.{_≤_};
 ghost use lib.ListN.{length};
+ghost use Rattle.programform.specs.Input.{inputRoom};
 ghost use Rattle.gedrovit.specs.Input.{bytesOf};
 use libc::STDIN_FILENO;
 use libc::STDOUT_FILENO;
@@ -30,20 +31,22 @@ fn read_input(text: &mut [u8]) -> Input
     Input::Bytes(at)
 }
 
-fn print_answer(text: &[u8]) {
-    let mut out = [0u8; 54355];
-    let n = program::answer(text, &mut out);
-    if !io::write_all(STDOUT_FILENO, &out[..n]) {
+// The first n bytes of `text` are those of the input: all of them, or as many as `text` holds.
+fn print_answer(text: &[u8], n: usize)
+    requires { ⌜ (inputRoom ≤ length (now text)) × (n ≤ length (now text)) ⌝ }
+{
+    let mut out = [0u8; program::ANSWER_ROOM];
+    let long = program::answer(text, n, &mut out);
+    if !io::write_all(STDOUT_FILENO, &out[..long]) {
         os::fail(b"standard output");
     }
 }
 
-// One byte more than the longest text, so that a longer one is noticed.
 fn main() {
-    let mut text = [0u8; 32769];
+    let mut text = [0u8; program::INPUT_ROOM];
     let input = read_input(&mut text);
     match input {
-        Input::Bytes(n) => print_answer(&text[..n]),
+        Input::Bytes(n) => print_answer(&text, n),
         Input::Failed => os::fail(b"standard input"),
     }
 }

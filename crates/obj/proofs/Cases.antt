@@ -6,12 +6,13 @@ use Prim.Native.Nat.{ℕ, _-_, _≤_, _<_}
 use native.Mathlib.Omega.{arith}
 use lib.IntN.{ℤ}
 use lib.ListN.{length, take, drop, length-drop}
-use Rattle.decimalform.specs.Decimal.{found, bad}
+use Rattle.decimalform.specs.Decimal.{readAs, bad}
 use Rattle.decimal.proofs.Reading.{part-rest}
 use Rattle.limits.specs.Answer.{limitsOf}
+use Rattle.textform.specs.Limits.{longestText}
 use Rattle.textform.specs.Form.{parsed, badLine}
-use Rattle.readingform.specs.Loaded.{netRead, loaded, coordinates, marksOf, cornersOf, countsVerdict, readBy}
-use Rattle.reading.specs.Answers.{countsAre, Tables}
+use Rattle.readingform.specs.Loaded.{netRead, loaded, coordinatesOf, marksOf, cornersOf, countsVerdict, readBy}
+use Rattle.reading.specs.Answers.{countsAre, InputTables}
 use Rattle.reading.proofs.Body.{ended-none, ended-some}
 use Rattle.readingform.proofs.Limits.{Served}
 use Rattle.readingform.proofs.Lengths.{length-coordinates, length-marks, length-corners}
@@ -28,7 +29,7 @@ module _ (l : List ℕ) where
   unfolding parseObj
   first-bad e = rw e
 
-  module _ {k : ℕ} (at : ℕ) (e : readRounds l ≡ found k (drop at l)) where
+  module _ {k : ℕ} (at : ℕ) (e : readRounds l ≡ readAs k (drop at l)) where
     first-good : parseObj l ≡ parseItems k (drop at l)
     unfolding parseObj
     first-good = rw e
@@ -51,7 +52,7 @@ module _ (l : List ℕ) (at : ℕ) where
   counts-here {r} h e = subst (λ (o : Counted). CountsItems o (drop at l)) e (subst (λ (p : List ℕ). CountsItems r p) (part-rest l at) h)
 
   -- v and f are no more than the bytes of l
-  pub good-fits : {v f : ℕ} → length l ≤ 32768 → AllGood (drop at l) v f → (v < 4294967296) × (f < 4294967296)
+  pub good-fits : {v f : ℕ} → length l ≤ longestText → AllGood (drop at l) v f → (v < 4294967296) × (f < 4294967296)
   good-fits h g =
       let a = vertices-few (drop at l) in
       let b = faces-few (drop at l) in
@@ -62,8 +63,8 @@ module _ (l : List ℕ) (at : ℕ) where
 
 -- ---- the text has the form, with v vertices and f faces from `at` on and k rounds, and r is the answer to these counts
 pub record ItemsRead (l : List ℕ) (k at v f r : ℕ) : Type 0 where
-  pub short : length l ≤ 32768
-  pub first : readRounds l ≡ found k (drop at l)
+  pub short : length l ≤ longestText
+  pub first : readRounds l ≡ readAs k (drop at l)
   pub good : AllGood (drop at l) v f
   pub verdict : countsVerdict (countsAre v f k) ≡ limitsOf r
 
@@ -81,7 +82,7 @@ module _ {l : List ℕ} {k at v f r : ℕ} (c : ItemsRead l k at v f r) where
     unfolding netOf
     serves = let s = tables-serve form-read z in let a = c .good .vertices in let b = c .good .faces in record { vertices = omega arith; faces = omega arith }
 
-    module _ (vs : List ℤ) (fs ms : List ℕ) (room : Tables (length vs) (length fs) (length ms)) where
+    module _ (vs : List ℤ) (fs ms : List ℕ) (room : InputTables (length vs) (length fs) (length ms)) where
       here-room : ItemsRoom (length (itemVertices (drop at l))) (length (itemFaces (drop at l))) (length vs) (length fs) (length ms)
       here-room =
           let s = serves in
@@ -100,7 +101,7 @@ module _ {l : List ℕ} {k at v f r : ℕ} (c : ItemsRead l k at v f r) where
           let lv = length-coordinates (itemVertices (drop at l)) in
           let lm = length-marks (itemVertices (drop at l)) in
           let lf = length-corners (itemFaces (drop at l)) in
-          let eu = h .vertices ∙ front (coordinates (itemVertices (drop at l))) vs (omega arith) in
+          let eu = h .vertices ∙ front (coordinatesOf (itemVertices (drop at l))) vs (omega arith) in
           let eg = h .faces ∙ front (cornersOf (itemFaces (drop at l))) fs (omega arith) in
           let eo = h .marks ∙ front (marksOf (itemVertices (drop at l))) ms (omega arith) in
           rw (eu, eg, eo, ← c .good .vertices, ← c .good .faces) (net-there form-read vs fs ms z)

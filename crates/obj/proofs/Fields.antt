@@ -9,7 +9,7 @@ use lib.Dec.{eqb}
 use lib.ListN.{length, getD, take, drop, drop-of-length-le}
 use lib.Seq.{drop-cons, drop-drop}
 use borrow.Author.Tests.{eq-eqb, ne-eqb}
-use Rattle.decimalform.specs.Decimal.{Read, found, bad, readNatural}
+use Rattle.decimalform.specs.Decimal.{Read, readAs, bad, readNatural, largestNumber}
 use Rattle.decimal.specs.Answers.{numberOf, GivesNumber}
 use Rattle.decimal.specs.declared.Number.{Number}
 use Rattle.decimal.specs.declared.Number.the-variants as number
@@ -17,7 +17,7 @@ use Rattle.decimal.proofs.Reading.{says-at}
 use Rattle.textform.specs.Bytes.{bytes}
 use Rattle.textform.specs.Form.{startsWith, endedBy, natural}
 use Rattle.textform.proofs.Lines.{ends-short, ends-other, ends-there, starts-length}
-use Rattle.objform.specs.Form.{skipTo, skipPart, named, corner, readRounds}
+use Rattle.objform.specs.Form.{skipTo, skipPart, named, readCorner, readRounds}
 use Rattle.obj.specs.Answers.{StartsAt}
 
 -- ---- skipping, one byte a turn
@@ -58,39 +58,39 @@ module _ (l : List ℕ) (at : ℕ) where
     part-slash s = rw (drop-cons l at 0 h, eq-eqb (getD l at 0) 47 s, add-one at)
 
 -- ---- a field, where r is the answer for its number
-named-zero : (n : ℕ) (l : List ℕ) → n ≡ 0 → named (found n l) ≡ bad
+named-zero : (n : ℕ) (l : List ℕ) → n ≡ 0 → named (readAs n l) ≡ bad
 named-zero zero l e = refl
 named-zero (suc n) l e = absurd (omega arith)
 
-named-some : (n : ℕ) (l : List ℕ) → (n ≡ 0 → ⊥) → named (found n l) ≡ found (n - 1) (skipPart l)
+named-some : (n : ℕ) (l : List ℕ) → (n ≡ 0 → ⊥) → named (readAs n l) ≡ readAs (n - 1) (skipPart l)
 named-some zero l e = absurd (e refl)
 named-some (suc n) l e = let q : suc n - 1 ≡ n = omega arith in rw q
 
-module _ (l : List ℕ) (at e : ℕ) {r : Number} (g : GivesNumber r (take (length l - at) (drop at l)) (readNatural 2147483647 (take (length l - at) (drop at l)))) where
-  by-number : {q : Number} → r ≡ q → corner e (drop at l) ≡ endedBy e (named (numberOf q (drop at l)))
-  unfolding corner
-  by-number p = ap (λ (w : Read ℕ). endedBy e (named w)) (says-at (readNatural 2147483647) l at g p)
+module _ (l : List ℕ) (at e : ℕ) {r : Number} (g : GivesNumber r (take (length l - at) (drop at l)) (readNatural largestNumber (take (length l - at) (drop at l)))) where
+  by-number : {q : Number} → r ≡ q → readCorner e (drop at l) ≡ endedBy e (named (numberOf q (drop at l)))
+  unfolding readCorner
+  by-number p = ap (λ (w : Read ℕ). endedBy e (named w)) (says-at (readNatural largestNumber) l at g p)
 
-  pub corner-bad : r ≡ number.Bad → GivesNumber number.Bad l (corner e (drop at l))
+  pub corner-bad : r ≡ number.Bad → GivesNumber number.Bad l (readCorner e (drop at l))
   corner-bad p = record { reads = sym (by-number p); within = omega arith }
 
   module _ {n used : ℕ} (p : r ≡ number.Value n used) where
-    pub corner-zero : n ≡ 0 → GivesNumber number.Bad l (corner e (drop at l))
+    pub corner-zero : n ≡ 0 → GivesNumber number.Bad l (readCorner e (drop at l))
     corner-zero z = record { reads = sym (by-number p ∙ ap (endedBy e) (named-zero n (drop used (drop at l)) z)); within = omega arith }
 
     module _ {stop : ℕ} (some : n ≡ 0 → ⊥) (s : StartsAt (skipPart (drop (at + used) l)) l (at + used) stop) where
-      corner-at : corner e (drop at l) ≡ endedBy e (found (n - 1) (drop stop l))
+      corner-at : readCorner e (drop at l) ≡ endedBy e (readAs (n - 1) (drop stop l))
       corner-at =
           let m = ap skipPart (drop-drop used at l) ∙ sym (s .rest) in
-          by-number p ∙ ap (endedBy e) (named-some n (drop used (drop at l)) some) ∙ ap (λ (k : List ℕ). endedBy e (found (n - 1) k)) m
+          by-number p ∙ ap (endedBy e) (named-some n (drop used (drop at l)) some) ∙ ap (λ (k : List ℕ). endedBy e (readAs (n - 1) k)) m
 
-      pub corner-short : length l ≤ stop → GivesNumber number.Bad l (corner e (drop at l))
+      pub corner-short : length l ≤ stop → GivesNumber number.Bad l (readCorner e (drop at l))
       corner-short h = record { reads = sym (corner-at ∙ ends-short l stop e (n - 1) h); within = omega arith }
 
-      pub corner-other : stop < length l → (getD l stop 0 ≡ e → ⊥) → GivesNumber number.Bad l (corner e (drop at l))
+      pub corner-other : stop < length l → (getD l stop 0 ≡ e → ⊥) → GivesNumber number.Bad l (readCorner e (drop at l))
       corner-other h d = record { reads = sym (corner-at ∙ ends-other l stop e (n - 1) h d); within = omega arith }
 
-      pub corner-found : stop < length l → getD l stop 0 ≡ e → GivesNumber (number.Value (n - 1) (stop + 1)) l (corner e (drop at l))
+      pub corner-found : stop < length l → getD l stop 0 ≡ e → GivesNumber (number.Value (n - 1) (stop + 1)) l (readCorner e (drop at l))
       corner-found h d = record { reads = sym (corner-at ∙ ends-there l stop e (n - 1) h d); within = omega arith }
 
 -- ---- the first line
@@ -104,6 +104,6 @@ module _ (l : List ℕ) where
     unfolding bytes
     rounds-within = starts-length (bytes "# rounds ") l e
 
-    pub rounds-there : readRounds l ≡ natural 2147483647 10 (drop 9 l)
+    pub rounds-there : readRounds l ≡ natural largestNumber 10 (drop 9 l)
     unfolding readRounds bytes
     rounds-there = rw e

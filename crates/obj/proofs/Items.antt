@@ -10,12 +10,12 @@ use lib.Dec.{eqb}
 use lib.IntN.{ℤ}
 use lib.ListN.{length, getD, take, drop, drop-of-length-le}
 use lib.Seq.{drop-cons, drop-drop}
-use Rattle.decimalform.specs.Decimal.{Read, found, bad}
+use Rattle.decimalform.specs.Decimal.{Read, readAs, bad}
 use Rattle.decimal.specs.Answers.{Gives}
 use Rattle.decimal.proofs.Reading.{says-at, took-at}
 use Rattle.textform.specs.Bytes.{bytes}
 use Rattle.textform.specs.Form.{Vertex, startsWith, endedBy, andThen, coordinate, readVertex}
-use Rattle.text.specs.Answers.{vertexOf, vertexUsed, faceOf, faceUsed}
+use Rattle.text.specs.Answers.{vertexLineOf, vertexUsed, faceLineOf, faceUsed}
 use Rattle.text.specs.declared.VertexLine.{VertexLine}
 use Rattle.text.specs.declared.VertexLine.the-variants as vertexLine
 use Rattle.text.specs.declared.FaceLine.{FaceLine}
@@ -28,11 +28,11 @@ use Rattle.obj.specs.Answers.{StartsAt, itemIs, GivesLine}
 
 -- ---- a vertex without a mark has the mark 0
 abbrev Unmarked : Read Vertex → Type 0
-Unmarked (found v l) = v .mark ≡ 0
+Unmarked (readAs v l) = v .mark ≡ 0
 Unmarked bad = Unit {0}
 
 then-unmarked : {A : Type 0} (q : Read A) (f : A → List ℕ → Read Vertex) → ((v : A) (l : List ℕ) → Unmarked (f v l)) → Unmarked (andThen q f)
-then-unmarked (found v l) f h = h v l
+then-unmarked (readAs v l) f h = h v l
 then-unmarked bad f h = tt
 
 vertex-unmarked : (l : List ℕ) → Unmarked (readVertex false l)
@@ -55,7 +55,7 @@ or-same true e = refl
 or-same false e = e
 
 -- ---- the first bytes decide
-pub bad-line : {l : List ℕ} → readItem l ≡ bad → GivesLine line.Bad l
+bad-line : {l : List ℕ} → readItem l ≡ bad → GivesLine line.Bad l
 bad-line e = record { gives = record { reads = sym e; within = omega arith }; takes = tt }
 
 module _ (l : List ℕ) where
@@ -86,7 +86,7 @@ module _ (l : List ℕ) (e : startsWith (bytes "v ") l ≡ true) where
   unfolding bytes
   vertex-within = starts-length (bytes "v ") l e
 
-  module _ {r : VertexLine} (g : Gives vertexOf vertexUsed r (take (length l - 2) (drop 2 l)) (readVertex false (take (length l - 2) (drop 2 l)))) where
+  module _ {r : VertexLine} (g : Gives vertexLineOf vertexUsed r (take (length l - 2) (drop 2 l)) (readVertex false (take (length l - 2) (drop 2 l)))) where
     pub vertex-bad : r ≡ vertexLine.Bad → GivesLine line.Bad l
     vertex-bad p = bad-line (by-vertex l e ∙ ap (mapped vertex) (says-at (readVertex false) l 2 g p))
 
@@ -98,8 +98,8 @@ module _ (l : List ℕ) (e : startsWith (bytes "v ") l ≡ true) where
       vertex-good =
           let s = says-at (readVertex false) l 2 g p in
           let k : m ≡ 0 = subst Unmarked s (vertex-unmarked (drop 2 l)) in
-          let v : mapped vertex (readVertex false (drop 2 l)) ≡ found (vertex (record { x = x; y = y; z = z; mark = 0 })) (drop (n + 2) l)
-          = ap (mapped vertex) s ∙ (λ i. found (vertex (record { x = x; y = y; z = z; mark = k i })) (after-two l n i)) in
+          let v : mapped vertex (readVertex false (drop 2 l)) ≡ readAs (vertex (record { x = x; y = y; z = z; mark = 0 })) (drop (n + 2) l)
+          = ap (mapped vertex) s ∙ (λ i. readAs (vertex (record { x = x; y = y; z = z; mark = k i })) (after-two l n i)) in
           record { gives = record { reads = sym (by-vertex l e ∙ v); within = vertex-used }; takes = omega arith }
 
 -- ---- a face
@@ -108,7 +108,7 @@ module _ (l : List ℕ) (e₁ : startsWith (bytes "v ") l ≡ false) (e : starts
   unfolding bytes
   face-within = starts-length (bytes "f ") l e
 
-  module _ {r : FaceLine} (g : Gives faceOf faceUsed r (take (length l - 2) (drop 2 l)) (readCorners (take (length l - 2) (drop 2 l)))) where
+  module _ {r : FaceLine} (g : Gives faceLineOf faceUsed r (take (length l - 2) (drop 2 l)) (readCorners (take (length l - 2) (drop 2 l)))) where
     pub face-bad : r ≡ faceLine.Bad → GivesLine line.Bad l
     face-bad p = bad-line (by-face l e₁ e ∙ ap (mapped face) (says-at readCorners l 2 g p))
 
@@ -118,7 +118,7 @@ module _ (l : List ℕ) (e₁ : startsWith (bytes "v ") l ≡ false) (e : starts
 
       pub face-good : GivesLine (line.Good (item.Face a b c d) (n + 2)) l
       face-good =
-          let v = ap (mapped face) (says-at readCorners l 2 g p) ∙ ap (found (itemIs (item.Face a b c d))) (after-two l n) in
+          let v = ap (mapped face) (says-at readCorners l 2 g p) ∙ ap (readAs (itemIs (item.Face a b c d))) (after-two l n) in
           record { gives = record { reads = sym (by-face l e₁ e ∙ v); within = face-used }; takes = omega arith }
 
 -- ---- a comment, whose rest starts at n
@@ -128,16 +128,16 @@ module _ (l : List ℕ) (e₁ : startsWith (bytes "v ") l ≡ false) (e₂ : sta
   comment-within = starts-length (bytes "#") l e
 
   module _ {n : ℕ} (s : StartsAt (skipTo 10 (drop 1 l)) l 1 n) where
-    by-rest : readItem l ≡ endedBy 10 (found comment (drop n l))
+    by-rest : readItem l ≡ endedBy 10 (readAs comment (drop n l))
     unfolding readComment
-    by-rest = by-comment l e₁ e₂ e ∙ ap (λ (m : List ℕ). endedBy 10 (found comment m)) (sym (s .rest))
+    by-rest = by-comment l e₁ e₂ e ∙ ap (λ (m : List ℕ). endedBy 10 (readAs comment m)) (sym (s .rest))
 
     pub comment-bad : length l ≤ n → GivesLine line.Bad l
-    comment-bad h = bad-line (by-rest ∙ ap (λ (m : List ℕ). endedBy 10 (found comment m)) (drop-of-length-le l {i = n} h))
+    comment-bad h = bad-line (by-rest ∙ ap (λ (m : List ℕ). endedBy 10 (readAs comment m)) (drop-of-length-le l {i = n} h))
 
     pub comment-good : n < length l → GivesLine (line.Good item.Comment (n + 1)) l
     comment-good h =
         let c = drop-cons l n 0 h in
         let b : eqb (getD l n 0) 10 ≡ true = or-same (eqb (getD l n 0) 10) (skip-begins 10 (drop 1 l) (getD l n 0) (drop (suc n) l) (sym (s .rest) ∙ c)) in
-        let v : endedBy 10 (found comment (drop n l)) ≡ found comment (drop (n + 1) l) = rw (c, b, add-one n) in
+        let v : endedBy 10 (readAs comment (drop n l)) ≡ readAs comment (drop (n + 1) l) = rw (c, b, add-one n) in
         record { gives = record { reads = sym (by-rest ∙ v); within = omega arith }; takes = omega arith }

@@ -6,12 +6,13 @@ use native.Mathlib.Omega.{arith}
 use lib.IntN.{ℤ}
 use lib.ListN.{length, set, take, drop, length-drop, drop-of-length-le}
 use lib.Seq.{sets, length-sets}
-use Rattle.decimalform.specs.Decimal.{found, bad}
+use Rattle.decimalform.specs.Decimal.{readAs, bad}
 use Rattle.decimal.proofs.Reading.{says-at, took-at}
 use Rattle.decimalform.proofs.Writing.{sets-after}
 use Rattle.textform.specs.Form.{Vertex, Face, Rows, rows, oneMore}
-use Rattle.readingform.specs.Loaded.{coordinates, marksOf, cornersOf}
-use Rattle.reading.proofs.Lines.{rows-length, rows-bad, rows-next, Passed, passed-none, passed-bad, passed-more}
+use Rattle.readingform.specs.Loaded.{coordinatesOf, marksOf, cornersOf}
+use Rattle.textform.proofs.Lines.{rows-length}
+use Rattle.reading.proofs.Lines.{rows-bad, rows-next, Passed, passed-none, passed-bad, passed-more}
 use Rattle.readingform.proofs.Lengths.{length-coordinates, length-marks, length-corners}
 use Rattle.reading.proofs.Storing.{three-stores, four-stores, Filling, filling-none, filling-more, filling-bad}
 use Rattle.objform.proofs.Net.{item-none, vertices-one, faces-one, vertices-length, faces-length, vertices-most, faces-most}
@@ -49,7 +50,7 @@ module _ {i : declared.Item} (v f : ℕ) where
     room-vertex r = let q : length (verticesIn (itemIs i ∷ [])) ≡ 1 = rw e in let h = r .vertices in let k = r .marks in (omega arith, omega arith)
 
     pub stored-vertex : (t : List ℤ) (c m : List ℕ) → ItemStored (itemIs i) v f (v + 1) f t (set (set (set t (3 * v) x) (3 * v + 1) y) (3 * v + 2) z) c c m (set m v 0)
-    unfolding verticesIn facesIn coordinates cornersOf marksOf
+    unfolding verticesIn facesIn coordinatesOf cornersOf marksOf
     stored-vertex t c m = record {
       meets = meets-vertex e;
       stored = rw e (record { vertices = sym (three-stores t v (record { x = x; y = y; z = z; mark = 0 }) []); faces = refl; marks = refl });
@@ -61,14 +62,14 @@ module _ {i : declared.Item} (v f : ℕ) where
     room-face r = let q : length (facesIn (itemIs i ∷ [])) ≡ 1 = rw e in let h = r .faces in omega arith
 
     pub stored-face : (t : List ℤ) (k m : List ℕ) → ItemStored (itemIs i) v f v (f + 1) t t k (set (set (set (set k (4 * f) a) (4 * f + 1) b) (4 * f + 2) c) (4 * f + 3) d) m m
-    unfolding verticesIn facesIn coordinates cornersOf marksOf
+    unfolding verticesIn facesIn coordinatesOf cornersOf marksOf
     stored-face t k m = record {
       meets = meets-face e;
       stored = rw e (record { vertices = refl; faces = sym (four-stores k f (record { a = a; b = b; c = c; d = d }) []); marks = refl });
     }
 
   pub stored-comment : i ≡ item.Comment → (t : List ℤ) (c m : List ℕ) → ItemStored (itemIs i) v f v f t t c c m m
-  unfolding verticesIn facesIn coordinates cornersOf marksOf
+  unfolding verticesIn facesIn coordinatesOf cornersOf marksOf
   stored-comment e t c m = record { meets = meets-comment e; stored = rw e (record { vertices = refl; faces = refl; marks = refl }) }
 
 -- ---- turns
@@ -94,27 +95,27 @@ pub record ItemsMet (l : List ℕ) (v f lines at : ℕ) : Type 0 where
   pub vertices : length (itemVertices l) ≡ v + length (verticesIn (left l lines at .values))
   pub faces : length (itemFaces l) ≡ f + length (facesIn (left l lines at .values))
 
-pub met-none : (l : List ℕ) → ItemsMet l 0 0 0 0
+met-none : (l : List ℕ) → ItemsMet l 0 0 0 0
 met-none l =
     let e : length l - 0 ≡ length l = omega arith in
     record { passed = passed-none readItem (length l) l; few = omega arith; vertices = rw e (omega arith); faces = rw e (omega arith) }
 
 module _ {l : List ℕ} {v f lines at : ℕ} (p : ItemsMet l v f lines at) where
   -- the next line is good, and has the item i
-  module _ (i : Item) (n : ℕ) (e : readItem (drop at l) ≡ found i (drop n (drop at l))) (some : 0 < n) (h : at + n ≤ length l) where
+  module _ (i : Item) (n : ℕ) (e : readItem (drop at l) ≡ readAs i (drop n (drop at l))) (some : 0 < n) (h : at + n ≤ length l) where
     before : lines < length l
     before = let a = p .few in omega arith
 
     more : left l lines at ≡ oneMore i (left l (lines + 1) (at + n))
     more = rows-next readItem (length l) l lines at i n before e
 
-    pub next-vertices : length (verticesIn (left l lines at .values)) ≡ length (verticesIn (i ∷ [])) + length (verticesIn (left l (lines + 1) (at + n) .values))
+    next-vertices : length (verticesIn (left l lines at .values)) ≡ length (verticesIn (i ∷ [])) + length (verticesIn (left l (lines + 1) (at + n) .values))
     next-vertices = ap (λ (w : Rows Item). length (verticesIn (w .values))) more ∙ vertices-length i (left l (lines + 1) (at + n) .values)
 
-    pub next-faces : length (facesIn (left l lines at .values)) ≡ length (facesIn (i ∷ [])) + length (facesIn (left l (lines + 1) (at + n) .values))
+    next-faces : length (facesIn (left l lines at .values)) ≡ length (facesIn (i ∷ [])) + length (facesIn (left l (lines + 1) (at + n) .values))
     next-faces = ap (λ (w : Rows Item). length (facesIn (w .values))) more ∙ faces-length i (left l (lines + 1) (at + n) .values)
 
-    pub met-more : {w g : ℕ} → MeetsItem i v f w g → ItemsMet l w g (lines + 1) (at + n)
+    met-more : {w g : ℕ} → MeetsItem i v f w g → ItemsMet l w g (lines + 1) (at + n)
     met-more m =
         let a = p .vertices in
         let b = p .faces in
@@ -167,13 +168,13 @@ pub record Counting (l : List ℕ) (v f line at : ℕ) : Type 0 where
 pub counting-none : (l : List ℕ) → Counting l 0 0 2 0
 counting-none l = record { lines = 0; is = refl; met = met-none l }
 
-pub counting-more : {l : List ℕ} {v f line at : ℕ} → Counting l v f line at → (i : Item) (n : ℕ) → readItem (drop at l) ≡ found i (drop n (drop at l)) → 0 < n → at + n ≤ length l
+pub counting-more : {l : List ℕ} {v f line at : ℕ} → Counting l v f line at → (i : Item) (n : ℕ) → readItem (drop at l) ≡ readAs i (drop n (drop at l)) → 0 < n → at + n ≤ length l
     → {w g : ℕ} → MeetsItem i v f w g → Counting l w g (line + 1) (at + n)
 counting-more c i n e some h m = let k = c .is in record { lines = c .lines + 1; is = omega arith; met = met-more (c .met) i n e some h m }
 
 -- ---- the second pass: the tables t, f, m are filled up to v vertices and g faces, and were t₀, f₀, m₀
 abbrev flatVertices : List Item → List ℤ
-flatVertices is = coordinates (verticesIn is)
+flatVertices is = coordinatesOf (verticesIn is)
 
 abbrev flatMarks : List Item → List ℕ
 flatMarks is = marksOf (verticesIn is)
@@ -202,8 +203,8 @@ next-stored : {E : Type 0} (flat : List Item → List E) (i : Item) → ((is : L
     → u ≡ sets t k (flat (i ∷ [])) → j ≡ k + length (flat (i ∷ [])) → (is : List Item) → sets t k (flat (i ∷ is)) ≡ sets u j (flat is)
 next-stored flat i split t u k j e q is = rw (split is, e, q) (sym (sets-after (flat (i ∷ [])) t (flat is) k))
 
-coordinates-append : (a b : List Vertex) → coordinates (a ++ b) ≡ coordinates a ++ coordinates b
-unfolding coordinates
+coordinates-append : (a b : List Vertex) → coordinatesOf (a ++ b) ≡ coordinatesOf a ++ coordinatesOf b
+unfolding coordinatesOf
 coordinates-append [] b = refl
 coordinates-append (v ∷ a) b = ap (λ (t : List ℤ). v .x ∷ v .y ∷ v .z ∷ t) (coordinates-append a b)
 
@@ -219,7 +220,7 @@ corners-append (f ∷ a) b = ap (λ (t : List ℕ). f .a ∷ f .b ∷ f .c ∷ f
 
 module _ (i : Item) (is : List Item) where
   vertices-split : flatVertices (i ∷ is) ≡ flatVertices (i ∷ []) ++ flatVertices is
-  vertices-split = ap coordinates (vertices-one i is) ∙ coordinates-append (verticesIn (i ∷ [])) (verticesIn is)
+  vertices-split = ap coordinatesOf (vertices-one i is) ∙ coordinates-append (verticesIn (i ∷ [])) (verticesIn is)
 
   marks-split : flatMarks (i ∷ is) ≡ flatMarks (i ∷ []) ++ flatMarks is
   marks-split = ap marksOf (vertices-one i is) ∙ marks-append (verticesIn (i ∷ [])) (verticesIn is)
@@ -228,7 +229,7 @@ module _ (i : Item) (is : List Item) where
   faces-split = ap cornersOf (faces-one i is) ∙ corners-append (facesIn (i ∷ [])) (facesIn is)
 
 module _ {l : List ℕ} {t₀ t : List ℤ} {f₀ f m₀ m : List ℕ} {v g at : ℕ} (s : Storing l t₀ t f₀ f m₀ m v g at) where
-  module _ (i : Item) (n : ℕ) (e : readItem (drop at l) ≡ found i (drop n (drop at l))) (some : 0 < n) (h : at + n ≤ length l) where
+  module _ (i : Item) (n : ℕ) (e : readItem (drop at l) ≡ readAs i (drop n (drop at l))) (some : 0 < n) (h : at + n ≤ length l) where
     pub storing-more : {w k : ℕ} {u : List ℤ} {d o : List ℕ} → ItemStored i v g w k t u f d m o → Storing l t₀ u f₀ d m₀ o w k (at + n)
     storing-more {w} {k} {u} {d} {o} q =
         let b = before (s .met) i n e some h in
@@ -246,7 +247,7 @@ module _ {l : List ℕ} {t₀ t : List ℤ} {f₀ f m₀ m : List ℕ} {v g at :
         }
 
   pub storing-ends : readItem (drop at l) ≡ bad → ItemsStored (itemVertices l) (itemFaces l) 0 0 t₀ t f₀ f m₀ m
-  unfolding verticesIn facesIn coordinates cornersOf marksOf
+  unfolding verticesIn facesIn coordinatesOf cornersOf marksOf
   storing-ends e = record { vertices = filling-bad (s .vertices) (λ t j. refl) e; faces = filling-bad (s .faces) (λ t j. refl) e; marks = filling-bad (s .marks) (λ t j. refl) e }
 
   -- the tables keep their lengths

@@ -5,10 +5,10 @@ use lib.IntN.{ℤ}
 use Prim.Native.Nat.{ℕ, _+_, _*_, _≤_, _<_}
 use lib.ListN.{length, drop}
 use lib.Seq.{sets}
-use Rattle.decimalform.specs.Decimal.{Read, found, bad}
+use Rattle.decimalform.specs.Decimal.{Read, readAs, bad}
 use Rattle.decimal.specs.Answers.{Gives}
 use Rattle.textform.specs.Form.{Vertex, Face}
-use Rattle.readingform.specs.Loaded.{coordinates, marksOf, cornersOf}
+use Rattle.readingform.specs.Loaded.{coordinatesOf, marksOf, cornersOf}
 use Rattle.obj.specs.declared.Item.{Item}
 use Rattle.obj.specs.declared.Item.the-variants as item
 use Rattle.obj.specs.declared.Line.{Line}
@@ -30,7 +30,7 @@ itemIs (item.Face a b c d) = form.face (record { a = a; b = b; c = c; d = d })
 itemIs item.Comment = form.comment
 
 abbrev pub lineOf : Line → List ℕ → Read form.Item
-lineOf (line.Good i n) l = found (itemIs i) (drop n l)
+lineOf (line.Good i n) l = readAs (itemIs i) (drop n l)
 lineOf line.Bad l = bad
 
 abbrev pub lineUsed : Line → ℕ
@@ -78,7 +78,7 @@ CountsItems (counted.Bad n) l = BadAt l n
 
 -- ---- tables t, c, m that come to u, d, o: vs and fs stand there behind v vertices and f faces
 pub record ItemsStored (vs : List Vertex) (fs : List Face) (v f : ℕ) (t u : List ℤ) (c d m o : List ℕ) : Type 0 where
-  pub vertices : u ≡ sets t (3 * v) (coordinates vs)
+  pub vertices : u ≡ sets t (3 * v) (coordinatesOf vs)
   pub faces : d ≡ sets c (4 * f) (cornersOf fs)
   pub marks : o ≡ sets m v (marksOf vs)
 

@@ -7,10 +7,11 @@ ghost use mathlib.Core.Path.{_≡_};
 ghost use Prim.Native.Nat.{_+_, _≤_, _<_};
 ghost use lib.ListN.{length, drop};
 ghost use Rattle.decimal.specs.Answers.{Gives, GivesNumber};
-ghost use Rattle.text.specs.Answers.{faceOf, faceUsed};
+ghost use Rattle.textform.specs.Limits.{longestText};
+ghost use Rattle.text.specs.Answers.{faceLineOf, faceUsed};
 ghost use Rattle.readingform.specs.Loaded.{loaded, readBy};
-ghost use Rattle.reading.specs.Answers.{answerOf, Tables};
-ghost use Rattle.objform.specs.Form.{skipTo, skipPart, corner, readCorners, readRounds, parseObj};
+ghost use Rattle.reading.specs.Answers.{answerOf, InputTables};
+ghost use Rattle.objform.specs.Form.{skipTo, skipPart, readCorner, readCorners, readRounds, parseObj};
 ghost use Rattle.obj.specs.Answers.{StartsAt, itemIs, GivesLine, MeetsItem, itemVertices, itemFaces, CountsItems, ItemsStored, ItemsRoom, RoomFor, ItemStored};
 
 // What a line after the first says.
@@ -74,9 +75,9 @@ fn field_end(line: &[u8], at: usize) -> usize
 // The vertex that the field at `at` names, and the byte `end` after it; the answer's length counts from the start of the line.
 fn corner_field(line: &[u8], at: usize, end: u8) -> Number
     requires { ⌜ at ≤ length (now line) ⌝ }
-    ensures { λ r. ⌜ GivesNumber r (now (line .entry)) (corner end (drop at (now (line .entry)))) ⌝ }
+    ensures { λ r. ⌜ GivesNumber r (now (line .entry)) (readCorner end (drop at (now (line .entry)))) ⌝ }
 {
-    let Number::Value(n, used) = decimal::read_natural(&line[at..], 2147483647) else {
+    let Number::Value(n, used) = decimal::read_natural(&line[at..], decimal::LARGEST) else {
         return Number::Bad;
     };
     if n == 0 {
@@ -94,7 +95,7 @@ fn corner_field(line: &[u8], at: usize, end: u8) -> Number
 
 // The corners of a face, without the bytes that begin its line.
 fn read_corners(line: &[u8]) -> FaceLine
-    ensures { λ r. ⌜ Gives faceOf faceUsed r (now (line .entry)) (readCorners (now (line .entry))) ⌝ }
+    ensures { λ r. ⌜ Gives faceLineOf faceUsed r (now (line .entry)) (readCorners (now (line .entry))) ⌝ }
 {
     let Number::Value(a, i) = corner_field(line, 0, b' ') else {
         return FaceLine::Bad;
@@ -157,7 +158,7 @@ fn read_rounds(text: &[u8]) -> Number
     if !text::starts_with(text, b"# rounds ") {
         return Number::Bad;
     }
-    text::natural_field(text, 9, 2147483647, b'\n')
+    text::natural_field(text, 9, decimal::LARGEST, b'\n')
 }
 
 fn count_item(met: Met, item: Item) -> Met
@@ -184,7 +185,7 @@ fn count_item(met: Met, item: Item) -> Met
 
 // The first pass, over a text that starts with line 2.
 fn count_items(text: &[u8]) -> Counted
-    requires { ⌜ length (now text) ≤ 32768 ⌝ }
+    requires { ⌜ length (now text) ≤ longestText ⌝ }
     ensures { λ r. ⌜ CountsItems r (now (text .entry)) ⌝ }
 {
     let mut met = Met {
@@ -261,12 +262,12 @@ fn store_items(text: &[u8], vertices: &mut [i32], faces: &mut [u32], marks: &mut
     }
 }
 
-// Reads the net that an OBJ text writes into the front of the tables, or refuses and leaves them as they are.
+// Internal: the program alone calls it, with tables of its own. Reads the net that an OBJ text writes into their front, or refuses and leaves them as they are.
 pub fn read_net(text: &[u8], vertices: &mut [i32], faces: &mut [u32], marks: &mut [u8]) -> Input
-    requires { ⌜ Tables (length (now vertices)) (length (now faces)) (length (now marks)) ⌝ }
+    requires { ⌜ InputTables (length (now vertices)) (length (now faces)) (length (now marks)) ⌝ }
     ensures { λ r. ⌜ loaded (answerOf r) (now (vertices .exit)) (now (faces .exit)) (now (marks .exit)) ≡ readBy parseObj (now (text .entry)) (now (vertices .entry)) (now (faces .entry)) (now (marks .entry)) ⌝ }
 {
-    if 32768 < text.len() {
+    if text::LONGEST < text.len() {
         return Input::Refused(13, 0);
     }
     let Number::Value(rounds, at) = read_rounds(text) else {

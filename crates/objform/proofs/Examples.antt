@@ -9,18 +9,18 @@ use lib.Dec.{eqb}
 use lib.IntN.{ℤ, pos, negsuc}
 use Rattle.decimalform.specs.Decimal.{readDigits, readNatural, readInteger, naturalText, integerText}
 use Rattle.textform.specs.Bytes.{bytes}
-use Rattle.textform.specs.Form.{Vertex, Net, Parsed, parsed, badLine, coordinate, natural, readVertex, rows}
-use Rattle.textform.specs.Text.{countsText, pointText, faceText, texts, unmarkedText}
-use Rattle.textform.specs.Written.{Each}
-use Rattle.objform.specs.Form.{skipTo, corner, readCorners, readComment, readItem, readRounds, verticesIn, facesIn, netOf, parseItems, parseObj}
-use Rattle.objform.specs.Text.{TextLine, vertexLine, faceLine, commentLine, slash, cornerText, lineText, roundsText, objText, plain, plainFaces, plainLines, ObjFits}
+use Rattle.textform.specs.Form.{Vertex, TextNet, withoutCorner, Parsed, parsed, badLine, coordinate, natural, readVertex, rows}
+use Rattle.textform.specs.Text.{countsText, pointText, faceText, texts, netLines, netText}
+use Rattle.textform.specs.Fits.{Every}
+use Rattle.objform.specs.Form.{skipTo, readCorner, readCorners, readComment, readItem, readRounds, verticesIn, facesIn, netOf, parseItems, parseObj}
+use Rattle.objform.specs.Text.{TextLine, vertexLine, faceLine, commentLine, slash, cornerText, lineText, roundsText, objText, bareCorner, plainFaces, plainLines, ObjFits}
 
 abbrev at : ℤ → ℤ → ℤ → Vertex
 at x y z = record { x = x; y = y; z = z; mark = 0 }
 
 -- one face, with a coordinate below zero
-abbrev panel : ℕ → Net
-panel k =
+abbrev quad : ℕ → TextNet
+quad k =
     record {
       rule = false;
       counts = record { vertices = 4; faces = 1; rounds = k };
@@ -29,27 +29,27 @@ panel k =
     }
 
 -- as it is; with comments, slashes, `v` and `f` in another order, and a later line of rounds
-abbrev panels : List String
-panels =
+abbrev quads : List String
+quads =
     "# rounds 3\nv 0 0 0\nv 16 0 0\nv 16 16 0\nv 0 -16 0\nf 1 2 3 4\n"
     ∷ "# rounds 3\n# rounds 1\nv 0 0 0\nf 1/ 2/7 3//7 4/7/7\nv 16 0 0\n#\nv 16 16 0\nv 0 -16 0\n##\r\t\n"
     ∷ "# rounds 3\nf 1/é/\t/\r 2/f 3/- 4/.\nv 0 0 0\nv 16 0 0\nv 16 16 0\nv 0 -16 0\n# rounds 2 \n"
     ∷ []
 
-readAll : List String → List (Parsed Net)
+readAll : List String → List (Parsed TextNet)
 readAll [] = []
 readAll (s ∷ ss) = parseObj (bytes s) ∷ readAll ss
 
-panels-read : readAll panels ≡ parsed (panel 3) [] ∷ parsed (panel 3) [] ∷ parsed (panel 3) [] ∷ []
-unfolding readAll parseObj parseItems readRounds readItem readCorners readComment corner skipTo verticesIn facesIn netOf readVertex coordinate natural rows readInteger readNatural readDigits bytes
-panels-read = refl
+quads-read : readAll quads ≡ parsed (quad 3) [] ∷ parsed (quad 3) [] ∷ parsed (quad 3) [] ∷ []
+unfolding readAll parseObj parseItems readRounds readItem readCorners readComment readCorner skipTo verticesIn facesIn netOf readVertex coordinate natural rows readInteger readNatural readDigits bytes
+quads-read = refl
 
 -- a text written by its lines
 abbrev lines : List TextLine
 lines =
     commentLine (bytes " rounds 1")
     ∷ vertexLine (at (pos 0) (pos 0) (pos 0))
-    ∷ faceLine (record { vertex = 0; part = slash [] }) (record { vertex = 1; part = slash (bytes "7") }) (record { vertex = 2; part = slash (bytes "/7") }) (plain 3)
+    ∷ faceLine (record { vertex = 0; part = slash [] }) (record { vertex = 1; part = slash (bytes "7") }) (record { vertex = 2; part = slash (bytes "/7") }) (bareCorner 3)
     ∷ vertexLine (at (negsuc 15) (pos 0) (pos 0))
     ∷ []
 
@@ -58,16 +58,16 @@ unfolding objText roundsText lineText cornerText pointText texts naturalText int
 lines-written = refl
 
 -- its own lines, and its text of the other form
-panel-written : objText 3 (plainLines (panel 3 .vertices) (panel 3 .faces)) ≡ bytes "# rounds 3\nv 0 0 0\nv 16 0 0\nv 16 16 0\nv 0 -16 0\nf 1 2 3 4\n"
+quad-written : objText 3 (plainLines (quad 3 .vertices) (quad 3 .faces)) ≡ bytes "# rounds 3\nv 0 0 0\nv 16 0 0\nv 16 16 0\nv 0 -16 0\nf 1 2 3 4\n"
 unfolding objText roundsText lineText cornerText plainLines plainFaces pointText texts naturalText integerText bytes
-panel-written = refl
+quad-written = refl
 
-panel-unmarked : unmarkedText (panel 3) ≡ bytes "vertices faces rounds\n4 1 3\nx y z\n0 0 0\n16 0 0\n16 16 0\n0 -16 0\na b c d\n0 1 2 3\n"
-unfolding unmarkedText countsText pointText faceText texts naturalText integerText bytes
-panel-unmarked = refl
+quad-unmarked : netText withoutCorner (quad 3) ≡ bytes "vertices faces rounds\n4 1 3\nx y z\n0 0 0\n16 0 0\n16 16 0\n0 -16 0\na b c d\n0 1 2 3\n"
+unfolding netText netLines countsText pointText faceText texts naturalText integerText bytes
+quad-unmarked = refl
 
 -- the largest numbers fit
-abbrev largest : Net
+abbrev largest : TextNet
 largest =
     record {
       rule = false;
@@ -77,22 +77,21 @@ largest =
     }
 
 largest-fits : ObjFits largest
-unfolding Each
+unfolding Every
 largest-fits = record {
   fits = record {
     counts = record { vertices = omega arith; faces = omega arith; rounds = omega arith };
     vertexCount = refl;
     faceCount = refl;
-    vertices = (record { x = omega arith; y = omega arith; z = omega arith; mark = omega arith }, tt);
+    vertices = (record { fits = record { x = omega arith; y = omega arith; z = omega arith; mark = omega arith }; unmarked = refl }, tt);
     faces = (record { a = omega arith; b = omega arith; c = omega arith; d = omega arith }, tt);
   };
-  vertices = (record { fits = record { x = omega arith; y = omega arith; z = omega arith; mark = omega arith }; unmarked = refl }, tt);
   faces = (record { a = omega arith; b = omega arith; c = omega arith; d = omega arith }, tt);
   rule = refl;
 }
 
 -- ---- the first bad line of damaged texts, 0 for a text that has the form
-abbrev damage : Parsed Net → ℕ
+abbrev damage : Parsed TextNet → ℕ
 damage (parsed n l) = 0
 damage (badLine n) = n
 
@@ -160,5 +159,5 @@ same [] = true
 same (d ∷ ds) = eqb (damage (parseObj (bytes (d .text)))) (d .place) && same ds
 
 all-damaged : same damaged ≡ true
-unfolding same parseObj parseItems readRounds readItem readCorners readComment corner skipTo verticesIn facesIn netOf readVertex coordinate natural rows readInteger readNatural readDigits bytes
+unfolding same parseObj parseItems readRounds readItem readCorners readComment readCorner skipTo verticesIn facesIn netOf readVertex coordinate natural rows readInteger readNatural readDigits bytes
 all-damaged = refl

@@ -4,9 +4,9 @@ use mathlib.Core.List.{List, [], _∷_}
 use Prim.Native.Nat.{ℕ, zero, suc, _+_}
 use lib.Dec.{eqb}
 use lib.ListN.{length, drop}
-use Rattle.decimalform.specs.Decimal.{Read, found, bad, readNatural}
+use Rattle.decimalform.specs.Decimal.{Read, readAs, bad, readNatural, largestNumber}
 use Rattle.textform.specs.Bytes.{bytes}
-use Rattle.textform.specs.Form.{Vertex, Face, Net, startsWith, endedBy, index, readVertex, faceBy, Rows, rows, Parsed, next, line, ended}
+use Rattle.textform.specs.Form.{Vertex, Face, TextNet, startsWith, endedBy, index, readVertex, faceBy, Rows, rows, Parsed, next, line, ended}
 
 -- Paper 02: "Accept `v` with three whole counts, `f` with four numbers from 1, and lines beginning `#`"
 pub data Item : Type 0 where
@@ -16,11 +16,11 @@ pub data Item : Type 0 where
 
 module _ {A : Type 0} where
   -- what `read` gives after the bytes s, or else `other`
-  abbrev pub after : (s l : List ℕ) (read : List ℕ → Read A) (other : Read A) → Read A
-  after s l read other = cond (startsWith s l) (read (drop (length s) l)) other
+  abbrev pub afterBytes : (s l : List ℕ) (read : List ℕ → Read A) (other : Read A) → Read A
+  afterBytes s l read other = cond (startsWith s l) (read (drop (length s) l)) other
 
   abbrev pub mapped : {B : Type 0} → (A → B) → Read A → Read B
-  mapped f (found v l) = found (f v) l
+  mapped f (readAs v l) = readAs (f v) l
   mapped f bad = bad
 
 -- the rest from the first newline, or the first byte e, on; nothing if there is neither
@@ -35,29 +35,29 @@ skipPart (b ∷ l) = cond (eqb b 47) (skipTo 32 l) (b ∷ l)
 
 -- a number from 1 names the vertex one below it, and what a slash begins behind it is skipped
 abbrev pub named : Read ℕ → Read ℕ
-named (found zero l) = bad
-named (found (suc c) l) = found c (skipPart l)
+named (readAs zero l) = bad
+named (readAs (suc c) l) = readAs c (skipPart l)
 named bad = bad
 
 -- a field of an `f` line, and the byte e after it. Paper 02: "Blanks, newlines, numbers .. are as in 01"
-unfoldable pub corner : ℕ → List ℕ → Read ℕ
-corner e l = endedBy e (named (readNatural 2147483647 l))
+unfoldable pub readCorner : ℕ → List ℕ → Read ℕ
+readCorner e l = endedBy e (named (readNatural largestNumber l))
 
 unfoldable pub readCorners : List ℕ → Read Face
-readCorners l = faceBy corner l
+readCorners l = faceBy readCorner l
 
 -- any bytes but a newline, and a newline
 unfoldable pub readComment : List ℕ → Read Item
-readComment l = endedBy 10 (found comment (skipTo 10 l))
+readComment l = endedBy 10 (readAs comment (skipTo 10 l))
 
 -- a line after the first. Paper 02: "Marks are 0"
 unfoldable pub readItem : List ℕ → Read Item
 readItem l =
-    after (bytes "v ") l (λ l. mapped vertex (readVertex false l)) (after (bytes "f ") l (λ l. mapped face (readCorners l)) (after (bytes "#") l readComment bad))
+    afterBytes (bytes "v ") l (λ l. mapped vertex (readVertex false l)) (afterBytes (bytes "f ") l (λ l. mapped face (readCorners l)) (afterBytes (bytes "#") l readComment bad))
 
 -- Paper 02: "The first line must be `# rounds` and a number"
 unfoldable pub readRounds : List ℕ → Read ℕ
-readRounds l = after (bytes "# rounds ") l (index 10) bad
+readRounds l = afterBytes (bytes "# rounds ") l (index 10) bad
 
 -- ---- the whole text
 
@@ -74,7 +74,7 @@ facesIn (face f ∷ is) = f ∷ facesIn is
 facesIn (comment ∷ is) = facesIn is
 
 -- vertices and faces in the order of their lines; no letters are asked for
-unfoldable pub netOf : ℕ → List Item → Net
+unfoldable pub netOf : ℕ → List Item → TextNet
 netOf k is =
     record {
       rule = false;
@@ -88,9 +88,9 @@ abbrev pub items : List ℕ → Rows Item
 items l = rows readItem (length l) l
 
 -- the lines from line 2 on: what the good ones leave is the first bad one
-unfoldable pub parseItems : ℕ → List ℕ → Parsed Net
+unfoldable pub parseItems : ℕ → List ℕ → Parsed TextNet
 parseItems k l = ended (2 + length (items l .values)) (netOf k (items l .values)) (items l .rest)
 
 -- Paper 02: "Each line is read from the remainder that the line before left. A text is accepted if it has this form and otherwise gets 13 at its first bad line"
-unfoldable pub parseObj : List ℕ → Parsed Net
+unfoldable pub parseObj : List ℕ → Parsed TextNet
 parseObj l = next (line 1 (readRounds l)) parseItems

@@ -7,7 +7,7 @@ ghost use Rattle.decimalform.specs.Decimal.{naturalText, integerText};
 ghost use Rattle.decimalform.specs.Stored.{Stored};
 ghost use Rattle.textform.specs.Text.{field, pairText, numbersText, columnsText, endText, letteredText, faceText, texts, refusalText};
 ghost use Rattle.printingform.specs.Tables.{letteredOf, facesOf, columnsRoom, endRoom, roomFor, tablesText};
-ghost use Rattle.printingform.specs.Lines.{vertexIs, faceIs, Printed, Written};
+ghost use Rattle.printingform.specs.Lines.{vertexIs, faceIs, Printed, TextWritten};
 
 fn put_bytes(out: &mut [u8], at: usize, s: &[u8]) -> usize
     requires { ⌜ at + length (now s) ≤ length (now out) ⌝ }
@@ -171,7 +171,7 @@ pub fn write_net(
     f: usize,
 ) -> usize
     requires { ⌜ (3 * v ≤ length (now vertices)) × (4 * f ≤ length (now faces)) × (v ≤ length (now marks)) × (rule ≡ true → v ≤ length (now letters)) × (roomFor rule v f ≤ length (now out)) ⌝ }
-    ensures { λ r. ⌜ Written (now (out .entry)) (now (out .exit)) r (tablesText rule v f (now (vertices .entry)) (now (faces .entry)) (now (marks .entry)) (now (letters .entry))) (roomFor rule v f) ⌝ }
+    ensures { λ r. ⌜ TextWritten (now (out .entry)) (now (out .exit)) r (tablesText rule v f (now (vertices .entry)) (now (faces .entry)) (now (marks .entry)) (now (letters .entry))) (roomFor rule v f) ⌝ }
 {
     let a = put_bytes(&mut *out, 0, b"vertices faces\n");
     let b = put_pair(&mut *out, a, v as u64, f as u64);
@@ -184,7 +184,7 @@ pub fn write_net(
 // Writes a refusal, and gives its length.
 pub fn write_refusal(out: &mut [u8], reason: u32, place: usize) -> usize
     requires { ⌜ 56 ≤ length (now out) ⌝ }
-    ensures { λ r. ⌜ Written (now (out .entry)) (now (out .exit)) r (refusalText reason place) 56 ⌝ }
+    ensures { λ r. ⌜ TextWritten (now (out .entry)) (now (out .exit)) r (refusalText reason place) 56 ⌝ }
 {
     let a = put_bytes(&mut *out, 0, b"refusal place\n");
     put_pair(&mut *out, a, reason as u64, place as u64)

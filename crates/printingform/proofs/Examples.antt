@@ -8,7 +8,7 @@ use Rattle.lists.specs.Tabulate.{tabulate}
 use Rattle.decimalform.specs.Decimal.{naturalText, integerText}
 use Rattle.textform.specs.Bytes.{bytes}
 use Rattle.textform.specs.Text.{pairText, texts, numbersText, letteredText, faceText, answerText}
-use Rattle.printingform.specs.Tables.{letteredOf, facesOf, tablesText, roomFor}
+use Rattle.printingform.specs.Tables.{letteredOf, facesOf, tablesText, roomFor, answerRoom}
 
 -- two vertices and a face, and numbers behind them that are not written
 abbrev written : (rule : Bool) → List ℕ
@@ -22,5 +22,5 @@ unfolding tabulate naturalText integerText bytes pairText texts numbersText lett
 tables = refl
 
 -- without letters and with them
-largest : roomFor false 1024 256 ∷ roomFor true 1024 256 ∷ [] ≡ 52302 ∷ 54355 ∷ []
+largest : roomFor false 1024 256 ∷ answerRoom ∷ [] ≡ 52302 ∷ 54355 ∷ []
 largest = refl

@@ -14,11 +14,12 @@ use Rattle.lists.proofs.Tabulate.{length-tabulate}
 use Rattle.tables.specs.Tables.{filled}
 use Rattle.decimalform.specs.Stored.{Stored}
 use Rattle.decimalform.proofs.Writing.{stored-then}
+use Rattle.textform.specs.Limits.{programVertices, programFaces}
 use Rattle.textform.specs.Bytes.{bytes}
-use Rattle.textform.specs.Form.{Vertex, namesText, corners}
+use Rattle.textform.specs.Form.{Vertex, cornerNames}
 use Rattle.textform.specs.Text.{field, texts, pairText, numbersText, columnsText, endText, letteredText, faceText, answerText}
-use Rattle.printingform.specs.Tables.{vertexAt, letteredAt, faceAt, letteredOf, facesOf, tablesText, endRoom, roomFor}
-use Rattle.printingform.specs.Lines.{Printed, Written}
+use Rattle.printingform.specs.Tables.{textVertexAt, letteredAt, textFaceAt, letteredOf, facesOf, tablesText, endRoom, roomFor, answerRoom}
+use Rattle.printingform.specs.Lines.{Printed, TextWritten}
 
 -- ---- one byte after a text
 pub stored-field : (d o : List ℕ) (at r e : ℕ) (s : List ℕ) → Stored d o at r s → Stored d (set o r e) at (r + 1) (field s e)
@@ -78,7 +79,7 @@ pub line-room : (w count i at to n : ℕ) → at + w * count ≤ n → to ≤ at
 line-room w count i at to n h k l = let m : w * suc i ≤ w * count = mul-le-mul-left w l in omega (arith, mul-suc w i)
 
 -- ---- the whole text, from the front on
-pub at-front : (d o : List ℕ) (r : ℕ) (s : List ℕ) (m most : ℕ) → Printed d o 0 r s m → m ≤ most → most ≤ length d → Written d o r s most
+pub at-front : (d o : List ℕ) (r : ℕ) (s : List ℕ) (m most : ℕ) → Printed d o 0 r s m → m ≤ most → most ≤ length d → TextWritten d o r s most
 unfolding filled
 at-front d o r s m most w h k =
     let e = w .stored .end in
@@ -89,9 +90,9 @@ at-front d o r s m most w h k =
 -- the answer has the counts that were given
 pub answer-is : (rule : Bool) (v f : ℕ) (vs : List ℤ) (fs ms ls : List ℕ)
     → tablesText rule v f vs fs ms ls
-    ≡ bytes "vertices faces\n" ++ pairText v f ++ columnsText rule ++ texts (letteredText rule) (letteredOf v vs ms ls) ++ namesText corners ++ texts faceText (facesOf f fs)
+    ≡ bytes "vertices faces\n" ++ pairText v f ++ columnsText rule ++ texts (letteredText rule) (letteredOf v vs ms ls) ++ cornerNames tt ++ texts faceText (facesOf f fs)
 unfolding answerText letteredOf facesOf
-answer-is rule v f vs fs ms ls = rw (length-tabulate v (letteredAt vs ms ls), length-tabulate f (faceAt fs))
+answer-is rule v f vs fs ms ls = rw (length-tabulate v (letteredAt vs ms ls), length-tabulate f (textFaceAt fs))
 
 -- ---- tables with the same text
 texts-same : {A : Type 0} (text : A → List ℕ) (n : ℕ) (a b : ℕ → A) → ((i : ℕ) → i < n → text (a i) ≡ text (b i)) → texts text (tabulate n a) ≡ texts text (tabulate n b)
@@ -105,17 +106,17 @@ line-same false u v l k e h = ap (λ (x : Vertex). numbersText x ++ (10 ∷ []))
 line-same true u v l k e h = ap₂ (λ (x : Vertex) (c : ℕ). numbersText x ++ (32 ∷ c ∷ 10 ∷ [])) e (h refl)
 
 -- the answer has the first v vertices and f faces, and letters only if they are asked for
-pub tables-same : (rule : Bool) (v f : ℕ) (vs us : List ℤ) (fs gs ms ns ls ks : List ℕ) → ((i : ℕ) → i < v → vertexAt vs ms i ≡ vertexAt us ns i) → ((i : ℕ) → i < f → faceAt fs i ≡ faceAt gs i)
+pub tables-same : (rule : Bool) (v f : ℕ) (vs us : List ℤ) (fs gs ms ns ls ks : List ℕ) → ((i : ℕ) → i < v → textVertexAt vs ms i ≡ textVertexAt us ns i) → ((i : ℕ) → i < f → textFaceAt fs i ≡ textFaceAt gs i)
     → (rule ≡ true → (i : ℕ) → i < v → getD ls i 0 ≡ getD ks i 0) → tablesText rule v f vs fs ms ls ≡ tablesText rule v f us gs ns ks
 unfolding letteredOf facesOf
 tables-same rule v f vs us fs gs ms ns ls ks hv hf hl =
-    let a = texts-same (letteredText rule) v (letteredAt vs ms ls) (letteredAt us ns ks) (λ i b. line-same rule (vertexAt vs ms i) (vertexAt us ns i) (getD ls i 0) (getD ks i 0) (hv i b) (λ e. hl e i b)) in
-    let b = texts-same faceText f (faceAt fs) (faceAt gs) (λ i b. ap faceText (hf i b)) in
+    let a = texts-same (letteredText rule) v (letteredAt vs ms ls) (letteredAt us ns ks) (λ i b. line-same rule (textVertexAt vs ms i) (textVertexAt us ns i) (getD ls i 0) (getD ks i 0) (hv i b) (λ e. hl e i b)) in
+    let b = texts-same faceText f (textFaceAt fs) (textFaceAt gs) (λ i b. ap faceText (hf i b)) in
     answer-is rule v f vs fs ms ls
-    ∙ ap₂ (λ (s t : List ℕ). bytes "vertices faces\n" ++ pairText v f ++ columnsText rule ++ s ++ namesText corners ++ t) a b
+    ∙ ap₂ (λ (s t : List ℕ). bytes "vertices faces\n" ++ pairText v f ++ columnsText rule ++ s ++ cornerNames tt ++ t) a b
     ∙ sym (answer-is rule v f us gs ns ks)
 
--- Paper 01: "Its tables serve G up to 256 and V up to 1,024": a buffer of 54,355 bytes holds every answer and every refusal
-pub every-answer-fits : (rule : Bool) (v f : ℕ) → v ≤ 1024 → f ≤ 256 → roomFor rule v f ≤ 54355
+-- a buffer with that room holds every answer and every refusal
+pub every-answer-fits : (rule : Bool) (v f : ℕ) → v ≤ programVertices → f ≤ programFaces → roomFor rule v f ≤ answerRoom
 every-answer-fits false v f h k = omega arith
 every-answer-fits true v f h k = omega arith

@@ -20,7 +20,7 @@ pub record Printed (d o : List ℕ) (at r : ℕ) (s : List ℕ) (most : ℕ) : T
   pub within : r ≤ at + most
 
 -- o is the text s and then what d has after it; r is the text's length, at most `most`
-pub record Written (d o : List ℕ) (r : ℕ) (s : List ℕ) (most : ℕ) : Type 0 where
+pub record TextWritten (d o : List ℕ) (r : ℕ) (s : List ℕ) (most : ℕ) : Type 0 where
   pub bytes : o ≡ filled s d
   pub long : r ≡ length s
   pub fits : r ≤ most

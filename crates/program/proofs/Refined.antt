@@ -28,17 +28,18 @@ use Rattle.outcome.proofs.Tally.{untallied}
 use Rattle.refine.specs.declared.Answer.the-variants.{Refined, Refused}
 use Rattle.refine.specs.Answer.{answered}
 use Rattle.refine.proofs.Laws.{by-faces}
+use Rattle.textform.specs.Limits.{programVertices, programFaces}
 use Rattle.textform.specs.Text.{refusalText}
 use Rattle.readingform.specs.Loaded.{programRoom}
 use Rattle.readingform.proofs.Limits.{limits-either}
-use Rattle.printingform.specs.Lines.{Written}
-use Rattle.printingform.specs.Tables.{vertexAt, faceAt, tablesText}
+use Rattle.printingform.specs.Lines.{TextWritten}
+use Rattle.printingform.specs.Tables.{textVertexAt, textFaceAt, tablesText, answerRoom}
 use Rattle.printingform.proofs.Writing.{tables-same}
 use Rattle.programform.specs.Answer.{answerBy, refinedText}
 
 -- ---- the lines of tables that a net was written to
 module _ (n : Net) (vs : List ℤ) (fs ms : List ℕ) (e : length (n .vertices) ≡ 3 * length (n .marks)) where
-  vertex-same : (i : ℕ) → i < length (n .marks) → vertexAt (filled (n .vertices) vs) (filled (n .marks) ms) i ≡ vertexAt (n .vertices) (n .marks) i
+  vertex-same : (i : ℕ) → i < length (n .marks) → textVertexAt (filled (n .vertices) vs) (filled (n .marks) ms) i ≡ textVertexAt (n .vertices) (n .marks) i
   vertex-same i h =
       let x = filled-at (n .vertices) vs (pos 0) (3 * i) (omega arith) in
       let y = filled-at (n .vertices) vs (pos 0) (3 * i + 1) (omega arith) in
@@ -46,7 +47,7 @@ module _ (n : Net) (vs : List ℤ) (fs ms : List ℕ) (e : length (n .vertices) 
       let m = filled-at (n .marks) ms 0 i h in
       λ j. record { x = x j; y = y j; z = z j; mark = m j }
 
-  face-same : (i : ℕ) → i < length (n .faces) / 4 → faceAt (filled (n .faces) fs) i ≡ faceAt (n .faces) i
+  face-same : (i : ℕ) → i < length (n .faces) / 4 → textFaceAt (filled (n .faces) fs) i ≡ textFaceAt (n .faces) i
   face-same i h =
       let a = filled-at (n .faces) fs 0 (4 * i) (omega arith) in
       let b = filled-at (n .faces) fs 0 (4 * i + 1) (omega arith) in
@@ -67,7 +68,7 @@ abbrev faceNumber : Result → ℕ
 faceNumber (refinedTo v f) = f
 faceNumber (refusedWith r p) = p
 
-module _ (k : ℕ) (rule : Bool) (m : Net) (o : Buffers) (l : List ℕ) (lv : length (o .vertices) ≡ 3072) (lf : length (o .faces) ≡ 1024) (lm : length (o .marks) ≡ 1024) (ll : length l ≡ 1024) (lw : length (o .work) ≡ 4096)
+module _ (k : ℕ) (rule : Bool) (m : Net) (o : Buffers) (l : List ℕ) (lv : length (o .vertices) ≡ 12 * programFaces) (lf : length (o .faces) ≡ 4 * programFaces) (lm : length (o .marks) ≡ 4 * programFaces) (ll : length l ≡ 4 * programFaces) (lw : length (o .work) ≡ 16 * programFaces)
     (h : limitsVerdict k [] (lengthsOf (plain m) programRoom) ≡ accepted) where
   -- the call with a tally of its own, from zero
   abbrev asked : Request
@@ -114,7 +115,7 @@ module _ (k : ℕ) (rule : Bool) (m : Net) (o : Buffers) (l : List ℕ) (lv : le
       unfolding startNet
       refinable = accepted-refinable (called) (by-net ∙ accepts)
 
-      pub served : (v ≤ 1024) × (f ≤ 256)
+      pub served : (v ≤ programVertices) × (f ≤ programFaces)
       served =
           let a = vertex-count in
           let b = face-count in
@@ -139,5 +140,5 @@ module _ (k : ℕ) (rule : Bool) (m : Net) (o : Buffers) (l : List ℕ) (lv : le
           ∙ ap (λ (x : Verdict). answerBy x rule n (letters (tension 4) (plain m) k)) (sym accepts)
 
 -- the same text, and a larger bound
-pub wider : (d o : List ℕ) (r : ℕ) (s t : List ℕ) (most : ℕ) → Written d o r s most → s ≡ t → most ≤ 54355 → Written d o r t 54355
+pub wider : (d o : List ℕ) (r : ℕ) (s t : List ℕ) (most : ℕ) → TextWritten d o r s most → s ≡ t → most ≤ answerRoom → TextWritten d o r t answerRoom
 wider d o r s t most w e h = let f = w .fits in record { bytes = w .bytes ∙ ap (λ (x : List ℕ). filled x d) e; long = w .long ∙ ap length e; fits = omega arith }

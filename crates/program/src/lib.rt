@@ -9,9 +9,16 @@ ghost use Rattle.nets.specs.Net.{net, plain};
 ghost use Rattle.verdict.specs.Call.{lengthsOf};
 ghost use Rattle.verdict.specs.Verdict.{accepted, limitsVerdict};
 ghost use Rattle.readingform.specs.Loaded.{programRoom, loaded, readBy};
-ghost use Rattle.reading.specs.Answers.{answerOf, Tables};
-ghost use Rattle.printingform.specs.Lines.{Written};
+ghost use Rattle.reading.specs.Answers.{answerOf, InputTables};
+ghost use Rattle.printingform.specs.Lines.{TextWritten};
+ghost use Rattle.printingform.specs.Tables.{answerRoom};
 ghost use Rattle.programform.specs.Answer.{refinedText, parseAny, programText};
+ghost use Rattle.programform.specs.Input.{inputRoom, InputAnswered};
+
+// The input buffer has one byte more than the longest text; the other holds every answer.
+pub const INPUT_ROOM: usize = 32769;
+
+pub const ANSWER_ROOM: usize = 54355;
 
 // The answer to a net whose counts pass, with letters if `rule` is asked for.
 fn refine_net(
@@ -22,14 +29,14 @@ fn refine_net(
     marks: &[u8],
     out: &mut [u8],
 ) -> usize
-    requires { ⌜ (limitsVerdict rounds [] (lengthsOf (plain (net (now vertices) (now faces) (now marks))) programRoom) ≡ accepted) × (54355 ≤ length (now out)) ⌝ }
-    ensures { λ r. ⌜ Written (now (out .entry)) (now (out .exit)) r (refinedText rounds rule (net (now (vertices .entry)) (now (faces .entry)) (now (marks .entry)))) 54355 ⌝ }
+    requires { ⌜ (limitsVerdict rounds [] (lengthsOf (plain (net (now vertices) (now faces) (now marks))) programRoom) ≡ accepted) × (answerRoom ≤ length (now out)) ⌝ }
+    ensures { λ r. ⌜ TextWritten (now (out .entry)) (now (out .exit)) r (refinedText rounds rule (net (now (vertices .entry)) (now (faces .entry)) (now (marks .entry)))) answerRoom ⌝ }
 {
-    let mut out_vertices = [0i32; 3072];
-    let mut out_faces = [0u32; 1024];
-    let mut out_marks = [0u8; 1024];
-    let mut letters = [0u8; 1024];
-    let mut work = [0u32; 4096];
+    let mut out_vertices = [0i32; reading::COORDINATES];
+    let mut out_faces = [0u32; reading::CORNERS];
+    let mut out_marks = [0u8; reading::MARKS];
+    let mut letters = [0u8; reading::MARKS];
+    let mut work = [0u32; reading::WORK];
     let none = [0u8; 0];
     let charged = refine::refine(
         0,
@@ -64,7 +71,7 @@ fn refine_net(
 
 // Reads the net that `text` writes, as OBJ if its first byte is `#`, into the front of the tables, or refuses and leaves them as they are.
 fn read_any(text: &[u8], vertices: &mut [i32], faces: &mut [u32], marks: &mut [u8]) -> Input
-    requires { ⌜ Tables (length (now vertices)) (length (now faces)) (length (now marks)) ⌝ }
+    requires { ⌜ InputTables (length (now vertices)) (length (now faces)) (length (now marks)) ⌝ }
     ensures { λ r. ⌜ loaded (answerOf r) (now (vertices .exit)) (now (faces .exit)) (now (marks .exit)) ≡ readBy parseAny (now (text .entry)) (now (vertices .entry)) (now (faces .entry)) (now (marks .entry)) ⌝ }
 {
     if text::starts_with(text, b"#") {
@@ -74,13 +81,13 @@ fn read_any(text: &[u8], vertices: &mut [i32], faces: &mut [u32], marks: &mut [u
 }
 
 // Writes the answer to `text` into `out`, and gives its length.
-pub fn answer(text: &[u8], out: &mut [u8]) -> usize
-    requires { ⌜ 54355 ≤ length (now out) ⌝ }
-    ensures { λ r. ⌜ Written (now (out .entry)) (now (out .exit)) r (programText (now (text .entry))) 54355 ⌝ }
+fn answer_text(text: &[u8], out: &mut [u8]) -> usize
+    requires { ⌜ answerRoom ≤ length (now out) ⌝ }
+    ensures { λ r. ⌜ TextWritten (now (out .entry)) (now (out .exit)) r (programText (now (text .entry))) answerRoom ⌝ }
 {
-    let mut vertices = [0i32; 3072];
-    let mut faces = [0u32; 1024];
-    let mut marks = [0u8; 1024];
+    let mut vertices = [0i32; reading::COORDINATES];
+    let mut faces = [0u32; reading::CORNERS];
+    let mut marks = [0u8; reading::MARKS];
     match read_any(text, &mut vertices, &mut faces, &mut marks) {
         Input::Net {
             rounds,
@@ -97,4 +104,13 @@ pub fn answer(text: &[u8], out: &mut [u8]) -> usize
         ),
         Input::Refused(reason, place) => printing::write_refusal(out, reason, place),
     }
+}
+
+// Internal: the program alone calls it, with buffers of its own. Writes the answer to an input into `out`, and gives its length. The first n bytes of `input` are
+// those of the input: all of them, or as many as `input` holds.
+pub fn answer(input: &[u8], n: usize, out: &mut [u8]) -> usize
+    requires { ⌜ (inputRoom ≤ length (now input)) × (n ≤ length (now input)) × (answerRoom ≤ length (now out)) ⌝ }
+    ensures { λ r. ⌜ InputAnswered (now (input .entry)) n (now (out .entry)) (now (out .exit)) r ⌝ }
+{
+    answer_text(&input[..n], out)
 }

@@ -19,9 +19,9 @@ use Rattle.decimalform.specs.Decimal.{readDigits, readNatural, readInteger, nat
 use Rattle.textform.specs.Bytes.{bytes}
 use Rattle.textform.specs.Form.{readNames, coordinate, natural, readCounts, readVertex, readFace, rows, parseHead, parseBody, parse}
 use Rattle.textform.specs.Text.{pairText, texts, numbersText, letteredText, faceText, answerText, refusalText}
-use Rattle.readingform.specs.Loaded.{coordinates, marksOf, cornersOf, countsVerdict}
+use Rattle.readingform.specs.Loaded.{coordinatesOf, marksOf, cornersOf, countsVerdict}
 use Rattle.printingform.specs.Tables.{letteredOf, facesOf}
-use Rattle.objform.specs.Form.{skipTo, corner, readCorners, readComment, readItem, readRounds, verticesIn, facesIn, netOf, parseItems, parseObj}
+use Rattle.objform.specs.Form.{skipTo, readCorner, readCorners, readComment, readItem, readRounds, verticesIn, facesIn, netOf, parseItems, parseObj}
 use Rattle.programform.specs.Answer.{parseAny, programText}
 
 pub record Example : Type 0 where
@@ -57,19 +57,19 @@ programOf [] = []
 programOf (e ∷ es) = programText (bytes (e .text)) ∷ programOf es
 
 all-examples : programOf examples ≡ answersOf examples
-unfolding programOf answersOf programText parseAny parseObj parseItems readRounds readItem readCorners readComment corner skipTo verticesIn facesIn netOf bytes parse parseHead parseBody readNames readCounts readVertex readFace coordinate natural rows readInteger readNatural readDigits naturalText pairText refusalText answerText texts countsVerdict limitsVerdict tablesVerdict sizeVerdict roomVerdict netVerdict coordinatesVerdict shapeVerdict facesVerdict adjacencyVerdict vertexVerdict shapeOf first firstFrom steps coordinates marksOf cornersOf letteredOf facesOf tabulate
+unfolding programOf answersOf programText parseAny parseObj parseItems readRounds readItem readCorners readComment readCorner skipTo verticesIn facesIn netOf bytes parse parseHead parseBody readNames readCounts readVertex readFace coordinate natural rows readInteger readNatural readDigits naturalText pairText refusalText answerText texts countsVerdict limitsVerdict tablesVerdict sizeVerdict roomVerdict netVerdict coordinatesVerdict shapeVerdict facesVerdict adjacencyVerdict vertexVerdict shapeOf first firstFrom steps coordinatesOf marksOf cornersOf letteredOf facesOf tabulate
 all-examples = refl
 
 lettered-square : programText (bytes "vertices faces rounds rule\n4 1 0\nx y z corner\n0 0 0 1\n16 0 0 1\n16 16 0 1\n0 16 0 1\na b c d\n0 1 2 3\n")
     ≡ bytes "vertices faces\n4 1\nx y z corner rule\n0 0 0 1 V\n16 0 0 1 V\n16 16 0 1 V\n0 16 0 1 V\na b c d\n0 1 2 3\n"
-unfolding programText parseAny bytes parse parseHead parseBody readNames readCounts readVertex readFace coordinate natural rows readInteger readNatural readDigits naturalText integerText pairText numbersText letteredText faceText refusalText answerText texts countsVerdict limitsVerdict tablesVerdict sizeVerdict roomVerdict badCoordinate netVerdict coordinatesVerdict shapeVerdict facesVerdict adjacencyVerdict vertexVerdict badMark badCorner isolated repeatedSide nonManifold badValence markedRing shapeOf first firstFrom any count iterate quads from to opposed mate isBoundaryFrom boundaryFrom leaves valence turn start stops facesMet startNet startOrigin originFrom originAfter letters steps coordinates marksOf cornersOf letteredOf facesOf tabulate
+unfolding programText parseAny bytes parse parseHead parseBody readNames readCounts readVertex readFace coordinate natural rows readInteger readNatural readDigits naturalText integerText pairText numbersText letteredText faceText refusalText answerText texts countsVerdict limitsVerdict tablesVerdict sizeVerdict roomVerdict badCoordinate netVerdict coordinatesVerdict shapeVerdict facesVerdict adjacencyVerdict vertexVerdict badMark badCorner isolated repeatedSide nonManifold badValence markedRing shapeOf first firstFrom any count iterate quads from to opposed mate isBoundaryFrom boundaryFrom leaves valence turn start stops facesMet startNet startOrigin originFrom originAfter letters steps coordinatesOf marksOf cornersOf letteredOf facesOf tabulate
 lettered-square = refl
 
 -- an OBJ text with a slash and a comment; a corner that is no vertex, with its face
-obj-panel : programText (bytes "# rounds 0\nf 1/1 2 3 4\nv 0 0 0\nv 16 0 0\n#\nv 16 16 0\nv 0 -16 0\n") ≡ bytes "vertices faces\n4 1\nx y z corner\n0 0 0 0\n16 0 0 0\n16 16 0 0\n0 -16 0 0\na b c d\n0 1 2 3\n"
-unfolding programText parseAny bytes parse parseHead parseBody readNames readCounts readVertex readFace coordinate natural rows readInteger readNatural readDigits naturalText integerText pairText numbersText letteredText faceText refusalText answerText texts countsVerdict limitsVerdict tablesVerdict sizeVerdict roomVerdict badCoordinate netVerdict coordinatesVerdict shapeVerdict facesVerdict adjacencyVerdict vertexVerdict badMark badCorner isolated repeatedSide nonManifold badValence markedRing shapeOf first firstFrom any count iterate quads from to opposed mate isBoundaryFrom boundaryFrom leaves valence turn start stops facesMet startNet startOrigin originFrom originAfter letters steps coordinates marksOf cornersOf letteredOf facesOf tabulate parseObj parseItems readRounds readItem readCorners readComment corner skipTo verticesIn facesIn netOf
-obj-panel = refl
+obj-quad : programText (bytes "# rounds 0\nf 1/1 2 3 4\nv 0 0 0\nv 16 0 0\n#\nv 16 16 0\nv 0 -16 0\n") ≡ bytes "vertices faces\n4 1\nx y z corner\n0 0 0 0\n16 0 0 0\n16 16 0 0\n0 -16 0 0\na b c d\n0 1 2 3\n"
+unfolding programText parseAny bytes parse parseHead parseBody readNames readCounts readVertex readFace coordinate natural rows readInteger readNatural readDigits naturalText integerText pairText numbersText letteredText faceText refusalText answerText texts countsVerdict limitsVerdict tablesVerdict sizeVerdict roomVerdict badCoordinate netVerdict coordinatesVerdict shapeVerdict facesVerdict adjacencyVerdict vertexVerdict badMark badCorner isolated repeatedSide nonManifold badValence markedRing shapeOf first firstFrom any count iterate quads from to opposed mate isBoundaryFrom boundaryFrom leaves valence turn start stops facesMet startNet startOrigin originFrom originAfter letters steps coordinatesOf marksOf cornersOf letteredOf facesOf tabulate parseObj parseItems readRounds readItem readCorners readComment readCorner skipTo verticesIn facesIn netOf
+obj-quad = refl
 
 obj-refused : programText (bytes "# rounds 0\nv 0 0 0\nv 16 0 0\nv 16 16 0\nv 0 -16 0\nf 1 2 3 4\nf 1 2 3 5\n") ≡ bytes "refusal place\n7 1\n"
-unfolding programText parseAny bytes parse parseHead parseBody readNames readCounts readVertex readFace coordinate natural rows readInteger readNatural readDigits naturalText integerText pairText numbersText letteredText faceText refusalText answerText texts countsVerdict limitsVerdict tablesVerdict sizeVerdict roomVerdict badCoordinate netVerdict coordinatesVerdict shapeVerdict facesVerdict adjacencyVerdict vertexVerdict badMark badCorner isolated repeatedSide nonManifold badValence markedRing shapeOf first firstFrom any count iterate quads from to opposed mate isBoundaryFrom boundaryFrom leaves valence turn start stops facesMet startNet startOrigin originFrom originAfter letters steps coordinates marksOf cornersOf letteredOf facesOf tabulate parseObj parseItems readRounds readItem readCorners readComment corner skipTo verticesIn facesIn netOf
+unfolding programText parseAny bytes parse parseHead parseBody readNames readCounts readVertex readFace coordinate natural rows readInteger readNatural readDigits naturalText integerText pairText numbersText letteredText faceText refusalText answerText texts countsVerdict limitsVerdict tablesVerdict sizeVerdict roomVerdict badCoordinate netVerdict coordinatesVerdict shapeVerdict facesVerdict adjacencyVerdict vertexVerdict badMark badCorner isolated repeatedSide nonManifold badValence markedRing shapeOf first firstFrom any count iterate quads from to opposed mate isBoundaryFrom boundaryFrom leaves valence turn start stops facesMet startNet startOrigin originFrom originAfter letters steps coordinatesOf marksOf cornersOf letteredOf facesOf tabulate parseObj parseItems readRounds readItem readCorners readComment readCorner skipTo verticesIn facesIn netOf
 obj-refused = refl

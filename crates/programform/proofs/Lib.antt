@@ -3,3 +3,4 @@ pub mod Parsing
 pub mod Loaded
 pub mod RoundTrip
 pub mod Forms
+pub mod Input

@@ -16,10 +16,11 @@ use Rattle.verdict.specs.Verdict.{Verdict, accepted, refused, orElse, limitsVer
 use Rattle.verdict.proofs.Accepted.{or-both}
 use Rattle.scheme.specs.Step.{steps}
 use Rattle.origins.specs.Origins.{letters}
-use Rattle.textform.specs.Form.{Net, Parsed, parsed, badLine}
+use Rattle.textform.specs.Limits.{longestText}
+use Rattle.textform.specs.Form.{TextNet, Parsed, parsed, badLine}
 use Rattle.textform.specs.Text.{refusalText}
 use Rattle.textform.proofs.Counts.{Stated}
-use Rattle.readingform.specs.Loaded.{Answer, netRead, refusedWith, Loaded, loaded, coordinates, cornersOf, marksOf, tablesOf, programRoom, countsVerdict, untouched, stored, judged, ofParsed, readBy}
+use Rattle.readingform.specs.Loaded.{ReadAnswer, netRead, netRefused, LoadedText, loaded, coordinatesOf, cornersOf, marksOf, tablesOf, programRoom, countsVerdict, untouched, stored, judged, ofParsed, readBy}
 use Rattle.readingform.proofs.Lengths.{length-coordinates, length-marks, length-corners}
 use Rattle.readingform.proofs.Limits.{Served, passed-served}
 use Rattle.programform.specs.Answer.{answerBy, refinedText, answerTo, parseAny, programText}
@@ -32,45 +33,45 @@ pub record Handed (k : ℕ) (rule : Bool) (v f : ℕ) (vs : List ℤ) (fs ms : L
   pub text : refinedText k rule (frontNet v (4 * f) vs fs ms) ≡ answer
 
 -- ---- what an answer says
-abbrev wish : Answer → Bool
-wish (netRead k rule v f) = rule
-wish (refusedWith r p) = false
+abbrev asked : ReadAnswer → Bool
+asked (netRead k rule v f) = rule
+asked (netRefused r p) = false
 
-abbrev firstNumber : Answer → ℕ
+abbrev firstNumber : ReadAnswer → ℕ
 firstNumber (netRead k rule v f) = k
-firstNumber (refusedWith r p) = r
+firstNumber (netRefused r p) = r
 
-abbrev secondNumber : Answer → ℕ
+abbrev secondNumber : ReadAnswer → ℕ
 secondNumber (netRead k rule v f) = v
-secondNumber (refusedWith r p) = p
+secondNumber (netRefused r p) = p
 
-abbrev thirdNumber : Answer → ℕ
+abbrev thirdNumber : ReadAnswer → ℕ
 thirdNumber (netRead k rule v f) = f
-thirdNumber (refusedWith r p) = 0
+thirdNumber (netRefused r p) = 0
 
 module _ (zv : List ℤ) (zf zm : List ℕ) where
   -- ---- a net
   module _ (k : ℕ) (rule : Bool) (v f : ℕ) (vs : List ℤ) (fs ms : List ℕ) where
-    by-counts : (d : Verdict) (n : Net) → loaded (netRead k rule v f) vs fs ms ≡ judged zv zf zm d n → (d ≡ accepted) × (loaded (netRead k rule v f) vs fs ms ≡ stored zv zf zm n)
+    by-counts : (d : Verdict) (n : TextNet) → loaded (netRead k rule v f) vs fs ms ≡ judged zv zf zm d n → (d ≡ accepted) × (loaded (netRead k rule v f) vs fs ms ≡ stored zv zf zm n)
     by-counts accepted n e = (refl, e)
-    by-counts (refused r p) n e = let a : netRead k rule v f ≡ refusedWith r p = ap (λ (x : Loaded). x .answer) e in let z : _≡_ {A = ℕ} 0 1 = cc in absurd (omega arith)
+    by-counts (refused r p) n e = let a : netRead k rule v f ≡ netRefused r p = ap (λ (x : LoadedText). x .answer) e in let z : _≡_ {A = ℕ} 0 1 = cc in absurd (omega arith)
 
-    of-net : (n : Net) → Stated (parsed n []) → countsVerdict (n .counts) ≡ accepted → loaded (netRead k rule v f) vs fs ms ≡ stored zv zf zm n
+    of-net : (n : TextNet) → Stated (parsed n []) → countsVerdict (n .counts) ≡ accepted → loaded (netRead k rule v f) vs fs ms ≡ stored zv zf zm n
         → Handed k rule v f vs fs ms (refinedText (n .counts .rounds) (n .rule) (tablesOf n))
     unfolding countsVerdict
     of-net n s a e =
-        let ek : k ≡ n .counts .rounds = ap (λ (x : Loaded). firstNumber (x .answer)) e in
-        let er : rule ≡ n .rule = ap (λ (x : Loaded). wish (x .answer)) e in
-        let ev : v ≡ n .counts .vertices = ap (λ (x : Loaded). secondNumber (x .answer)) e in
-        let ef : f ≡ n .counts .faces = ap (λ (x : Loaded). thirdNumber (x .answer)) e in
+        let ek : k ≡ n .counts .rounds = ap (λ (x : LoadedText). firstNumber (x .answer)) e in
+        let er : rule ≡ n .rule = ap (λ (x : LoadedText). asked (x .answer)) e in
+        let ev : v ≡ n .counts .vertices = ap (λ (x : LoadedText). secondNumber (x .answer)) e in
+        let ef : f ≡ n .counts .faces = ap (λ (x : LoadedText). thirdNumber (x .answer)) e in
         let lv = length-coordinates (n .vertices) in
         let lm = length-marks (n .vertices) in
         let lf = length-corners (n .faces) in
         let sv = s .0 in
         let sf = s .1 in
-        let tv : take (3 * v) vs ≡ coordinates (n .vertices) = ap (λ (x : Loaded). take (3 * v) (x .vertices)) e ∙ take-filled (coordinates (n .vertices)) zv (3 * v) (omega arith) in
-        let tf : take (4 * f) fs ≡ cornersOf (n .faces) = ap (λ (x : Loaded). take (4 * f) (x .faces)) e ∙ take-filled (cornersOf (n .faces)) zf (4 * f) (omega arith) in
-        let tm : take v ms ≡ marksOf (n .vertices) = ap (λ (x : Loaded). take v (x .marks)) e ∙ take-filled (marksOf (n .vertices)) zm v (omega arith) in
+        let tv : take (3 * v) vs ≡ coordinatesOf (n .vertices) = ap (λ (x : LoadedText). take (3 * v) (x .vertices)) e ∙ take-filled (coordinatesOf (n .vertices)) zv (3 * v) (omega arith) in
+        let tf : take (4 * f) fs ≡ cornersOf (n .faces) = ap (λ (x : LoadedText). take (4 * f) (x .faces)) e ∙ take-filled (cornersOf (n .faces)) zf (4 * f) (omega arith) in
+        let tm : take v ms ≡ marksOf (n .vertices) = ap (λ (x : LoadedText). take v (x .marks)) e ∙ take-filled (marksOf (n .vertices)) zm v (omega arith) in
         let g : frontNet v (4 * f) vs fs ms ≡ tablesOf n = λ i. record { vertices = tv i; faces = tf i; marks = tm i } in
         let jv : length (take (3 * v) vs) ≡ 3 * n .counts .vertices = ap length tv ∙ omega arith in
         let jf : length (take (4 * f) fs) ≡ 4 * n .counts .faces = ap length tf ∙ omega arith in
@@ -81,39 +82,39 @@ module _ (zv : List ℤ) (zf zm : List ℕ) where
           text = λ i. refinedText (ek i) (er i) (g i);
         }
 
-    of-parsed : (q : Parsed Net) → Stated q → loaded (netRead k rule v f) vs fs ms ≡ ofParsed zv zf zm q → Handed k rule v f vs fs ms (answerTo q)
+    of-parsed : (q : Parsed TextNet) → Stated q → loaded (netRead k rule v f) vs fs ms ≡ ofParsed zv zf zm q → Handed k rule v f vs fs ms (answerTo q)
     of-parsed (parsed n l) s e =
         let j = by-counts (countsVerdict (n .counts)) n e in
         rw (j .0) (of-net n s (j .0) (j .1))
-    of-parsed (badLine n) s e = let a : netRead k rule v f ≡ refusedWith 13 n = ap (λ (x : Loaded). x .answer) e in let z : _≡_ {A = ℕ} 0 1 = cc in absurd (omega arith)
+    of-parsed (badLine n) s e = let a : netRead k rule v f ≡ netRefused 13 n = ap (λ (x : LoadedText). x .answer) e in let z : _≡_ {A = ℕ} 0 1 = cc in absurd (omega arith)
 
     pub net-handed : (text : List ℕ) → loaded (netRead k rule v f) vs fs ms ≡ readBy parseAny text zv zf zm → Handed k rule v f vs fs ms (programText text)
     unfolding readBy programText
-    net-handed text e = go (ltb 32768 (length text)) e
+    net-handed text e = go (ltb longestText (length text)) e
       where
-        go : (b : Bool) → loaded (netRead k rule v f) vs fs ms ≡ cond b (untouched zv zf zm (refusedWith 13 0)) (ofParsed zv zf zm (parseAny text))
+        go : (b : Bool) → loaded (netRead k rule v f) vs fs ms ≡ cond b (untouched zv zf zm (netRefused 13 0)) (ofParsed zv zf zm (parseAny text))
             → Handed k rule v f vs fs ms (cond b (refusalText 13 0) (answerTo (parseAny text)))
-        go true e = let a : netRead k rule v f ≡ refusedWith 13 0 = ap (λ (x : Loaded). x .answer) e in let z : _≡_ {A = ℕ} 0 1 = cc in absurd (omega arith)
+        go true e = let a : netRead k rule v f ≡ netRefused 13 0 = ap (λ (x : LoadedText). x .answer) e in let z : _≡_ {A = ℕ} 0 1 = cc in absurd (omega arith)
         go false e = of-parsed (parseAny text) (any-stated text) e
 
   -- ---- a refusal
   module _ (r p : ℕ) (vs : List ℤ) (fs ms : List ℕ) where
-    same-text : (s q : ℕ) → loaded (refusedWith r p) vs fs ms ≡ untouched zv zf zm (refusedWith s q) → refusalText r p ≡ refusalText s q
-    same-text s q e = ap₂ refusalText (ap (λ (x : Loaded). firstNumber (x .answer)) e) (ap (λ (x : Loaded). secondNumber (x .answer)) e)
+    same-text : (s q : ℕ) → loaded (netRefused r p) vs fs ms ≡ untouched zv zf zm (netRefused s q) → refusalText r p ≡ refusalText s q
+    same-text s q e = ap₂ refusalText (ap (λ (x : LoadedText). firstNumber (x .answer)) e) (ap (λ (x : LoadedText). secondNumber (x .answer)) e)
 
-    of-counts : (d : Verdict) (n : Net) → loaded (refusedWith r p) vs fs ms ≡ judged zv zf zm d n → refusalText r p ≡ answerBy (orElse d (netVerdict (nets.plain (tablesOf n)))) (n .rule) (steps (tension 4) (n .counts .rounds) (tablesOf n)) (letters (tension 4) (nets.plain (tablesOf n)) (n .counts .rounds))
-    of-counts accepted n e = let a : refusedWith r p ≡ netRead (n .counts .rounds) (n .rule) (n .counts .vertices) (n .counts .faces) = ap (λ (x : Loaded). x .answer) e in let z : _≡_ {A = ℕ} 0 1 = cc in absurd (omega arith)
+    of-counts : (d : Verdict) (n : TextNet) → loaded (netRefused r p) vs fs ms ≡ judged zv zf zm d n → refusalText r p ≡ answerBy (orElse d (netVerdict (nets.plain (tablesOf n)))) (n .rule) (steps (tension 4) (n .counts .rounds) (tablesOf n)) (letters (tension 4) (nets.plain (tablesOf n)) (n .counts .rounds))
+    of-counts accepted n e = let a : netRefused r p ≡ netRead (n .counts .rounds) (n .rule) (n .counts .vertices) (n .counts .faces) = ap (λ (x : LoadedText). x .answer) e in let z : _≡_ {A = ℕ} 0 1 = cc in absurd (omega arith)
     of-counts (refused s q) n e = same-text s q e
 
-    of-lines : (q : Parsed Net) → loaded (refusedWith r p) vs fs ms ≡ ofParsed zv zf zm q → refusalText r p ≡ answerTo q
+    of-lines : (q : Parsed TextNet) → loaded (netRefused r p) vs fs ms ≡ ofParsed zv zf zm q → refusalText r p ≡ answerTo q
     of-lines (parsed n l) e = of-counts (countsVerdict (n .counts)) n e
     of-lines (badLine n) e = same-text 13 n e
 
-    pub refusal-handed : (text : List ℕ) → loaded (refusedWith r p) vs fs ms ≡ readBy parseAny text zv zf zm → refusalText r p ≡ programText text
+    pub refusal-handed : (text : List ℕ) → loaded (netRefused r p) vs fs ms ≡ readBy parseAny text zv zf zm → refusalText r p ≡ programText text
     unfolding readBy programText
-    refusal-handed text e = go (ltb 32768 (length text)) e
+    refusal-handed text e = go (ltb longestText (length text)) e
       where
-        go : (b : Bool) → loaded (refusedWith r p) vs fs ms ≡ cond b (untouched zv zf zm (refusedWith 13 0)) (ofParsed zv zf zm (parseAny text))
+        go : (b : Bool) → loaded (netRefused r p) vs fs ms ≡ cond b (untouched zv zf zm (netRefused 13 0)) (ofParsed zv zf zm (parseAny text))
             → refusalText r p ≡ cond b (refusalText 13 0) (answerTo (parseAny text))
         go true e = same-text 13 0 e
         go false e = of-lines (parseAny text) e

@@ -4,7 +4,7 @@ use mathlib.Core.Bool.{Bool, true, false, cond}
 use mathlib.Core.List.{List, _++_}
 use Prim.Native.Nat.{ℕ}
 use Rattle.textform.specs.Bytes.{bytes}
-use Rattle.textform.specs.Form.{input, startsWith, namesText, parse}
+use Rattle.textform.specs.Form.{inputNames, startsWith, parse}
 use Rattle.textform.proofs.Counts.{Stated, text-stated}
 use Rattle.objform.specs.Form.{parseObj}
 use Rattle.objform.proofs.Counts.{obj-stated}
@@ -27,7 +27,7 @@ unfolding parseAny
 parse-text l e = rw e
 
 -- a text of paper 01's form does not start so
-pub names-other : (rule : Bool) (rest : List ℕ) → startsWith (bytes "#") (namesText (input rule) ++ rest) ≡ false
+pub names-other : (rule : Bool) (rest : List ℕ) → startsWith (bytes "#") (inputNames rule ++ rest) ≡ false
 unfolding bytes
 names-other true rest = refl
 names-other false rest = refl

@@ -10,8 +10,9 @@ use Rattle.verdict.specs.Call.{vertexCount, faceCount}
 use Rattle.verdict.specs.Verdict.{Verdict, accepted, refused, orElse, netVerdict}
 use Rattle.scheme.specs.Step.{steps}
 use Rattle.origins.specs.Origins.{letters}
+use Rattle.textform.specs.Limits.{longestText}
 use Rattle.textform.specs.Bytes.{bytes}
-use Rattle.textform.specs.Form.{Net, startsWith, Parsed, parsed, badLine, parse}
+use Rattle.textform.specs.Form.{TextNet, startsWith, Parsed, parsed, badLine, parse}
 use Rattle.textform.specs.Text.{refusalText}
 use Rattle.readingform.specs.Loaded.{tablesOf, countsVerdict}
 use Rattle.objform.specs.Form.{parseObj}
@@ -27,16 +28,16 @@ abbrev pub refinedText : ℕ → (rule : Bool) → nets.Net → List ℕ
 refinedText k rule n = answerBy (netVerdict (nets.plain n)) rule (steps (tension 4) k n) (letters (tension 4) (nets.plain n) k)
 
 -- Paper 01: 13 "is tested before 1"; then 1, 3 and 4 from the counts, then 5 to 12 from the net
-abbrev pub answerTo : Parsed Net → List ℕ
+abbrev pub answerTo : Parsed TextNet → List ℕ
 answerTo (parsed n l) =
     answerBy (orElse (countsVerdict (n .counts)) (netVerdict (nets.plain (tablesOf n)))) (n .rule) (steps (tension 4) (n .counts .rounds) (tablesOf n))
     (letters (tension 4) (nets.plain (tablesOf n)) (n .counts .rounds))
 answerTo (badLine n) = refusalText 13 n
 
 -- Paper 02: "The program takes a text whose first byte is `#` as OBJ"
-unfoldable pub parseAny : List ℕ → Parsed Net
+unfoldable pub parseAny : List ℕ → Parsed TextNet
 parseAny text = cond (startsWith (bytes "#") text) (parseObj text) (parse text)
 
 -- Paper 01: "more than 32,768 bytes; the place is .. 0 for length, which goes first"
 unfoldable pub programText : List ℕ → List ℕ
-programText text = cond (ltb 32768 (length text)) (refusalText 13 0) (answerTo (parseAny text))
+programText text = cond (ltb longestText (length text)) (refusalText 13 0) (answerTo (parseAny text))

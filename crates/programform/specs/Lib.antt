@@ -1,3 +1,4 @@
 pub mod Answer
 pub mod RoundTrip
 pub mod Forms
+pub mod Input

@@ -12,14 +12,16 @@ use Rattle.verdict.specs.Call.{Call, vertexCount, faceCount}
 use Rattle.verdict.specs.Verdict.{accepted, verdict}
 use Rattle.scheme.specs.Step.{steps}
 use Rattle.splitting.specs.Splitting.{startNet}
-use Rattle.textform.specs.Form.{Net, parsed}
+use Rattle.decimalform.specs.Decimal.{largestNumber}
+use Rattle.textform.specs.Limits.{longestText}
+use Rattle.textform.specs.Form.{TextNet, withCorner, parsed}
 use Rattle.textform.specs.Text.{netText}
 use Rattle.readingform.specs.Loaded.{netRead, loaded, tablesOf, countsVerdict, readBy}
 use Rattle.printingform.specs.Tables.{verticesOf, facesOf}
 use Rattle.programform.specs.Answer.{parseAny}
 
 -- the lines that the program prints for the net m, with a header that states k rounds, and asks for letters or not
-abbrev pub linesOf : ℕ → (rule : Bool) → nets.Net → Net
+abbrev pub linesOf : ℕ → (rule : Bool) → nets.Net → TextNet
 linesOf k rule m =
     record {
       rule = rule;
@@ -30,12 +32,12 @@ linesOf k rule m =
 
 pub record ReadsBack (k : ℕ) (rule : Bool) (m : nets.Net) : Type 0 where
   -- the text has the form, the lines read are those written, and their tables are those of m
-  pub form : parseAny (netText (linesOf k rule m)) ≡ parsed (linesOf k rule m) []
+  pub form : parseAny (netText withCorner (linesOf k rule m)) ≡ parsed (linesOf k rule m) []
   pub tables : tablesOf (linesOf k rule m) ≡ m
   -- a text of at most 32,768 bytes whose counts the program serves fills its tables with m
-  pub read : (vs : List ℤ) (fs ms : List ℕ) → length (netText (linesOf k rule m)) ≤ 32768 → countsVerdict (linesOf k rule m .counts) ≡ accepted
-      → readBy parseAny (netText (linesOf k rule m)) vs fs ms ≡ loaded (netRead k rule (vertexCount m) (faceCount m)) (filled (m .vertices) vs) (filled (m .faces) fs) (filled (m .marks) ms)
+  pub read : (vs : List ℤ) (fs ms : List ℕ) → length (netText withCorner (linesOf k rule m)) ≤ longestText → countsVerdict (linesOf k rule m .counts) ≡ accepted
+      → readBy parseAny (netText withCorner (linesOf k rule m)) vs fs ms ≡ loaded (netRead k rule (vertexCount m) (faceCount m)) (filled (m .vertices) vs) (filled (m .faces) fs) (filled (m .marks) ms)
 
 -- of the net after any round of a call that the check accepts, the net where refining begins among them
 pub record RoundTrip : Type 0 where
-  pub back : (c : Call) → verdict c ≡ accepted → (j : ℕ) → j ≤ c .rounds → (k : ℕ) → k ≤ 2147483647 → (rule : Bool) → ReadsBack k rule (steps (tension (c .tension)) j (startNet (c .net)))
+  pub back : (c : Call) → verdict c ≡ accepted → (j : ℕ) → j ≤ c .rounds → (k : ℕ) → k ≤ largestNumber → (rule : Bool) → ReadsBack k rule (steps (tension (c .tension)) j (startNet (c .net)))

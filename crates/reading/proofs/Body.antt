@@ -6,17 +6,17 @@ use native.Mathlib.Omega.{arith}
 use lib.ListN.{length, take, drop, length-drop}
 use lib.Seq.{drop-drop}
 use borrow.Author.Tests.{eq-eqb, ne-eqb}
-use Rattle.decimalform.specs.Decimal.{Read, found, bad}
+use Rattle.decimalform.specs.Decimal.{Read, readAs, bad}
 use Rattle.decimal.proofs.Reading.{part-rest}
-use Rattle.textform.specs.Form.{Head, Vertex, Face, Net, corners, Rows, rows, readVertex, readFace, readNames, only, isCorners, parsed, badLine, lines, ended, parseBody}
+use Rattle.textform.specs.Form.{Head, Vertex, Face, TextNet, Rows, rows, readVertex, readFace, readCornerNames, parsed, badLine, lines, ended, parseBody}
 use Rattle.reading.specs.declared.Block.{Block}
-use Rattle.reading.specs.Answers.{Counted}
+use Rattle.reading.specs.Answers.{LinesCounted}
 
 -- ---- a block of lines in the part of a slice from `at` on
 module _ {A : Type 0} (read : List ℕ → Read A) (n : ℕ) (l : List ℕ) (at : ℕ) (r : Block)
-    (h : Counted r (take (length l - at) (drop at l)) (rows read n (take (length l - at) (drop at l)))) where
-  here : Counted r (drop at l) (rows read n (drop at l))
-  here = subst (λ (p : List ℕ). Counted r p (rows read n p)) (part-rest l at) h
+    (h : LinesCounted r (take (length l - at) (drop at l)) (rows read n (take (length l - at) (drop at l)))) where
+  here : LinesCounted r (drop at l) (rows read n (drop at l))
+  here = subst (λ (p : List ℕ). LinesCounted r p (rows read n p)) (part-rest l at) h
 
   pub block-good : r .good ≡ length (rows read n (drop at l) .values)
   block-good = here .good
@@ -52,14 +52,14 @@ module _ (h : Head) (m : List ℕ) where
   unfolding parseBody
   body-vertex e = rw (lines-some 4 (h .counts .vertices) (vertex-rows h m) e)
 
-  pub body-names : length (vertex-rows h m .values) ≡ h .counts .vertices → only isCorners (readNames (vertex-rows h m .rest)) ≡ bad → badLine (4 + h .counts .vertices) ≡ parseBody h m
+  pub body-names : length (vertex-rows h m .values) ≡ h .counts .vertices → readCornerNames (vertex-rows h m .rest) ≡ bad → badLine (4 + h .counts .vertices) ≡ parseBody h m
   unfolding parseBody
   body-names all e = rw (lines-all 4 (h .counts .vertices) (vertex-rows h m) all, e)
 
 -- the vertex lines and the names are good, and j is left
 pub record NamesRead (h : Head) (m j : List ℕ) : Type 0 where
   pub all : length (vertex-rows h m .values) ≡ h .counts .vertices
-  pub names : readNames (vertex-rows h m .rest) ≡ found corners j
+  pub names : readCornerNames (vertex-rows h m .rest) ≡ readAs tt j
 
 module _ {h : Head} {m j : List ℕ} (r : NamesRead h m j) where
   pub body-face : (length (face-rows h j .values) ≡ h .counts .faces → ⊥) → badLine (5 + h .counts .vertices + length (face-rows h j .values)) ≡ parseBody h m
@@ -67,7 +67,7 @@ module _ {h : Head} {m j : List ℕ} (r : NamesRead h m j) where
   body-face e = rw (lines-all 4 (h .counts .vertices) (vertex-rows h m) (r .all), r .names, lines-some (5 + h .counts .vertices) (h .counts .faces) (face-rows h j) e)
 
   module _ (e : length (face-rows h j .values) ≡ h .counts .faces) where
-    abbrev net : Net
+    abbrev net : TextNet
     net = record { rule = h .rule; counts = h .counts; vertices = vertex-rows h m .values; faces = face-rows h j .values }
 
     all-lines : ended (5 + h .counts .vertices + h .counts .faces) net (face-rows h j .rest) ≡ parseBody h m

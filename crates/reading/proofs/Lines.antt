@@ -1,24 +1,18 @@
 -- Reading lines one after another: what is left to read after each turn. Assumes nothing.
 use mathlib.Core.Path.{_≡_, refl, sym, _∙_}
-use mathlib.Core.List.{List, [], _∷_}
+use mathlib.Core.List.{List}
 use Prim.Native.Nat.{ℕ, zero, suc, _+_, _-_, _≤_, _<_}
 use native.Mathlib.Omega.{arith}
 use lib.ListN.{length, take, drop}
 use lib.Seq.{drop-drop}
-use Rattle.decimalform.specs.Decimal.{Read, found, bad}
+use Rattle.decimalform.specs.Decimal.{Read, readAs, bad}
 use Rattle.decimal.specs.Answers.{Gives}
 use Rattle.decimal.proofs.Reading.{says-at, took-at}
-use types.Run.{OneOf, miss}
-use denote.Enum.Declared.{tagOf}
-use Rattle.textform.specs.Form.{rows, rowsAfter, noRows, oneMore, only, isInput, isCorners, readNames}
-use Rattle.text.specs.Answers.{namesOf, namesUsed}
-use Rattle.text.specs.declared.NamesLine.{NamesLine}
-use Rattle.text.specs.declared.NamesLine.the-variants as names
-use Rattle.text.proofs.NamesLine as generated
-use Rattle.reading.specs.Answers.{Counted}
+use Rattle.textform.specs.Form.{rows, noRows, oneMore}
+use Rattle.reading.specs.Answers.{LinesCounted}
 
 module _ {A : Type 0} (read : List ℕ → Read A) where
-  pub rows-none : (n : ℕ) (l : List ℕ) → n ≡ 0 → rows read n l ≡ noRows l
+  rows-none : (n : ℕ) (l : List ℕ) → n ≡ 0 → rows read n l ≡ noRows l
   unfolding rows
   rows-none zero l e = refl
   rows-none (suc n) l e = absurd (omega arith)
@@ -28,26 +22,17 @@ module _ {A : Type 0} (read : List ℕ → Read A) where
   rows-bad zero l e = refl
   rows-bad (suc n) l e = rw e
 
-  pub rows-found : (n : ℕ) (l : List ℕ) (v : A) (m : List ℕ) → 0 < n → read l ≡ found v m → rows read n l ≡ oneMore v (rows read (n - 1) m)
+  rows-found : (n : ℕ) (l : List ℕ) (v : A) (m : List ℕ) → 0 < n → read l ≡ readAs v m → rows read n l ≡ oneMore v (rows read (n - 1) m)
   unfolding rows
   rows-found zero l v m h e = absurd (omega arith)
   rows-found (suc n) l v m h e = let q : suc n - 1 ≡ n = omega arith in rw (e, q)
-
-  pub rows-length : (n : ℕ) (l : List ℕ) → length (rows read n l .values) ≤ n
-  unfolding rows
-  rows-length zero l = omega arith
-  rows-length (suc n) l = go (read l) (λ m. rows-length n m)
-    where
-      go : (r : Read A) → ((m : List ℕ) → length (rows read n m .values) ≤ n) → length (rowsAfter l r (rows read n) .values) ≤ suc n
-      go (found v m) h = let k = h m in omega arith
-      go bad h = omega arith
 
   -- i of `count` lines are read: the lines from `at` on, where none is left, or the next one is v
   module _ (count : ℕ) (l : List ℕ) (i at : ℕ) where
     pub rows-over : count ≤ i → rows read (count - i) (drop at l) ≡ noRows (drop at l)
     rows-over h = rows-none (count - i) (drop at l) (omega arith)
 
-    pub rows-next : (v : A) (n : ℕ) → i < count → read (drop at l) ≡ found v (drop n (drop at l))
+    pub rows-next : (v : A) (n : ℕ) → i < count → read (drop at l) ≡ readAs v (drop n (drop at l))
         → rows read (count - i) (drop at l) ≡ oneMore v (rows read (count - (i + 1)) (drop (at + n) l))
     rows-next v n h e =
         let q : count - i - 1 ≡ count - (i + 1) = omega arith in
@@ -65,16 +50,16 @@ module _ {A : Type 0} (read : List ℕ → Read A) where
 
 module _ {A : Type 0} {read : List ℕ → Read A} {count : ℕ} {l : List ℕ} {good used : ℕ} (p : Passed read count l good used) where
   -- the lines end here
-  stopped : rows read (count - good) (drop used l) ≡ noRows (drop used l) → Counted (record { good = good; used = used }) l (rows read count l)
+  stopped : rows read (count - good) (drop used l) ≡ noRows (drop used l) → LinesCounted (record { good = good; used = used }) l (rows read count l)
   stopped e = record { good = sym (p .number ∙ rw e (omega arith)); rest = sym (p .rest ∙ rw e); within = p .within }
 
-  pub passed-end : count ≤ good → Counted (record { good = good; used = used }) l (rows read count l)
+  pub passed-end : count ≤ good → LinesCounted (record { good = good; used = used }) l (rows read count l)
   passed-end h = stopped (rows-over read count l good used h)
 
-  pub passed-bad : read (drop used l) ≡ bad → Counted (record { good = good; used = used }) l (rows read count l)
+  pub passed-bad : read (drop used l) ≡ bad → LinesCounted (record { good = good; used = used }) l (rows read count l)
   passed-bad e = stopped (rows-bad read (count - good) (drop used l) e)
 
-  pub passed-more : (v : A) (n : ℕ) → good < count → read (drop used l) ≡ found v (drop n (drop used l)) → used + n ≤ length l → Passed read count l (good + 1) (used + n)
+  pub passed-more : (v : A) (n : ℕ) → good < count → read (drop used l) ≡ readAs v (drop n (drop used l)) → used + n ≤ length l → Passed read count l (good + 1) (used + n)
   passed-more v n h e w =
       let k = rows-next read count l good used v n h e in
       record { few = omega arith; within = w; number = p .number ∙ rw k (omega arith); rest = p .rest ∙ rw k }
@@ -87,25 +72,3 @@ pub record LineAt {R A : Type 0} (of : R → List ℕ → Read A) (used : R → 
 pub line-at : {R A : Type 0} {of : R → List ℕ → Read A} {used : R → ℕ} {r q : R} (read : List ℕ → Read A) (l : List ℕ) (at : ℕ)
     → Gives of used r (take (length l - at) (drop at l)) (read (take (length l - at) (drop at l))) → r ≡ q → at ≤ length l → LineAt of used read l at q
 line-at read l at g e h = record { reads = says-at read l at g e; within = took-at read l at g e h }
-
--- ---- lines of other names
-not-input-tag : (r : NamesLine) (l : List ℕ) → OneOf (1 ∷ 2 ∷ 3 ∷ 4 ∷ []) (tagOf generated.the-type r) → only isInput (namesOf r l) ≡ bad
-not-input-tag (names.Input r n) l h = absurd (miss (1 ∷ 2 ∷ 3 ∷ 4 ∷ []) 0 tt h)
-not-input-tag (names.Marked n) l h = refl
-not-input-tag (names.Unmarked n) l h = refl
-not-input-tag (names.Corners n) l h = refl
-not-input-tag names.Other l h = refl
-
-pub not-input : (r : NamesLine) (l : List ℕ) → Gives namesOf namesUsed r l (readNames l) → OneOf (1 ∷ 2 ∷ 3 ∷ 4 ∷ []) (tagOf generated.the-type r) → only isInput (readNames l) ≡ bad
-not-input r l e h = rw (← e .reads) (not-input-tag r l h)
-
-not-corners : (r : NamesLine) (l : List ℕ) → OneOf (0 ∷ 1 ∷ 2 ∷ 4 ∷ []) (tagOf generated.the-type r) → only isCorners (namesOf r l) ≡ bad
-not-corners (names.Input r n) l h = refl
-not-corners (names.Marked n) l h = refl
-not-corners (names.Unmarked n) l h = refl
-not-corners (names.Corners n) l h = absurd (miss (0 ∷ 1 ∷ 2 ∷ 4 ∷ []) 3 tt h)
-not-corners names.Other l h = refl
-
-pub not-corners-at : (l : List ℕ) (a : ℕ) (r : NamesLine) → Gives namesOf namesUsed r (take (length l - a) (drop a l)) (readNames (take (length l - a) (drop a l)))
-    → OneOf (0 ∷ 1 ∷ 2 ∷ 4 ∷ []) (tagOf generated.the-type r) → only isCorners (readNames (drop a l)) ≡ bad
-not-corners-at l a r e h = rw (says-at readNames l a e refl) (not-corners r (drop a l) h)

@@ -6,11 +6,11 @@ use native.Mathlib.Omega.{arith}
 use lib.IntN.{ℤ}
 use lib.ListN.{length, set, take, drop}
 use lib.Seq.{sets, sets-eq}
-use Rattle.decimalform.specs.Decimal.{Read, found, bad}
+use Rattle.decimalform.specs.Decimal.{Read, readAs, bad}
 use Rattle.decimal.proofs.Reading.{part-rest}
 use Rattle.textform.specs.Form.{Vertex, Face, Rows, rows, noRows}
 use Rattle.tables.specs.Tables.{filled}
-use Rattle.readingform.specs.Loaded.{coordinates, marksOf, cornersOf}
+use Rattle.readingform.specs.Loaded.{coordinatesOf, marksOf, cornersOf}
 use Rattle.reading.proofs.Lines.{rows-bad, rows-over, rows-next}
 
 -- after i of `count` lines the table t, from k on, takes what is left, and so comes to what t₀ comes to with all of them
@@ -23,7 +23,7 @@ filling-none flat read count l t = let e : count - 0 ≡ count = omega arith in 
 
 module _ {A E : Type 0} {flat : List A → List E} {read : List ℕ → Read A} {count : ℕ} {l : List ℕ} {t₀ t : List E} {k i at : ℕ} (f : Filling flat read count l t₀ t k i at) where
   -- the next line is v, and its numbers are stored
-  pub filling-more : (v : A) (n : ℕ) (u : List E) (j : ℕ) → i < count → read (drop at l) ≡ found v (drop n (drop at l)) → ((vs : List A) → sets t k (flat (v ∷ vs)) ≡ sets u j (flat vs))
+  pub filling-more : (v : A) (n : ℕ) (u : List E) (j : ℕ) → i < count → read (drop at l) ≡ readAs v (drop n (drop at l)) → ((vs : List A) → sets t k (flat (v ∷ vs)) ≡ sets u j (flat vs))
       → length u ≡ length t → Filling flat read count l t₀ u j (i + 1) (at + n)
   filling-more v n u j h e store same =
       let more = ap (λ (w : Rows A). sets t k (flat (w .values))) (rows-next read count l i at v n h e) in
@@ -42,8 +42,8 @@ module _ {A E : Type 0} {flat : List A → List E} {read : List ℕ → Read A} 
 
 -- ---- the numbers of one line, and of none
 pub three-stores : (t : List ℤ) (i : ℕ) (v : Vertex) (vs : List Vertex)
-    → sets t (3 * i) (coordinates (v ∷ vs)) ≡ sets (set (set (set t (3 * i) (v .x)) (3 * i + 1) (v .y)) (3 * i + 2) (v .z)) (3 * (i + 1)) (coordinates vs)
-unfolding coordinates
+    → sets t (3 * i) (coordinatesOf (v ∷ vs)) ≡ sets (set (set (set t (3 * i) (v .x)) (3 * i + 1) (v .y)) (3 * i + 2) (v .z)) (3 * (i + 1)) (coordinatesOf vs)
+unfolding coordinatesOf
 three-stores t i v vs =
     let a : 3 * i + 1 ≡ suc (3 * i) = omega arith in
     let b : 3 * i + 2 ≡ suc (suc (3 * i)) = omega arith in
@@ -64,8 +64,8 @@ four-stores t i f fs =
     let d : 4 * (i + 1) ≡ suc (suc (suc (suc (4 * i)))) = omega arith in
     rw (a, b, c, d)
 
-pub no-coordinates : (t : List ℤ) (j : ℕ) → sets t j (coordinates []) ≡ t
-unfolding coordinates
+pub no-coordinates : (t : List ℤ) (j : ℕ) → sets t j (coordinatesOf []) ≡ t
+unfolding coordinatesOf
 no-coordinates t j = refl
 
 pub no-marks : (t : List ℕ) (j : ℕ) → sets t j (marksOf []) ≡ t

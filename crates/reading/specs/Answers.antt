@@ -2,13 +2,14 @@
 use mathlib.Core.Path.{_≡_}
 use mathlib.Core.Bool.{Bool}
 use mathlib.Core.List.{List, []}
-use Prim.Native.Nat.{ℕ, _≤_}
+use Prim.Native.Nat.{ℕ, _*_, _≤_}
 use lib.IntN.{ℤ}
 use lib.ListN.{length, drop}
 use lib.Seq.{sets}
 use Rattle.decimal.specs.Answers.{Gives}
-use Rattle.textform.specs.Form.{Counts, Vertex, Net, Head, Rows, rows, readVertex, readFace, Parsed, parsed, badLine, parseBody, parse}
-use Rattle.readingform.specs.Loaded.{Answer, netRead, refusedWith, coordinates, marksOf}
+use Rattle.textform.specs.Limits.{programVertices, programFaces}
+use Rattle.textform.specs.Form.{TextCounts, Vertex, TextNet, Head, Rows, rows, readVertex, readFace, Parsed, parsed, badLine, parseBody, parse}
+use Rattle.readingform.specs.Loaded.{ReadAnswer, netRead, netRefused, coordinatesOf, marksOf}
 use Rattle.reading.specs.declared.Block.{Block}
 use Rattle.reading.specs.declared.HeadLines.{HeadLines}
 use Rattle.reading.specs.declared.HeadLines.the-variants as head
@@ -20,12 +21,12 @@ use Rattle.reading.specs.declared.Input.{Input}
 use Rattle.reading.specs.declared.Input.the-variants as input
 
 -- r has the number of good lines and of their bytes
-pub record Counted {A : Type 0} (r : Block) (l : List ℕ) (w : Rows A) : Type 0 where
+pub record LinesCounted {A : Type 0} (r : Block) (l : List ℕ) (w : Rows A) : Type 0 where
   pub good : r .good ≡ length (w .values)
   pub rest : drop (r .used) l ≡ w .rest
   pub within : r .used ≤ length l
 
-abbrev pub countsAre : ℕ → ℕ → ℕ → Counts
+abbrev pub countsAre : ℕ → ℕ → ℕ → TextCounts
 countsAre v f k = record { vertices = v; faces = f; rounds = k }
 
 abbrev pub headIs : ℕ → ℕ → ℕ → Bool → Bool → Head
@@ -40,7 +41,7 @@ headUsed (head.Head v f k r m n) = n
 headUsed (head.Bad n) = 0
 
 -- the net of these counts whose vertex lines start at i and whose face lines start at j
-abbrev pub netAt : Head → List ℕ → ℕ → ℕ → Net
+abbrev pub netAt : Head → List ℕ → ℕ → ℕ → TextNet
 netAt h l i j =
     record {
       rule = h .rule;
@@ -50,7 +51,7 @@ netAt h l i j =
     }
 
 -- the answer after a head whose lines took i bytes
-abbrev pub bodyOf : Head → ℕ → BodyLines → List ℕ → Parsed Net
+abbrev pub bodyOf : Head → ℕ → BodyLines → List ℕ → Parsed TextNet
 bodyOf h i (body.Body j) l = parsed (netAt h l i j) []
 bodyOf h i (body.Bad n) l = badLine n
 
@@ -61,7 +62,7 @@ bodyUsed (body.Bad n) = 0
 abbrev pub GivesBody : Head → ℕ → BodyLines → List ℕ → Type 0
 GivesBody h i r l = Gives (bodyOf h i) bodyUsed r l (parseBody h (drop i l))
 
-abbrev pub checkedOf : Checked → List ℕ → Parsed Net
+abbrev pub checkedOf : Checked → List ℕ → Parsed TextNet
 checkedOf (checked.Form v f k r m i j) l = parsed (netAt (headIs v f k r m) l i j) []
 checkedOf (checked.Bad n) l = badLine n
 
@@ -81,16 +82,16 @@ pub record Checks (r : Checked) (l : List ℕ) : Type 0 where
 
 -- t and m come to u and o when vs is stored from the front on
 pub record VerticesStored (vs : List Vertex) (t u : List ℤ) (m o : List ℕ) : Type 0 where
-  pub table : u ≡ sets t 0 (coordinates vs)
+  pub table : u ≡ sets t 0 (coordinatesOf vs)
   pub marks : o ≡ sets m 0 (marksOf vs)
 
 -- paper 01's number and place of a refusal, or what was read
-abbrev pub answerOf : Input → Answer
+abbrev pub answerOf : Input → ReadAnswer
 answerOf (input.Net k r v f) = netRead k r v f
-answerOf (input.Refused reason place) = refusedWith reason place
+answerOf (input.Refused reason place) = netRefused reason place
 
 -- room for every net that the counts let pass
-pub record Tables (vertexTable faceTable markTable : ℕ) : Type 0 where
-  pub vertices : 3072 ≤ vertexTable
-  pub faces : 1024 ≤ faceTable
-  pub marks : 1024 ≤ markTable
+pub record InputTables (vertexTable faceTable markTable : ℕ) : Type 0 where
+  pub vertices : 3 * programVertices ≤ vertexTable
+  pub faces : 4 * programFaces ≤ faceTable
+  pub marks : programVertices ≤ markTable

@@ -1,8 +1,9 @@
 // A net read from a text in two passes: the first decides refusal 13 and finds where the lines stand, the second stores them.
 use limits::Lengths;
+use text::ColumnsLine;
 use text::CountsLine;
 use text::FaceLine;
-use text::NamesLine;
+use text::InputLine;
 use text::VertexLine;
 ghost use mathlib.Core.Path.{_≡_};
 ghost use Prim.Native.Nat.{_*_, _≤_, _<_};
@@ -12,7 +13,18 @@ ghost use Rattle.decimal.specs.Answers.{Gives};
 ghost use Rattle.textform.specs.Form.{readVertex, readFace, rows, parseHead, parse};
 ghost use Rattle.limits.specs.Answer.{limitsOf};
 ghost use Rattle.readingform.specs.Loaded.{cornersOf, countsVerdict, loaded, readBy};
-ghost use Rattle.reading.specs.Answers.{Counted, countsAre, headIs, headOf, headUsed, GivesBody, Checks, VerticesStored, answerOf, Tables};
+ghost use Rattle.reading.specs.Answers.{LinesCounted, countsAre, headIs, headOf, headUsed, GivesBody, Checks, VerticesStored, answerOf, InputTables};
+
+// The program's tables: for 1,024 vertices, and for 256 faces after the rounds, of which each takes at most 12 coordinates, 4 corners, 4 marks, 4 letters and 16 work numbers.
+pub const VERTICES: u32 = 1024;
+
+pub const COORDINATES: usize = 3072;
+
+pub const CORNERS: usize = 1024;
+
+pub const MARKS: usize = 1024;
+
+pub const WORK: usize = 4096;
 
 // Lines that have the form, and their bytes.
 struct Block {
@@ -65,7 +77,7 @@ pub enum Input {
 
 // How many of `count` lines are good before the first bad one.
 fn count_vertices(text: &[u8], count: usize, marked: bool) -> Block
-    ensures { λ r. ⌜ Counted r (now (text .entry)) (rows (readVertex marked) count (now (text .entry))) ⌝ }
+    ensures { λ r. ⌜ LinesCounted r (now (text .entry)) (rows (readVertex marked) count (now (text .entry))) ⌝ }
 {
     let mut good: usize = 0;
     let mut used: usize = 0;
@@ -87,7 +99,7 @@ fn count_vertices(text: &[u8], count: usize, marked: bool) -> Block
 }
 
 fn count_faces(text: &[u8], count: usize) -> Block
-    ensures { λ r. ⌜ Counted r (now (text .entry)) (rows readFace count (now (text .entry))) ⌝ }
+    ensures { λ r. ⌜ LinesCounted r (now (text .entry)) (rows readFace count (now (text .entry))) ⌝ }
 {
     let mut good: usize = 0;
     let mut used: usize = 0;
@@ -111,7 +123,7 @@ fn count_faces(text: &[u8], count: usize) -> Block
 fn check_head(text: &[u8]) -> HeadLines
     ensures { λ r. ⌜ Gives headOf headUsed r (now (text .entry)) (parseHead (now (text .entry))) ⌝ }
 {
-    let NamesLine::Input { rule, used: i } = text::read_names(text) else {
+    let InputLine::Input { rule, used: i } = text::read_input(text) else {
         return HeadLines::Bad(1);
     };
     let CountsLine::Counts {
@@ -124,8 +136,8 @@ fn check_head(text: &[u8]) -> HeadLines
         return HeadLines::Bad(2);
     };
     let j = i + used;
-    match text::read_names(&text[j..]) {
-        NamesLine::Marked(n) => HeadLines::Head {
+    match text::read_columns(&text[j..]) {
+        ColumnsLine::Marked(n) => HeadLines::Head {
             vertices,
             faces,
             rounds,
@@ -133,7 +145,7 @@ fn check_head(text: &[u8]) -> HeadLines
             marks: true,
             used: j + n,
         },
-        NamesLine::Unmarked(n) => HeadLines::Head {
+        ColumnsLine::Unmarked(n) => HeadLines::Head {
             vertices,
             faces,
             rounds,
@@ -141,9 +153,7 @@ fn check_head(text: &[u8]) -> HeadLines
             marks: false,
             used: j + n,
         },
-        NamesLine::Input { rule: _, used: _ } => HeadLines::Bad(3),
-        NamesLine::Corners(_) => HeadLines::Bad(3),
-        NamesLine::Other => HeadLines::Bad(3),
+        ColumnsLine::Bad => HeadLines::Bad(3),
     }
 }
 
@@ -166,10 +176,10 @@ fn check_body(
         return BodyLines::Bad(4 + vs.good);
     }
     let i = at + vs.used;
-    let NamesLine::Corners(n) = text::read_names(&text[i..]) else {
+    if !text::starts_with(&text[i..], b"a b c d\n") {
         return BodyLines::Bad(4 + v);
-    };
-    let j = i + n;
+    }
+    let j = i + 8;
     let fs = count_faces(&text[j..], f);
     if fs.good != f {
         return BodyLines::Bad(5 + v + fs.good);
@@ -224,18 +234,18 @@ pub fn refusal(vertices: u32, faces: u32, rounds: u32) -> u32
             coordinates,
             corners,
             marks: v,
-            out_vertices: 3072,
-            out_faces: 1024,
-            out_marks: 1024,
+            out_vertices: COORDINATES,
+            out_faces: CORNERS,
+            out_marks: MARKS,
             with_letters: true,
-            letters: 1024,
-            work: 4096,
+            letters: MARKS,
+            work: WORK,
         },
     );
     if reason != 0 {
         return reason;
     }
-    if 1024 < vertices {
+    if VERTICES < vertices {
         return 4;
     }
     0
@@ -286,12 +296,12 @@ fn store_faces(text: &[u8], count: usize, faces: &mut [u32])
     }
 }
 
-// Reads the net that `text` writes into the front of the tables, or refuses and leaves them as they are.
+// Internal: the program alone calls it, with tables of its own. Reads the net that `text` writes into their front, or refuses and leaves them as they are.
 pub fn read_net(text: &[u8], vertices: &mut [i32], faces: &mut [u32], marks: &mut [u8]) -> Input
-    requires { ⌜ Tables (length (now vertices)) (length (now faces)) (length (now marks)) ⌝ }
+    requires { ⌜ InputTables (length (now vertices)) (length (now faces)) (length (now marks)) ⌝ }
     ensures { λ r. ⌜ loaded (answerOf r) (now (vertices .exit)) (now (faces .exit)) (now (marks .exit)) ≡ readBy parse (now (text .entry)) (now (vertices .entry)) (now (faces .entry)) (now (marks .entry)) ⌝ }
 {
-    if 32768 < text.len() {
+    if text::LONGEST < text.len() {
         return Input::Refused(13, 0);
     }
     match check(text) {

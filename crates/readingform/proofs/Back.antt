@@ -6,10 +6,11 @@ use lib.IntN.{ℤ}
 use lib.ListN.{length}
 use Rattle.verdict.specs.Verdict.{accepted}
 use borrow.Author.Tests.{le-ltb}
-use Rattle.textform.specs.Form.{Net, Parsed, parsed}
+use Rattle.textform.specs.Limits.{longestText}
+use Rattle.textform.specs.Form.{TextNet, Parsed, parsed}
 use Rattle.readingform.specs.Loaded.{countsVerdict, stored, readBy}
 
-pub read-back : (parser : List ℕ → Parsed Net) (text : List ℕ) (n : Net) (vs : List ℤ) (fs ms : List ℕ) → parser text ≡ parsed n [] → length text ≤ 32768 → countsVerdict (n .counts) ≡ accepted
+pub read-back : (parser : List ℕ → Parsed TextNet) (text : List ℕ) (n : TextNet) (vs : List ℤ) (fs ms : List ℕ) → parser text ≡ parsed n [] → length text ≤ longestText → countsVerdict (n .counts) ≡ accepted
     → readBy parser text vs fs ms ≡ stored vs fs ms n
 unfolding readBy
-read-back parser text n vs fs ms form short room = rw (le-ltb 32768 (length text) short, form, room)
+read-back parser text n vs fs ms form short room = rw (le-ltb longestText (length text) short, form, room)

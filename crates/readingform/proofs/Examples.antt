@@ -8,7 +8,7 @@ use Rattle.verdict.specs.Verdict.{Verdict, accepted, refused, limitsVerdict, ta
 use Rattle.decimalform.specs.Decimal.{readDigits, readNatural}
 use Rattle.textform.specs.Bytes.{bytes}
 use Rattle.textform.specs.Form.{readNames, natural, readCounts, rows, parseHead, parseBody, parse}
-use Rattle.readingform.specs.Loaded.{Answer, netRead, refusedWith, countsVerdict, readBy}
+use Rattle.readingform.specs.Loaded.{ReadAnswer, netRead, netRefused, countsVerdict, readBy}
 
 -- V, F, rounds, and their order
 abbrev counted : ℕ → ℕ → ℕ → Verdict
@@ -20,14 +20,14 @@ unfolding countsVerdict limitsVerdict tablesVerdict sizeVerdict roomVerdict
 refusals = refl
 
 -- a first line without `rule`, with it, and with another word; a refusal that letters do not change
-abbrev answer : String → Answer
+abbrev answer : String → ReadAnswer
 answer s = readBy parse (bytes s) [] [] [] .answer
 
-wishes : answer "vertices faces rounds\n0 0 2\nx y z\na b c d\n"
+requests : answer "vertices faces rounds\n0 0 2\nx y z\na b c d\n"
     ∷ answer "vertices faces rounds rule\n0 0 2\nx y z\na b c d\n"
     ∷ answer "vertices faces rounds rules\n0 0 2\nx y z\na b c d\n"
     ∷ answer "vertices faces rounds rule\n0 0 7\nx y z\na b c d\n"
     ∷ []
-    ≡ netRead 2 false 0 0 ∷ netRead 2 true 0 0 ∷ refusedWith 13 1 ∷ refusedWith 1 0 ∷ []
+    ≡ netRead 2 false 0 0 ∷ netRead 2 true 0 0 ∷ netRefused 13 1 ∷ netRefused 1 0 ∷ []
 unfolding readBy parse parseHead parseBody readNames readCounts natural rows readNatural readDigits bytes countsVerdict limitsVerdict tablesVerdict sizeVerdict roomVerdict
-wishes = refl
+requests = refl

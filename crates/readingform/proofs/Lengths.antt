@@ -5,10 +5,10 @@ use Prim.Native.Nat.{_*_}
 use native.Mathlib.Omega.{arith}
 use lib.ListN.{length}
 use Rattle.textform.specs.Form.{Vertex, Face}
-use Rattle.readingform.specs.Loaded.{coordinates, marksOf, cornersOf}
+use Rattle.readingform.specs.Loaded.{coordinatesOf, marksOf, cornersOf}
 
-pub length-coordinates : (vs : List Vertex) → length (coordinates vs) ≡ 3 * length vs
-unfolding coordinates
+pub length-coordinates : (vs : List Vertex) → length (coordinatesOf vs) ≡ 3 * length vs
+unfolding coordinatesOf
 length-coordinates [] = refl
 length-coordinates (v ∷ vs) = let e = length-coordinates vs in omega arith
 

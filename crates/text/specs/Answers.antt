@@ -1,11 +1,14 @@
 -- What the answers of the line readers say of a text l: the values, and how many bytes of l they took.
+use mathlib.Core.Bool.{Bool}
 use mathlib.Core.List.{List}
 use Prim.Native.Nat.{ℕ}
 use lib.ListN.{drop}
-use Rattle.decimalform.specs.Decimal.{Read, found, bad}
-use Rattle.textform.specs.Form.{Names, input, marked, unmarked, corners, Counts, Vertex, Face}
-use Rattle.text.specs.declared.NamesLine.{NamesLine}
-use Rattle.text.specs.declared.NamesLine.the-variants as names
+use Rattle.decimalform.specs.Decimal.{Read, readAs, bad}
+use Rattle.textform.specs.Form.{Columns, withCorner, withoutCorner, TextCounts, Vertex, Face}
+use Rattle.text.specs.declared.InputLine.{InputLine}
+use Rattle.text.specs.declared.InputLine.the-variants as input
+use Rattle.text.specs.declared.ColumnsLine.{ColumnsLine}
+use Rattle.text.specs.declared.ColumnsLine.the-variants as columns
 use Rattle.text.specs.declared.CountsLine.{CountsLine}
 use Rattle.text.specs.declared.CountsLine.the-variants as counts
 use Rattle.text.specs.declared.VertexLine.{VertexLine}
@@ -13,39 +16,43 @@ use Rattle.text.specs.declared.VertexLine.the-variants as vertex
 use Rattle.text.specs.declared.FaceLine.{FaceLine}
 use Rattle.text.specs.declared.FaceLine.the-variants as face
 
-abbrev pub namesOf : NamesLine → List ℕ → Read Names
-namesOf (names.Input r n) l = found (input r) (drop n l)
-namesOf (names.Marked n) l = found marked (drop n l)
-namesOf (names.Unmarked n) l = found unmarked (drop n l)
-namesOf (names.Corners n) l = found corners (drop n l)
-namesOf names.Other l = bad
+abbrev pub inputLineOf : InputLine → List ℕ → Read Bool
+inputLineOf (input.Input r n) l = readAs r (drop n l)
+inputLineOf input.Bad l = bad
 
-abbrev pub namesUsed : NamesLine → ℕ
-namesUsed (names.Input r n) = n
-namesUsed (names.Marked n) = n
-namesUsed (names.Unmarked n) = n
-namesUsed (names.Corners n) = n
-namesUsed names.Other = 0
+abbrev pub inputUsed : InputLine → ℕ
+inputUsed (input.Input r n) = n
+inputUsed input.Bad = 0
 
-abbrev pub countsOf : CountsLine → List ℕ → Read Counts
-countsOf (counts.Counts v f k n) l = found (record { vertices = v; faces = f; rounds = k }) (drop n l)
-countsOf counts.Bad l = bad
+abbrev pub columnsLineOf : ColumnsLine → List ℕ → Read Columns
+columnsLineOf (columns.Marked n) l = readAs withCorner (drop n l)
+columnsLineOf (columns.Unmarked n) l = readAs withoutCorner (drop n l)
+columnsLineOf columns.Bad l = bad
+
+abbrev pub columnsUsed : ColumnsLine → ℕ
+columnsUsed (columns.Marked n) = n
+columnsUsed (columns.Unmarked n) = n
+columnsUsed columns.Bad = 0
+
+abbrev pub countsLineOf : CountsLine → List ℕ → Read TextCounts
+countsLineOf (counts.Counts v f k n) l = readAs (record { vertices = v; faces = f; rounds = k }) (drop n l)
+countsLineOf counts.Bad l = bad
 
 abbrev pub countsUsed : CountsLine → ℕ
 countsUsed (counts.Counts v f k n) = n
 countsUsed counts.Bad = 0
 
-abbrev pub vertexOf : VertexLine → List ℕ → Read Vertex
-vertexOf (vertex.Vertex x y z m n) l = found (record { x = x; y = y; z = z; mark = m }) (drop n l)
-vertexOf vertex.Bad l = bad
+abbrev pub vertexLineOf : VertexLine → List ℕ → Read Vertex
+vertexLineOf (vertex.Vertex x y z m n) l = readAs (record { x = x; y = y; z = z; mark = m }) (drop n l)
+vertexLineOf vertex.Bad l = bad
 
 abbrev pub vertexUsed : VertexLine → ℕ
 vertexUsed (vertex.Vertex x y z m n) = n
 vertexUsed vertex.Bad = 0
 
-abbrev pub faceOf : FaceLine → List ℕ → Read Face
-faceOf (face.Face a b c d n) l = found (record { a = a; b = b; c = c; d = d }) (drop n l)
-faceOf face.Bad l = bad
+abbrev pub faceLineOf : FaceLine → List ℕ → Read Face
+faceLineOf (face.Face a b c d n) l = readAs (record { a = a; b = b; c = c; d = d }) (drop n l)
+faceLineOf face.Bad l = bad
 
 abbrev pub faceUsed : FaceLine → ℕ
 faceUsed (face.Face a b c d n) = n

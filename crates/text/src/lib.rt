@@ -5,16 +5,23 @@ ghost use mathlib.Core.Path.{_≡_};
 ghost use Prim.Native.Nat.{_≤_};
 ghost use lib.ListN.{length, drop};
 ghost use Rattle.decimal.specs.Answers.{Gives, GivesNumber, GivesInteger};
-ghost use Rattle.textform.specs.Form.{startsWith, readNames, coordinate, natural, readCounts, readVertex, readFace};
-ghost use Rattle.text.specs.Answers.{namesOf, namesUsed, countsOf, countsUsed, vertexOf, vertexUsed, faceOf, faceUsed};
+ghost use Rattle.textform.specs.Form.{startsWith, readInput, readColumns, coordinate, natural, readCounts, readVertex, readFace};
+ghost use Rattle.text.specs.Answers.{inputLineOf, inputUsed, columnsLineOf, columnsUsed, countsLineOf, countsUsed, vertexLineOf, vertexUsed, faceLineOf, faceUsed};
 
-// The first line with the word `rule` or without it; the names of the columns; those of the corners.
-pub enum NamesLine {
+// The most bytes that a text may have.
+pub const LONGEST: usize = 32768;
+
+// The first line, with the word `rule` or without it.
+pub enum InputLine {
     Input { rule: bool, used: usize },
+    Bad,
+}
+
+// The names of the columns, with `corner` or without it.
+pub enum ColumnsLine {
     Marked(usize),
     Unmarked(usize),
-    Corners(usize),
-    Other,
+    Bad,
 }
 
 pub enum CountsLine {
@@ -65,32 +72,35 @@ pub fn starts_with(text: &[u8], s: &[u8]) -> bool
     true
 }
 
-// A line of names, with its newline.
-pub fn read_names(text: &[u8]) -> NamesLine
-    ensures { λ r. ⌜ Gives namesOf namesUsed r (now (text .entry)) (readNames (now (text .entry))) ⌝ }
+// Lines of names, with their newlines.
+pub fn read_input(text: &[u8]) -> InputLine
+    ensures { λ r. ⌜ Gives inputLineOf inputUsed r (now (text .entry)) (readInput (now (text .entry))) ⌝ }
 {
     if starts_with(text, b"vertices faces rounds\n") {
-        return NamesLine::Input {
+        return InputLine::Input {
             rule: false,
             used: 22,
         };
     }
     if starts_with(text, b"vertices faces rounds rule\n") {
-        return NamesLine::Input {
+        return InputLine::Input {
             rule: true,
             used: 27,
         };
     }
+    InputLine::Bad
+}
+
+pub fn read_columns(text: &[u8]) -> ColumnsLine
+    ensures { λ r. ⌜ Gives columnsLineOf columnsUsed r (now (text .entry)) (readColumns (now (text .entry))) ⌝ }
+{
     if starts_with(text, b"x y z corner\n") {
-        return NamesLine::Marked(13);
+        return ColumnsLine::Marked(13);
     }
     if starts_with(text, b"x y z\n") {
-        return NamesLine::Unmarked(6);
+        return ColumnsLine::Unmarked(6);
     }
-    if starts_with(text, b"a b c d\n") {
-        return NamesLine::Corners(8);
-    }
-    NamesLine::Other
+    ColumnsLine::Bad
 }
 
 // The number at `at` and the byte `end` after it; the answer's length counts from the start of the line.
@@ -129,15 +139,15 @@ fn integer_field(line: &[u8], at: usize, end: u8) -> Integer
 }
 
 pub fn read_counts(line: &[u8]) -> CountsLine
-    ensures { λ r. ⌜ Gives countsOf countsUsed r (now (line .entry)) (readCounts (now (line .entry))) ⌝ }
+    ensures { λ r. ⌜ Gives countsLineOf countsUsed r (now (line .entry)) (readCounts (now (line .entry))) ⌝ }
 {
-    let Number::Value(v, i) = natural_field(line, 0, 2147483647, b' ') else {
+    let Number::Value(v, i) = natural_field(line, 0, decimal::LARGEST, b' ') else {
         return CountsLine::Bad;
     };
-    let Number::Value(f, j) = natural_field(line, i, 2147483647, b' ') else {
+    let Number::Value(f, j) = natural_field(line, i, decimal::LARGEST, b' ') else {
         return CountsLine::Bad;
     };
-    let Number::Value(k, n) = natural_field(line, j, 2147483647, b'\n') else {
+    let Number::Value(k, n) = natural_field(line, j, decimal::LARGEST, b'\n') else {
         return CountsLine::Bad;
     };
     CountsLine::Counts {
@@ -150,7 +160,7 @@ pub fn read_counts(line: &[u8]) -> CountsLine
 
 // With a mark, or without one, which is 0.
 pub fn read_vertex(line: &[u8], marked: bool) -> VertexLine
-    ensures { λ r. ⌜ Gives vertexOf vertexUsed r (now (line .entry)) (readVertex marked (now (line .entry))) ⌝ }
+    ensures { λ r. ⌜ Gives vertexLineOf vertexUsed r (now (line .entry)) (readVertex marked (now (line .entry))) ⌝ }
 {
     let Integer::Value(x, i) = integer_field(line, 0, b' ') else {
         return VertexLine::Bad;
@@ -186,18 +196,18 @@ pub fn read_vertex(line: &[u8], marked: bool) -> VertexLine
 }
 
 pub fn read_face(line: &[u8]) -> FaceLine
-    ensures { λ r. ⌜ Gives faceOf faceUsed r (now (line .entry)) (readFace (now (line .entry))) ⌝ }
+    ensures { λ r. ⌜ Gives faceLineOf faceUsed r (now (line .entry)) (readFace (now (line .entry))) ⌝ }
 {
-    let Number::Value(a, i) = natural_field(line, 0, 2147483647, b' ') else {
+    let Number::Value(a, i) = natural_field(line, 0, decimal::LARGEST, b' ') else {
         return FaceLine::Bad;
     };
-    let Number::Value(b, j) = natural_field(line, i, 2147483647, b' ') else {
+    let Number::Value(b, j) = natural_field(line, i, decimal::LARGEST, b' ') else {
         return FaceLine::Bad;
     };
-    let Number::Value(c, k) = natural_field(line, j, 2147483647, b' ') else {
+    let Number::Value(c, k) = natural_field(line, j, decimal::LARGEST, b' ') else {
         return FaceLine::Bad;
     };
-    let Number::Value(d, n) = natural_field(line, k, 2147483647, b'\n') else {
+    let Number::Value(d, n) = natural_field(line, k, decimal::LARGEST, b'\n') else {
         return FaceLine::Bad;
     };
     FaceLine::Face {

@@ -7,13 +7,13 @@ use native.Mathlib.Omega.{arith}
 use lib.Dec.{eqb}
 use lib.ListN.{length}
 use borrow.Author.Tests.{eqb-true}
-use Rattle.textform.specs.Form.{Net, Head, Rows, Parsed, parsed, badLine, next, line, lines, ended, only, isCorners, readNames, readVertex, readFace, rows, parseHead, parseBody, parse}
+use Rattle.textform.specs.Form.{TextNet, Head, Rows, Parsed, parsed, badLine, next, line, lines, ended, readCornerNames, readVertex, readFace, rows, parseHead, parseBody, parse}
 
-abbrev pub Stated : Parsed Net → Type 0
+abbrev pub Stated : Parsed TextNet → Type 0
 Stated (parsed n l) = (length (n .vertices) ≡ n .counts .vertices) × (length (n .faces) ≡ n .counts .faces)
 Stated (badLine n) = Unit {0}
 
-pub after : {A : Type 0} (q : Parsed A) (f : A → List ℕ → Parsed Net) → ((v : A) (l : List ℕ) → q ≡ parsed v l → Stated (f v l)) → Stated (next q f)
+pub after : {A : Type 0} (q : Parsed A) (f : A → List ℕ → Parsed TextNet) → ((v : A) (l : List ℕ) → q ≡ parsed v l → Stated (f v l)) → Stated (next q f)
 after (parsed v l) f h = h v l refl
 after (badLine n) f h = tt
 
@@ -29,7 +29,7 @@ module _ {A : Type 0} where
       go true h e = ap (λ (q : Parsed (List A)). length (values q)) (sym e) ∙ eqb-true (length (w .values)) count h
       go false h e = let z : _≡_ {A = ℕ} 0 1 = cc in absurd (omega arith)
 
-pub ended-stated : (n : ℕ) (v : Net) (l : List ℕ) → Stated (parsed v []) → Stated (ended n v l)
+pub ended-stated : (n : ℕ) (v : TextNet) (l : List ℕ) → Stated (parsed v []) → Stated (ended n v l)
 ended-stated n v [] h = h
 ended-stated n v (b ∷ l) h = tt
 
@@ -39,7 +39,7 @@ body-stated h l =
     let v = h .counts .vertices in
     let f = h .counts .faces in
     after (lines 4 v (rows (readVertex (h .marks)) v l)) _ (λ vs l₁ e.
-    after (line (4 + v) (only isCorners (readNames l₁))) _ (λ _ l₂ _.
+    after (line (4 + v) (readCornerNames l₁)) _ (λ _ l₂ _.
     after (lines (5 + v) f (rows readFace f l₂)) _ (λ fs l₃ d.
     ended-stated (5 + v + f) _ l₃ (lines-count 4 v (rows (readVertex (h .marks)) v l) vs l₁ e, lines-count (5 + v) f (rows readFace f l₂) fs l₃ d))))
 

@@ -8,8 +8,8 @@ use lib.Dec.{T, eqb}
 use lib.IntN.{ℤ, pos, negsuc}
 use Rattle.decimalform.specs.Decimal.{readDigits, readNatural, readInteger, naturalText, integerText}
 use Rattle.textform.specs.Bytes.{bytes}
-use Rattle.textform.specs.Form.{Vertex, Face, Net, Parsed, parsed, badLine, readNames, coordinate, natural, readCounts, readVertex, readFace, rows, parseHead, parseBody, parse}
-use Rattle.textform.specs.Text.{countsText, pairText, numbersText, vertexText, faceText, texts, netText, LetteredVertex, letteredText, answerText, refusalText}
+use Rattle.textform.specs.Form.{Vertex, Face, TextNet, withCorner, Parsed, parsed, badLine, readNames, coordinate, natural, readCounts, readVertex, readFace, rows, parseHead, parseBody, parse}
+use Rattle.textform.specs.Text.{countsText, pairText, numbersText, vertexText, faceText, texts, netLines, netText, LetteredVertex, letteredText, answerText, refusalText}
 
 abbrev at : ℤ → ℤ → ℤ → ℕ → Vertex
 at x y z m = record { x = x; y = y; z = z; mark = m }
@@ -18,7 +18,7 @@ abbrev face : ℕ → ℕ → ℕ → ℕ → Face
 face a b c d = record { a = a; b = b; c = c; d = d }
 
 -- Paper 01's input, and the same with letters asked for
-abbrev square : Bool → Net
+abbrev square : Bool → TextNet
 square r =
     record {
       rule = r;
@@ -36,10 +36,16 @@ unfolding parse parseHead parseBody readNames readCounts readVertex readFace coo
 square-read false = refl
 square-read true = refl
 
-square-written : (r : Bool) → netText (square r) ≡ squareText r
-unfolding netText countsText numbersText vertexText faceText texts naturalText integerText bytes
+square-written : (r : Bool) → netText withCorner (square r) ≡ squareText r
+unfolding netText netLines countsText numbersText vertexText faceText texts naturalText integerText bytes
 square-written false = refl
 square-written true = refl
+
+-- its lines
+square-lines : netLines withCorner (square false)
+    ≡ bytes "vertices faces rounds\n" ∷ bytes "4 1 1\n" ∷ bytes "x y z corner\n" ∷ bytes "0 0 0 1\n" ∷ bytes "16 0 0 1\n" ∷ bytes "16 16 0 1\n" ∷ bytes "0 16 0 1\n" ∷ bytes "a b c d\n" ∷ bytes "0 1 2 3\n" ∷ []
+unfolding netLines countsText numbersText vertexText faceText naturalText integerText bytes
+square-lines = refl
 
 -- Paper 01's output, and the same with letters
 abbrev refinedText : Bool → List ℕ
@@ -71,7 +77,7 @@ unfolding parse parseHead parseBody readNames readCounts readVertex readFace coo
 unmarked-read = refl
 
 -- ---- the first bad line of damaged texts, 0 for a text that has the form
-abbrev damage : Parsed Net → ℕ
+abbrev damage : Parsed TextNet → ℕ
 damage (parsed n l) = 0
 damage (badLine n) = n
 

@@ -3,3 +3,5 @@ pub mod Lines
 pub mod Back
 pub mod Counts
 pub mod Found
+pub mod Beyond
+pub mod Recognized

@@ -5,12 +5,12 @@ use Prim.Native.Nat.{ℕ, zero, suc, _+_}
 use lib.Dec.{eqb}
 use lib.IntN.{ℤ}
 use lib.ListN.{length, drop}
-use Rattle.decimalform.specs.Decimal.{Read, found, bad, readNatural, readInteger}
+use Rattle.decimalform.specs.Decimal.{Read, readAs, bad, readNatural, readInteger, largestNumber}
 use Rattle.textform.specs.Bytes.{bytes}
 
 -- ---- values, as the lines have them
 
-pub record Counts : Type 0 where
+pub record TextCounts : Type 0 where
   pub vertices : ℕ
   pub faces : ℕ
   pub rounds : ℕ
@@ -28,84 +28,66 @@ pub record Face : Type 0 where
   pub d : ℕ
 
 -- a net, and whether its text asks for the letters of the answer
-pub record Net : Type 0 where
+pub record TextNet : Type 0 where
   pub rule : Bool
-  pub counts : Counts
+  pub counts : TextCounts
   pub vertices : List Vertex
   pub faces : List Face
 
--- ---- lines of names
+-- ---- lines of names: the line for each meaning that it can have
 
--- Paper 02: "prints the letter as a last column named `rule` if the first input line reads `vertices faces rounds rule`": that line is `input true`
-pub data Names : Type 0 where
-  input : (rule : Bool) → Names
-  marked unmarked corners : Names
+-- Paper 02: "prints the letter as a last column named `rule` if the first input line reads `vertices faces rounds rule`"
+abbrev pub inputNames : (rule : Bool) → List ℕ
+inputNames false = bytes "vertices faces rounds\n"
+inputNames true = bytes "vertices faces rounds rule\n"
 
-abbrev pub namesText : Names → List ℕ
-namesText (input false) = bytes "vertices faces rounds\n"
-namesText (input true) = bytes "vertices faces rounds rule\n"
-namesText marked = bytes "x y z corner\n"
-namesText unmarked = bytes "x y z\n"
-namesText corners = bytes "a b c d\n"
+-- Paper 01: "`x y z` without `corner` means all marks 0"
+pub data Columns : Type 0 where
+  withCorner withoutCorner : Columns
+
+abbrev pub columnNames : Columns → List ℕ
+columnNames withCorner = bytes "x y z corner\n"
+columnNames withoutCorner = bytes "x y z\n"
+
+-- a vertex line ends with a mark
+abbrev pub hasMark : Columns → Bool
+hasMark withCorner = true
+hasMark withoutCorner = false
+
+abbrev pub cornerNames : Unit {0} → List ℕ
+cornerNames _ = bytes "a b c d\n"
 
 abbrev pub startsWith : List ℕ → List ℕ → Bool
 startsWith [] l = true
 startsWith (c ∷ s) [] = false
 startsWith (c ∷ s) (b ∷ l) = eqb b c && startsWith s l
 
--- the names n, or else what `other` gives
-abbrev pub readOr : Names → List ℕ → Read Names → Read Names
-readOr n l other = cond (startsWith (namesText n) l) (found n (drop (length (namesText n)) l)) other
+-- the first of these meanings whose line the text starts with
+unfoldable pub readNames : {A : Type 0} → (names : A → List ℕ) → List A → List ℕ → Read A
+readNames names [] l = bad
+readNames names (m ∷ ms) l = cond (startsWith (names m) l) (readAs m (drop (length (names m)) l)) (readNames names ms l)
 
-unfoldable pub readNames : List ℕ → Read Names
-readNames l = readOr (input false) l (readOr (input true) l (readOr marked l (readOr unmarked l (readOr corners l bad))))
+abbrev pub readInput : List ℕ → Read Bool
+readInput l = readNames inputNames (false ∷ true ∷ []) l
 
-abbrev pub isInput : Names → Bool
-isInput (input r) = true
-isInput marked = false
-isInput unmarked = false
-isInput corners = false
+abbrev pub readColumns : List ℕ → Read Columns
+readColumns l = readNames columnNames (withCorner ∷ withoutCorner ∷ []) l
 
--- the names ask for letters
-abbrev pub asksRule : Names → Bool
-asksRule (input r) = r
-asksRule marked = false
-asksRule unmarked = false
-asksRule corners = false
+abbrev pub readCornerNames : List ℕ → Read (Unit {0})
+readCornerNames l = readNames cornerNames (tt ∷ []) l
 
-abbrev pub isMarked : Names → Bool
-isMarked (input r) = false
-isMarked marked = true
-isMarked unmarked = false
-isMarked corners = false
-
-abbrev pub isColumns : Names → Bool
-isColumns (input r) = false
-isColumns marked = true
-isColumns unmarked = true
-isColumns corners = false
-
-abbrev pub isCorners : Names → Bool
-isCorners (input r) = false
-isCorners marked = false
-isCorners unmarked = false
-isCorners corners = true
+-- ---- fields
 
 module _ {A : Type 0} where
-  -- a value that passes the test
-  abbrev pub only : (A → Bool) → Read A → Read A
-  only p (found v l) = cond (p v) (found v l) bad
-  only p bad = bad
-
   -- Paper 01: "with one blank between and a newline after each line": the byte e follows
   abbrev pub endedBy : ℕ → Read A → Read A
-  endedBy e (found v []) = bad
-  endedBy e (found v (b ∷ l)) = cond (eqb b e) (found v l) bad
+  endedBy e (readAs v []) = bad
+  endedBy e (readAs v (b ∷ l)) = cond (eqb b e) (readAs v l) bad
   endedBy e bad = bad
 
   -- what f reads after it
   abbrev pub andThen : {B : Type 0} → Read A → (A → List ℕ → Read B) → Read B
-  andThen (found v l) f = f v l
+  andThen (readAs v l) f = f v l
   andThen bad f = bad
 
 -- ---- lines of numbers
@@ -118,24 +100,24 @@ natural limit e l = endedBy e (readNatural limit l)
 
 -- a count or a vertex number, in signed 32 bits
 abbrev pub index : ℕ → List ℕ → Read ℕ
-index e l = natural 2147483647 e l
+index e l = natural largestNumber e l
 
-unfoldable pub readCounts : List ℕ → Read Counts
-readCounts l = andThen (index 32 l) (λ v l. andThen (index 32 l) (λ f l. andThen (index 10 l) (λ k l. found (record { vertices = v; faces = f; rounds = k }) l)))
+unfoldable pub readCounts : List ℕ → Read TextCounts
+readCounts l = andThen (index 32 l) (λ v l. andThen (index 32 l) (λ f l. andThen (index 10 l) (λ k l. readAs (record { vertices = v; faces = f; rounds = k }) l)))
 
 -- Paper 01: "`x y z` without `corner` means all marks 0"; "A mark is at most 255"
 unfoldable pub readVertex : Bool → List ℕ → Read Vertex
 readVertex m l =
     andThen (coordinate 32 l) (λ x l. andThen (coordinate 32 l) (λ y l.
     cond m
-    (andThen (coordinate 32 l) (λ z l. andThen (natural 255 10 l) (λ k l. found (record { x = x; y = y; z = z; mark = k }) l)))
-    (andThen (coordinate 10 l) (λ z l. found (record { x = x; y = y; z = z; mark = 0 }) l))))
+    (andThen (coordinate 32 l) (λ z l. andThen (natural 255 10 l) (λ k l. readAs (record { x = x; y = y; z = z; mark = k }) l)))
+    (andThen (coordinate 10 l) (λ z l. readAs (record { x = x; y = y; z = z; mark = 0 }) l))))
 
 -- four corners, each read by `corner`, which is told the byte after it
 abbrev pub faceBy : (corner : ℕ → List ℕ → Read ℕ) → List ℕ → Read Face
 faceBy corner l =
     andThen (corner 32 l) (λ a l. andThen (corner 32 l) (λ b l. andThen (corner 32 l) (λ c l. andThen (corner 10 l) (λ d l.
-    found (record { a = a; b = b; c = c; d = d }) l))))
+    readAs (record { a = a; b = b; c = c; d = d }) l))))
 
 unfoldable pub readFace : List ℕ → Read Face
 readFace l = faceBy index l
@@ -155,7 +137,7 @@ module _ {A : Type 0} where
   oneMore v w = record { values = v ∷ w .values; rest = w .rest }
 
   abbrev pub rowsAfter : List ℕ → Read A → (List ℕ → Rows A) → Rows A
-  rowsAfter l (found v m) more = oneMore v (more m)
+  rowsAfter l (readAs v m) more = oneMore v (more m)
   rowsAfter l bad more = noRows l
 
   -- up to n lines, as far as they are good
@@ -177,7 +159,7 @@ module _ {A : Type 0} where
 
   -- line n
   abbrev pub line : ℕ → Read A → Parsed A
-  line n (found v l) = parsed v l
+  line n (readAs v l) = parsed v l
   line n bad = badLine n
 
   -- `count` lines, the first of them line n
@@ -191,22 +173,22 @@ module _ {A : Type 0} where
 
 pub record Head : Type 0 where
   pub rule : Bool
-  pub counts : Counts
+  pub counts : TextCounts
   pub marks : Bool
 
 -- Paper 02: "the second line keeps its three numbers"
 unfoldable pub parseHead : List ℕ → Parsed Head
 parseHead l =
-    next (line 1 (only isInput (readNames l))) (λ i l. next (line 2 (readCounts l)) (λ n l. next (line 3 (only isColumns (readNames l))) (λ c l.
-    parsed (record { rule = asksRule i; counts = n; marks = isMarked c }) l)))
+    next (line 1 (readInput l)) (λ r l. next (line 2 (readCounts l)) (λ n l. next (line 3 (readColumns l)) (λ c l.
+    parsed (record { rule = r; counts = n; marks = hasMark c }) l)))
 
-unfoldable pub parseBody : Head → List ℕ → Parsed Net
+unfoldable pub parseBody : Head → List ℕ → Parsed TextNet
 parseBody h l =
     next (lines 4 (h .counts .vertices) (rows (readVertex (h .marks)) (h .counts .vertices) l)) (λ vs l.
-    next (line (4 + h .counts .vertices) (only isCorners (readNames l))) (λ _ l.
+    next (line (4 + h .counts .vertices) (readCornerNames l)) (λ _ l.
     next (lines (5 + h .counts .vertices) (h .counts .faces) (rows readFace (h .counts .faces) l)) (λ fs l.
     ended (5 + h .counts .vertices + h .counts .faces) (record { rule = h .rule; counts = h .counts; vertices = vs; faces = fs }) l)))
 
 -- Paper 01: "It reads standard input: a line of names, then values in that order"
-unfoldable pub parse : List ℕ → Parsed Net
+unfoldable pub parse : List ℕ → Parsed TextNet
 parse l = next (parseHead l) parseBody

@@ -1,4 +1,6 @@
+pub mod Limits
 pub mod Bytes
 pub mod Form
 pub mod Text
-pub mod Written
+pub mod Fits
+pub mod Recognition

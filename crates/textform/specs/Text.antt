@@ -1,17 +1,17 @@
 -- The text of a net, of an answer and of a refusal.
 use mathlib.Core.Bool.{Bool, cond}
-use mathlib.Core.List.{List, [], _∷_, _++_}
+use mathlib.Core.List.{List, [], _∷_, _++_, map}
 use Prim.Native.Nat.{ℕ}
 use lib.ListN.{length}
 use Rattle.decimalform.specs.Decimal.{naturalText, integerText}
 use Rattle.textform.specs.Bytes.{bytes}
-use Rattle.textform.specs.Form.{Counts, Vertex, Face, Net, namesText, input, marked, unmarked, corners}
+use Rattle.textform.specs.Form.{TextCounts, Vertex, Face, TextNet, inputNames, Columns, withCorner, withoutCorner, columnNames, cornerNames}
 
 -- a number and the byte after it. Paper 01: "with one blank between and a newline after each line"
 abbrev pub field : List ℕ → ℕ → List ℕ
 field s e = s ++ (e ∷ [])
 
-unfoldable pub countsText : Counts → List ℕ
+unfoldable pub countsText : TextCounts → List ℕ
 countsText n = field (naturalText (n .vertices)) 32 ++ field (naturalText (n .faces)) 32 ++ field (naturalText (n .rounds)) 10
 
 -- two numbers in a line
@@ -37,17 +37,22 @@ unfoldable pub texts : {A : Type 0} → (A → List ℕ) → List A → List ℕ
 texts f [] = []
 texts f (v ∷ vs) = f v ++ texts f vs
 
--- the first two lines, the names of the columns, the lines of the vertices, and those of the faces
-abbrev pub withBody : (head columns lines : List ℕ) → List Face → List ℕ
-withBody head columns lines fs = head ++ columns ++ lines ++ namesText corners ++ texts faceText fs
+-- a vertex under these columns. Paper 01: "`x y z` without `corner` means all marks 0"
+abbrev pub vertexLineText : Columns → Vertex → List ℕ
+vertexLineText withCorner v = vertexText v
+vertexLineText withoutCorner v = pointText v
+
+-- the lines of a net. Paper 01: "a line of names, then values in that order"
+unfoldable pub netLines : Columns → TextNet → List (List ℕ)
+netLines c n = inputNames (n .rule) ∷ countsText (n .counts) ∷ columnNames c ∷ (map (vertexLineText c) (n .vertices) ++ (cornerNames tt ∷ map faceText (n .faces)))
+
+-- lines after each other
+abbrev pub linesText : List (List ℕ) → List ℕ
+linesText ls = texts (λ l. l) ls
 
 -- the text that writes a net for the program
-unfoldable pub netText : Net → List ℕ
-netText n = withBody (namesText (input (n .rule)) ++ countsText (n .counts)) (namesText marked) (texts vertexText (n .vertices)) (n .faces)
-
--- the same without marks. Paper 01: "`x y z` without `corner`"
-unfoldable pub unmarkedText : Net → List ℕ
-unmarkedText n = withBody (namesText (input (n .rule)) ++ countsText (n .counts)) (namesText unmarked) (texts pointText (n .vertices)) (n .faces)
+unfoldable pub netText : Columns → TextNet → List ℕ
+netText c n = linesText (netLines c n)
 
 -- ---- the answer, with letters if they are asked for
 
@@ -58,7 +63,7 @@ pub record LetteredVertex : Type 0 where
 
 -- Paper 01: "The output always has the `corner` column". Paper 02: "prints the letter as a last column named `rule`"
 abbrev pub columnsText : (rule : Bool) → List ℕ
-columnsText rule = cond rule (bytes "x y z corner rule\n") (namesText marked)
+columnsText rule = cond rule (bytes "x y z corner rule\n") (columnNames withCorner)
 
 abbrev pub endText : (rule : Bool) (letter : ℕ) → List ℕ
 endText rule letter = cond rule (32 ∷ letter ∷ 10 ∷ []) (10 ∷ [])
@@ -68,7 +73,7 @@ letteredText rule t = numbersText (t .vertex) ++ endText rule (t .letter)
 
 -- the text of a refined net
 unfoldable pub answerText : (rule : Bool) → List LetteredVertex → List Face → List ℕ
-answerText rule ts fs = withBody (bytes "vertices faces\n" ++ pairText (length ts) (length fs)) (columnsText rule) (texts (letteredText rule) ts) fs
+answerText rule ts fs = bytes "vertices faces\n" ++ pairText (length ts) (length fs) ++ columnsText rule ++ texts (letteredText rule) ts ++ cornerNames tt ++ texts faceText fs
 
 -- Paper 01: "A refusal prints the line `refusal place`, then a line with both numbers and one blank between"
 unfoldable pub refusalText : ℕ → ℕ → List ℕ

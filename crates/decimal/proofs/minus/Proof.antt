@@ -7,6 +7,7 @@ use lib.IntN.{ℤ, pos, negℤ, _-ℤ_, +ℤ-idl}
 use mir.Syntax.{w32, w64}
 use mir.Val.{SFits, toZ, ofZ}
 use mir.Facts.{toZ-pos, toZ-ofZ}
+use Rattle.decimalform.specs.Decimal.{largestMagnitude}
 use Rattle.decimal.proofs.minus.Statement.{statement}
 use Rattle.decimal.proofs.minus.Tie as tie
 
@@ -14,11 +15,11 @@ record Sizes (z : ℤ) : Type 0 where
   wide : SFits w64 z
   narrow : SFits w32 z
 
-sizes : (m : ℕ) → m ≤ 2147483648 → Sizes (negℤ (pos m))
+sizes : (m : ℕ) → m ≤ largestMagnitude → Sizes (negℤ (pos m))
 sizes zero h = record { wide = record { sfits = omega arith }; narrow = record { sfits = omega arith } }
 sizes (suc m) h = record { wide = record { sfits = omega arith }; narrow = record { sfits = omega arith } }
 
-difference : (m : ℕ) → m ≤ 2147483648 → pos 0 -ℤ toZ w64 m ≡ negℤ (pos m)
+difference : (m : ℕ) → m ≤ largestMagnitude → pos 0 -ℤ toZ w64 m ≡ negℤ (pos m)
 difference m h = ap (λ (z : ℤ). pos 0 -ℤ z) (toZ-pos w64 {n = m} (omega arith)) ∙ +ℤ-idl (negℤ (pos m))
 
 cast-result : tie.Need-cast-result

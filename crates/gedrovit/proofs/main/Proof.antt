@@ -1,8 +1,7 @@
 -- `gedrovit::main` meets its contract. Assumes nothing.
-use mathlib.Core.Path.{sym, subst}
+use mathlib.Core.Path.{subst}
 use Prim.Native.Nat.{_≤_}
 use lib.ListN.{length}
-use lib.Seq.{length-take-le}
 use Rattle.gedrovit.specs.declared.Input.{Input}
 use Rattle.gedrovit.specs.Input.{bytesOf}
 use borrow.Author.Needs.{needs}
@@ -18,16 +17,13 @@ read-input-requires c κs = search needs
 enum-known-input : tie.Need-enum-known-input
 enum-known-input c = search needs
 
-array-share-prefix-text : tie.Need-array-share-prefix-text
-array-share-prefix-text c =
-    let x = c .before .before .before .before .read-input in
-    subst (λ (o : Input). bytesOf o ≤ length (x .last .0)) (c .before .input .given .1) (x .ensures)
-
 slice-aggregate-print-answer : tie.Need-slice-aggregate-print-answer
-slice-aggregate-print-answer c = sym (length-take-le _ _ (array-share-prefix-text (c .before)))
+slice-aggregate-print-answer c = search needs
 
 print-answer-requires : tie.Need-print-answer-requires
-print-answer-requires c κs = search needs
+print-answer-requires c κs =
+    let x = c .before .before .before .before .before .read-input in
+    (search needs, subst (λ (o : Input). bytesOf o ≤ length (x .last .0)) (c .before .before .input .given .1) (x .ensures))
 
 enum-told : tie.Need-enum-told
 enum-told c = search needs
@@ -51,7 +47,6 @@ main-spec =
     slice-aggregate-read-input
     read-input-requires
     enum-known-input
-    array-share-prefix-text
     slice-aggregate-print-answer
     print-answer-requires
     enum-told

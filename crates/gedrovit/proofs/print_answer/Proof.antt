@@ -1,6 +1,8 @@
 -- `gedrovit::print_answer` meets its contract. Assumes nothing.
 use mathlib.Core.Path.{sym}
-use lib.Seq.{length-take-le}
+use native.Mathlib.Omega.{arith}
+use lib.ListN.{length, take, length-take}
+use lib.Seq.{take-all, length-take-le}
 use borrow.Author.Needs.{needs}
 use Rattle.gedrovit.proofs.print_answer.Statement.{statement}
 use Rattle.gedrovit.proofs.print_answer.Tie as tie
@@ -12,7 +14,12 @@ answer-requires : tie.Need-answer-requires
 answer-requires c κs = search needs
 
 array-share-prefix-out : tie.Need-array-share-prefix-out
-array-share-prefix-out c = search needs
+array-share-prefix-out c =
+    let x = c .before in
+    let s = x .before .before .before in
+    let t = take (s .args .n) (s .args .text .now) in
+    let w = x .answer .ensures t (sym (take-all (length (s .args .text .now)) t (omega (arith, length-take (s .args .n) (s .args .text .now))))) .fits in
+    omega arith
 
 slice-aggregate-write-all : tie.Need-slice-aggregate-write-all
 slice-aggregate-write-all c = sym (length-take-le _ _ (array-share-prefix-out (c .before)))

@@ -2,7 +2,7 @@
 use native.Mathlib.Omega.{arith}
 use Prim.Native.Nat.{_+_, _≤_}
 use lib.ListN.{length}
-use Rattle.decimalform.specs.Decimal.{readNatural}
+use Rattle.decimalform.specs.Decimal.{readNatural, largestNumber}
 use Rattle.decimal.proofs.Reading.{took-at}
 use Rattle.obj.proofs.Fields.{corner-bad, corner-zero, corner-short, corner-other, corner-found}
 use borrow.Author.Needs.{needs}
@@ -11,7 +11,7 @@ use Rattle.obj.proofs.corner_field.Tie as tie
 
 -- the number ends inside the line
 number-within : (p : tie.After-n) → (let a = p .before .before .before .before .before .args in a .at + p .n .given .0 .1 .0 ≤ length (a .line .now))
-number-within p = let b = p .before .before .before .before .before in took-at (readNatural 2147483647) (b .args .line .now) (b .args .at) (p .before .before .read-natural .ensures) (p .n .given .1) (b .pre)
+number-within p = let b = p .before .before .before .before .before in took-at (readNatural largestNumber) (b .args .line .now) (b .args .at) (p .before .before .read-natural .ensures) (p .n .given .1) (b .pre)
 
 sub-read-natural : tie.Need-sub-read-natural
 sub-read-natural c = search needs

@@ -1,5 +1,5 @@
 -- `obj::read_corners` meets its contract. Assumes nothing.
-use Rattle.objform.specs.Form.{corner, readCorners}
+use Rattle.objform.specs.Form.{readCorner, readCorners}
 use Rattle.decimal.proofs.Reading.{says, took}
 use Rattle.text.proofs.Faces.{no-corner, one-corner, two-corners, three-corners, four-corners}
 use borrow.Author.Needs.{needs}
@@ -17,7 +17,7 @@ enum-told c = search needs
 
 returns : tie.Need-returns
 unfolding readCorners
-returns c = no-corner corner (c .before .before .before .before .args .line .now) (says (c .before .before .corner-field .ensures) (c .enum-told .given .1))
+returns c = no-corner readCorner (c .before .before .before .before .args .line .now) (says (c .before .before .corner-field .ensures) (c .enum-told .given .1))
 
 corner-field-requires-2 : tie.Need-corner-field-requires-2
 corner-field-requires-2 c κs = took (c .before .before .before .corner-field .ensures) (c .before .a .given .1)
@@ -32,7 +32,7 @@ returns-2 : tie.Need-returns-2
 unfolding readCorners
 returns-2 c =
     let a = c .before .before .before .before in
-    one-corner corner (a .before .before .before .before .args .line .now) (a .a .given .0 .1 .0) (says (a .before .before .corner-field .ensures) (a .a .given .1)) (says (c .before .before .corner-field2 .ensures) (c .enum-told2 .given .1))
+    one-corner readCorner (a .before .before .before .before .args .line .now) (a .a .given .0 .1 .0) (says (a .before .before .corner-field .ensures) (a .a .given .1)) (says (c .before .before .corner-field2 .ensures) (c .enum-told2 .given .1))
 
 corner-field-requires-3 : tie.Need-corner-field-requires-3
 corner-field-requires-3 c κs = took (c .before .before .before .corner-field2 .ensures) (c .before .b .given .1)
@@ -48,7 +48,7 @@ unfolding readCorners
 returns-3 c =
     let b = c .before .before .before .before in
     let a = b .before .before .before .before in
-    two-corners corner (a .before .before .before .before .args .line .now) (a .a .given .0 .1 .0) (says (a .before .before .corner-field .ensures) (a .a .given .1)) (b .b .given .0 .1 .0) (says (b .before .before .corner-field2 .ensures) (b .b .given .1)) (says (c .before .before .corner-field3 .ensures) (c .enum-told3 .given .1))
+    two-corners readCorner (a .before .before .before .before .args .line .now) (a .a .given .0 .1 .0) (says (a .before .before .corner-field .ensures) (a .a .given .1)) (b .b .given .0 .1 .0) (says (b .before .before .corner-field2 .ensures) (b .b .given .1)) (says (c .before .before .corner-field3 .ensures) (c .enum-told3 .given .1))
 
 corner-field-requires-4 : tie.Need-corner-field-requires-4
 corner-field-requires-4 c κs = took (c .before .before .before .corner-field3 .ensures) (c .before .c .given .1)
@@ -65,7 +65,7 @@ returns-4 c =
     let k = c .before .before .before .before in
     let b = k .before .before .before .before in
     let a = b .before .before .before .before in
-    three-corners corner (a .before .before .before .before .args .line .now) (a .a .given .0 .1 .0) (says (a .before .before .corner-field .ensures) (a .a .given .1)) (b .b .given .0 .1 .0) (says (b .before .before .corner-field2 .ensures) (b .b .given .1)) (k .c .given .0 .1 .0) (says (k .before .before .corner-field3 .ensures) (k .c .given .1)) (says (c .before .before .corner-field4 .ensures) (c .enum-told4 .given .1))
+    three-corners readCorner (a .before .before .before .before .args .line .now) (a .a .given .0 .1 .0) (says (a .before .before .corner-field .ensures) (a .a .given .1)) (b .b .given .0 .1 .0) (says (b .before .before .corner-field2 .ensures) (b .b .given .1)) (k .c .given .0 .1 .0) (says (k .before .before .corner-field3 .ensures) (k .c .given .1)) (says (c .before .before .corner-field4 .ensures) (c .enum-told4 .given .1))
 
 returns-5 : tie.Need-returns-5
 unfolding readCorners
@@ -74,7 +74,7 @@ returns-5 c =
     let k = d .before .before .before .before in
     let b = k .before .before .before .before in
     let a = b .before .before .before .before in
-    four-corners corner (a .before .before .before .before .args .line .now) (a .a .given .0 .1 .0) (says (a .before .before .corner-field .ensures) (a .a .given .1)) (b .b .given .0 .1 .0) (says (b .before .before .corner-field2 .ensures) (b .b .given .1)) (k .c .given .0 .1 .0) (says (k .before .before .corner-field3 .ensures) (k .c .given .1)) (says (d .before .before .corner-field4 .ensures) (d .d .given .1)) (took (d .before .before .corner-field4 .ensures) (d .d .given .1))
+    four-corners readCorner (a .before .before .before .before .args .line .now) (a .a .given .0 .1 .0) (says (a .before .before .corner-field .ensures) (a .a .given .1)) (b .b .given .0 .1 .0) (says (b .before .before .corner-field2 .ensures) (b .b .given .1)) (k .c .given .0 .1 .0) (says (k .before .before .corner-field3 .ensures) (k .c .given .1)) (says (d .before .before .corner-field4 .ensures) (d .d .given .1)) (took (d .before .before .corner-field4 .ensures) (d .d .given .1))
 
 pub read-corners-spec : {M : Type 1} → statement M
 read-corners-spec =

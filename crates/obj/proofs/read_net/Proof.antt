@@ -2,8 +2,9 @@
 use mathlib.Core.Path.{_≡_}
 use Prim.Native.Nat.{_≤_, _<_}
 use lib.ListN.{length, drop}
-use Rattle.decimalform.specs.Decimal.{found}
+use Rattle.decimalform.specs.Decimal.{readAs}
 use Rattle.decimal.proofs.Reading.{says, took}
+use Rattle.textform.specs.Limits.{longestText}
 use Rattle.readingform.proofs.Cases.{too-long, not-the-form}
 use Rattle.reading.proofs.Cases.{counts-refused}
 use Rattle.objform.specs.Form.{readRounds, parseObj}
@@ -24,10 +25,10 @@ text-of p = p .before .before
 rounds-end : (p : tie.After-known-told) → p .before .rounds .given .0 .1 .0 ≤ length (p .before .before .before .before .before .before .before .before .args .text .now)
 rounds-end p = took (p .before .before .before .read-rounds .ensures) (p .before .rounds .given .1)
 
-short : (p : tie.After-count-items) → length (begin p .args .text .now) ≤ 32768
+short : (p : tie.After-count-items) → length (begin p .args .text .now) ≤ longestText
 short p = text-of p .before .before .before .before .if1 .left
 
-first : (p : tie.After-count-items) → (let g = text-of p .before .rounds .given .0 in readRounds (begin p .args .text .now) ≡ found (g .0) (drop (g .1 .0) (begin p .args .text .now)))
+first : (p : tie.After-count-items) → (let g = text-of p .before .rounds .given .0 in readRounds (begin p .args .text .now) ≡ readAs (g .0) (drop (g .1 .0) (begin p .args .text .now)))
 first p = says (text-of p .before .before .before .read-rounds .ensures) (text-of p .before .rounds .given .1)
 
 counted : (p : tie.After-count-items) {q : Counted} → p .count-items .result ≡ q → CountsItems q (drop (text-of p .before .rounds .given .0 .1 .0) (begin p .args .text .now))

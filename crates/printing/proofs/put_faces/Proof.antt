@@ -5,7 +5,7 @@ use native.Mathlib.Omega.{arith}
 use borrow.Author.Needs.{needs}
 use lib.ListN.{length}
 use Rattle.textform.specs.Text.{faceText, texts}
-use Rattle.printingform.specs.Tables.{faceAt, facesOf}
+use Rattle.printingform.specs.Tables.{textFaceAt, facesOf}
 use Rattle.printingform.specs.Lines.{Printed}
 use Rattle.printingform.proofs.Writing.{lines-none, lines-more}
 use Rattle.printing.proofs.put_faces.Statement.{statement}
@@ -20,7 +20,7 @@ abbrev μ-loop : tie.MeasureT-loop
 
 loop-holds : tie.Need-loop-holds Inv-loop μ-loop
 unfolding facesOf
-loop-holds c = let s = c .before .before in (omega arith, refl, lines-none faceText (faceAt (s .args .faces .now)) 44 _ _)
+loop-holds c = let s = c .before .before in (omega arith, refl, lines-none faceText (textFaceAt (s .args .faces .now)) 44 _ _)
 
 mul-a : tie.Need-mul-a Inv-loop μ-loop
 mul-a c = search needs
@@ -82,7 +82,7 @@ loop-again c =
     let p = c .before .before in
     let l = p .before .before .before .before .before .before .before in
     let s = l .before .before .before in
-    (omega arith, p .put-face .kept .0 ∙ l .loop .inv .1, lines-more faceText (faceAt (s .args .faces .now)) 44 (l .loop .i) (l .loop .inv .2) (p .put-face .ensures))
+    (omega arith, p .put-face .kept .0 ∙ l .loop .inv .1, lines-more faceText (textFaceAt (s .args .faces .now)) 44 (l .loop .i) (l .loop .inv .2) (p .put-face .ensures))
 
 same-length : tie.Need-same-length Inv-loop μ-loop
 same-length c = c .before .loop .inv .1

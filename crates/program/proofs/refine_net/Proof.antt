@@ -1,7 +1,7 @@
 -- `program::refine_net` meets its contract. Assumes nothing.
 use mathlib.Core.Path.{_≡_, sym, ap, _∙_}
 use mathlib.Core.List.{List}
-use Prim.Native.Nat.{ℕ}
+use Prim.Native.Nat.{ℕ, _*_}
 use native.Mathlib.Omega.{arith}
 use lib.IntN.{pos}
 use lib.ListN.{length, replicate, length-replicate}
@@ -10,6 +10,7 @@ use Rattle.nets.specs.Buffers.{Buffers, buffers, letterTable}
 use Rattle.outcome.specs.Outcome.{Request, request, outcome}
 use Rattle.refine.specs.declared.Answer.{Answer}
 use Rattle.refine.specs.Answer.{answered}
+use Rattle.textform.specs.Limits.{programFaces}
 use Rattle.printingform.proofs.Writing.{every-answer-fits}
 use Rattle.program.proofs.Refined.{served, refined-text, refused-text, wider}
 use borrow.Author.Needs.{needs}
@@ -18,25 +19,25 @@ use Rattle.program.proofs.refine_net.Tie as tie
 
 -- the tables before the call
 abbrev zeros : Buffers
-zeros = record { vertices = replicate 3072 (pos 0); faces = replicate 1024 0; marks = replicate 1024 0; work = replicate 4096 0 }
+zeros = record { vertices = replicate (12 * programFaces) (pos 0); faces = replicate (4 * programFaces) 0; marks = replicate (4 * programFaces) 0; work = replicate (16 * programFaces) 0 }
 
 abbrev unnamed : List ℕ
-unnamed = replicate 1024 0
+unnamed = replicate (4 * programFaces) 0
 
-long-vertices : length (zeros .vertices) ≡ 3072
-long-vertices = length-replicate 3072 (pos 0)
+long-vertices : length (zeros .vertices) ≡ 12 * programFaces
+long-vertices = length-replicate (12 * programFaces) (pos 0)
 
-long-corners : length (zeros .faces) ≡ 1024
-long-corners = length-replicate {A = ℕ} 1024 0
+long-corners : length (zeros .faces) ≡ 4 * programFaces
+long-corners = length-replicate {A = ℕ} (4 * programFaces) 0
 
-long-marks : length (zeros .marks) ≡ 1024
-long-marks = length-replicate {A = ℕ} 1024 0
+long-marks : length (zeros .marks) ≡ 4 * programFaces
+long-marks = length-replicate {A = ℕ} (4 * programFaces) 0
 
-long-letters : length unnamed ≡ 1024
-long-letters = length-replicate {A = ℕ} 1024 0
+long-letters : length unnamed ≡ 4 * programFaces
+long-letters = length-replicate {A = ℕ} (4 * programFaces) 0
 
-long-work : length (zeros .work) ≡ 4096
-long-work = length-replicate {A = ℕ} 4096 0
+long-work : length (zeros .work) ≡ 16 * programFaces
+long-work = length-replicate {A = ℕ} (16 * programFaces) 0
 
 -- its tables after the call
 abbrev after : tie.After-refine → Buffers

@@ -5,7 +5,7 @@ use native.Mathlib.Omega.{arith}
 use borrow.Author.Needs.{needs}
 use Rattle.text.specs.declared.FaceLine.{FaceLine}
 use Rattle.textform.specs.Form.{readFace}
-use Rattle.text.specs.Answers.{faceOf, faceUsed}
+use Rattle.text.specs.Answers.{faceLineOf, faceUsed}
 use Rattle.reading.proofs.Lines.{LineAt, line-at, Passed, passed-none, passed-end, passed-bad, passed-more}
 use Rattle.reading.proofs.count_faces.Statement.{statement}
 use Rattle.reading.proofs.count_faces.Tie as tie
@@ -27,7 +27,7 @@ abbrev begin : tie.At-loop Inv-loop μ-loop → tie.Start Inv-loop μ-loop
 begin l = l .before .before
 
 line : (p : tie.After-read-face Inv-loop μ-loop) {q : FaceLine} → p .read-face .result ≡ q
-    → (let a = begin (turn p) .args in LineAt faceOf faceUsed readFace (a .text .now) (turn p .loop .used) q)
+    → (let a = begin (turn p) .args in LineAt faceLineOf faceUsed readFace (a .text .now) (turn p .loop .used) q)
 line p e = line-at _ _ _ (p .read-face .ensures) e (turn p .loop .inv .within)
 
 sub-read-face : tie.Need-sub-read-face Inv-loop μ-loop

@@ -5,7 +5,7 @@ use native.Mathlib.Omega.{arith}
 use borrow.Author.Needs.{needs}
 use Rattle.text.specs.declared.VertexLine.{VertexLine}
 use Rattle.textform.specs.Form.{readVertex}
-use Rattle.text.specs.Answers.{vertexOf, vertexUsed}
+use Rattle.text.specs.Answers.{vertexLineOf, vertexUsed}
 use Rattle.reading.proofs.Lines.{LineAt, line-at, Passed, passed-none, passed-end, passed-bad, passed-more}
 use Rattle.reading.proofs.count_vertices.Statement.{statement}
 use Rattle.reading.proofs.count_vertices.Tie as tie
@@ -27,7 +27,7 @@ abbrev begin : tie.At-loop Inv-loop μ-loop → tie.Start Inv-loop μ-loop
 begin l = l .before .before
 
 line : (p : tie.After-read-vertex Inv-loop μ-loop) {q : VertexLine} → p .read-vertex .result ≡ q
-    → (let a = begin (turn p) .args in LineAt vertexOf vertexUsed (readVertex (a .marked)) (a .text .now) (turn p .loop .used) q)
+    → (let a = begin (turn p) .args in LineAt vertexLineOf vertexUsed (readVertex (a .marked)) (a .text .now) (turn p .loop .used) q)
 line p e = line-at _ _ _ (p .read-vertex .ensures) e (turn p .loop .inv .within)
 
 sub-read-vertex : tie.Need-sub-read-vertex Inv-loop μ-loop

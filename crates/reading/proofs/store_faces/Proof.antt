@@ -6,7 +6,7 @@ use borrow.Author.Needs.{needs}
 use lib.ListN.{length, length-set}
 use Rattle.text.specs.declared.FaceLine.{FaceLine}
 use Rattle.textform.specs.Form.{readFace}
-use Rattle.text.specs.Answers.{faceOf, faceUsed}
+use Rattle.text.specs.Answers.{faceLineOf, faceUsed}
 use Rattle.readingform.specs.Loaded.{cornersOf}
 use Rattle.reading.proofs.Lines.{LineAt, line-at}
 use Rattle.reading.proofs.Storing.{Filling, filling-none, filling-more, filling-over, filling-bad, four-stores, no-corners}
@@ -30,7 +30,7 @@ abbrev begin : tie.At-loop Inv-loop μ-loop → tie.Start Inv-loop μ-loop
 begin l = l .before .before .before
 
 line : (p : tie.After-read-face Inv-loop μ-loop) {q : FaceLine} → p .read-face .result ≡ q
-    → (let a = begin (turn p) .args in LineAt faceOf faceUsed readFace (a .text .now) (turn p .loop .at) q)
+    → (let a = begin (turn p) .args in LineAt faceLineOf faceUsed readFace (a .text .now) (turn p .loop .at) q)
 line p e = line-at _ _ _ (p .read-face .ensures) e (turn p .loop .inv .1)
 
 sub-read-face : tie.Need-sub-read-face Inv-loop μ-loop

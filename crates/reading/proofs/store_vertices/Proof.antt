@@ -9,8 +9,8 @@ use borrow.Author.Needs.{needs}
 use lib.ListN.{length, length-set}
 use Rattle.text.specs.declared.VertexLine.{VertexLine}
 use Rattle.textform.specs.Form.{readVertex}
-use Rattle.text.specs.Answers.{vertexOf, vertexUsed}
-use Rattle.readingform.specs.Loaded.{coordinates, marksOf}
+use Rattle.text.specs.Answers.{vertexLineOf, vertexUsed}
+use Rattle.readingform.specs.Loaded.{coordinatesOf, marksOf}
 use Rattle.reading.proofs.Lines.{LineAt, line-at}
 use Rattle.reading.proofs.Storing.{Filling, filling-none, filling-more, filling-over, filling-bad, three-stores, one-store, no-coordinates, no-marks}
 use Rattle.reading.proofs.store_vertices.Statement.{statement}
@@ -20,14 +20,14 @@ abbrev Inv-loop : tie.InvT-loop
 Inv-loop text count marked vertices₀ marks₀ i₀ at₀ vertices marks i at =
     (i ≤ count)
     × (at ≤ length text)
-    × Filling coordinates (readVertex marked) count text vertices₀ vertices (3 * i) i at
+    × Filling coordinatesOf (readVertex marked) count text vertices₀ vertices (3 * i) i at
     × Filling marksOf (readVertex marked) count text marks₀ marks i i at
 
 abbrev μ-loop : tie.MeasureT-loop
 μ-loop text count marked vertices₀ marks₀ i₀ at₀ vertices marks i at = count - i
 
 loop-holds : tie.Need-loop-holds Inv-loop μ-loop
-loop-holds c = let a = c .before .before .args in (omega arith, omega arith, filling-none coordinates (readVertex (a .marked)) _ _ _, filling-none marksOf (readVertex (a .marked)) _ _ _)
+loop-holds c = let a = c .before .before .args in (omega arith, omega arith, filling-none coordinatesOf (readVertex (a .marked)) _ _ _, filling-none marksOf (readVertex (a .marked)) _ _ _)
 
 -- the line that is read at a turn
 abbrev turn : tie.After-read-vertex Inv-loop μ-loop → tie.At-loop Inv-loop μ-loop
@@ -37,7 +37,7 @@ abbrev begin : tie.At-loop Inv-loop μ-loop → tie.Start Inv-loop μ-loop
 begin l = l .before .before .before
 
 line : (p : tie.After-read-vertex Inv-loop μ-loop) {q : VertexLine} → p .read-vertex .result ≡ q
-    → (let a = begin (turn p) .args in LineAt vertexOf vertexUsed (readVertex (a .marked)) (a .text .now) (turn p .loop .at) q)
+    → (let a = begin (turn p) .args in LineAt vertexLineOf vertexUsed (readVertex (a .marked)) (a .text .now) (turn p .loop .at) q)
 line p e = line-at _ _ _ (p .read-vertex .ensures) e (turn p .loop .inv .1)
 
 sub-read-vertex : tie.Need-sub-read-vertex Inv-loop μ-loop
