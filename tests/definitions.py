@@ -641,7 +641,7 @@ MUTATIONS = {
     "the last side followed by the next face": ("Verdict", "polygons-lone", "polygons/specs/Polygons.antt", [("cond (ltb (j + 1) c) (j + 1) 0", "j + 1")]),
     "corners summed over four": ("Split", "polygons-lone", "splitting/specs/Splitting.antt", [("/ᶠ S .sides h", "/ᶠ 4")]),
     "a side's first end twice": ("Split", "polygons-lone", "splitting/specs/Splitting.antt", [("(whole (p (to S l h)))", "(whole (p (from l h)))")]),
-    "quadrilaterals left whole": ("Split", "polygons-quads", "splitting/specs/Splitting.antt", [("startBy (c ∷ s) m = split m", "startBy (c ∷ s) m = drawnTables m")]),
+    "quadrilaterals left whole": ("Split", "polygons-quads", "splitting/specs/Splitting.antt", [("startBy (c ∷ s) m = split m", "startBy (c ∷ s) m = controlTables m")]),
     "the record passes its limit by one": ("Outcome", "polygons-stored-tally", "outcome/specs/Tally.antt", [("ltb 4000000000 ", "ltb 4000000001 ")]),
     "drawn vertices billed": ("Outcome", "polygons-stored-tally", "outcome/specs/Tally.antt", [("(startNet m)) - length (m .marks)", "(startNet m))")]),
     "D only if both directions have four inner edges": ("Letters", "annulus", "origins/specs/Origins.antt", [("faceCase firstAlone = fourInnerEdges", "faceCase firstAlone = otherFace")]),

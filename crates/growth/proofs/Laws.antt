@@ -13,13 +13,13 @@ use Rattle.polygons.proofs.Counts.{shape-none}
 use Rattle.refinedfaces.specs.Refined.{refinedVertices, refined}
 use Rattle.refinedfaces.proofs.Corners.{length-refined}
 use Rattle.refinedfaces.proofs.Edges.{edges-refined}
-use Rattle.nets.specs.Net.{Net, ControlNet, drawnTables}
+use Rattle.nets.specs.Net.{Net, ControlNet, controlTables}
 use Rattle.scheme.specs.Step.{steps}
 use Rattle.schemelaws.specs.Nets.{Refinable}
 use Rattle.schemelaws.proofs.Steps.{step-faces, step-count, refinable-manifold, refinable-steps}
 use Rattle.splitting.specs.Splitting.{split, startNet}
-use Rattle.splitting.specs.Drawn.{Drawn}
-use Rattle.splitting.proofs.Split.{split-faces, split-count, drawn-manifold, split-refinable, plain-refinable, start-cases}
+use Rattle.splitting.specs.WellFormed.{WellFormed}
+use Rattle.splitting.proofs.Split.{split-faces, split-count, control-manifold, split-refinable, plain-refinable, start-cases}
 use Rattle.growth.specs.Growth.{Counts, counts, countsOf, grown, grownBy, splits}
 
 pub counts-refined : (S : Shape) (v : ℕ) (l : List ℕ) → Oriented S v l → countsOf quads (refinedVertices S v l) (refined S v l) ≡ grown (countsOf S v l)
@@ -61,15 +61,15 @@ splits-some (c ∷ s) b = refl
 abbrev pub controlCounts : ControlNet → Counts
 controlCounts m = countsOf (shapeOf (m .sides)) (length (m .marks)) (m .faces)
 
-split-counts : (m : ControlNet) → Drawn m → countsOf quads (length (split m .marks)) (split m .faces) ≡ grown (controlCounts m)
-split-counts m ok = ap₂ (countsOf quads) (split-count m) (split-faces m) ∙ counts-refined (shapeOf (m .sides)) (length (m .marks)) (m .faces) (drawn-manifold m ok .oriented)
+split-counts : (m : ControlNet) → WellFormed m → countsOf quads (length (split m .marks)) (split m .faces) ≡ grown (controlCounts m)
+split-counts m ok = ap₂ (countsOf quads) (split-count m) (split-faces m) ∙ counts-refined (shapeOf (m .sides)) (length (m .marks)) (m .faces) (control-manifold m ok .oriented)
 
-pub vertices-after : (w : Weights) (m : ControlNet) → Drawn m → (k : ℕ) → length (steps w k (startNet m) .marks) ≡ grownBy (k + splits (m .sides)) (controlCounts m) .vertices
+pub vertices-after : (w : Weights) (m : ControlNet) → WellFormed m → (k : ℕ) → length (steps w k (startNet m) .marks) ≡ grownBy (k + splits (m .sides)) (controlCounts m) .vertices
 unfolding countsOf
 vertices-after w m ok k = start-cases (λ u. length (steps w k u .marks) ≡ grownBy (k + splits (m .sides)) (controlCounts m) .vertices) m
     (λ e.
     let s : k + splits (m .sides) ≡ k = let z = splits-none (m .sides) e in omega arith in
-    rw (s, shape-none (m .sides) e) (vertices-steps (drawnTables m) (plain-refinable m ok e)))
+    rw (s, shape-none (m .sides) e) (vertices-steps (controlTables m) (plain-refinable m ok e)))
     (λ b. vertices-steps (split m) (split-refinable m ok) ∙ ap (λ (c : Counts). grownBy k c .vertices) (split-counts m ok)
     ∙ ap (λ (c : Counts). c .vertices) (grown-first k (controlCounts m)) ∙ ap (λ (j : ℕ). grownBy (k + j) (controlCounts m) .vertices) (sym (splits-some (m .sides) b)))
   where

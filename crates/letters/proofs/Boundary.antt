@@ -20,7 +20,7 @@ use Rattle.scheme.specs.Points.{edgeRule, fourInner}
 use Rattle.edgeentries.specs.Entry.{boundaryFlag, entryOf, edgeOf}
 use Rattle.origins.specs.Origins.{madeBy, letterOf, edgeCase}
 use Rattle.pointletters.specs.FaceLetter.{faceLetter}
-use Rattle.letters.specs.Letters.{newLetter, Touches, onEdge, inFace, inFarFace, PutRight, Nameable}
+use Rattle.letters.specs.Letters.{newLetter, Touches, onEdge, inFace, inFarFace, Corrected, Nameable}
 use Rattle.pointletters.proofs.FaceLetter.{four-by, face-by, across-lt}
 use Rattle.letters.proofs.Letters.{across-face, across-twice, face-named, boundary-named, inner-named}
 
@@ -42,15 +42,15 @@ module _ (l marks w s : List ℕ) (ok : Nameable l marks w s) (h : ℕ) (k : h <
 -- ---- tables put right
 -- only letters that are right have changed, and that at p is right
 pub record Put (l marks : List ℕ) (h p : ℕ) (s s′ : List ℕ) : Type 0 where
-  pub changed : PutRight l marks h h s s′
+  pub changed : Corrected l marks h h s s′
   pub right : getD s′ p 0 ≡ newLetter l marks p
 
 module _ (l marks : List ℕ) where
   -- where no half-edge from a up to e lies on the boundary
-  pub put-none : (a e : ℕ) (s : List ℕ) → ((g : ℕ) → a ≤ g → g < e → OnBoundary quads l g → ⊥) → PutRight l marks a e s s
+  pub put-none : (a e : ℕ) (s : List ℕ) → ((g : ℕ) → a ≤ g → g < e → OnBoundary quads l g → ⊥) → Corrected l marks a e s s
   put-none a e s f = record { before = λ i k. refl; behind = λ i k. refl; kept = λ i r. r; touched = λ g i p q b t. absurd (f g p q b) }
 
-  pub put-then : (a b e : ℕ) (s s₁ s₂ : List ℕ) → PutRight l marks a b s s₁ → PutRight l marks b e s₁ s₂ → PutRight l marks a e s s₂
+  pub put-then : (a b e : ℕ) (s s₁ s₂ : List ℕ) → Corrected l marks a b s s₁ → Corrected l marks b e s₁ s₂ → Corrected l marks a e s s₂
   put-then a b e s s₁ s₂ x y = record {
     before = λ i k. y .before i k ∙ x .before i k;
     behind = λ i k. y .behind i k ∙ x .behind i k;
@@ -62,15 +62,15 @@ module _ (l marks : List ℕ) where
       go g i p q o t (yes k) = y .kept i (x .touched g i p k o t)
       go g i p q o t (no k) = y .touched g i (omega arith) q o t
 
-  pub put-four : (h : ℕ) (s s₁ s₂ s₃ s₄ : List ℕ) → PutRight l marks h (h + 1) s s₁ → PutRight l marks (h + 1) (h + 1 + 1) s₁ s₂ → PutRight l marks (h + 2) (h + 2 + 1) s₂ s₃
-      → PutRight l marks (h + 3) (h + 3 + 1) s₃ s₄ → PutRight l marks h (h + 4) s s₄
+  pub put-four : (h : ℕ) (s s₁ s₂ s₃ s₄ : List ℕ) → Corrected l marks h (h + 1) s s₁ → Corrected l marks (h + 1) (h + 1 + 1) s₁ s₂ → Corrected l marks (h + 2) (h + 2 + 1) s₂ s₃
+      → Corrected l marks (h + 3) (h + 3 + 1) s₃ s₄ → Corrected l marks h (h + 4) s s₄
   put-four h s s₁ s₂ s₃ s₄ x y z u =
       let a : h + 1 + 1 ≡ h + 2 = omega arith in
       let b : h + 2 + 1 ≡ h + 3 = omega arith in
       let c : h + 3 + 1 ≡ h + 4 = omega arith in
       put-then h (h + 3) (h + 4) s s₃ s₄
-      (put-then h (h + 2) (h + 3) s s₂ s₃ (put-then h (h + 1) (h + 2) s s₁ s₂ x (subst (λ (e : ℕ). PutRight l marks (h + 1) e s₁ s₂) a y)) (subst (λ (e : ℕ). PutRight l marks (h + 2) e s₂ s₃) b z))
-      (subst (λ (e : ℕ). PutRight l marks (h + 3) e s₃ s₄) c u)
+      (put-then h (h + 2) (h + 3) s s₂ s₃ (put-then h (h + 1) (h + 2) s s₁ s₂ x (subst (λ (e : ℕ). Corrected l marks (h + 1) e s₁ s₂) a y)) (subst (λ (e : ℕ). Corrected l marks (h + 2) e s₂ s₃) b z))
+      (subst (λ (e : ℕ). Corrected l marks (h + 3) e s₃ s₄) c u)
 
   -- one letter
   put-one : (h p x : ℕ) (s : List ℕ) → length marks ≤ p → p < refinedVertices quads (length marks) l → p < length s → x ≡ newLetter l marks p → Put l marks h p s (set s p x)
@@ -89,7 +89,7 @@ module _ (l marks : List ℕ) where
       go i q (no k) = getD-set-other s p i x 0 k ∙ q
 
   -- all that the half-edge h touches
-  put-side : (h : ℕ) (s s′ : List ℕ) → PutRight l marks h h s s′ → ((i : ℕ) → Touches l marks h i → getD s′ i 0 ≡ newLetter l marks i) → PutRight l marks h (h + 1) s s′
+  put-side : (h : ℕ) (s s′ : List ℕ) → Corrected l marks h h s s′ → ((i : ℕ) → Touches l marks h i → getD s′ i 0 ≡ newLetter l marks i) → Corrected l marks h (h + 1) s s′
   put-side h s s′ x f = record {
     before = x .before;
     behind = x .behind;
@@ -124,10 +124,10 @@ module _ (l marks : List ℕ) where
         (put-one h (first + f) (faceLetter l f) s₁ (omega arith) (omega arith) (omega arith) (sym (ap (λ (i : ℕ). newLetter l marks (i + f)) e ∙ face-named l marks f))))
 
   module _ (h : ℕ) (s s₁ s₂ : List ℕ) (x : Put l marks h (length marks + edge quads l h) s s₁) (y : Put l marks h (facePlace h) s₁ s₂) where
-    near : PutRight l marks h h s s₂
+    near : Corrected l marks h h s s₂
     near = put-then h h h s s₁ s₂ (x .changed) (y .changed)
 
-    pub side-alone : length l ≤ mate quads l (across h) → PutRight l marks h (h + 1) s s₂
+    pub side-alone : length l ≤ mate quads l (across h) → Corrected l marks h (h + 1) s s₂
     side-alone m = put-side h s s₂ near go
       where
         go : (i : ℕ) → Touches l marks h i → getD s₂ i 0 ≡ newLetter l marks i
@@ -135,7 +135,7 @@ module _ (l marks : List ℕ) where
         go i (inFace e) = rw e (y .right)
         go i (inFarFace b e) = let z : ⊥ = omega arith in absurd z
 
-    pub side-and-far : (g : ℕ) (s₃ : List ℕ) → g ≡ mate quads l (across h) → Put l marks h (facePlace g) s₂ s₃ → PutRight l marks h (h + 1) s s₃
+    pub side-and-far : (g : ℕ) (s₃ : List ℕ) → g ≡ mate quads l (across h) → Put l marks h (facePlace g) s₂ s₃ → Corrected l marks h (h + 1) s s₃
     side-and-far g s₃ eg z = put-side h s s₃ (put-then h h h s s₂ s₃ near (z .changed)) go
       where
         go : (i : ℕ) → Touches l marks h i → getD s₃ i 0 ≡ newLetter l marks i
@@ -144,7 +144,7 @@ module _ (l marks : List ℕ) where
         go i (inFarFace b e) = rw (e, ← eg) (z .right)
 
 -- ---- all letters right: those that no boundary half-edge touches were right before
-module _ (l marks : List ℕ) (ok : Oriented quads (length marks) l) (s s′ : List ℕ) (x : PutRight l marks 0 (length l) s s′) where
+module _ (l marks : List ℕ) (ok : Oriented quads (length marks) l) (s s′ : List ℕ) (x : Corrected l marks 0 (length l) s s′) where
   boundary-right : (g i : ℕ) → g < length l → length l ≤ mate quads l g → Touches l marks g i → getD s′ i 0 ≡ newLetter l marks i
   boundary-right g i k m t = x .touched g i (omega arith) k (record { lt = k; none = omega (arith, mate-le quads l g) }) t
 

@@ -30,7 +30,7 @@ pub data Touches (l marks : List ℕ) (g i : ℕ) : Type 0 where
   inFarFace : mate quads l (across g) < length l → i ≡ length marks + edgeCount quads l + quads .face (mate quads l (across g)) → Touches l marks g i
 
 -- s′ is s but for letters of new vertices: right ones stay right, and those that the boundary half-edges from a up to e touch are right
-pub record PutRight (l marks : List ℕ) (a e : ℕ) (s s′ : List ℕ) : Type 0 where
+pub record Corrected (l marks : List ℕ) (a e : ℕ) (s s′ : List ℕ) : Type 0 where
   pub before : (i : ℕ) → i < length marks → getD s′ i 0 ≡ getD s i 0
   pub behind : (i : ℕ) → refinedVertices quads (length marks) l ≤ i → getD s′ i 0 ≡ getD s i 0
   pub kept : (i : ℕ) → getD s i 0 ≡ newLetter l marks i → getD s′ i 0 ≡ newLetter l marks i

@@ -10,7 +10,7 @@ ghost use Rattle.refinedfaces.specs.Refined.{refinedVertices};
 ghost use Rattle.halfedges.specs.Tables.{Connectivity};
 ghost use Rattle.edgeentries.specs.Entry.{boundaryFlag, entryOf};
 ghost use Rattle.pointletters.specs.FaceLetter.{faceLetter};
-ghost use Rattle.letters.specs.Letters.{startLetter, newLetter, PutRight, Nameable, WrittenIf};
+ghost use Rattle.letters.specs.Letters.{startLetter, newLetter, Corrected, Nameable, WrittenIf};
 
 // Writes one letter from the place `first` up to `end`.
 fn fill(letters: &mut [u8], first: usize, end: usize, letter: u8)
@@ -47,7 +47,7 @@ fn name_face(letters: &mut [u8], faces: &[u32], work: &[u32], first: usize, f: u
 fn name_side(letters: &mut [u8], faces: &[u32], marks: &[u8], work: &[u32], first: usize, h: usize)
     requires { ⌜ Nameable (now faces) (now marks) (now work) (now letters) ⌝ }
     requires { ⌜ (first ≡ length (now marks) + edgeCount quads (now faces)) × (h < length (now faces)) ⌝ }
-    ensures { λ _. ⌜ PutRight (now (faces .entry)) (now (marks .entry)) h (h + 1) (now (letters .entry)) (now (letters .exit)) ⌝ }
+    ensures { λ _. ⌜ Corrected (now (faces .entry)) (now (marks .entry)) h (h + 1) (now (letters .entry)) (now (letters .exit)) ⌝ }
 {
     let n = faces.len();
     let entry = edgeentries::entry_at(work, n, h);
@@ -84,7 +84,7 @@ fn inner_sides(work: &[u32], n: usize, h: usize) -> bool
 fn name_sides(letters: &mut [u8], faces: &[u32], marks: &[u8], work: &[u32], first: usize, h: usize)
     requires { ⌜ Nameable (now faces) (now marks) (now work) (now letters) ⌝ }
     requires { ⌜ (first ≡ length (now marks) + edgeCount quads (now faces)) × (h + 4 ≤ length (now faces)) ⌝ }
-    ensures { λ _. ⌜ PutRight (now (faces .entry)) (now (marks .entry)) h (h + 4) (now (letters .entry)) (now (letters .exit)) ⌝ }
+    ensures { λ _. ⌜ Corrected (now (faces .entry)) (now (marks .entry)) h (h + 4) (now (letters .entry)) (now (letters .exit)) ⌝ }
 {
     if inner_sides(work, faces.len(), h) {
         return;
@@ -99,7 +99,7 @@ fn name_sides(letters: &mut [u8], faces: &[u32], marks: &[u8], work: &[u32], fir
 fn name_boundary(letters: &mut [u8], faces: &[u32], marks: &[u8], work: &[u32], first: usize)
     requires { ⌜ Nameable (now faces) (now marks) (now work) (now letters) ⌝ }
     requires { ⌜ first ≡ length (now marks) + edgeCount quads (now faces) ⌝ }
-    ensures { λ _. ⌜ PutRight (now (faces .entry)) (now (marks .entry)) 0 (length (now (faces .entry))) (now (letters .entry)) (now (letters .exit)) ⌝ }
+    ensures { λ _. ⌜ Corrected (now (faces .entry)) (now (marks .entry)) 0 (length (now (faces .entry))) (now (letters .entry)) (now (letters .exit)) ⌝ }
 {
     let mut h = 0;
     while h < faces.len() {

@@ -16,12 +16,12 @@ use Rattle.polygons.proofs.Counts.{shape-none, shape-some, faces-polygons}
 use Rattle.refinedfaces.specs.Refined.{refinedVertices, refined}
 use Rattle.tables.specs.Tables.{filled, SameOutside}
 use Rattle.tables.proofs.Laws.{length-filled, take-filled, filled-at, filled-over}
-use Rattle.nets.specs.Net.{Net, ControlNet, drawnTables, axis}
+use Rattle.nets.specs.Net.{Net, ControlNet, controlTables, axis}
 use Rattle.nets.specs.Buffers.{Buffers, buffers}
 use Rattle.schemelaws.proofs.Steps.{refinable-manifold}
 use Rattle.splitting.specs.Splitting.{splitCoordinate, split, startNet}
-use Rattle.splitting.proofs.Split.{split-faces, split-marks, split-count, split-corners, split-length, drawn-manifold, split-refinable, start-none, start-split}
-use Rattle.splitting.proofs.Room.{drawn-vertices-le, split-vertices-le}
+use Rattle.splitting.proofs.Split.{split-faces, split-marks, split-count, split-corners, split-length, control-manifold, split-refinable, start-none, start-split}
+use Rattle.splitting.proofs.Room.{control-vertices-le, split-vertices-le}
 use Rattle.halfedges.specs.Tables.{MateTableOf, MateTable}
 use Rattle.sidetable.specs.Table.{Shaped, Linked}
 use Rattle.sidetable.proofs.Table.{shaped-kept}
@@ -31,7 +31,7 @@ use Rattle.edgenumbers.proofs.Net.{mates-paired, edges-counted, edges-mates, ed
 use Rattle.roundfaces.specs.Faces.{extended}
 use Rattle.roundfaces.proofs.Round.{marks-refined, marks-cong}
 use Rattle.splitvertices.specs.Passes.{Splittable, splitAxis, splitVertices}
-use Rattle.splitfaces.specs.Faces.{FacesDrawn}
+use Rattle.splitfaces.specs.Faces.{NumberedFaces}
 use Rattle.loading.specs.Loading.{Loadable, SplitInto, Loaded}
 
 -- ---- chains and mates
@@ -66,21 +66,21 @@ module _ (m : ControlNet) (o : Buffers) (ok : Loadable m o) where
   S = shapeOf (m .sides)
 
   oriented : Oriented S v l
-  oriented = drawn-manifold m (ok .drawn) .oriented
+  oriented = control-manifold m (ok .wellFormed) .oriented
 
   few-vertices : v ≤ length l
-  few-vertices = drawn-vertices-le m (ok .drawn)
+  few-vertices = control-vertices-le m (ok .wellFormed)
 
   -- ---- without side counts
   module _ (z : length s ≡ 0) where
-    same : startNet m ≡ drawnTables m
+    same : startNet m ≡ controlTables m
     same = start-none m z
 
     corners-same : length (startNet m .faces) ≡ length l
     corners-same = ap (λ (x : Net). length (x .faces)) same
 
     pub copy-vertices : length (m .vertices) ≤ length (o .vertices)
-    copy-vertices = let a = corners-same in let b = ok .roomVertices in let c = few-vertices in let t = ok .drawn .threes in omega arith
+    copy-vertices = let a = corners-same in let b = ok .roomVertices in let c = few-vertices in let t = ok .wellFormed .threes in omega arith
 
     pub copy-faces : length l ≤ length (o .faces)
     copy-faces = let a = corners-same in let b = ok .roomFaces in omega arith
@@ -113,10 +113,10 @@ module _ (m : ControlNet) (o : Buffers) (ok : Loadable m o) where
     faces-are = ap (λ (T : Shape). T .faces (length l)) (shape-some s b) ∙ faces-polygons s (length l)
 
     count-le : refinedVertices S v l ≤ 4 * length l
-    count-le = let a = split-count m in let c = split-vertices-le m (ok .drawn) b in omega arith
+    count-le = let a = split-count m in let c = split-vertices-le m (ok .wellFormed) b in omega arith
 
     pub copied-vertices : length (m .vertices) ≤ length (o .vertices)
-    copied-vertices = let a = four in let r = ok .roomVertices in let c = few-vertices in let t = ok .drawn .threes in omega arith
+    copied-vertices = let a = four in let r = ok .roomVertices in let c = few-vertices in let t = ok .wellFormed .threes in omega arith
 
     pub copied-marks : v ≤ length (o .marks)
     copied-marks = let a = four in let r = ok .roomMarks in let c = few-vertices in omega arith
@@ -145,8 +145,8 @@ module _ (m : ControlNet) (o : Buffers) (ok : Loadable m o) where
         mated = record { mates = edges-mates S l (o .work) room₂ (ok .mated .mates) w₁ e₁ };
       }
 
-      pub faces-drawn : (e : ℕ) → e ≡ edgeCountBy (take (length l) (o .work)) → FacesDrawn s l w₁ v e (o .faces)
-      faces-drawn e h = record {
+      pub numbered-faces : (e : ℕ) → e ≡ edgeCountBy (take (length l) (o .work)) → NumberedFaces s l w₁ v e (o .faces)
+      numbered-faces e h = record {
         some = b;
         shaped = shaped₁;
         numbered = edges-numbered S l (o .work) room₂ (ok .mated .mates) w₁ e₁;
@@ -162,12 +162,12 @@ module _ (m : ControlNet) (o : Buffers) (ok : Loadable m o) where
       length-p = ap length ep ∙ length-filled (m .vertices) (o .vertices) copied-vertices
 
       front-p : take (3 * v) p ≡ m .vertices
-      front-p = ap (take (3 * v)) ep ∙ take-filled (m .vertices) (o .vertices) (3 * v) (sym (ok .drawn .threes))
+      front-p = ap (take (3 * v)) ep ∙ take-filled (m .vertices) (o .vertices) (3 * v) (sym (ok .wellFormed .threes))
 
       pub splittable : Splittable s l v p
       splittable = record {
         some = b;
-        counts = ok .drawn .sided .counts b;
+        counts = ok .wellFormed .sided .counts b;
         oriented = oriented;
         room = let a = four in let r = ok .roomVertices in let c = count-le in let k = length-p in omega arith;
         within = rw front-p (ok .within);
@@ -180,7 +180,7 @@ module _ (m : ControlNet) (o : Buffers) (ok : Loadable m o) where
       pub vertices-split : (p′ : List ℤ) → p′ ≡ filled (splitVertices s l v p) p → p′ ≡ filled (split m .vertices) (o .vertices)
       vertices-split p′ e =
           let n = split-length m in
-          let t = ok .drawn .threes in
+          let t = ok .wellFormed .threes in
           e ∙ ap₂ (λ (x y : List ℤ). filled x y) vertices-are ep ∙ filled-over (m .vertices) (split m .vertices) (o .vertices) (omega arith)
 
     -- ---- marks, where e edges are counted
@@ -235,9 +235,9 @@ module _ (m : ControlNet) (o : Buffers) (ok : Loadable m o) where
           let c = split-corners m in
           let q = room in
           let f = ok .fewSplit b in
-          let x = split-refinable m (ok .drawn) in
+          let x = split-refinable m (ok .wellFormed) in
           let y = refinable-manifold (split m) x .oriented in
-          let u = split-vertices-le m (ok .drawn) b in
+          let u = split-vertices-le m (ok .wellFormed) b in
           rw front-faces (record {
             shaped = shaped-quads (length (split m .faces)) (o₁ .work) (x .fours) (omega arith);
             few = omega arith;

@@ -9,13 +9,13 @@ use Rattle.tables.specs.Tables.{filled}
 use Rattle.nets.specs.Net.{ControlNet}
 use Rattle.nets.specs.Buffers.{Buffers}
 use Rattle.splitting.specs.Splitting.{split, startNet}
-use Rattle.splitting.specs.Drawn.{Drawn}
+use Rattle.splitting.specs.WellFormed.{WellFormed}
 use Rattle.halfedges.specs.Tables.{MateTableOf, MateTable}
 use Rattle.sidetable.specs.Table.{Shaped}
 
 -- an accepted net, with its mates and its shape in the work table, and room for the net where refining begins; 4,096 faces have 16,384 corners
 pub record Loadable (m : ControlNet) (o : Buffers) : Type 0 where
-  pub drawn : Drawn m
+  pub wellFormed : WellFormed m
   pub within : Within maxCoordinate (m .vertices)
   pub few : length (m .faces) ≤ maxCorners
   pub fewSplit : 0 < length (m .sides) → length (m .faces) ≤ maxFaces

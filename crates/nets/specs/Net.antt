@@ -35,8 +35,8 @@ abbrev pub plain : Net → ControlNet
 plain m = controlNet (m .vertices) (m .faces) [] (m .marks)
 
 -- its vertices, corners and marks alone
-abbrev pub drawnTables : ControlNet → Net
-drawnTables m = net (m .vertices) (m .faces) (m .marks)
+abbrev pub controlTables : ControlNet → Net
+controlTables m = net (m .vertices) (m .faces) (m .marks)
 
 -- coordinate a of vertex v of a table
 unfoldable pub axis : List ℤ → ℕ → ℕ → ℤ

@@ -12,7 +12,7 @@ use Rattle.verdict.specs.Verdict.{Verdict, accepted, refused, verdict}
 use Rattle.verdict.proofs.Accepted.{or-both, accepted-limits, accepted-net}
 use Rattle.scheme.specs.Step.{steps}
 use Rattle.splitting.specs.Splitting.{startNet}
-use Rattle.splitting.specs.Drawn.{Drawn}
+use Rattle.splitting.specs.WellFormed.{WellFormed}
 use Rattle.splitting.proofs.Split.{start-refinable}
 use Rattle.schemelaws.specs.Nets.{Refinable}
 use Rattle.schemelaws.proofs.Steps.{refinable-steps}
@@ -45,8 +45,8 @@ module _ (a : Request) (k : ℕ) (h : AcceptedFor a k) where
   accepted-tally = both .1
 
 -- ---- what an accepted net has
-pub accepted-drawn : (c : Call) → verdict c ≡ accepted → Drawn (c .net)
-accepted-drawn c e =
+pub accepted-well-formed : (c : Call) → verdict c ≡ accepted → WellFormed (c .net)
+accepted-well-formed c e =
     let w = accepted-limits c e in
     let n = accepted-net c e in
     let p = w .points in
@@ -61,7 +61,7 @@ accepted-drawn c e =
 
 -- and where refining begins
 pub accepted-refinable : (c : Call) → verdict c ≡ accepted → Refinable (startNet (c .net))
-accepted-refinable c e = start-refinable (c .net) (accepted-drawn c e)
+accepted-refinable c e = start-refinable (c .net) (accepted-well-formed c e)
 
 -- ---- the net at the front of the outputs
 -- the outcome of the request for k rounds, were v the verdict and n the refined net

@@ -14,7 +14,7 @@ use Rattle.splitting.proofs.Growth.{start-within}
 use Rattle.outcome.specs.Outcome.{Request, callOf}
 use Rattle.outcome.specs.SharedSegment.{Accepted, netAfter}
 use Rattle.outcome.specs.Coordinates.{CoordinatesStay}
-use Rattle.outcome.proofs.Accepted.{accepted-verdict, accepted-drawn, accepted-refinable, accepted-after}
+use Rattle.outcome.proofs.Accepted.{accepted-verdict, accepted-well-formed, accepted-refinable, accepted-after}
 use Rattle.outcome.proofs.Tally.{accepted-for-fewer}
 
 stays : (a : Request) → Accepted a → (k : ℕ) → k ≤ a .rounds → Within 268435456 (netAfter a k .vertices)
@@ -23,7 +23,7 @@ stays a h k b =
     let e = accepted-verdict a (a .rounds) h in
     let f = accepted-limits c e .few in
     subst (λ (n : Net). Within 268435456 (n .vertices)) (sym (accepted-after a k (accepted-for-fewer a h k b)))
-    (steps-within (tension (a .tension)) (tame (a .tension) (accepted-tension c e)) (startNet (a .net)) (accepted-refinable c e) (start-within (a .net) (accepted-drawn c e) maxCoordinate (record { at = accepted-coordinate c e })) k (omega arith))
+    (steps-within (tension (a .tension)) (tame (a .tension) (accepted-tension c e)) (startNet (a .net)) (accepted-refinable c e) (start-within (a .net) (accepted-well-formed c e) maxCoordinate (record { at = accepted-coordinate c e })) k (omega arith))
 
 pub coordinates-stay : CoordinatesStay
 coordinates-stay = record { stay = stays }

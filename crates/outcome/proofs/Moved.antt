@@ -28,7 +28,7 @@ use Rattle.outcome.specs.Outcome.{refinedTo, refusedWith, Request, forRo
 use Rattle.outcome.specs.SharedSegment.{resultAfter, netBy, netAfter}
 use Rattle.outcome.specs.Moved.{movedBy, MovedAfter, MovedNets}
 use Rattle.outcome.proofs.Tally.{same-points}
-use Rattle.outcome.proofs.Accepted.{given, accepted-drawn, accepted-refinable, accepted-after}
+use Rattle.outcome.proofs.Accepted.{given, accepted-well-formed, accepted-refinable, accepted-after}
 
 -- no vertices, moved
 moved-none : (s : Point) → movedVertices s [] ≡ []
@@ -84,7 +84,7 @@ module _ (s : Point) (a : Request) (here : Within maxCoordinate (a .net .vertice
   unfolding requestVerdict
   nets-moved r =
       let e = or-both (verdict c) (tallyVerdict (a .tally) (newPoints (a .tension) k (a .net))) r .0 in
-      ap (steps (tension (a .tension)) k) (start-moved s (a .net) (accepted-drawn c e)) ∙ steps-moved (tension (a .tension)) (tame (a .tension) (accepted-tension c e)) s (startNet (a .net)) (accepted-refinable c e) k
+      ap (steps (tension (a .tension)) k) (start-moved s (a .net) (accepted-well-formed c e)) ∙ steps-moved (tension (a .tension)) (tame (a .tension) (accepted-tension c e)) s (startNet (a .net)) (accepted-refinable c e) k
 
   by : (v : Verdict) → requestVerdict (forRounds k a) ≡ v → MovedAfter s a k
   by accepted e =

@@ -30,7 +30,7 @@ use Rattle.schemelaws.proofs.Growth.{steps-within}
 use Rattle.splitting.specs.Splitting.{startNet}
 use Rattle.splitting.proofs.Growth.{start-within}
 use Rattle.splitting.proofs.Room.{refinable-vertices-le}
-use Rattle.outcome.proofs.Accepted.{accepted-drawn, accepted-refinable}
+use Rattle.outcome.proofs.Accepted.{accepted-well-formed, accepted-refinable}
 use Rattle.outcome.proofs.Counts.{corners-grown, start-corners}
 use Rattle.decimalform.specs.Decimal.{largestNumber}
 use Rattle.textform.specs.Form.{Vertex, Face, withCorner, parsed}
@@ -169,7 +169,7 @@ module _ (c : Call) (e : verdict c ≡ accepted) (j : ℕ) (h : j ≤ c .rounds)
 
   accepted-back : (k : ℕ) → k ≤ largestNumber → (rule : Bool) → ReadsBack k rule (steps (tension (c .tension)) j m)
   accepted-back k few rule =
-      let d = accepted-drawn c e in
+      let d = accepted-well-formed c e in
       let ok = accepted-refinable c e in
       let near = steps-within (tension (c .tension)) (tame (c .tension) (accepted-tension c e)) m ok (start-within (c .net) d maxCoordinate (record { at = accepted-coordinate c e })) j (let w = accepted-limits c e .few in omega arith) in
       let l = refinable-vertices-le (steps (tension (c .tension)) j m) (refinable-steps (tension (c .tension)) m ok j) in

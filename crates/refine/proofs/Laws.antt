@@ -29,11 +29,11 @@ use Rattle.letters.specs.Letters.{startLetter, WrittenIf}
 use Rattle.outcome.specs.Outcome.{Request, callOf, lettered}
 use Rattle.nets.specs.Buffers.{Buffers, buffers, front, Letters}
 use Rattle.splitting.specs.Splitting.{startNet}
-use Rattle.splitting.specs.Drawn.{Drawn}
+use Rattle.splitting.specs.WellFormed.{WellFormed}
 use Rattle.splitting.proofs.Split.{start-grows}
 use Rattle.splitting.proofs.Growth.{start-within}
 use Rattle.splitting.proofs.Room.{start-vertices-le}
-use Rattle.outcome.proofs.Accepted.{accepted-drawn, accepted-refinable}
+use Rattle.outcome.proofs.Accepted.{accepted-well-formed, accepted-refinable}
 use Rattle.outcome.proofs.Counts.{zero-steps, more-vertices, corners-grown, start-four, start-corners}
 use Rattle.loading.specs.Loading.{Loadable, Loaded}
 use Rattle.rounds.specs.Rounds.{Prepared, After, LettersFit, LettersAfter}
@@ -81,8 +81,8 @@ module _ (a : Request) (last : ℕ) (ok : AdmittedCall (callOf a) last (a .buffe
   limits : WithinLimits k (control .sides) (lengthsOf control (asked .room))
   limits = accepted-limits asked (ok .accepts)
 
-  drawn : Drawn control
-  drawn = accepted-drawn asked (ok .accepts)
+  wellFormed : WellFormed control
+  wellFormed = accepted-well-formed asked (ok .accepts)
 
   refinable : Refinable m
   refinable = accepted-refinable asked (ok .accepts)
@@ -97,7 +97,7 @@ module _ (a : Request) (last : ℕ) (ok : AdmittedCall (callOf a) last (a .buffe
   once = let p : 1 ≤ 4 ^ k = one-le-pow k 4 (lit≤ tt) in let g : length (m .faces) * 1 ≤ length (m .faces) * 4 ^ k = mul-le-mul-left (length (m .faces)) p in omega arith
 
   vertices-le : length (m .marks) ≤ length (m .faces)
-  vertices-le = start-vertices-le control drawn
+  vertices-le = start-vertices-le control wellFormed
 
   start-fewer : length (m .marks) ≤ length (steps (tension t) k m .marks)
   start-fewer = omega (arith, more-vertices t m 0 k (omega arith), zero-steps t m)
@@ -128,7 +128,7 @@ module _ (a : Request) (last : ℕ) (ok : AdmittedCall (callOf a) last (a .buffe
       let h = w .roomWork in
       let l = corners-le (control .sides) (length (control .faces)) (w .sided) in
       record {
-        drawn = drawn;
+        wellFormed = wellFormed;
         within = within;
         few = omega arith;
         fewSplit = λ p. let q = by-sides (control .sides) (length (control .faces)) (λ z. let y : ⊥ = omega arith in absurd y) in omega arith;
@@ -198,7 +198,7 @@ module _ (a : Request) (last : ℕ) (ok : AdmittedCall (callOf a) last (a .buffe
         record {
           low = accepted-tension asked (ok .accepts);
           refinable = rw front-is refinable;
-          within = rw (ap (λ (j : Net). j .vertices) front-is) (start-within control drawn maxCoordinate within);
+          within = rw (ap (λ (j : Net). j .vertices) front-is) (start-within control wellFormed maxCoordinate within);
           few = w .few;
           vertices = omega arith;
           size = omega arith;

@@ -9,8 +9,8 @@ use Rattle.curve.specs.Weights.{tension}
 use Rattle.polygons.specs.Polygons.{shapeOf}
 use Rattle.tables.specs.Tables.{filled, cleared}
 use Rattle.nets.specs.Buffers.{Buffers, buffers}
-use Rattle.splitting.specs.Drawn.{Drawn}
-use Rattle.splitting.proofs.Room.{drawn-vertices-le}
+use Rattle.splitting.specs.WellFormed.{WellFormed}
+use Rattle.splitting.proofs.Room.{control-vertices-le}
 use Rattle.verdict.specs.Call.{room, call, vertexCount, faceCount}
 use Rattle.verdict.specs.Verdict.{Verdict, accepted, refused, orElse, verdict, workAfter}
 use Rattle.verdict.proofs.Accepted.{accepted-limits}
@@ -21,7 +21,7 @@ use Rattle.growth.proofs.Laws.{vertices-after}
 use Rattle.origins.specs.Origins.{letters}
 use Rattle.outcome.specs.Tally.{newPoints, tallyVerdict}
 use Rattle.outcome.specs.Outcome.{refinedTo, refusedWith, Request, request, Outcome, outcomeOn, callOf, toAdd, requestVerdict, lettered, refinedNet, workLeft, outcomeBy, outcome}
-use Rattle.outcome.proofs.Accepted.{accepted-drawn}
+use Rattle.outcome.proofs.Accepted.{accepted-well-formed}
 use Rattle.outcome.proofs.Counts.{control-among}
 use Rattle.outcome.proofs.Tally.{tally-if, tally-refused, few-points}
 use Rattle.refine.specs.declared.Answer.the-variants.{Refined, Refused}
@@ -67,8 +67,8 @@ module _ (a : Request) where
         ∙ sym (is-given (o .work) (requestVerdict a))
 
   module _ (last : ℕ) (ok : AdmittedCall (callOf a) last (a .buffers .work)) where
-    drawn : Drawn (a .net)
-    drawn = accepted-drawn (callOf a) (ok .accepts)
+    wellFormed : WellFormed (a .net)
+    wellFormed = accepted-well-formed (callOf a) (ok .accepts)
 
     -- ---- the new points
     pub growable : Growable (a .rounds) (a .net .faces) (a .net .sides) (length (a .net .marks)) (a .buffers .work)
@@ -78,7 +78,7 @@ module _ (a : Request) where
           rounds = w .few;
           sided = w .sided;
           few = corners-limit a last ok;
-          vertices = drawn-vertices-le (a .net) drawn;
+          vertices = control-vertices-le (a .net) wellFormed;
           room = corners-room a last ok;
           mated = ok .mated;
         }
@@ -87,7 +87,7 @@ module _ (a : Request) where
         → (length (a .net .marks) ≤ v) × (v - length (a .net .marks) ≡ toAdd a)
     unfolding newPoints
     new-points v e =
-        let c = vertices-after (tension (a .tension)) (a .net) drawn (a .rounds) in
+        let c = vertices-after (tension (a .tension)) (a .net) wellFormed (a .rounds) in
         let m = control-among (a .tension) (a .net) (a .rounds) in
         (omega arith, omega arith)
 

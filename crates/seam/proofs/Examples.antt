@@ -9,7 +9,7 @@ use lib.ListN.{length}
 use Rattle.lists.specs.Tabulate.{tabulate}
 use Rattle.rounding.specs.Rounding.{round}
 use Rattle.search.specs.Search.{firstFrom, first, count, any, iterate}
-use Rattle.nets.specs.Net.{Net, ControlNet, controlNet, drawnTables, marked, axis, pointOf}
+use Rattle.nets.specs.Net.{Net, ControlNet, controlNet, controlTables, marked, axis, pointOf}
 use Rattle.curve.specs.Weights.{kobbelt}
 use Rattle.curve.specs.Curve.{Open, Closed, Point, curve}
 use Rattle.topology.specs.Shape.{Shape, quads, Lawful}
@@ -168,7 +168,7 @@ abbrev down : ControlNet
 down = triangle (0 ∷ 2 ∷ 1 ∷ [])
 
 once-round : (l : List ℕ) (way : Way) → boundaryFrom three l 0 < length l → vertexAt three l way 0 1 ≡ 1 → vertexAt three l way 0 2 ≡ 2
-    → vertexAt three l way 0 3 ≡ 0 → ReadsControl (triangle l) way Closed 0 (points three (drawnTables (triangle l)) way 0 3)
+    → vertexAt three l way 0 3 ≡ 0 → ReadsControl (triangle l) way Closed 0 (points three (controlTables (triangle l)) way 0 3)
 unfolding marked
 once-round l way b one two back = record {
   boundary = b;

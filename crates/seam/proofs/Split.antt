@@ -15,7 +15,7 @@ use Rattle.topology.specs.HalfEdge.{from, to, edge}
 use Rattle.topology.specs.Boundary.{OnBoundary, along, back, Way}
 use Rattle.topology.proofs.Mates.{edge-lt}
 use Rattle.polygons.specs.Polygons.{shapeOf}
-use Rattle.nets.specs.Net.{ControlNet, drawnTables, marked, axis}
+use Rattle.nets.specs.Net.{ControlNet, controlTables, marked, axis}
 use Rattle.splitting.specs.Splitting.{split}
 use Rattle.splitting.proofs.Coordinates.{split-old, split-edge}
 use Rattle.splitting.proofs.Split.{split-axis}
@@ -51,7 +51,7 @@ module _ (m : ControlNet) where
         split-axis m a i b (omega arith) ∙ split-old (shapeOf (m .sides)) (length (m .marks)) (m .faces) (axis (m .vertices) a) i c
 
     put : (a h : ℕ) → a < 3 → OnBoundary (shapeOf (m .sides)) (m .faces) h
-        → axis (split m .vertices) a (length (m .marks) + edge (shapeOf (m .sides)) (m .faces) h) ≡ boundaryPoint midpoints (shapeOf (m .sides)) (drawnTables m) (axis (m .vertices) a) h
+        → axis (split m .vertices) a (length (m .marks) + edge (shapeOf (m .sides)) (m .faces) h) ≡ boundaryPoint midpoints (shapeOf (m .sides)) (controlTables m) (axis (m .vertices) a) h
     unfolding boundaryPoint
     put a h b o =
         let S : Shape = shapeOf (m .sides) in
@@ -63,7 +63,7 @@ module _ (m : ControlNet) where
         ∙ split-edge S v l (ok .oriented) p h (o .lt)
         ∙ sym (by-midpoint (marked (m .marks) (from l h)) (marked (m .marks) (to S l h)) (p (from l (back S l h))) (p (from l h)) (p (to S l h)) (p (to S l (along S l h))))
 
-    axes : AxisStep midpoints (shapeOf (m .sides)) (drawnTables m) (split m)
+    axes : AxisStep midpoints (shapeOf (m .sides)) (controlTables m) (split m)
     unfolding split
     axes = record { faces = refl; marks = refl; old = kept; new = put }
 
@@ -71,8 +71,8 @@ module _ (m : ControlNet) where
     reads-split : (way : Way) (c : Kind) (u : ℕ) (L : List Point) → ReadsControl m way c u L → Reads (split m) way c u (halved c L)
     unfolding halved
     reads-split way c u L r =
-        reading-after (each midpoints) (each-symmetric midpoints-symmetric) (shapeOf (m .sides)) (drawnTables m) (split m) ok
-        (boundary-step midpoints (shapeOf (m .sides)) (drawnTables m) (split m) axes) way c u L r
+        reading-after (each midpoints) (each-symmetric midpoints-symmetric) (shapeOf (m .sides)) (controlTables m) (split m) ok
+        (boundary-step midpoints (shapeOf (m .sides)) (controlTables m) (split m) axes) way c u L r
 
     pub split-reads : (way : Way) (c : Kind) (u : ℕ) (L : List Point) → ReadsControl m way c u L → (P : List Point) → Reads (split m) way c u P ↔ (P ≡ halved c L)
     split-reads way c u L r = reads-only quads (split m) way c u (halved c L) (reads-split way c u L r)

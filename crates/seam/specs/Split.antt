@@ -9,7 +9,7 @@ use Rattle.rounding.specs.Rounding.{round}
 use Rattle.curve.specs.Curve.{Kind, Rules, Point, each, curveStep}
 use Rattle.topology.specs.Boundary.{Way}
 use Rattle.polygons.specs.Polygons.{shapeOf}
-use Rattle.nets.specs.Net.{ControlNet, drawnTables}
+use Rattle.nets.specs.Net.{ControlNet, controlTables}
 use Rattle.splitting.specs.Splitting.{split}
 use Rattle.seam.specs.Reading.{ReadsIn, Reads}
 use Rattle.seam.specs.Seam.{Shared, AdmissibleIn}
@@ -30,15 +30,15 @@ halved c L = curveStep (each midpoints) c L
 
 -- a segment read from a net before its split
 abbrev pub ReadsControl : ControlNet → Way → Kind → ℕ → List Point → Type 0
-ReadsControl m = ReadsIn (shapeOf (m .sides)) (drawnTables m)
+ReadsControl m = ReadsIn (shapeOf (m .sides)) (controlTables m)
 
 -- a segment that two nets share before their splits
 abbrev pub SharedControl : ControlNet → ControlNet → Way → Way → Kind → ℕ → ℕ → List Point → Type 0
-SharedControl a b = Shared (shapeOf (a .sides)) (shapeOf (b .sides)) (drawnTables a) (drawnTables b)
+SharedControl a b = Shared (shapeOf (a .sides)) (shapeOf (b .sides)) (controlTables a) (controlTables b)
 
 -- what the seam asks of it: refusals 7 to 11 do not hold
 abbrev pub AdmissibleControl : ControlNet → Type 0
-AdmissibleControl m = AdmissibleIn (shapeOf (m .sides)) (drawnTables m)
+AdmissibleControl m = AdmissibleIn (shapeOf (m .sides)) (controlTables m)
 
 -- Of two nets a and b that share the list L before their splits, read from s and from t: both splits are read from the same vertices the same ways, and both
 -- readings are the halved list.

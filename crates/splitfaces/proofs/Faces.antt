@@ -20,10 +20,10 @@ use Rattle.refinedfaces.specs.Refined.{corner, refined}
 use Rattle.tables.specs.Tables.{filled, putFour}
 use Rattle.tables.proofs.Written.{length-four}
 use Rattle.edgenumbers.proofs.Net.{edge-le}
-use Rattle.splitfaces.specs.Faces.{FacesDrawn}
+use Rattle.splitfaces.specs.Faces.{NumberedFaces}
 
 -- ---- the numbers of one face are small
-module _ (s l w : List ℕ) (v e : ℕ) (out : List ℕ) (ok : FacesDrawn s l w v e out) where
+module _ (s l w : List ℕ) (v e : ℕ) (out : List ℕ) (ok : NumberedFaces s l w v e out) where
   lawful : Lawful (shapeOf s) (length l)
   lawful = shape-lawful s (length l) (ok .shaped .space .sided)
 
@@ -46,8 +46,8 @@ module _ (s l w : List ℕ) (v e : ℕ) (out : List ℕ) (ok : FacesDrawn s l w 
       let c = faces-le s (length l) (ok .shaped .space .sided .counts (ok .some)) in
       omega arith
 
-  pub drawn-kept : (out′ : List ℕ) → length out′ ≡ length out → FacesDrawn s l w v e out′
-  drawn-kept out′ k = record {
+  pub numbered-kept : (out′ : List ℕ) → length out′ ≡ length out → NumberedFaces s l w v e out′
+  numbered-kept out′ k = record {
     some = ok .some;
     shaped = ok .shaped;
     numbered = ok .numbered;

@@ -9,7 +9,7 @@ use Rattle.sidetable.specs.Table.{Shaped}
 use Rattle.edgenumbers.specs.Edges.{Numbered}
 
 -- its shape and edge numbers are in w, it has `count` edges, and there is room for the faces of the split
-pub record FacesDrawn (s l w : List ℕ) (v count : ℕ) (out : List ℕ) : Type 0 where
+pub record NumberedFaces (s l w : List ℕ) (v count : ℕ) (out : List ℕ) : Type 0 where
   pub some : 0 < length s
   pub shaped : Shaped s (length l) w
   pub numbered : Numbered (shapeOf s) l w

@@ -5,7 +5,7 @@ ghost use lib.ListN.{length};
 ghost use Rattle.polygons.specs.Polygons.{shapeOf};
 ghost use Rattle.refinedfaces.specs.Refined.{corner, refined};
 ghost use Rattle.tables.specs.Tables.{filled, putFour};
-ghost use Rattle.splitfaces.specs.Faces.{FacesDrawn};
+ghost use Rattle.splitfaces.specs.Faces.{NumberedFaces};
 
 // Writes the face at half-edge h: its corner, the point of its side, the point of its face, the point of the side before.
 fn split_face(
@@ -17,7 +17,7 @@ fn split_face(
     edges: usize,
     h: usize,
 )
-    requires { ⌜ FacesDrawn (now sides) (now faces) (now work) v edges (now out) ⌝ }
+    requires { ⌜ NumberedFaces (now sides) (now faces) (now work) v edges (now out) ⌝ }
     requires { ⌜ h < length (now faces) ⌝ }
     ensures { λ _. ⌜ now (out .exit) ≡ putFour (now (out .entry)) (4 * h) (corner (shapeOf (now (sides .entry))) v (now (faces .entry)) h 0)
         (corner (shapeOf (now (sides .entry))) v (now (faces .entry)) h 1) (corner (shapeOf (now (sides .entry))) v (now (faces .entry)) h 2)
@@ -42,7 +42,7 @@ pub fn split_faces(
     v: usize,
     edges: usize,
 )
-    requires { ⌜ FacesDrawn (now sides) (now faces) (now work) v edges (now out) ⌝ }
+    requires { ⌜ NumberedFaces (now sides) (now faces) (now work) v edges (now out) ⌝ }
     ensures { λ _. ⌜ now (out .exit) ≡ filled (refined (shapeOf (now (sides .entry))) v (now (faces .entry))) (now (out .entry)) ⌝ }
 {
     let n = faces.len();

@@ -11,7 +11,7 @@ use Rattle.nets.specs.Net.{axis}
 use Rattle.coordinates.specs.Points.{InTable}
 
 -- the coordinates of vertex v are in the table, and within the limit on coordinates
-pub record DrawnVertex (t : List ℤ) (v : ℕ) : Type 0 where
+pub record BoundedVertex (t : List ℤ) (v : ℕ) : Type 0 where
   pub room : InTable t v
   pub small : (a : ℕ) → a < 3 → natAbs (axis t a v) ≤ maxCoordinate
 
@@ -20,7 +20,7 @@ pub record Corners (t : List ℤ) (l : List ℕ) (h c : ℕ) : Type 0 where
   pub some : 0 < c
   pub eight : c ≤ 8
   pub ends : h + c ≤ length l
-  pub each : (k : ℕ) → k < c → DrawnVertex t (from l (h + k))
+  pub each : (k : ℕ) → k < c → BoundedVertex t (from l (h + k))
 
 -- coordinate a of the midpoint of the vertices p and q
 unfoldable pub midpointOn : List ℤ → ℕ → ℕ → ℕ → ℤ

@@ -7,7 +7,7 @@ ghost use Rattle.bounds.specs.Bounds.{maxCoordinate};
 ghost use Rattle.integers.specs.Sum.{sum};
 ghost use Rattle.rounding.specs.Rounding.{round};
 ghost use Rattle.coordinates.specs.Points.{putPoint};
-ghost use Rattle.splitpoints.specs.Points.{DrawnVertex, Corners, midpointOn, cornerOn, meanOn};
+ghost use Rattle.splitpoints.specs.Points.{BoundedVertex, Corners, midpointOn, cornerOn, meanOn};
 
 // z / d, where z is a sum of d coordinates, rounded.
 fn rounded(z: i64, d: u32) -> i32
@@ -19,7 +19,7 @@ fn rounded(z: i64, d: u32) -> i32
 
 // Coordinate a of the midpoint of the vertices p and q.
 fn midpoint(points: &[i32], p: usize, q: usize, a: usize) -> i32
-    requires { ⌜ DrawnVertex (now points) p × DrawnVertex (now points) q × (a < 3) ⌝ }
+    requires { ⌜ BoundedVertex (now points) p × BoundedVertex (now points) q × (a < 3) ⌝ }
     ensures { λ r. ⌜ r ≡ midpointOn (now (points .entry)) p q a ⌝ }
 {
     let x = coordinates::coordinate(points, p, a);
@@ -30,7 +30,7 @@ fn midpoint(points: &[i32], p: usize, q: usize, a: usize) -> i32
 // Writes the midpoint of the vertices p and q as vertex i.
 pub fn put_midpoint(points: &mut [i32], i: usize, p: usize, q: usize)
     requires { ⌜ 3 * i + 3 ≤ length (now points) ⌝ }
-    requires { ⌜ DrawnVertex (now points) p × DrawnVertex (now points) q ⌝ }
+    requires { ⌜ BoundedVertex (now points) p × BoundedVertex (now points) q ⌝ }
     ensures { λ _. ⌜ now (points .exit) ≡ putPoint (now (points .entry)) i (midpointOn (now (points .entry)) p q 0)
         (midpointOn (now (points .entry)) p q 1) (midpointOn (now (points .entry)) p q 2) ⌝ }
 {

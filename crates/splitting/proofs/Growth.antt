@@ -19,9 +19,9 @@ use Rattle.refinedfaces.specs.Refined.{refinedVertices}
 use Rattle.refinedfaces.proofs.Corners.{refined-cases}
 use Rattle.nets.specs.Net.{ControlNet, axis}
 use Rattle.splitting.specs.Splitting.{firstSide, splitCoordinate, split, startNet}
-use Rattle.splitting.specs.Drawn.{Drawn}
+use Rattle.splitting.specs.WellFormed.{WellFormed}
 use Rattle.splitting.proofs.Coordinates.{split-old, split-edge, first-side, split-face}
-use Rattle.splitting.proofs.Split.{split-length, split-coordinate, drawn-manifold, start-cases}
+use Rattle.splitting.proofs.Split.{split-length, split-coordinate, control-manifold, start-cases}
 
 module _ (S : Shape) (v : ℕ) (l : List ℕ) (ok : Oriented S v l) (p : ℕ → ℤ) (B : ℕ) (small : (x : ℕ) → x < v → natAbs (p x) ≤ B) where
   midpoint-size : (h : ℕ) → h < length l → natAbs (splitCoordinate S v l p (v + edge S l h)) ≤ B
@@ -43,14 +43,14 @@ module _ (S : Shape) (v : ℕ) (l : List ℕ) (ok : Oriented S v l) (p : ℕ →
   split-size = refined-cases S v l ok (λ i. natAbs (splitCoordinate S v l p i) ≤ B) (λ i b. rw (split-old S v l p i b) (small i b)) midpoint-size mean-size
 
 -- ---- a net
-module _ (m : ControlNet) (ok : Drawn m) (B : ℕ) (t : Within B (m .vertices)) where
+module _ (m : ControlNet) (ok : WellFormed m) (B : ℕ) (t : Within B (m .vertices)) where
   pub split-within : Within B (split m .vertices)
   unfolding axis
   split-within = record {
     at = λ i b.
         let n = split-length m in
         let c = split-coordinate m i (omega arith) in
-        rw c (split-size (shapeOf (m .sides)) (length (m .marks)) (m .faces) (drawn-manifold m ok .oriented) (axis (m .vertices) (i % 3)) B
+        rw c (split-size (shapeOf (m .sides)) (length (m .marks)) (m .faces) (control-manifold m ok .oriented) (axis (m .vertices) (i % 3)) B
         (λ x k. let e = ok .threes in t .at (3 * x + i % 3) (omega arith)) (i / 3) (omega arith));
   }
 

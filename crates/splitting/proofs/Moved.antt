@@ -24,9 +24,9 @@ use Rattle.nets.specs.Moved.{onAxis, movedVertices, moved, movedControl}
 use Rattle.nets.proofs.Laws.{same-net}
 use Rattle.nets.proofs.Moved.{axis-moved, moved-coordinates}
 use Rattle.splitting.specs.Splitting.{firstSide, splitCoordinate, split, startNet}
-use Rattle.splitting.specs.Drawn.{Drawn}
+use Rattle.splitting.specs.WellFormed.{WellFormed}
 use Rattle.splitting.proofs.Coordinates.{split-old, split-edge, first-side, split-face}
-use Rattle.splitting.proofs.Split.{drawn-manifold, start-cases, start-none, start-split}
+use Rattle.splitting.proofs.Split.{control-manifold, start-cases, start-none, start-split}
 
 -- the sum of n numbers, each moved by c
 sum-moved : (n : ℕ) (f g : ℕ → ℤ) (c : ℤ) → ((k : ℕ) → k < n → g k ≡ f k +ℤ c) → sum n g ≡ sum n f +ℤ pos n *ℤ c
@@ -61,7 +61,7 @@ module _ (S : Shape) (v : ℕ) (l : List ℕ) (ok : Oriented S v l) (p q : ℕ �
       (λ i b. split-old S v l q i b ∙ moves i b ∙ ap (λ (z : ℤ). z +ℤ c) (sym (split-old S v l p i b))) midpoint-moved mean-moved
 
 -- ---- a net
-module _ (s : Point) (m : ControlNet) (ok : Drawn m) where
+module _ (s : Point) (m : ControlNet) (ok : WellFormed m) where
   split-moved : split (movedControl s m) ≡ moved s (split m)
   unfolding split
   split-moved =
@@ -69,7 +69,7 @@ module _ (s : Point) (m : ControlNet) (ok : Drawn m) where
       let v : ℕ = length (m .marks) in
       let t = ok .threes in
       same-net (moved-coordinates s (refinedVertices S v (m .faces)) (m .vertices) (splitCoordinate S v (m .faces))
-      (λ a i b j. split-coordinate-moved S v (m .faces) (drawn-manifold m ok .oriented) (axis (m .vertices) a) (axis (movedVertices s (m .vertices)) a) (onAxis s a)
+      (λ a i b j. split-coordinate-moved S v (m .faces) (control-manifold m ok .oriented) (axis (m .vertices) a) (axis (movedVertices s (m .vertices)) a) (onAxis s a)
       (λ x k. axis-moved s (m .vertices) a x b (omega arith)) i j)) refl refl
 
   pub start-moved : startNet (movedControl s m) ≡ moved s (startNet m)

@@ -15,7 +15,7 @@ use Rattle.refusals.proofs.Places.{isolated-soon}
 use Rattle.nets.specs.Net.{Net, ControlNet}
 use Rattle.schemelaws.specs.Nets.{Refinable}
 use Rattle.splitting.specs.Splitting.{split, startNet}
-use Rattle.splitting.specs.Drawn.{Drawn}
+use Rattle.splitting.specs.WellFormed.{WellFormed}
 use Rattle.splitting.proofs.Split.{split-count, start-refinable}
 
 -- 8 holds nowhere: each vertex is a corner
@@ -29,9 +29,9 @@ vertices-le l v e = go (decLt (length l) v)
 pub refinable-vertices-le : (m : Net) → Refinable m → length (m .marks) ≤ length (m .faces)
 refinable-vertices-le m ok = vertices-le (m .faces) (length (m .marks)) (ok .no7to11 .no8)
 
-module _ (m : ControlNet) (ok : Drawn m) where
-  pub drawn-vertices-le : length (m .marks) ≤ length (m .faces)
-  drawn-vertices-le = vertices-le (m .faces) (length (m .marks)) (ok .no7to11 .no8)
+module _ (m : ControlNet) (ok : WellFormed m) where
+  pub control-vertices-le : length (m .marks) ≤ length (m .faces)
+  control-vertices-le = vertices-le (m .faces) (length (m .marks)) (ok .no7to11 .no8)
 
   pub start-vertices-le : length (startNet m .marks) ≤ length (startNet m .faces)
   start-vertices-le = refinable-vertices-le (startNet m) (start-refinable m ok)
@@ -42,7 +42,7 @@ module _ (m : ControlNet) (ok : Drawn m) where
       let n : ℕ = length (m .faces) in
       let f = ap (λ (S : Shape). S .faces n) (shape-some (m .sides) b) ∙ faces-polygons (m .sides) n in
       let t = faces-le (m .sides) n (ok .sided .counts b) in
-      let v = drawn-vertices-le in
+      let v = control-vertices-le in
       let e = edges-le (shapeOf (m .sides)) (m .faces) in
       omega (arith, split-count m)
 

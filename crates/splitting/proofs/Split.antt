@@ -17,10 +17,10 @@ use Rattle.refinedfaces.specs.Refined.{refinedVertices, refined, refinedMarks}
 use Rattle.refinedfaces.proofs.Corners.{length-refined}
 use Rattle.refinedfaces.proofs.Manifold.{unrefused-refined}
 use Rattle.refinedfaces.proofs.Marks.{length-marks, mark-old, no-6-refined, no-12-refined}
-use Rattle.nets.specs.Net.{Net, ControlNet, controlNet, drawnTables, axis}
+use Rattle.nets.specs.Net.{Net, ControlNet, controlNet, controlTables, axis}
 use Rattle.schemelaws.specs.Nets.{Refinable}
 use Rattle.splitting.specs.Splitting.{splitCoordinate, split, startNet}
-use Rattle.splitting.specs.Drawn.{Drawn}
+use Rattle.splitting.specs.WellFormed.{WellFormed}
 use Rattle.splitting.proofs.Coordinates.{split-old}
 
 -- ---- its tables
@@ -72,12 +72,12 @@ module _ (m : ControlNet) where
   split-mark-kept p b = ap (λ (l : List ℕ). getD l p 0) split-marks ∙ mark-old (shapeOf (m .sides)) (length (m .marks)) (m .faces) (m .marks) p b
 
 -- ---- if refusals 6 to 12 hold nowhere in a drawn net, they hold nowhere in its split
-module _ (m : ControlNet) (ok : Drawn m) where
-  pub drawn-lawful : Lawful (shapeOf (m .sides)) (length (m .faces))
-  drawn-lawful = shape-lawful (m .sides) (length (m .faces)) (ok .sided)
+module _ (m : ControlNet) (ok : WellFormed m) where
+  pub control-lawful : Lawful (shapeOf (m .sides)) (length (m .faces))
+  control-lawful = shape-lawful (m .sides) (length (m .faces)) (ok .sided)
 
-  pub drawn-manifold : Manifold (shapeOf (m .sides)) (length (m .marks)) (m .faces)
-  drawn-manifold = manifold-if (shapeOf (m .sides)) (length (m .marks)) (m .faces) drawn-lawful (ok .no7to11)
+  pub control-manifold : Manifold (shapeOf (m .sides)) (length (m .marks)) (m .faces)
+  control-manifold = manifold-if (shapeOf (m .sides)) (length (m .marks)) (m .faces) control-lawful (ok .no7to11)
 
   pub split-refinable : Refinable (split m)
   unfolding split
@@ -90,23 +90,23 @@ module _ (m : ControlNet) (ok : Drawn m) where
         threes = split-length m ∙ ap (λ (n : ℕ). 3 * n) (sym c);
         fours = omega arith;
         no6 = rw c (no-6-refined S v (m .faces) (m .marks) (ok .no6));
-        no7to11 = rw c (unrefused-refined S v (m .faces) drawn-lawful (ok .no7to11));
-        no12 = rw c (no-12-refined S v (m .faces) (m .marks) drawn-manifold (ok .no12));
+        no7to11 = rw c (unrefused-refined S v (m .faces) control-lawful (ok .no7to11));
+        no12 = rw c (no-12-refined S v (m .faces) (m .marks) control-manifold (ok .no12));
       }
 
   -- without side counts the drawn net is refinable itself
-  pub plain-refinable : length (m .sides) ≡ 0 → Refinable (drawnTables m)
+  pub plain-refinable : length (m .sides) ≡ 0 → Refinable (controlTables m)
   plain-refinable e =
       let q = shape-none (m .sides) e in
       record { threes = ok .threes; fours = ok .sided .fours e; no6 = ok .no6; no7to11 = rw q at (ok .no7to11); no12 = rw q at (ok .no12) }
 
 -- ---- the net where refining begins
 
-pub start-none : (m : ControlNet) → length (m .sides) ≡ 0 → startNet m ≡ drawnTables m
+pub start-none : (m : ControlNet) → length (m .sides) ≡ 0 → startNet m ≡ controlTables m
 unfolding startNet
 start-none m e = go (m .vertices) (m .faces) (m .marks) (m .sides) e
   where
-    go : (vertices : List ℤ) (faces marks sides : List ℕ) → length sides ≡ 0 → startNet (controlNet vertices faces sides marks) ≡ drawnTables (controlNet vertices faces sides marks)
+    go : (vertices : List ℤ) (faces marks sides : List ℕ) → length sides ≡ 0 → startNet (controlNet vertices faces sides marks) ≡ controlTables (controlNet vertices faces sides marks)
     go vertices faces marks [] e = refl
     go vertices faces marks (c ∷ s) e = let z : ⊥ = omega arith in absurd z
 
@@ -118,7 +118,7 @@ start-split m b = go (m .vertices) (m .faces) (m .marks) (m .sides) b
     go vertices faces marks [] b = absurd (not-suc-le-zero b)
     go vertices faces marks (c ∷ s) b = refl
 
-pub start-cases : (P : Net → Type 0) (m : ControlNet) → (length (m .sides) ≡ 0 → P (drawnTables m)) → (0 < length (m .sides) → P (split m)) → P (startNet m)
+pub start-cases : (P : Net → Type 0) (m : ControlNet) → (length (m .sides) ≡ 0 → P (controlTables m)) → (0 < length (m .sides) → P (split m)) → P (startNet m)
 start-cases P m a b = go (decLt 0 (length (m .sides)))
   where
     go : Dec (0 < length (m .sides)) → P (startNet m)
@@ -140,5 +140,5 @@ unfolding startNet split
 start-marks v v′ l [] marks = refl
 start-marks v v′ l (c ∷ s) marks = refl
 
-pub start-refinable : (m : ControlNet) → Drawn m → Refinable (startNet m)
+pub start-refinable : (m : ControlNet) → WellFormed m → Refinable (startNet m)
 start-refinable m ok = start-cases Refinable m (plain-refinable m ok) (λ b. split-refinable m ok)

@@ -1,2 +1,2 @@
 pub mod Splitting
-pub mod Drawn
+pub mod WellFormed

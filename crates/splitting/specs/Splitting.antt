@@ -14,7 +14,7 @@ use Rattle.topology.specs.Shape.{Shape}
 use Rattle.topology.specs.HalfEdge.{from, to, edgeCount, edgeAt}
 use Rattle.polygons.specs.Polygons.{shapeOf}
 use Rattle.refinedfaces.specs.Refined.{refinedVertices, refined, refinedMarks}
-use Rattle.nets.specs.Net.{Net, ControlNet, drawnTables, axis}
+use Rattle.nets.specs.Net.{Net, ControlNet, controlTables, axis}
 
 -- "each edge point the midpoint": of the side h, on one coordinate p of the vertices
 unfoldable pub sideMidpoint : Shape → List ℕ → (ℕ → ℤ) → ℕ → Fraction
@@ -50,7 +50,7 @@ split m =
     }
 
 abbrev startBy : List ℕ → ControlNet → Net
-startBy [] m = drawnTables m
+startBy [] m = controlTables m
 startBy (c ∷ s) m = split m
 
 -- the net where refining begins: "zero rounds gives the split net"; "a call without one, or with an empty one, is as before"

@@ -27,7 +27,7 @@ use Rattle.sidetable.specs.Table.{Linked}
 use Rattle.coordinates.specs.Points.{putPoint}
 use Rattle.coordinates.proofs.Points.{written-next}
 use Rattle.coordinates.proofs.Points.{put-point-is}
-use Rattle.splitpoints.specs.Points.{DrawnVertex, Corners, midpointOn, cornerOn, meanOn}
+use Rattle.splitpoints.specs.Points.{BoundedVertex, Corners, midpointOn, cornerOn, meanOn}
 use Rattle.splitvertices.specs.Passes.{Splittable, splitAxis, splitVertices, Made, SplitTurn, SplitTurned, met, passed}
 
 -- an entry of a table is the coordinate of a vertex
@@ -76,18 +76,18 @@ module _ (s l : List ℕ) (v : ℕ) (o : List ℤ) (ok : Splittable s l v o) whe
 
   -- ---- while the vertices below i are made
   module _ (t : List ℤ) (i : ℕ) (b : v ≤ i) (m : Made s l v o t i) where
-    pub drawn-axis : (a u : ℕ) → a < 3 → u < v → axis t a u ≡ axis (take (3 * v) o) a u
-    drawn-axis a u h k = made-axis s l v o t i a u m h (omega arith) ∙ old-axis a u k
+    pub control-axis : (a u : ℕ) → a < 3 → u < v → axis t a u ≡ axis (take (3 * v) o) a u
+    control-axis a u h k = made-axis s l v o t i a u m h (omega arith) ∙ old-axis a u k
 
-    pub drawn-vertex : (u : ℕ) → u < v → DrawnVertex t u
+    pub bounded-vertex : (u : ℕ) → u < v → BoundedVertex t u
     unfolding axis
-    drawn-vertex u k = record {
+    bounded-vertex u k = record {
       room = let r = ok .room in let e = m .kept in omega arith;
-      small = λ a h. let f = front in rw (drawn-axis a u h k) (ok .within .at (3 * u + a) (omega arith));
+      small = λ a h. let f = front in rw (control-axis a u h k) (ok .within .at (3 * u + a) (omega arith));
     }
 
-    pub corner-vertex : (g : ℕ) → g < length l → DrawnVertex t (from l g)
-    corner-vertex g k = drawn-vertex (from l g) (ok .oriented .below g k)
+    pub corner-vertex : (g : ℕ) → g < length l → BoundedVertex t (from l g)
+    corner-vertex g k = bounded-vertex (from l g) (ok .oriented .below g k)
 
     pub front-kept : take (3 * v) t ≡ take (3 * v) o
     front-kept =
@@ -96,7 +96,7 @@ module _ (s l : List ℕ) (v : ℕ) (o : List ℤ) (ok : Splittable s l v o) whe
         let e = m .kept in
         let g = length-take-le (3 * v) t (omega arith) in
         ext-getD (pos 0) (take (3 * v) t) (take (3 * v) o) (g ∙ sym f)
-        (λ k c. getD-take (3 * v) t k (pos 0) (omega arith) ∙ entry-axis t k ∙ drawn-axis (k % 3) (k / 3) (omega arith) (omega arith) ∙ sym (entry-axis (take (3 * v) o) k))
+        (λ k c. getD-take (3 * v) t k (pos 0) (omega arith) ∙ entry-axis t k ∙ control-axis (k % 3) (k / 3) (omega arith) (omega arith) ∙ sym (entry-axis (take (3 * v) o) k))
 
     -- so the table may be taken for the one at the start
     pub same-split : splitAxis s l v t ≡ splitAxis s l v o
@@ -134,14 +134,14 @@ module _ (s l : List ℕ) (v : ℕ) (o : List ℤ) (ok : Splittable s l v o) whe
     midpoint-made : (h a : ℕ) → h < length l → a < 3 → midpointOn t (from l h) (to S l h) a ≡ splitAxis s l v o a (v + edge S l h)
     unfolding midpointOn splitAxis to
     midpoint-made h a k c =
-        ap₂ (λ (x y : ℤ). round (x +ℤ y) 2) (drawn-axis a (from l h) c (ok .oriented .below h k))
-        (drawn-axis a (from l (S .next h)) c (ok .oriented .below (S .next h) (ok .oriented .shape .next-lt h k)))
+        ap₂ (λ (x y : ℤ). round (x +ℤ y) 2) (control-axis a (from l h) c (ok .oriented .below h k))
+        (control-axis a (from l (S .next h)) c (ok .oriented .below (S .next h) (ok .oriented .shape .next-lt h k)))
         ∙ sym (split-edge S v l (ok .oriented) (axis (take (3 * v) o) a) h k)
 
     -- ---- faces: face f has c corners, from g on
     corner-made : (g i a : ℕ) → a < 3 → g + i < length l → cornerOn t l g a i ≡ axis (take (3 * v) o) a (from l (g + i))
     unfolding cornerOn
-    corner-made g i a c h = drawn-axis a (from l (g + i)) c (ok .oriented .below (g + i) h)
+    corner-made g i a c h = control-axis a (from l (g + i)) c (ok .oriented .below (g + i) h)
 
     mean-made : (f a : ℕ) → f < length s → a < 3 → meanOn t l (total (take f s)) (getD s f 0) a ≡ splitAxis s l v o a (v + edgeCount S l + f)
     unfolding meanOn splitAxis

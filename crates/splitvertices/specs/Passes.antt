@@ -16,7 +16,7 @@ use Rattle.nets.specs.Net.{axis}
 use Rattle.splitting.specs.Splitting.{splitCoordinate}
 use Rattle.sidetable.specs.Table.{Linked}
 use Rattle.coordinates.specs.Points.{putPoint, PointsWritten}
-use Rattle.splitpoints.specs.Points.{DrawnVertex, midpointOn}
+use Rattle.splitpoints.specs.Points.{BoundedVertex, midpointOn}
 
 -- what the passes assume: t has room for the vertices of the split
 pub record Splittable (s l : List ℕ) (v : ℕ) (t : List ℤ) : Type 0 where
@@ -41,7 +41,7 @@ Made s l v o t i = PointsWritten (splitAxis s l v o) o t i
 pub record SplitTurn (s l w : List ℕ) (v : ℕ) (t : List ℤ) (h e : ℕ) : Type 0 where
   pub linked : Linked s l w
   pub lt : h < length l
-  pub ends : (g : ℕ) → g < length l → DrawnVertex t (from l g)
+  pub ends : (g : ℕ) → g < length l → BoundedVertex t (from l g)
   pub room : h < mate (shapeOf s) l h → 3 * (v + e) + 3 ≤ length t
 
 -- after it, with r edges met: the midpoint of its edge went to the table, or the edge was met before

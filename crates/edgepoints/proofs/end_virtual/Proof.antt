@@ -16,9 +16,9 @@ straight-virtual-requires c κs =
     let x = c .before in
     let p = x .before in
     let s = p .before .before .before in
-    let told = s .pre .1 .0 .1 in
+    let classed = s .pre .1 .0 .1 in
     let e = ap (ordinaryBy (s .args .work .now) (s .args .at) (s .args .initial)) (sym (p .start-of .ensures)) ∙ sym (x .is-ordinary .ensures) ∙ c .if1 .taken in
-    (s .pre .0, (s .pre .1 .0 .0, (s .pre .1 .1 .0, s .pre .1 .1 .1, told .ordinary _ (s .pre .1 .1 .0) e, s .pre .1 .1 .2)))
+    (s .pre .0, (s .pre .1 .0 .0, (s .pre .1 .1 .0, s .pre .1 .1 .1, classed .ordinary _ (s .pre .1 .1 .0) e, s .pre .1 .1 .2)))
 
 returns : tie.Need-returns
 returns c = search needs

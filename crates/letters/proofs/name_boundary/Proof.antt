@@ -3,14 +3,14 @@ use mathlib.Core.Path.{_≡_, refl, _∙_}
 use Prim.Native.Nat.{_-_, _%_, _≤_}
 use native.Mathlib.Omega.{arith}
 use lib.ListN.{length}
-use Rattle.letters.specs.Letters.{PutRight}
+use Rattle.letters.specs.Letters.{Corrected}
 use Rattle.letters.proofs.Letters.{nameable-kept}
 use Rattle.letters.proofs.Boundary.{put-none, put-then}
 use Rattle.letters.proofs.name_boundary.Statement.{statement}
 use Rattle.letters.proofs.name_boundary.Tie as tie
 
 abbrev Inv-loop : tie.InvT-loop
-Inv-loop letters₀ faces marks work first h₀ letters h = (h ≤ length faces) × (h % 4 ≡ 0) × (length letters ≡ length letters₀) × PutRight faces marks 0 h letters₀ letters
+Inv-loop letters₀ faces marks work first h₀ letters h = (h ≤ length faces) × (h % 4 ≡ 0) × (length letters ≡ length letters₀) × Corrected faces marks 0 h letters₀ letters
 
 abbrev μ-loop : tie.MeasureT-loop
 μ-loop letters₀ faces marks work first h₀ letters h = length faces - h

@@ -11,8 +11,8 @@ use Rattle.loading.proofs.Laws.{copy-vertices, copy-faces, copy-marks, 
 use Rattle.loading.proofs.load.Statement.{statement}
 use Rattle.loading.proofs.load.Tie as tie
 
-abbrev drawn : tie.Start → ControlNet
-drawn s = controlNet (s .args .vertices .now) (s .args .faces .now) (s .args .sides .now) (s .args .marks .now)
+abbrev control : tie.Start → ControlNet
+control s = controlNet (s .args .vertices .now) (s .args .faces .now) (s .args .sides .now) (s .args .marks .now)
 
 abbrev tables : tie.Start → Buffers
 tables s = buffers (s .args .out-vertices .now) (s .args .out-faces .now) (s .args .out-marks .now) (s .args .work .now)
@@ -38,13 +38,13 @@ abbrev left : tie.After-split-tables → Buffers
 left x = let o = x .split-tables .last in buffers (o .1 .1 .1 .1 .0) (o .1 .1 .1 .1 .1 .0) (o .1 .1 .1 .1 .1 .1 .0) (o .1 .1 .1 .1 .1 .1 .1 .0)
 
 copy-i32-requires : tie.Need-copy-i32-requires
-copy-i32-requires c κs = let x = c .before in let s = start x in copy-vertices (drawn s) (tables s) (s .pre) (x .if1 .taken)
+copy-i32-requires c κs = let x = c .before in let s = start x in copy-vertices (control s) (tables s) (s .pre) (x .if1 .taken)
 
 copy-u32-requires : tie.Need-copy-u32-requires
-copy-u32-requires c κs = let x = plain (c .before .before) in let s = start x in copy-faces (drawn s) (tables s) (s .pre) (x .if1 .taken)
+copy-u32-requires c κs = let x = plain (c .before .before) in let s = start x in copy-faces (control s) (tables s) (s .pre) (x .if1 .taken)
 
 copy-u8-requires : tie.Need-copy-u8-requires
-copy-u8-requires c κs = let x = plain (points (c .before .before .before)) in let s = start x in copy-marks (drawn s) (tables s) (s .pre) (x .if1 .taken)
+copy-u8-requires c κs = let x = plain (points (c .before .before .before)) in let s = start x in copy-marks (control s) (tables s) (s .pre) (x .if1 .taken)
 
 same-length : tie.Need-same-length
 same-length c = search needs
@@ -62,7 +62,7 @@ returns c =
     let x = points y in
     let t = plain x in
     let s = start t in
-    loaded-copy (drawn s) (tables s) (s .pre) (t .if1 .taken) _ (x .copy-i32 .ensures) (y .copy-u32 .ensures) (z .copy-u8 .ensures) refl
+    loaded-copy (control s) (tables s) (s .pre) (t .if1 .taken) _ (x .copy-i32 .ensures) (y .copy-u32 .ensures) (z .copy-u8 .ensures) refl
 
 split-tables-requires : tie.Need-split-tables-requires
 split-tables-requires c κs = search needs
@@ -74,14 +74,14 @@ slice-reshare-prefix-link-faces : tie.Need-slice-reshare-prefix-link-faces
 slice-reshare-prefix-link-faces c =
     let x = c .before .before .before .before .before .before .before in
     let s = begun x in
-    let k = faces-long (drawn s) (tables s) (s .pre) (counts x) (left x) (x .split-tables .result) (x .split-tables .ensures) (x .split-tables .kept .1 .1 .1 .1 .1 .1 .1 .0) in
+    let k = faces-long (control s) (tables s) (s .pre) (counts x) (left x) (x .split-tables .result) (x .split-tables .ensures) (x .split-tables .kept .1 .1 .1 .1 .1 .1 .1 .0) in
     omega arith
 
 slice-aggregate-link-faces : tie.Need-slice-aggregate-link-faces
 slice-aggregate-link-faces c =
     let x = c .before .before .before .before .before .before .before .before in
     let s = begun x in
-    sym (length-take-le (4 * length (s .args .faces .now)) (left x .faces) (faces-long (drawn s) (tables s) (s .pre) (counts x) (left x) (x .split-tables .result) (x .split-tables .ensures) (x .split-tables .kept .1 .1 .1 .1 .1 .1 .1 .0)))
+    sym (length-take-le (4 * length (s .args .faces .now)) (left x .faces) (faces-long (control s) (tables s) (s .pre) (counts x) (left x) (x .split-tables .result) (x .split-tables .ensures) (x .split-tables .kept .1 .1 .1 .1 .1 .1 .1 .0)))
 
 slice-aggregate-link-faces-2 : tie.Need-slice-aggregate-link-faces-2
 slice-aggregate-link-faces-2 c = search needs
@@ -90,7 +90,7 @@ link-faces-requires : tie.Need-link-faces-requires
 link-faces-requires c κs =
     let x = c .before .before .before .before .before .before .before .before .before .before in
     let s = begun x in
-    tables-split (drawn s) (tables s) (s .pre) (counts x) (left x) (x .split-tables .result) (x .split-tables .ensures) (x .split-tables .kept .1 .1 .1 .1 .1 .1 .1 .0)
+    tables-split (control s) (tables s) (s .pre) (counts x) (left x) (x .split-tables .result) (x .split-tables .ensures) (x .split-tables .kept .1 .1 .1 .1 .1 .1 .1 .0)
 
 same-length-4 : tie.Need-same-length-4
 same-length-4 c = search needs
@@ -109,7 +109,7 @@ returns-2 c =
     let y = c .before .before in
     let x = y .before .before .before .before .before .before .before .before .before .before .before in
     let s = begun x in
-    loaded-split (drawn s) (tables s) (s .pre) (counts x) (left x) (x .split-tables .result) (x .split-tables .ensures) (x .split-tables .kept .1 .1 .1 .1 .1 .1 .1 .0) _ (y .link-faces .ensures .0) (y .link-faces .ensures .1)
+    loaded-split (control s) (tables s) (s .pre) (counts x) (left x) (x .split-tables .result) (x .split-tables .ensures) (x .split-tables .kept .1 .1 .1 .1 .1 .1 .1 .0) _ (y .link-faces .ensures .0) (y .link-faces .ensures .1)
 
 pub load-spec : {M : Type 1} → statement M
 load-spec =

@@ -3,12 +3,12 @@ use native.Mathlib.Omega.{arith}
 use borrow.Author.Needs.{needs}
 use Rattle.nets.specs.Net.{ControlNet, controlNet}
 use Rattle.nets.specs.Buffers.{Buffers, buffers}
-use Rattle.loading.proofs.Laws.{copied-vertices, copied-marks, paired, linked₁, rest₁, faces-drawn, splittable, vertices-split, count-split, count-room, marks-room, marks-split, faces-split}
+use Rattle.loading.proofs.Laws.{copied-vertices, copied-marks, paired, linked₁, rest₁, numbered-faces, splittable, vertices-split, count-split, count-room, marks-room, marks-split, faces-split}
 use Rattle.loading.proofs.split_tables.Statement.{statement}
 use Rattle.loading.proofs.split_tables.Tie as tie
 
-abbrev drawn : tie.Start → ControlNet
-drawn s = controlNet (s .args .vertices .now) (s .args .faces .now) (s .args .sides .now) (s .args .marks .now)
+abbrev control : tie.Start → ControlNet
+control s = controlNet (s .args .vertices .now) (s .args .faces .now) (s .args .sides .now) (s .args .marks .now)
 
 abbrev tables : tie.Start → Buffers
 tables s = buffers (s .args .out-vertices .now) (s .args .out-faces .now) (s .args .out-marks .now) (s .args .work .now)
@@ -33,31 +33,31 @@ abbrev begun : tie.After-number-edges → tie.Start
 begun x = start (points (marked x))
 
 copy-i32-requires : tie.Need-copy-i32-requires
-copy-i32-requires c κs = let s = c .before .before .before .before .before .before .before in copied-vertices (drawn s) (tables s) (s .pre .0) (s .pre .1)
+copy-i32-requires c κs = let s = c .before .before .before .before .before .before .before in copied-vertices (control s) (tables s) (s .pre .0) (s .pre .1)
 
 copy-u8-requires : tie.Need-copy-u8-requires
-copy-u8-requires c κs = let s = start (c .before .before) in copied-marks (drawn s) (tables s) (s .pre .0) (s .pre .1)
+copy-u8-requires c κs = let s = start (c .before .before) in copied-marks (control s) (tables s) (s .pre .0) (s .pre .1)
 
 number-edges-requires : tie.Need-number-edges-requires
-number-edges-requires c κs = let s = start (points (c .before .before .before)) in paired (drawn s) (tables s) (s .pre .0) (s .pre .1)
+number-edges-requires c κs = let s = start (points (c .before .before .before)) in paired (control s) (tables s) (s .pre .0) (s .pre .1)
 
 new-points-requires : tie.Need-new-points-requires
 new-points-requires c κs =
     let x = c .before .before .before .before in
     let s = begun x in
-    (splittable (drawn s) (tables s) (s .pre .0) (s .pre .1) _ (points (marked x) .copy-i32 .ensures), linked₁ (drawn s) (tables s) (s .pre .0) (s .pre .1) _ (x .number-edges .ensures .1))
+    (splittable (control s) (tables s) (s .pre .0) (s .pre .1) _ (points (marked x) .copy-i32 .ensures), linked₁ (control s) (tables s) (s .pre .0) (s .pre .1) _ (x .number-edges .ensures .1))
 
 split-faces-requires : tie.Need-split-faces-requires
 split-faces-requires c κs =
     let x = numbered (c .before .before .before) in
     let s = begun x in
-    faces-drawn (drawn s) (tables s) (s .pre .0) (s .pre .1) _ (x .number-edges .ensures .1) _ (x .number-edges .ensures .0)
+    numbered-faces (control s) (tables s) (s .pre .0) (s .pre .1) _ (x .number-edges .ensures .1) _ (x .number-edges .ensures .0)
 
 add-count : tie.Need-add-count
 add-count c =
     let x = numbered (made (c .before .before)) in
     let s = begun x in
-    let k = count-room (drawn s) (tables s) (s .pre .0) (s .pre .1) _ (x .number-edges .ensures .0) in
+    let k = count-room (control s) (tables s) (s .pre .0) (s .pre .1) _ (x .number-edges .ensures .0) in
     let f = s .pre .0 .few in
     omega arith
 
@@ -65,7 +65,7 @@ add-count-2 : tie.Need-add-count-2
 add-count-2 c =
     let x = numbered (made (c .before .before)) in
     let s = begun x in
-    let k = count-room (drawn s) (tables s) (s .pre .0) (s .pre .1) _ (x .number-edges .ensures .0) in
+    let k = count-room (control s) (tables s) (s .pre .0) (s .pre .1) _ (x .number-edges .ensures .0) in
     let f = s .pre .0 .few in
     omega arith
 
@@ -73,7 +73,7 @@ extend-marks-requires : tie.Need-extend-marks-requires
 extend-marks-requires c κs =
     let x = numbered (made (c .before .before .before)) in
     let s = begun x in
-    (omega arith, marks-room (drawn s) (tables s) (s .pre .0) (s .pre .1) _ (x .number-edges .ensures .0) _ (marked x .copy-u8 .ensures))
+    (omega arith, marks-room (control s) (tables s) (s .pre .0) (s .pre .1) _ (x .number-edges .ensures .0) _ (marked x .copy-u8 .ensures))
 
 same-length : tie.Need-same-length
 same-length c = search needs
@@ -95,11 +95,11 @@ returns c =
     let x = numbered y in
     let s = begun x in
     record {
-      count = count-split (drawn s) (tables s) (s .pre .0) (s .pre .1) _ (x .number-edges .ensures .0);
-      vertices = vertices-split (drawn s) (tables s) (s .pre .0) (s .pre .1) _ (points (marked x) .copy-i32 .ensures) _ (y .new-points .ensures);
-      faces = faces-split (drawn s) (tables s) (s .pre .0) (s .pre .1) _ (z .split-faces .ensures);
-      marks = marks-split (drawn s) (tables s) (s .pre .0) (s .pre .1) _ (x .number-edges .ensures .0) _ (marked x .copy-u8 .ensures) _ (q .extend-marks .ensures);
-      rest = rest₁ (drawn s) (tables s) (s .pre .0) (s .pre .1) _ (x .number-edges .ensures .1);
+      count = count-split (control s) (tables s) (s .pre .0) (s .pre .1) _ (x .number-edges .ensures .0);
+      vertices = vertices-split (control s) (tables s) (s .pre .0) (s .pre .1) _ (points (marked x) .copy-i32 .ensures) _ (y .new-points .ensures);
+      faces = faces-split (control s) (tables s) (s .pre .0) (s .pre .1) _ (z .split-faces .ensures);
+      marks = marks-split (control s) (tables s) (s .pre .0) (s .pre .1) _ (x .number-edges .ensures .0) _ (marked x .copy-u8 .ensures) _ (q .extend-marks .ensures);
+      rest = rest₁ (control s) (tables s) (s .pre .0) (s .pre .1) _ (x .number-edges .ensures .1);
     }
 
 pub split-tables-spec : {M : Type 1} → statement M

@@ -4,7 +4,7 @@ use mathlib.Core.Path.{_≡_}
 use native.Mathlib.Omega.{arith}
 use lib.ListN.{length}
 use Rattle.polygons.specs.Polygons.{shapeOf}
-use Rattle.splitfaces.proofs.Faces.{drawn-kept, Splitting, splitting-none, splitting-next, splitting-all}
+use Rattle.splitfaces.proofs.Faces.{numbered-kept, Splitting, splitting-none, splitting-next, splitting-all}
 use Rattle.splitfaces.proofs.split_faces.Statement.{statement}
 use Rattle.splitfaces.proofs.split_faces.Tie as tie
 
@@ -22,7 +22,7 @@ split-face-requires c κs =
     let x = c .before in
     let q = x .before in
     let s = q .before .before .before .before .before in
-    (drawn-kept (s .args .sides .now) (s .args .faces .now) (s .args .work .now) (s .args .v) (s .args .edges) (s .args .out .now) (s .pre) (q .loop .out) (q .loop .inv .kept), x .loop-test .taken)
+    (numbered-kept (s .args .sides .now) (s .args .faces .now) (s .args .work .now) (s .args .v) (s .args .edges) (s .args .out .now) (s .pre) (q .loop .out) (q .loop .inv .kept), x .loop-test .taken)
 
 add-h : tie.Need-add-h Inv-loop μ-loop
 add-h c = omega arith

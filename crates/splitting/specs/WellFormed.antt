@@ -8,7 +8,7 @@ use Rattle.refusals.specs.Refusals.{badMark, markedRing, Unrefused}
 use Rattle.nets.specs.Net.{ControlNet}
 
 -- the tables have the lengths of a net, and refusals 6 to 12 hold nowhere in the net as it is drawn
-pub record Drawn (m : ControlNet) : Type 0 where
+pub record WellFormed (m : ControlNet) : Type 0 where
   pub threes : length (m .vertices) ≡ 3 * length (m .marks)
   pub sided : Sided (m .sides) (length (m .faces))
   pub no6 : first (badMark (m .marks)) (length (m .marks)) ≡ length (m .marks)
