@@ -152,7 +152,7 @@ cmake_finds() {
         && cmake -S "$scratch/find" -B "$scratch/find/build" -DCMAKE_PREFIX_PATH="$prefix" "${@:2}"
 }
 
-# of version 0.6.0, say
+# of version 0.7.0, say
 cmake_versions() {
     local major minor patch
     IFS=. read -r major minor patch <<<"$version"

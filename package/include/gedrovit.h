@@ -222,9 +222,9 @@
 #include <stdint.h>
 
 /* The version of this header. */
-#define GEDROVIT_VERSION "0.6.0"
+#define GEDROVIT_VERSION "0.7.0"
 #define GEDROVIT_VERSION_MAJOR 0
-#define GEDROVIT_VERSION_MINOR 6
+#define GEDROVIT_VERSION_MINOR 7
 #define GEDROVIT_VERSION_PATCH 0
 
 /* The same as a number, to be compared with gedrovit_version(), and at the end of a name. */
@@ -348,7 +348,7 @@ GEDROVIT_INLINE const char *gedrovit_reason_text(uint32_t reason) GEDROVIT_NOEXC
 
 /* How a point was made: the bytes of the letters above. */
 enum gedrovit_letter {
-    GEDROVIT_LETTER_DRAWN = 'V',
+    GEDROVIT_LETTER_CONTROL_VERTEX = 'V',
     GEDROVIT_LETTER_INSIDE_SEGMENT = 'A',
     GEDROVIT_LETTER_END_EDGE = 'B',
     GEDROVIT_LETTER_ONE_EDGE_SEGMENT = 'M',
@@ -362,7 +362,7 @@ enum gedrovit_letter {
 GEDROVIT_INLINE const char *gedrovit_letter_text(uint8_t letter) GEDROVIT_NOEXCEPT
 {
     switch (letter) {
-    case GEDROVIT_LETTER_DRAWN: return "drawn";
+    case GEDROVIT_LETTER_CONTROL_VERTEX: return "drawn";
     case GEDROVIT_LETTER_INSIDE_SEGMENT: return "on a boundary edge inside a segment or on a closed one";
     case GEDROVIT_LETTER_END_EDGE: return "on an end edge of a boundary segment";
     case GEDROVIT_LETTER_ONE_EDGE_SEGMENT: return "on a boundary segment of one edge";

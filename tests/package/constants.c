@@ -369,7 +369,7 @@ static void letters_of_points(void)
 {
     char due[10] = {0};
     square();
-    memset(due, GEDROVIT_LETTER_DRAWN, 4);
+    memset(due, GEDROVIT_LETTER_CONTROL_VERTEX, 4);
     lettered("drawn", 0, net(), due);
     memset(due + 4, GEDROVIT_LETTER_INSIDE_SEGMENT, 4);
     due[8] = GEDROVIT_LETTER_OTHER_FACE;

@@ -118,7 +118,7 @@ void letters()
     letters_of("letters: marked", 1, marked, "VVVVMMBBE");
     marked.sides = {4};
     letters_of("letters: split", 0, marked, "VVVVSSSSS");
-    expect("letters: text", gedrovit_letter_text(GEDROVIT_LETTER_DRAWN) == std::string("drawn"));
+    expect("letters: text", gedrovit_letter_text(GEDROVIT_LETTER_CONTROL_VERTEX) == std::string("drawn"));
 }
 
 // Two calls on one record, the second up to the limit, and a third beyond it, which the check does not judge.

@@ -172,7 +172,7 @@ pub extern "C" fn gedrovit_version() -> u32
 
 // The same under a name that has the version in it: a program that was compiled with another version's header does not link.
 #[no_mangle]
-pub extern "C" fn gedrovit_version_0_6_0() -> u32
+pub extern "C" fn gedrovit_version_0_7_0() -> u32
     ensures { λ r. ⌜ r ≡ version ⌝ }
 {
     gedrovit_version()

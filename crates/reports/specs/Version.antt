@@ -5,11 +5,11 @@ abbrev pub major : ℕ
 major = 0
 
 abbrev pub minor : ℕ
-minor = 6
+minor = 7
 
 abbrev pub patch : ℕ
 patch = 0
 
--- as one number: 0.6.0 is 6000
+-- as one number: 0.7.0 is 7000
 abbrev pub version : ℕ
 version = 1000000 * major + 1000 * minor + patch

@@ -113,5 +113,5 @@ pub fn sizes_for(rounds: u32, vertices: usize, faces: usize, sides: &[u8], marks
 pub fn version() -> u32
     ensures { λ r. ⌜ r ≡ version.version ⌝ }
 {
-    6000
+    7000
 }

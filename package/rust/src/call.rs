@@ -1,11 +1,11 @@
 //! The functions of the archive over slices.
 
 use crate::foreign::{
-    gedrovit_check, gedrovit_refine, gedrovit_sizes_for, gedrovit_version, gedrovit_version_0_6_0,
+    gedrovit_check, gedrovit_refine, gedrovit_sizes_for, gedrovit_version, gedrovit_version_0_7_0,
 };
 use crate::{NetView, Refusal, Tables, Tally};
 
-/// The version of the archive: 0.6.0 is 6000.
+/// The version of the archive: 0.7.0 is 7000.
 #[must_use]
 pub fn version() -> u32 {
     // SAFETY: the function takes nothing.
@@ -16,7 +16,7 @@ pub fn version() -> u32 {
 /// another version does not link.
 fn same_version() {
     // SAFETY: the function takes nothing.
-    unsafe { gedrovit_version_0_6_0() };
+    unsafe { gedrovit_version_0_7_0() };
 }
 
 /// How many vertices and faces a refined net has.

@@ -38,7 +38,7 @@ pub struct Sizes {
 unsafe extern "C" {
     pub fn gedrovit_version() -> u32;
 
-    pub fn gedrovit_version_0_6_0() -> u32;
+    pub fn gedrovit_version_0_7_0() -> u32;
 
     pub fn gedrovit_refine(
         tally: *mut Tally,

@@ -7,8 +7,8 @@ use std::fmt;
 #[derive(Clone, Copy, Debug, PartialEq, Eq, PartialOrd, Ord, Hash)]
 #[non_exhaustive]
 pub enum Letter {
-    /// `V`: drawn.
-    Drawn,
+    /// `V`: drawn, that is a vertex of the control net.
+    ControlVertex,
     /// `A`: on a boundary edge, both ends unmarked: inside an open segment, or anywhere on a closed
     /// one.
     InsideSegment,
@@ -32,7 +32,7 @@ use Letter::*;
 
 /// The known letters with their bytes.
 const ALL: [(u8, Letter); 8] = [
-    (b'V', Drawn),
+    (b'V', ControlVertex),
     (b'A', InsideSegment),
     (b'B', EndEdge),
     (b'M', OneEdgeSegment),
@@ -59,7 +59,7 @@ impl Letter {
     #[must_use]
     pub fn text(self) -> &'static str {
         match self {
-            Drawn => "drawn",
+            ControlVertex => "drawn",
             InsideSegment => "on a boundary edge inside a segment or on a closed one",
             EndEdge => "on an end edge of a boundary segment",
             OneEdgeSegment => "on a boundary segment of one edge",

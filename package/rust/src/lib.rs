@@ -51,7 +51,7 @@
 //! let letters: String = traced.letters.iter().map(Letter::to_string).collect();
 //! assert_eq!(letters, "VVVVMMBBE");
 //! assert_eq!(traced.letters[4].text(), "on a boundary segment of one edge");
-//! let drawn = traced.letters.iter().filter(|&&letter| letter == Letter::Drawn);
+//! let drawn = traced.letters.iter().filter(|&&letter| letter == Letter::ControlVertex);
 //! assert_eq!(drawn.count(), 4);
 //! # Ok::<(), gedrovit::Refusal>(())
 //! ```

@@ -9,7 +9,7 @@ use crate::step::{Directions, Rule, refine_once};
 #[derive(Clone, Copy, Debug, PartialEq, Eq, Hash, PartialOrd, Ord)]
 pub enum Letter {
     /// "V drawn".
-    Drawn,
+    ControlVertex,
     /// "A within a stretch or round an unmarked loop".
     InsideSegment,
     /// "B end edge".
@@ -29,7 +29,7 @@ pub enum Letter {
 
 impl Letter {
     pub const ALL: [Self; 8] = [
-        Self::Drawn,
+        Self::ControlVertex,
         Self::InsideSegment,
         Self::EndEdge,
         Self::OneEdge,
@@ -41,7 +41,7 @@ impl Letter {
 
     pub fn byte(self) -> u8 {
         match self {
-            Self::Drawn => b'V',
+            Self::ControlVertex => b'V',
             Self::InsideSegment => b'A',
             Self::EndEdge => b'B',
             Self::OneEdge => b'M',
@@ -77,7 +77,7 @@ impl From<Rule> for Letter {
 /// The letters where refining begins, with so many vertices, of which so many
 /// are drawn.
 pub fn start_letters(vertices: usize, drawn: usize) -> Vec<Letter> {
-    let mut letters = vec![Letter::Drawn; drawn];
+    let mut letters = vec![Letter::ControlVertex; drawn];
     letters.resize(vertices, Letter::Split);
     letters
 }
