@@ -165,7 +165,7 @@ def net_text(name, net, sides=()):
     return kind, f"abbrev {name} : {kind}\n{name} = {net_record(net, sides)}\n"
 
 
-def lent_text(tables):
+def given_text(tables):
     vertices, *others = tables
     fields = [f"vertices = {integers(vertices)}"] + [f"{name} = {naturals(table)}" for name, table in zip(("faces", "marks", "work"), others)]
     return "; ".join(fields)
@@ -209,15 +209,15 @@ def verdict_facts(label, case):
 def outcome_facts(label, case):
     """What the call reports, and the record and every lent table, the letters too, as it returns."""
     call = case["call"]
-    if "lent" not in call:
+    if "given" not in call:
         return
     counts, refusal, (before, after), rounds = call["counts"], call["refusal"], call["tally"], call["rounds"]
     result = f"refinedTo {counts[0]} {counts[1]}" if counts else f"refusedWith {refusal[0]} {refusal[1]}"
     size = len(case["net"][1]) // (1 if "sides" in case else 4)
     cost = 0.3 + (0.1 * size**2 if rounds else 0)
-    letters = f"letterTable {truth(call['asked'])} ({naturals(call['lent_letters'])})"
-    asked = f"request {before} {rounds} {drawn(label, case)} {call['tension']} (record {{ {lent_text(call['lent'])} }}) ({letters})"
-    left = f"buffers = record {{ {lent_text(call['left'])} }}; letters = {naturals(call['left_letters'])}"
+    letters = f"letterTable {truth(call['asked'])} ({naturals(call['given_letters'])})"
+    asked = f"request {before} {rounds} {drawn(label, case)} {call['tension']} (record {{ {given_text(call['given'])} }}) ({letters})"
+    left = f"buffers = record {{ {given_text(call['left'])} }}; letters = {naturals(call['left_letters'])}"
     yield "Outcome", "outcome", f"outcome ({asked})", f"record {{ result = {result}; tally = {after}; {left} }}", cost
 
 
@@ -785,7 +785,7 @@ def print_coverage(cases, options):
     traits = collections.Counter(trait for case in cases for trait in case["traits"])
     by_number = sorted(traits, key=lambda trait: re.sub(r"\d+", lambda digits: digits.group().zfill(2), trait))
     print("nets with: " + ", ".join(f"{trait}: {traits[trait]}" for trait in by_number))
-    lent = sum("lent" in case.get("call", {}) for case in cases)
+    lent = sum("given" in case.get("call", {}) for case in cases)
     print(f"crate `seam`: {f'lists of points and marks of the readings in nets of up to {SEAM_CORNERS // 4} faces' if options.seam else 'not there'}")
     print(f"crate `outcome`: {f'{lent} small calls with their lent tables' if options.outcome else 'not there'}")
 

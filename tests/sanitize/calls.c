@@ -83,24 +83,24 @@ static size_t known(const head *h, int table)
     return table == OUT_VERTICES ? 12 * h->vertices : table == OUT_FACES ? 16 * h->faces : h->vertices;
 }
 
-static void lend(const call *c, manner how, void **lent)
+static void give(const call *c, manner how, void **given)
 {
     for (int t = 0; t < TABLES; t++) {
         size_t bytes = bytes_of(&c->head, t), missing = how == SHORT_WORK && t == WORK && bytes ? entry[t] : 0;
-        lent[t] = block(bytes - missing);
+        given[t] = block(bytes - missing);
         if (t < OUT_VERTICES || how != UNINITIALISED)
-            memcpy(lent[t], c->before[t], bytes - missing);
+            memcpy(given[t], c->before[t], bytes - missing);
     }
 }
 
 /* the check is not lent the outputs */
-static int tables_agree(const call *c, manner how, function which, void **lent)
+static int tables_agree(const call *c, manner how, function which, void **given)
 {
     for (int t = 0; t < TABLES; t++) {
         size_t compared = how == UNINITIALISED ? known(&c->head, t) : bytes_of(&c->head, t);
         if (which == CHECK && t >= OUT_VERTICES && t <= LETTERS)
             continue;
-        if (memcmp(lent[t], c->after[t], compared) != 0) {
+        if (memcmp(given[t], c->after[t], compared) != 0) {
             printf("%s differ\n", names[t]);
             return 0;
         }
@@ -108,29 +108,29 @@ static int tables_agree(const call *c, manner how, function which, void **lent)
     return 1;
 }
 
-static gedrovit_report refine(const head *h, gedrovit_tally *tally, void **lent)
+static gedrovit_report refine(const head *h, gedrovit_tally *tally, void **given)
 {
     const uint64_t *n = h->length;
-    return gedrovit_refine(tally, (uint32_t)h->rounds, lent[VERTICES], n[VERTICES], lent[FACES], n[FACES], lent[SIDES], n[SIDES], lent[MARKS], n[MARKS],
-                           (uint32_t)h->tension, lent[OUT_VERTICES], n[OUT_VERTICES], lent[OUT_FACES], n[OUT_FACES], lent[OUT_MARKS], n[OUT_MARKS],
-                           h->with_letters != 0, lent[LETTERS], n[LETTERS], lent[WORK], n[WORK]);
+    return gedrovit_refine(tally, (uint32_t)h->rounds, given[VERTICES], n[VERTICES], given[FACES], n[FACES], given[SIDES], n[SIDES], given[MARKS], n[MARKS],
+                           (uint32_t)h->tension, given[OUT_VERTICES], n[OUT_VERTICES], given[OUT_FACES], n[OUT_FACES], given[OUT_MARKS], n[OUT_MARKS],
+                           h->with_letters != 0, given[LETTERS], n[LETTERS], given[WORK], n[WORK]);
 }
 
 /* the check gives the same reason and place, but for 15 */
-static int check_agrees(const head *h, void **lent)
+static int check_agrees(const head *h, void **given)
 {
     const uint64_t *n = h->length;
-    const gedrovit_finding f = gedrovit_check((uint32_t)h->rounds, lent[VERTICES], n[VERTICES], lent[FACES], n[FACES], lent[SIDES], n[SIDES], lent[MARKS],
+    const gedrovit_finding f = gedrovit_check((uint32_t)h->rounds, given[VERTICES], n[VERTICES], given[FACES], n[FACES], given[SIDES], n[SIDES], given[MARKS],
                                               n[MARKS], (uint32_t)h->tension, n[OUT_VERTICES], n[OUT_FACES], n[OUT_MARKS], h->with_letters != 0, n[LETTERS],
-                                              lent[WORK], n[WORK]);
+                                              given[WORK], n[WORK]);
     return f.reason == (h->reason == 15 ? 0 : h->reason) && f.place == h->place;
 }
 
-static int refine_agrees(const head *h, void **lent)
+static int refine_agrees(const head *h, void **given)
 {
     gedrovit_tally *tally = block(sizeof *tally);
     tally->points = h->tally_before;
-    const gedrovit_report r = refine(h, tally, lent);
+    const gedrovit_report r = refine(h, tally, given);
     const int same = r.reason == h->reason && r.place == h->place && r.vertices == h->vertices && r.faces == h->faces && tally->points == h->tally_after;
     free(tally);
     return same;
@@ -141,10 +141,10 @@ static int sizes_agree(const call *c)
 {
     const head *h = &c->head;
     const uint64_t *n = h->length;
-    void *lent[TABLES];
-    lend(c, AS_DUMPED, lent);
-    gedrovit_sizes s = gedrovit_sizes_for((uint32_t)h->rounds, n[VERTICES], n[FACES], lent[SIDES], n[SIDES], n[MARKS]);
-    free_all(lent);
+    void *given[TABLES];
+    give(c, AS_DUMPED, given);
+    gedrovit_sizes s = gedrovit_sizes_for((uint32_t)h->rounds, n[VERTICES], n[FACES], given[SIDES], n[SIDES], n[MARKS]);
+    free_all(given);
     if ((h->reason >= 1 && h->reason <= 3) || h->reason == 14)
         return s.reason == h->reason && s.work == 0;
     return s.reason == 0 && s.work == 16 * refined_faces(h);
@@ -153,11 +153,11 @@ static int sizes_agree(const call *c)
 static int agrees(const call *c, manner how, function which)
 {
     const head *h = &c->head;
-    void *lent[TABLES];
-    lend(c, how, lent);
-    int same = which == CHECK ? check_agrees(h, lent) : refine_agrees(h, lent);
-    same = how == SHORT_WORK || (same && tables_agree(c, how, which, lent));
-    free_all(lent);
+    void *given[TABLES];
+    give(c, how, given);
+    int same = which == CHECK ? check_agrees(h, given) : refine_agrees(h, given);
+    same = how == SHORT_WORK || (same && tables_agree(c, how, which, given));
+    free_all(given);
     return same;
 }
 

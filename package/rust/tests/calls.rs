@@ -520,7 +520,7 @@ fn limits_count_the_corners_where_there_are_side_counts() {
 }
 
 #[test]
-fn places_are_those_of_drawn_faces() {
+fn places_are_those_of_control_faces() {
     let twice = NetView::new(&[0; 9], &[0, 1, 2, 2, 1, 2], &[0; 3]).with_sides(&[3, 3]);
     assert_eq!(refined(twice, 0), Err(refusal(Reason::InvalidCorner, 1)));
     let turned = NetView::new(&[0; 12], &[0, 1, 2, 0, 1, 3], &[0; 4]).with_sides(&[3, 3]);

@@ -8,7 +8,7 @@ use reference::refusal::Capacity;
 
 use nets::case::Case;
 
-use crate::lent::{Lent, Side};
+use crate::guarded::{Guarded, Side};
 
 pub use foreign::{Finding, Report, Sizes};
 use foreign::{gedrovit_check, gedrovit_refine, gedrovit_sizes_for};
@@ -39,10 +39,10 @@ impl Zones {
 /// The tables that a call reads, its rounds and its tension.
 pub struct Inputs {
     pub rounds: u32,
-    pub vertices: Lent<i32>,
-    pub faces: Lent<u32>,
-    pub sides: Lent<u8>,
-    pub marks: Lent<u8>,
+    pub vertices: Guarded<i32>,
+    pub faces: Guarded<u32>,
+    pub sides: Guarded<u8>,
+    pub marks: Guarded<u8>,
     pub tension: u32,
 }
 
@@ -50,10 +50,10 @@ impl Inputs {
     pub fn new(case: &Case, zones: Zones) -> Self {
         Self {
             rounds: case.rounds,
-            vertices: Lent::read_only(&case.vertices, zones.of(0)),
-            faces: Lent::read_only(&case.faces, zones.of(1)),
-            sides: Lent::read_only(&case.sides, zones.of(7)),
-            marks: Lent::read_only(&case.marks, zones.of(2)),
+            vertices: Guarded::read_only(&case.vertices, zones.of(0)),
+            faces: Guarded::read_only(&case.faces, zones.of(1)),
+            sides: Guarded::read_only(&case.sides, zones.of(7)),
+            marks: Guarded::read_only(&case.marks, zones.of(2)),
             tension: case.tension,
         }
     }
@@ -83,30 +83,30 @@ impl Inputs {
 
 /// The tables that a call writes.
 pub struct Outputs {
-    pub vertices: Lent<i32>,
-    pub faces: Lent<u32>,
-    pub marks: Lent<u8>,
+    pub vertices: Guarded<i32>,
+    pub faces: Guarded<u32>,
+    pub marks: Guarded<u8>,
     /// Whether letters are asked for; their table is given in any case.
     pub with_letters: bool,
-    pub letters: Lent<u8>,
-    pub work: Lent<u32>,
+    pub letters: Guarded<u8>,
+    pub work: Guarded<u32>,
 }
 
 impl Outputs {
     pub fn new(found: &Tables, zones: Zones) -> Self {
         Self {
-            vertices: Lent::new(&found.vertices, zones.of(3)),
-            faces: Lent::new(&found.faces, zones.of(4)),
-            marks: Lent::new(&found.marks, zones.of(5)),
+            vertices: Guarded::new(&found.vertices, zones.of(3)),
+            faces: Guarded::new(&found.faces, zones.of(4)),
+            marks: Guarded::new(&found.marks, zones.of(5)),
             with_letters: found.with_letters,
-            letters: Lent::new(&found.letters, zones.of(9)),
+            letters: Guarded::new(&found.letters, zones.of(9)),
             work: Self::work(found, zones),
         }
     }
 
     /// The work table alone, for the check.
-    pub fn work(found: &Tables, zones: Zones) -> Lent<u32> {
-        Lent::new(&found.workspace, zones.of(6))
+    pub fn work(found: &Tables, zones: Zones) -> Guarded<u32> {
+        Guarded::new(&found.workspace, zones.of(6))
     }
 
     /// What is not as expected.
@@ -148,12 +148,12 @@ pub struct Refined {
 }
 
 /// The record of new points with this figure.
-pub fn record(tally: u64, zones: Zones) -> Lent<u64> {
-    Lent::new(&[tally], zones.of(8))
+pub fn record(tally: u64, zones: Zones) -> Guarded<u64> {
+    Guarded::new(&[tally], zones.of(8))
 }
 
 /// The check, with output tables of these lengths.
-pub fn check(inputs: &Inputs, room: &Capacity, work: &mut Lent<u32>) -> Finding {
+pub fn check(inputs: &Inputs, room: &Capacity, work: &mut Guarded<u32>) -> Finding {
     // SAFETY: every pointer is lent with its length and lives through the call.
     unsafe {
         gedrovit_check(
@@ -179,7 +179,7 @@ pub fn check(inputs: &Inputs, room: &Capacity, work: &mut Lent<u32>) -> Finding 
 }
 
 /// The refining call.
-pub fn refine(record: &mut Lent<u64>, inputs: &Inputs, outputs: &mut Outputs) -> Report {
+pub fn refine(record: &mut Guarded<u64>, inputs: &Inputs, outputs: &mut Outputs) -> Report {
     // SAFETY: every pointer is lent with its length and lives through the call.
     unsafe {
         gedrovit_refine(
@@ -211,7 +211,7 @@ pub fn refine(record: &mut Lent<u64>, inputs: &Inputs, outputs: &mut Outputs) ->
 
 /// The lengths to provide for a net with these side counts and with vertex,
 /// face and mark tables of these lengths.
-pub fn sizes_for(rounds: u32, lengths: [usize; 3], sides: &Lent<u8>) -> Sizes {
+pub fn sizes_for(rounds: u32, lengths: [usize; 3], sides: &Guarded<u8>) -> Sizes {
     let [vertices, faces, marks] = lengths;
     // SAFETY: the pointer is lent with its length and lives through the call.
     unsafe {

@@ -8,7 +8,7 @@ use reference::refusal::{Capacity, check_call};
 use crate::capi::{
     Finding, Inputs, Outputs, Refined, Report, Sizes, Zones, check, record, refine, sizes_for,
 };
-use crate::lent::Lent;
+use crate::guarded::Guarded;
 
 /// A call with what the reference says of it.
 pub struct Known {
@@ -49,9 +49,9 @@ impl Known {
     /// record, wherever these lie: each touches either zone in turn. The result
     /// is what the refining call gave, if anything.
     pub fn compare(&self, rng: &mut Rng) -> Result<Option<Refined>, String> {
-        let drawn = Zones(rng.next_u64());
-        self.compare_at(drawn)?;
-        self.compare_at(drawn.opposite())
+        let generated = Zones(rng.next_u64());
+        self.compare_at(generated)?;
+        self.compare_at(generated.opposite())
     }
 
     fn compare_at(&self, zones: Zones) -> Result<Option<Refined>, String> {
@@ -63,7 +63,7 @@ impl Known {
     }
 
     /// The refining call alone, on a record that other calls left so.
-    pub fn compare_on(&self, record: &mut Lent<u64>, rng: &mut Rng) -> Result<(), String> {
+    pub fn compare_on(&self, record: &mut Guarded<u64>, rng: &mut Rng) -> Result<(), String> {
         let zones = Zones(rng.next_u64());
         let inputs = Inputs::new(&self.case, zones);
         self.compare_refine(record, &inputs, zones).map(drop)
@@ -97,7 +97,7 @@ impl Known {
 
     fn compare_refine(
         &self,
-        record: &mut Lent<u64>,
+        record: &mut Guarded<u64>,
         inputs: &Inputs,
         zones: Zones,
     ) -> Result<Option<Refined>, String> {

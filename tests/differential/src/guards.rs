@@ -6,7 +6,7 @@ use std::io::{self, BufRead, BufReader};
 use std::os::unix::process::ExitStatusExt;
 use std::process::{Child, Command, ExitStatus, Stdio};
 
-use crate::lent::{Lent, Side};
+use crate::guarded::{Guarded, Side};
 use crate::options::What;
 
 /// Begins a line that announces the next comparison by the arguments that
@@ -142,8 +142,8 @@ pub fn stray(number: u64) -> Result<String, String> {
     };
     let zeros = vec![0_u32; length];
     let table = match access {
-        Access::Overwrite => Lent::read_only(&zeros, side),
-        Access::Read | Access::Write => Lent::new(&zeros, side),
+        Access::Overwrite => Guarded::read_only(&zeros, side),
+        Access::Read | Access::Write => Guarded::new(&zeros, side),
     };
     table.touch(entry, access != Access::Read);
     table

@@ -10,7 +10,7 @@ mod dump;
 mod guards;
 mod huge;
 mod lengths;
-mod lent;
+mod guarded;
 mod moves;
 mod named;
 mod options;
@@ -27,7 +27,7 @@ use std::process::ExitCode;
 use compare::Known;
 use dump::Dump;
 use options::{Mode, Options, USAGE, What};
-use run::{Run, drawn, rng};
+use run::{Run, generated, rng};
 
 /// Calls with longer work tables are not dumped.
 const DUMPED_WORK: usize = 20_000;
@@ -72,7 +72,7 @@ fn dump(options: &Options, path: &Path) -> Result<String, String> {
     for what in [What::Net, What::Polygons, What::Named, What::Valence] {
         for number in 0..what.count(options.nets) {
             let rng = &mut rng(options.seed, number);
-            let case = drawn(what, number, rng).1;
+            let case = generated(what, number, rng).1;
             if case.capacity.workspace <= DUMPED_WORK {
                 let known = Known::new(case, rng)?;
                 dump.add(&known).map_err(|error| error.to_string())?;

@@ -3,7 +3,7 @@
 use std::collections::BTreeSet;
 use std::fmt::{self, Display, Formatter};
 
-use nets::case::{Case, Drawn};
+use nets::case::{Case, ControlNet};
 use nets::features::Met;
 use nets::letters::fit_letters;
 use nets::named::{Dressing, Family, NAMED, Named, by_turns, crowd};
@@ -43,9 +43,9 @@ pub const CROWD_COUNT: u64 = CROWDS.len() as u64;
 pub fn crowd_call(number: u64, rng: &mut Rng) -> (String, Case) {
     let at = usize::try_from(number % CROWD_COUNT).expect("below a length");
     let (rounds, has_sides) = CROWDS[at];
-    let drawn = crowd(262_144 >> (2 * rounds), has_sides, rng);
+    let control = crowd(262_144 >> (2 * rounds), has_sides, rng);
     let sides = if has_sides { "with" } else { "without" };
-    let case = with_all(drawn.accepted_case(Tension::OLD, rounds), rng);
+    let case = with_all(control.accepted_case(Tension::OLD, rounds), rng);
     (format!("crowd {sides} side counts"), case)
 }
 
@@ -57,7 +57,7 @@ pub struct NamedNets {
 }
 
 /// A net of the series with its name and its tension.
-fn named(number: u64, rng: &mut Rng) -> (&'static Named, String, Drawn, Tension) {
+fn named(number: u64, rng: &mut Rng) -> (&'static Named, String, ControlNet, Tension) {
     let number = usize::try_from(number).expect("a number in memory");
     let (named, dressing, tension) = by_turns(number);
     let name = format!("{} {}", dressing.name(), named.name);
@@ -66,21 +66,21 @@ fn named(number: u64, rng: &mut Rng) -> (&'static Named, String, Drawn, Tension)
 
 /// One call of the series with its name.
 pub fn named_call(number: u64, rng: &mut Rng) -> (String, Case) {
-    let (_, name, drawn, tension) = named(number, rng);
-    let rounds = most_rounds(drawn.quadrilaterals(), MAX_ROUNDS, MOST_FACES);
-    (name, dressed_case(&drawn, tension, rounds, rng))
+    let (_, name, control, tension) = named(number, rng);
+    let rounds = most_rounds(control.quadrilaterals(), MAX_ROUNDS, MOST_FACES);
+    (name, dressed_case(&control, tension, rounds, rng))
 }
 
 /// An accepted call with any figure in its record, with letters or without.
-fn dressed_case(drawn: &Drawn, tension: Tension, rounds: u32, rng: &mut Rng) -> Case {
-    let case = accepted_tally(drawn.accepted_case(tension, rounds), rng);
+fn dressed_case(control: &ControlNet, tension: Tension, rounds: u32, rng: &mut Rng) -> Case {
+    let case = accepted_tally(control.accepted_case(tension, rounds), rng);
     fit_letters(case, rng)
 }
 
 /// Most refined faces of a net of the series.
 fn most_faces(number: u64, named: &Named) -> usize {
     let is_first = number < NAMED.len() as u64;
-    match named.drawn.quadrilaterals() {
+    match named.control.quadrilaterals() {
         1..=5 if is_first && !named.family.has_marks() => MOST_DEEP_FACES,
         _ if is_first => MOST_FIRST_FACES,
         _ => MOST_FACES,
@@ -114,13 +114,13 @@ impl NamedNets {
         retraced: &mut Retraced,
         rng: &mut Rng,
     ) -> Result<(), String> {
-        let (named, name, drawn, tension) = named(number, rng);
+        let (named, name, control, tension) = named(number, rng);
         let most_faces = most_faces(number, named);
-        let most = most_rounds(drawn.quadrilaterals(), MAX_ROUNDS, most_faces);
+        let most = most_rounds(control.quadrilaterals(), MAX_ROUNDS, most_faces);
         let mut later = BTreeSet::new();
         let mut before: Option<Net> = None;
         for rounds in 0..=most {
-            let case = dressed_case(&drawn, tension, rounds, rng);
+            let case = dressed_case(&control, tension, rounds, rng);
             let given = self.refined(&name, &case, rng, |given| {
                 retraced.compare_last(&case, before.as_ref(), given)
             })?;
@@ -132,8 +132,8 @@ impl NamedNets {
             before = Some(given.net);
         }
         for other in Tension::ALL.into_iter().filter(|&other| other != tension) {
-            let rounds = most_rounds(drawn.quadrilaterals(), MAX_ROUNDS, MOST_OTHER_FACES).max(1);
-            let case = dressed_case(&drawn, other, rounds, rng);
+            let rounds = most_rounds(control.quadrilaterals(), MAX_ROUNDS, MOST_OTHER_FACES).max(1);
+            let case = dressed_case(&control, other, rounds, rng);
             self.refined(&name, &case, rng, |given| retraced.compare(&case, given))?;
         }
         coverage.add_later(&later);

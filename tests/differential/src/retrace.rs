@@ -43,7 +43,7 @@ impl Retraced {
         if refined.letters.is_none() || refined.net.faces.len() > MOST_FACES {
             return Ok(());
         }
-        let start = drawn_start(case);
+        let start = control_start(case);
         self.compare_start(case, &start, refined)?;
         let mut before = start;
         let tension = tension_of(case);
@@ -73,14 +73,14 @@ impl Retraced {
                 let vertices = refined.net.points.len();
                 self.compare_round(before, tension_of(case), vertices, refined)
             }
-            None => self.compare_start(case, &drawn_start(case), refined),
+            None => self.compare_start(case, &control_start(case), refined),
         }
     }
 
     fn compare_start(&mut self, case: &Case, start: &Net, refined: &Refined) -> Result<(), String> {
-        let (count, drawn) = (start.points.len(), case.marks.len());
+        let (count, control) = (start.points.len(), case.marks.len());
         let (points, letters) = front(refined, count)?;
-        if !start_is_by_letters(start, drawn, points, letters) {
+        if !start_is_by_letters(start, control, points, letters) {
             return Err("a point where refining begins is not as its letter says".to_owned());
         }
         self.add(letters);
@@ -114,7 +114,7 @@ impl Retraced {
 }
 
 /// The net where the refining of an accepted call begins.
-fn drawn_start(case: &Case) -> Net {
+fn control_start(case: &Case) -> Net {
     start_net(&case.net()).expect("an accepted net")
 }
 

@@ -32,7 +32,7 @@ pub fn rng(seed: u64, number: u64) -> Rng {
 
 /// A call of a series of nets, and its kind. Nets to move are of the next kind,
 /// so that they are others, and few are of the largest.
-pub fn drawn(what: What, number: u64, rng: &mut Rng) -> (String, Case) {
+pub fn generated(what: What, number: u64, rng: &mut Rng) -> (String, Case) {
     let at = match what {
         What::Moved | What::MovedPolygons => number + 1,
         _ => number,
@@ -149,8 +149,8 @@ impl Run {
             | What::MovedPolygons
             | What::Crowd
             | What::Valence => {
-                let drawn = drawn(what, number, rng);
-                self.net(what, drawn, rng)
+                let generated = generated(what, number, rng);
+                self.net(what, generated, rng)
             }
             What::Stored => self.net(what, stored(number), rng),
             What::Series => self.series.compare(rng),

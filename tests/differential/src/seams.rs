@@ -2,7 +2,7 @@
 
 use std::fmt::{self, Display, Formatter};
 
-use nets::case::Drawn;
+use nets::case::ControlNet;
 use nets::letters::fit_letters;
 use nets::pairs::{SharedPair, shared_pair, shared_polygon_pair};
 use nets::rng::Rng;
@@ -77,8 +77,8 @@ impl Seams {
     /// those of the nets where refining begins. "Two panels keep their seam if
     /// their tensions are equal too."
     pub fn compare_pair(&mut self, rng: &mut Rng) -> Result<(), String> {
-        let (pair, faces) = self.drawn_pair(rng);
-        let starts = pair.nets.each_ref().map(Drawn::start);
+        let (pair, faces) = self.generated_pair(rng);
+        let starts = pair.nets.each_ref().map(ControlNet::start);
         let shared = shared_readings(&starts[0], &starts[1]);
         if !shared.contains(&pair.readings.into()) {
             return Err("the nets do not share what was drawn".to_owned());
@@ -129,7 +129,7 @@ impl Seams {
 
     /// A pair of nets with the most faces after refining; some have so few
     /// faces that many rounds are made.
-    fn drawn_pair(&self, rng: &mut Rng) -> (SharedPair, usize) {
+    fn generated_pair(&self, rng: &mut Rng) -> (SharedPair, usize) {
         if !rng.one_in(20) {
             return ((self.draw)(rng), rng.pick(&[64, 256, 256, 256, 1_024]));
         }
@@ -178,7 +178,7 @@ impl Display for Seams {
 }
 
 /// The net that the call through C gives.
-fn refined(net: &Drawn, tension: Tension, rounds: u32, rng: &mut Rng) -> Result<Net, String> {
+fn refined(net: &ControlNet, tension: Tension, rounds: u32, rng: &mut Rng) -> Result<Net, String> {
     let case = accepted_tally(net.accepted_case(tension, rounds), rng);
     let case = fit_letters(case, rng);
     let known = Known::new(case, rng)?;

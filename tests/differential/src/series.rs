@@ -95,7 +95,7 @@ fn next_call(tally: u64, rng: &mut Rng) -> Case {
 /// The figure that the record began with, and for each accepted net its refined
 /// vertices minus its drawn ones.
 fn sum(first: u64, accepted: &[[u64; 2]]) -> u64 {
-    let added = accepted.iter().map(|[drawn, refined]| refined - drawn);
+    let added = accepted.iter().map(|[control, refined]| refined - control);
     first + added.sum::<u64>()
 }
 

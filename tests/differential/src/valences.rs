@@ -12,7 +12,7 @@ use nets::valences::{ROWS, Row, any_call, row_call};
 use crate::draw::fit_room;
 
 /// One drawn call for so many nets.
-const NETS_PER_DRAWN: u64 = 500;
+const NETS_PER_GENERATED: u64 = 500;
 
 /// The rows, each with its rounds.
 static CALLS: LazyLock<Vec<(Row, u32)>> = LazyLock::new(|| {
@@ -26,7 +26,7 @@ static CALLS: LazyLock<Vec<(Row, u32)>> = LazyLock::new(|| {
 /// How many calls there are for so many nets: those of the rows, then drawn
 /// ones.
 pub fn count(nets: u64) -> u64 {
-    CALLS.len() as u64 + nets.div_ceil(NETS_PER_DRAWN)
+    CALLS.len() as u64 + nets.div_ceil(NETS_PER_GENERATED)
 }
 
 /// One of these calls with its name.

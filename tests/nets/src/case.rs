@@ -146,50 +146,50 @@ fn filled<T>(length: usize, entry: impl Fn(u64) -> T, rng: &mut Rng) -> Vec<T> {
 
 /// A net as a caller draws it.
 #[derive(Clone, Debug)]
-pub enum Drawn {
+pub enum ControlNet {
     Plain(Net),
     WithSides(PolygonNet),
 }
 
-impl Drawn {
+impl ControlNet {
     /// The net where refining begins.
     pub fn start(&self) -> Net {
         match self {
-            Drawn::Plain(net) => net.clone(),
-            Drawn::WithSides(net) => split(net),
+            ControlNet::Plain(net) => net.clone(),
+            ControlNet::WithSides(net) => split(net),
         }
     }
 
     pub fn has_sides(&self) -> bool {
-        matches!(self, Drawn::WithSides(_))
+        matches!(self, ControlNet::WithSides(_))
     }
 
     pub fn points(&self) -> &[Point] {
         match self {
-            Drawn::Plain(net) => &net.points,
-            Drawn::WithSides(net) => &net.points,
+            ControlNet::Plain(net) => &net.points,
+            ControlNet::WithSides(net) => &net.points,
         }
     }
 
     pub fn points_mut(&mut self) -> &mut [Point] {
         match self {
-            Drawn::Plain(net) => &mut net.points,
-            Drawn::WithSides(net) => &mut net.points,
+            ControlNet::Plain(net) => &mut net.points,
+            ControlNet::WithSides(net) => &mut net.points,
         }
     }
 
     /// Faces where refining begins.
     pub fn quadrilaterals(&self) -> usize {
         match self {
-            Drawn::Plain(net) => net.faces.len(),
-            Drawn::WithSides(net) => net.corners().count(),
+            ControlNet::Plain(net) => net.faces.len(),
+            ControlNet::WithSides(net) => net.corners().count(),
         }
     }
 
     pub fn accepted_case(&self, tension: Tension, rounds: u32) -> Case {
         let case = match self {
-            Drawn::Plain(net) => Case::new(net, rounds, Expected::Accepted),
-            Drawn::WithSides(net) => Case::with_sides(net, rounds, Expected::Accepted),
+            ControlNet::Plain(net) => Case::new(net, rounds, Expected::Accepted),
+            ControlNet::WithSides(net) => Case::with_sides(net, rounds, Expected::Accepted),
         };
         Case {
             tension: tension.number(),

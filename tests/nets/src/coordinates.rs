@@ -5,7 +5,7 @@ use reference::fraction::Fraction;
 use reference::rules::Tension;
 use reference::step::{Rule, refine_once};
 
-use crate::case::Drawn;
+use crate::case::ControlNet;
 use crate::change::LIMIT;
 use crate::rng::Rng;
 
@@ -53,11 +53,11 @@ impl Weights {
 }
 
 /// The weights in all new points of the first round at a tension.
-pub fn weights(drawn: &Drawn, tension: Tension) -> Vec<Weights> {
-    let vertices: Vec<usize> = (0..drawn.points().len()).collect();
+pub fn weights(control: &ControlNet, tension: Tension) -> Vec<Weights> {
+    let vertices: Vec<usize> = (0..control.points().len()).collect();
     let mut all: Vec<Weights> = Vec::new();
     for three in vertices.chunks(3) {
-        let mut unit = drawn.clone();
+        let mut unit = control.clone();
         unit.points_mut().fill([0; 3]);
         for (axis, &vertex) in three.iter().enumerate() {
             unit.points_mut()[vertex][axis] = UNIT;
@@ -84,8 +84,8 @@ fn farthest<'a>(points: impl Iterator<Item = &'a Weights>) -> &'a Weights {
 /// Places every vertex at the limit, so that some new points are as far out as
 /// they can be at a tension: on one axis an edge point, on the next a face point below 0,
 /// on the last any point.
-pub fn place_peaks(drawn: &mut Drawn, tension: Tension, rng: &mut Rng) {
-    let all = weights(drawn, tension);
+pub fn place_peaks(control: &mut ControlNet, tension: Tension, rng: &mut Rng) {
+    let all = weights(control, tension);
     let (faces, edges): (Vec<&Weights>, Vec<&Weights>) = all.iter().partition(|new| new.is_face());
     let any = &all[rng.below(all.len())];
     let chosen = [
@@ -95,7 +95,7 @@ pub fn place_peaks(drawn: &mut Drawn, tension: Tension, rng: &mut Rng) {
     ];
     let signs = [1, -1, rng.pick(&[1, -1])];
     for (axis, (new, sign)) in chosen.into_iter().zip(signs).enumerate() {
-        for (point, weight) in drawn.points_mut().iter_mut().zip(&new.of_vertices) {
+        for (point, weight) in control.points_mut().iter_mut().zip(&new.of_vertices) {
             let way = match weight.numerator().signum() {
                 0 => rng.pick(&[1, -1]),
                 way if way > 0 => sign,
@@ -108,10 +108,10 @@ pub fn place_peaks(drawn: &mut Drawn, tension: Tension, rng: &mut Rng) {
 
 /// Places every vertex at multiples of a number, another one on each axis, so
 /// that many new points at a tension are halves.
-pub fn place_halves(drawn: &mut Drawn, tension: Tension, rng: &mut Rng) {
+pub fn place_halves(control: &mut ControlNet, tension: Tension, rng: &mut Rng) {
     let mut steps = steps(tension);
     rng.shuffle(&mut steps);
-    for point in drawn.points_mut() {
+    for point in control.points_mut() {
         *point = steps.map(|step| {
             let reach = (LIMIT / step).min(20);
             step * rng.between(-reach, reach)

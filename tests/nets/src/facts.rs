@@ -21,7 +21,7 @@ use reference::topology::Topology;
 
 use crate::accepted::{Shape, Size, accepted};
 use crate::build::to_u32;
-use crate::case::{Case, Drawn, Expected};
+use crate::case::{Case, ControlNet, Expected};
 use crate::change::{Placing, boundary_loops, mark, place, renumber};
 use crate::damaged::{damaged_polygons, damaged_tables, random_polygons, random_tables};
 use crate::features::{Feature, Met};
@@ -101,7 +101,7 @@ fn polygon_lines(count: usize, rng: &mut Rng) -> Vec<String> {
         .enumerate()
         .map(|(at, shape)| {
             let tries = if at % 8 == 7 { 2 } else { 40 };
-            let net = drawn_polygons(shape, tries, rng);
+            let net = generated_polygons(shape, tries, rng);
             let kind = format!("polygons-{}", shape.name());
             accepted_polygon_line(&kind, &net, some_tension(rng), rng)
         })
@@ -162,8 +162,8 @@ fn named_lines(seed: u64) -> Vec<String> {
     let told = dressed.map(|(named, (dressing, tension))| {
         let kind = format!("named-{}", named.family.name());
         match named.dressed(dressing, tension, rng) {
-            Drawn::Plain(net) => accepted_line(&kind, &net, tension, rng),
-            Drawn::WithSides(net) => accepted_polygon_line(&kind, &net, tension, rng),
+            ControlNet::Plain(net) => accepted_line(&kind, &net, tension, rng),
+            ControlNet::WithSides(net) => accepted_polygon_line(&kind, &net, tension, rng),
         }
     });
     told.collect()
@@ -174,16 +174,16 @@ fn named_lines(seed: u64) -> Vec<String> {
 /// the smallest that meets each feature.
 fn chosen_named() -> Vec<&'static Named> {
     let of = |family: fn(Family) -> bool| NAMED.iter().filter(move |named| family(named.family));
-    let few = |named: &&Named| named.drawn.quadrilaterals() <= NAMED_FACES;
+    let few = |named: &&Named| named.control.quadrilaterals() <= NAMED_FACES;
     let marked = of(Family::has_marks).filter(few).step_by(5);
     let others = of(|family| !family.has_marks()).filter(few).step_by(2);
     let regular = of(|family| family == Family::Bipartite).filter(|named| !few(named));
     let mut chosen: Vec<&Named> = marked.chain(others).chain(regular).collect();
     for feature in Feature::ALL {
-        let has_it = |named: &&Named| Met::of(&named.drawn.start()).features.contains(&feature);
+        let has_it = |named: &&Named| Met::of(&named.control.start()).features.contains(&feature);
         if !chosen.iter().any(has_it) {
             let nets = NAMED.iter().filter(has_it);
-            chosen.extend(nets.min_by_key(|named| named.drawn.quadrilaterals()));
+            chosen.extend(nets.min_by_key(|named| named.control.quadrilaterals()));
         }
     }
     chosen
@@ -205,7 +205,7 @@ fn stored_lines() -> Vec<String> {
 }
 
 /// The first of several nets with few corners, or the last.
-fn drawn_polygons(shape: PolygonShape, tries: usize, rng: &mut Rng) -> PolygonNet {
+fn generated_polygons(shape: PolygonShape, tries: usize, rng: &mut Rng) -> PolygonNet {
     let mut net = accepted_polygons(shape, Size::Small, rng);
     for _ in 1..tries {
         if net.corners().count() <= FEW_CORNERS {
@@ -218,8 +218,8 @@ fn drawn_polygons(shape: PolygonShape, tries: usize, rng: &mut Rng) -> PolygonNe
 
 /// An accepted net with side counts: its split, and the net after one round.
 fn accepted_polygon_line(kind: &str, net: &PolygonNet, tension: Tension, rng: &mut Rng) -> String {
-    let drawn = Drawn::WithSides(net.clone());
-    let case = drawn.accepted_case(tension, to_u32(rng.below(2)));
+    let control = ControlNet::WithSides(net.clone());
+    let case = control.accepted_case(tension, to_u32(rng.below(2)));
     let case = any_letters(any_tally(case, rng), rng);
     let start = split(net);
     let refined = refine_once(&start, tension).net;
@@ -285,7 +285,7 @@ fn accepted_nets(count: usize, rng: &mut Rng) -> Vec<(&'static str, Net)> {
             break;
         }
         let tries = if at % 4 == 3 { 1 } else { 20 };
-        let net = drawn(shape, tries, rng);
+        let net = generated(shape, tries, rng);
         if chosen.iter().all(|(_, other)| *other != net) {
             chosen.push((shape.name(), net));
         }
@@ -307,7 +307,7 @@ fn stars(rng: &mut Rng) -> Vec<(&'static str, Net)> {
 }
 
 /// The first of several nets with few faces, or the last.
-fn drawn(shape: Shape, tries: usize, rng: &mut Rng) -> Net {
+fn generated(shape: Shape, tries: usize, rng: &mut Rng) -> Net {
     let mut net = accepted(shape, Size::Small, rng);
     for _ in 1..tries {
         if net.faces.len() <= FEW_FACES {
@@ -320,8 +320,8 @@ fn drawn(shape: Shape, tries: usize, rng: &mut Rng) -> Net {
 
 fn accepted_line(kind: &str, net: &Net, tension: Tension, rng: &mut Rng) -> String {
     let rounds = if net.faces.len() <= TWO_ROUNDS { 2 } else { 1 };
-    let drawn = Drawn::Plain(net.clone());
-    let case = drawn.accepted_case(tension, to_u32(rng.below(3)));
+    let control = ControlNet::Plain(net.clone());
+    let case = control.accepted_case(tension, to_u32(rng.below(3)));
     let case = any_letters(any_tally(case, rng), rng);
     let steps = trace(net, tension, rounds);
     let mut nets: Vec<&Net> = vec![net];
@@ -479,7 +479,7 @@ fn call_text(case: &Case, with_net: bool) -> String {
         MOST_POLYGON_WORK
     };
     if with_net && room.workspace <= most_work && room.letters <= MOST_LETTERS {
-        fields.extend(lent_fields(case));
+        fields.extend(given_fields(case));
     }
     object(&fields)
 }
@@ -487,7 +487,7 @@ fn call_text(case: &Case, with_net: bool) -> String {
 /// The lent tables, with the letters by themselves, and the record of new points
 /// before the call and after it, and what the call reports: the counts of
 /// vertices and faces of an accepted net, or number and place of the refusal.
-fn lent_fields(case: &Case) -> [(&'static str, String); 7] {
+fn given_fields(case: &Case) -> [(&'static str, String); 7] {
     let before = case.tables(&mut Rng::new(0));
     let mut after = before.clone();
     let (outcome, tally) = case.outcome_in(&mut after);
@@ -496,9 +496,9 @@ fn lent_fields(case: &Case) -> [(&'static str, String); 7] {
         Outcome::Refused { reason, place } => (vec![], vec![reason, place]),
     };
     [
-        ("lent", tables_text(&before)),
+        ("given", tables_text(&before)),
         ("left", tables_text(&after)),
-        ("lent_letters", numbers(&before.letters)),
+        ("given_letters", numbers(&before.letters)),
         ("left_letters", numbers(&after.letters)),
         ("tally", numbers(&[case.tally, tally])),
         ("counts", numbers(&counts)),
@@ -532,11 +532,11 @@ fn net_text(net: &Net) -> String {
 fn letters_text(
     start: &Net,
     tension: Tension,
-    drawn: usize,
+    control: usize,
     rounds: impl Iterator<Item = u32>,
 ) -> String {
     list(rounds.map(|k| {
-        let (_, letters) = refine_with_letters(start.clone(), tension, drawn, k);
+        let (_, letters) = refine_with_letters(start.clone(), tension, control, k);
         numbers(&letter_table(&letters))
     }))
 }

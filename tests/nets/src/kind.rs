@@ -8,7 +8,7 @@ use reference::text::PROGRAM_REFINED_FACES;
 
 use crate::accepted::{Shape, Size, accepted};
 use crate::build::to_u32;
-use crate::case::{Case, Drawn, Expected, TextCase, document, most_rounds, served_rounds};
+use crate::case::{Case, ControlNet, Expected, TextCase, document, most_rounds, served_rounds};
 use crate::damaged::{
     Damage, damage_text, damaged_polygons, damaged_tables, damaged_text, random_polygons,
     random_tables,
@@ -180,9 +180,9 @@ pub fn named_texts(seed: u64) -> Vec<(String, TextCase)> {
     let mut texts = Vec::new();
     for number in 0..NAMED.len() {
         let (named, dressing, _) = by_turns(number);
-        let rounds = most_rounds(named.drawn.quadrilaterals(), PROGRAM_REFINED_FACES);
+        let rounds = most_rounds(named.control.quadrilaterals(), PROGRAM_REFINED_FACES);
         let rng = &mut Rng::new(seed.wrapping_add(number as u64));
-        if let (Drawn::Plain(net), 1..) = (named.dressed(dressing, Tension::OLD, rng), rounds) {
+        if let (ControlNet::Plain(net), 1..) = (named.dressed(dressing, Tension::OLD, rng), rounds) {
             let name = format!("named-{}-{}", named.name, dressing.name());
             texts.push((name, accepted_text(&net, rounds, rng)));
         }

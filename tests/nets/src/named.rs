@@ -8,7 +8,7 @@ use reference::refusal::{MAX_VERTICES, check_net};
 use reference::rules::Tension;
 use reference::topology::Topology;
 
-use crate::case::Drawn;
+use crate::case::ControlNet;
 use crate::change::{
     Face, Placing, boundary_loops, drop_unused_vertices, flip, mark, place, renumber,
 };
@@ -59,7 +59,7 @@ impl Family {
         matches!(self, Family::Grid | Family::Strip | Family::Band)
     }
 
-    fn nets(self) -> Vec<(String, Drawn)> {
+    fn nets(self) -> Vec<(String, ControlNet)> {
         let nets = match self {
             Family::Torus => tori(),
             Family::Punctured => punctured(),
@@ -79,7 +79,7 @@ impl Family {
             Family::Polygons => return polygons(),
         };
         nets.into_iter()
-            .map(|(name, net)| (name, Drawn::Plain(net)))
+            .map(|(name, net)| (name, ControlNet::Plain(net)))
             .collect()
     }
 }
@@ -103,16 +103,16 @@ named_cases! {
 pub struct Named {
     pub family: Family,
     pub name: String,
-    pub drawn: Drawn,
+    pub control: ControlNet,
 }
 
 /// All of them; their points come with a dressing.
 pub static NAMED: LazyLock<Vec<Named>> = LazyLock::new(|| {
     let nets = Family::ALL.into_iter().flat_map(|family| {
-        let named = move |(name, drawn)| Named {
+        let named = move |(name, control)| Named {
             family,
             name: format!("{}-{name}", family.name()),
-            drawn,
+            control,
         };
         family.nets().into_iter().map(named)
     });
@@ -121,30 +121,30 @@ pub static NAMED: LazyLock<Vec<Named>> = LazyLock::new(|| {
 
 impl Named {
     /// The net with points, numbers and marks, for calls at a tension.
-    pub fn dressed(&self, dressing: Dressing, tension: Tension, rng: &mut Rng) -> Drawn {
-        let mut drawn = match &self.drawn {
-            Drawn::Plain(net) => self.dress(net, Drawn::Plain, dressing, rng),
-            Drawn::WithSides(net) => self.dress(net, Drawn::WithSides, dressing, rng),
+    pub fn dressed(&self, dressing: Dressing, tension: Tension, rng: &mut Rng) -> ControlNet {
+        let mut control = match &self.control {
+            ControlNet::Plain(net) => self.dress(net, ControlNet::Plain, dressing, rng),
+            ControlNet::WithSides(net) => self.dress(net, ControlNet::WithSides, dressing, rng),
         };
         match dressing {
-            Dressing::Peaks => place_peaks(&mut drawn, tension, rng),
-            Dressing::Halves => place_halves(&mut drawn, tension, rng),
+            Dressing::Peaks => place_peaks(&mut control, tension, rng),
+            Dressing::Halves => place_halves(&mut control, tension, rng),
             Dressing::Scattered | Dressing::Wide => {}
         }
-        drawn
+        control
     }
 
     fn dress<F: Face>(
         &self,
         net: &Mesh<F>,
-        drawn: impl Fn(Mesh<F>) -> Drawn,
+        control: impl Fn(Mesh<F>) -> ControlNet,
         dressing: Dressing,
         rng: &mut Rng,
-    ) -> Drawn {
+    ) -> ControlNet {
         let mut net = net.clone();
         if dressing == Dressing::Scattered {
             place(&mut net, Placing::Scattered, rng);
-            return drawn(net);
+            return control(net);
         }
         if !self.family.has_marks() && rng.one_in(2) {
             mark(&mut net, rng);
@@ -154,7 +154,7 @@ impl Named {
         }
         let mut net = renumber(&net, rng).0;
         place(&mut net, Placing::Wide, rng);
-        drawn(net)
+        control(net)
     }
 }
 
@@ -169,22 +169,22 @@ pub fn by_turns(number: usize) -> (&'static Named, Dressing, Tension) {
 
 /// Many named nets side by side, with up to so many faces where refining
 /// begins, and with random numbers.
-pub fn crowd(most_faces: usize, has_sides: bool, rng: &mut Rng) -> Drawn {
+pub fn crowd(most_faces: usize, has_sides: bool, rng: &mut Rng) -> ControlNet {
     let unmarked = NAMED.iter().filter(|named| !named.family.has_marks());
     if has_sides {
-        let parts = unmarked.map(|named| match &named.drawn {
-            Drawn::Plain(net) => PolygonNet::from(net),
-            Drawn::WithSides(net) => net.clone(),
+        let parts = unmarked.map(|named| match &named.control {
+            ControlNet::Plain(net) => PolygonNet::from(net),
+            ControlNet::WithSides(net) => net.clone(),
         });
         let count = |net: &PolygonNet| net.corners().count();
-        Drawn::WithSides(united(&parts.collect::<Vec<_>>(), count, most_faces, rng))
+        ControlNet::WithSides(united(&parts.collect::<Vec<_>>(), count, most_faces, rng))
     } else {
-        let parts = unmarked.filter_map(|named| match &named.drawn {
-            Drawn::Plain(net) => Some(net.clone()),
-            Drawn::WithSides(_) => None,
+        let parts = unmarked.filter_map(|named| match &named.control {
+            ControlNet::Plain(net) => Some(net.clone()),
+            ControlNet::WithSides(_) => None,
         });
         let count = |net: &Net| net.faces.len();
-        Drawn::Plain(united(&parts.collect::<Vec<_>>(), count, most_faces, rng))
+        ControlNet::Plain(united(&parts.collect::<Vec<_>>(), count, most_faces, rng))
     }
 }
 
@@ -430,7 +430,7 @@ fn inside() -> Nets {
 
 /// Faces of every number of sides: alone, two of them, round a vertex, and in
 /// closed nets.
-fn polygons() -> Vec<(String, Drawn)> {
+fn polygons() -> Vec<(String, ControlNet)> {
     let mixed = |count: u32| -> Vec<u32> { (0..count).map(|i| 3 + (i + count) % 6).collect() };
     let mut nets = Vec::new();
     for n in 3..=8 {
@@ -443,6 +443,6 @@ fn polygons() -> Vec<(String, Drawn)> {
     }
     nets.extend((3..=6).map(|n| (format!("fan-{n}"), solids::star(&mixed(n), false))));
     nets.into_iter()
-        .map(|(name, net)| (name, Drawn::WithSides(net)))
+        .map(|(name, net)| (name, ControlNet::WithSides(net)))
         .collect()
 }

@@ -9,7 +9,7 @@ use reference::step::split;
 
 use crate::accepted::{Shape, Size, accepted};
 use crate::build::to_u32;
-use crate::case::Drawn;
+use crate::case::ControlNet;
 use crate::change::{Face, Placing, boundary_loops, flip, mark, place, renumber};
 use crate::polygons::{PolygonShape, accepted_polygons, some_size};
 use crate::remodel::Remodel;
@@ -21,7 +21,7 @@ use crate::{shapes, solids};
 /// both readings give the same points.
 #[derive(Clone, Debug)]
 pub struct SharedPair {
-    pub nets: [Drawn; 2],
+    pub nets: [ControlNet; 2],
     pub tensions: [Tension; 2],
     pub readings: [Reading; 2],
 }
@@ -32,7 +32,7 @@ pub fn shared_pair(rng: &mut Rng) -> SharedPair {
     let points = segment(form, rng);
     let [first, second] = [(); 2].map(|()| carrier(form, &points, rng));
     SharedPair {
-        nets: [first.0, second.0].map(Drawn::Plain),
+        nets: [first.0, second.0].map(ControlNet::Plain),
         tensions: tensions(rng),
         readings: [first.1, second.1],
     }
@@ -46,15 +46,15 @@ pub fn shared_polygon_pair(rng: &mut Rng) -> SharedPair {
     let first = polygon_carrier(form, &points, rng);
     let second = if rng.one_in(2) {
         let (net, reading) = polygon_carrier(form, &points, rng);
-        (Drawn::WithSides(net), reading)
+        (ControlNet::WithSides(net), reading)
     } else {
         let start = split(&first.0);
         let points = Boundary::new(&start).read(first.1).expect("a reading");
         let (net, reading) = carrier(form, &points, rng);
-        (Drawn::Plain(net), reading)
+        (ControlNet::Plain(net), reading)
     };
     SharedPair {
-        nets: [Drawn::WithSides(first.0), second.0],
+        nets: [ControlNet::WithSides(first.0), second.0],
         tensions: tensions(rng),
         readings: [first.1, second.1],
     }
@@ -109,8 +109,8 @@ fn extent(form: Form, points: &[Point]) -> (i32, bool) {
 /// A random net with the segment on its boundary, and the reading there.
 fn carrier(form: Form, points: &[Point], rng: &mut Rng) -> (Net, Reading) {
     let (edges, is_closed) = extent(form, points);
-    let drawn = accepted(rng.pick(&Shape::ALL), Size::Small, rng);
-    let (net, rim) = with_room(drawn, form, edges, is_closed, rng)
+    let generated = accepted(rng.pick(&Shape::ALL), Size::Small, rng);
+    let (net, rim) = with_room(generated, form, edges, is_closed, rng)
         .unwrap_or_else(|| plain(form, edges, is_closed, rng));
     carry(net, &rim, form, points, rng)
 }
@@ -118,11 +118,11 @@ fn carrier(form: Form, points: &[Point], rng: &mut Rng) -> (Net, Reading) {
 /// The same with side counts.
 fn polygon_carrier(form: Form, points: &[Point], rng: &mut Rng) -> (PolygonNet, Reading) {
     let (edges, is_closed) = extent(form, points);
-    let drawn = match rng.below(3) {
+    let generated = match rng.below(3) {
         0 => solids::separate(&[some_size(rng)]),
         _ => accepted_polygons(rng.pick(&PolygonShape::ALL), Size::Small, rng),
     };
-    let (net, rim) = with_room(drawn, form, edges, is_closed, rng).unwrap_or_else(|| {
+    let (net, rim) = with_room(generated, form, edges, is_closed, rng).unwrap_or_else(|| {
         let (net, rim) = plain(form, edges, is_closed, rng);
         (remodelled(&net, rng), rim)
     });

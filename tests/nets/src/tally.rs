@@ -67,8 +67,8 @@ impl Figure {
 /// faces and corners: each step, the split too, adds a vertex for each edge and
 /// one for each face.
 pub fn new_points(case: &Case) -> u64 {
-    let drawn = case.vertices.len() / 3;
-    let (mut vertices, mut edges) = (drawn, edge_count(case));
+    let control = case.vertices.len() / 3;
+    let (mut vertices, mut edges) = (control, edge_count(case));
     let (mut faces, mut corners) = (face_count(case), case.faces.len());
     let steps = case.rounds + u32::from(!case.sides.is_empty());
     for _ in 0..steps {
@@ -76,7 +76,7 @@ pub fn new_points(case: &Case) -> u64 {
         edges = 2 * edges + corners;
         (faces, corners) = (corners, 4 * corners);
     }
-    (vertices - drawn) as u64
+    (vertices - control) as u64
 }
 
 fn face_count(case: &Case) -> usize {

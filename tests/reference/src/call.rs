@@ -79,8 +79,8 @@ fn refine_net(call: &Call) -> Result<Outcome, Refusal> {
     check_call(call.rounds, &call.net, &call.capacity)?;
     let tension = Tension::new(call.net.tension)?;
     let start = start_net(&call.net)?;
-    let drawn = call.net.vertices.len() / 3;
-    let (refined, letters) = refine_with_letters(start, tension, drawn, call.rounds);
+    let control = call.net.vertices.len() / 3;
+    let (refined, letters) = refine_with_letters(start, tension, control, call.rounds);
     judge_tally(call, &refined, &letters)
 }
 
@@ -98,20 +98,20 @@ fn judge_tally(call: &Call, refined: &Net, letters: &[Letter]) -> Result<Outcome
 
 /// "refined vertices minus drawn vertices", from the drawn net and the refined
 /// marks.
-fn new_points(drawn: &NetRecord, refined_marks: &[u8]) -> u64 {
-    (refined_marks.len() - drawn.vertices.len() / 3) as u64
+fn new_points(control: &NetRecord, refined_marks: &[u8]) -> u64 {
+    (refined_marks.len() - control.vertices.len() / 3) as u64
 }
 
 /// The net where refining begins, or why the drawn net is refused: the net
 /// itself, or with side counts its split.
-pub fn start_net(drawn: &NetRecord) -> Result<Net, Refusal> {
+pub fn start_net(control: &NetRecord) -> Result<Net, Refusal> {
     let NetRecord {
         vertices,
         faces,
         sides,
         marks,
         ..
-    } = *drawn;
+    } = *control;
     if sides.is_empty() {
         let net = Net::from_tables(vertices, faces, marks);
         check_net(&net).map(|()| net)

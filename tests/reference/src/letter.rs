@@ -76,8 +76,8 @@ impl From<Rule> for Letter {
 
 /// The letters where refining begins, with so many vertices, of which so many
 /// are drawn.
-pub fn start_letters(vertices: usize, drawn: usize) -> Vec<Letter> {
-    let mut letters = vec![Letter::ControlVertex; drawn];
+pub fn start_letters(vertices: usize, control: usize) -> Vec<Letter> {
+    let mut letters = vec![Letter::ControlVertex; control];
     letters.resize(vertices, Letter::Split);
     letters
 }
@@ -88,10 +88,10 @@ pub fn start_letters(vertices: usize, drawn: usize) -> Vec<Letter> {
 pub fn refine_with_letters(
     start: Net,
     tension: Tension,
-    drawn: usize,
+    control: usize,
     rounds: u32,
 ) -> (Net, Vec<Letter>) {
-    let letters = start_letters(start.points.len(), drawn);
+    let letters = start_letters(start.points.len(), control);
     (0..rounds).fold((start, letters), |(net, mut letters), _| {
         let step = refine_once(&net, tension);
         letters.extend(step.made.iter().map(|new| Letter::from(new.rule)));

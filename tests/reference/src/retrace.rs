@@ -93,7 +93,7 @@ pub fn round_is_by_letters(
 
 /// Whether the points where refining begins, and a letter for each, are those
 /// of the drawn net and of its split: V exactly for drawn points, then S.
-pub fn start_is_by_letters(start: &Net, drawn: usize, points: &[Point], letters: &[u8]) -> bool {
-    let due = (0..start.points.len()).map(|vertex| if vertex < drawn { b'V' } else { b'S' });
+pub fn start_is_by_letters(start: &Net, control: usize, points: &[Point], letters: &[u8]) -> bool {
+    let due = (0..start.points.len()).map(|vertex| if vertex < control { b'V' } else { b'S' });
     points == start.points && letters.iter().copied().eq(due)
 }

@@ -2,7 +2,7 @@
 
 use std::collections::BTreeSet;
 
-use nets::case::{Case, Drawn, Expected, TextCase};
+use nets::case::{Case, ControlNet, Expected, TextCase};
 use nets::kind::{Kind, call, named_texts, polygon_call, small_nets};
 use nets::pairs::{SharedPair, shared_pair, shared_polygon_pair};
 use nets::refused::{PLAIN_REASONS, POLYGON_REASONS, refused_call, refused_polygons};
@@ -218,7 +218,7 @@ fn shared_after_every_round(
                 .iter()
                 .all(|answer| matches!(answer, Outcome::Refined { .. }))
         );
-        let [first, second] = pair.nets.each_ref().map(Drawn::start);
+        let [first, second] = pair.nets.each_ref().map(ControlNet::start);
         let shared = shared_readings(&first, &second);
         assert!(shared.contains(&pair.readings.into()), "{seed}");
         let [tension, other_tension] = pair.tensions;

@@ -2,7 +2,7 @@
 
 use std::collections::{BTreeMap, BTreeSet};
 
-use nets::case::{Case, Drawn, Expected};
+use nets::case::{Case, ControlNet, Expected};
 use nets::kind::{Kind, call, polygon_call};
 use nets::letters::{LetterTable, with_letter_table};
 use nets::named::{NAMED, by_turns};
@@ -17,8 +17,8 @@ use reference::rules::Tension;
 use reference::text::parse;
 
 /// Letters of the net after each number of rounds, checked point by point.
-fn assert_by_letters(name: &str, drawn: &Drawn, tension: Tension, rounds: u32) -> Vec<u8> {
-    let (start, count) = (drawn.start(), drawn.points().len());
+fn assert_by_letters(name: &str, control: &ControlNet, tension: Tension, rounds: u32) -> Vec<u8> {
+    let (start, count) = (control.start(), control.points().len());
     let front = start.points.len();
     let mut before: Option<(Net, Vec<u8>)> = None;
     for k in 0..=rounds {
@@ -41,9 +41,9 @@ fn the_rule_that_a_letter_names_gives_every_point_of_a_named_net() {
     let mut met: BTreeMap<u8, usize> = BTreeMap::new();
     for number in 0..NAMED.len() {
         let (named, dressing, tension) = by_turns(number);
-        let drawn = named.dressed(dressing, tension, &mut Rng::new(3));
-        let rounds = if drawn.quadrilaterals() <= 16 { 2 } else { 1 };
-        for letter in assert_by_letters(&named.name, &drawn, tension, rounds) {
+        let control = named.dressed(dressing, tension, &mut Rng::new(3));
+        let rounds = if control.quadrilaterals() <= 16 { 2 } else { 1 };
+        for letter in assert_by_letters(&named.name, &control, tension, rounds) {
             *met.entry(letter).or_default() += 1;
         }
     }

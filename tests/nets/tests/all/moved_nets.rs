@@ -4,7 +4,7 @@
 use std::collections::BTreeSet;
 
 use nets::accepted::{Shape, Size, accepted};
-use nets::case::{Case, Drawn, Expected};
+use nets::case::{Case, ControlNet, Expected};
 use nets::kind::{call, polygon_call};
 use nets::moved::MovedPair;
 use nets::refused::{PLAIN_REASONS, POLYGON_REASONS};
@@ -116,7 +116,7 @@ fn calls_with_side_counts_on_moved_nets_give_the_same_moved() {
 #[test]
 fn every_small_shift_commutes_with_refining() {
     for shape in Shape::ALL {
-        let net = Drawn::Plain(accepted(shape, Size::Small, &mut Rng::new(2)));
+        let net = ControlNet::Plain(accepted(shape, Size::Small, &mut Rng::new(2)));
         for (by, tension) in (-20..=20).flat_map(|by| Tension::ALL.map(|t| (by, t))) {
             let case = net.accepted_case(tension, 1);
             let pair = MovedPair::new(case, [by, -by, by / 2]);

@@ -2,7 +2,7 @@
 
 use std::collections::{BTreeMap, BTreeSet};
 
-use nets::case::Drawn;
+use nets::case::ControlNet;
 use nets::coordinates::weights;
 use nets::features::{Adjacency, End, Feature, Met, Sort, pairs_of};
 use nets::named::{Dressing, NAMED, crowd};
@@ -16,15 +16,15 @@ use reference::step::{Surface, refine_once};
 use reference::topology::Topology;
 
 /// Every net in a dressing, for calls at a tension.
-fn dressed(dressing: Dressing, tension: Tension) -> impl Iterator<Item = (&'static str, Drawn)> {
+fn dressed(dressing: Dressing, tension: Tension) -> impl Iterator<Item = (&'static str, ControlNet)> {
     (0..).zip(NAMED.iter()).map(move |(seed, named)| {
-        let drawn = named.dressed(dressing, tension, &mut Rng::new(seed));
-        (named.name.as_str(), drawn)
+        let control = named.dressed(dressing, tension, &mut Rng::new(seed));
+        (named.name.as_str(), control)
     })
 }
 
-fn assert_accepted((name, drawn): (&str, Drawn)) {
-    let outcome = drawn.accepted_case(Tension::OLD, 0).outcome();
+fn assert_accepted((name, control): (&str, ControlNet)) {
+    let outcome = control.accepted_case(Tension::OLD, 0).outcome();
     assert!(matches!(outcome, Outcome::Refined { .. }), "{name}");
 }
 
@@ -41,10 +41,10 @@ fn all_are_accepted_under_names_of_their_own() {
 fn crowds_are_accepted_and_nearly_as_large_as_allowed() {
     for has_sides in [false, true] {
         for most in [64, 4_096] {
-            let drawn = crowd(most, has_sides, &mut Rng::new(6));
-            let faces = drawn.quadrilaterals();
+            let control = crowd(most, has_sides, &mut Rng::new(6));
+            let faces = control.quadrilaterals();
             assert!(faces <= most && 10 * faces > 9 * most, "{faces}");
-            assert_accepted(("crowd", drawn));
+            assert_accepted(("crowd", control));
         }
     }
 }
@@ -52,8 +52,8 @@ fn crowds_are_accepted_and_nearly_as_large_as_allowed() {
 #[test]
 fn every_feature_is_met_in_the_first_round_and_in_the_second() {
     let [mut first, mut second] = [BTreeSet::new(), BTreeSet::new()];
-    for (_, drawn) in dressed(Dressing::Scattered, Tension::OLD) {
-        let start = drawn.start();
+    for (_, control) in dressed(Dressing::Scattered, Tension::OLD) {
+        let start = control.start();
         first.extend(Met::of(&start).features);
         second.extend(Met::of(&refine_once(&start, Tension::OLD).net).features);
     }
@@ -65,8 +65,8 @@ fn every_feature_is_met_in_the_first_round_and_in_the_second() {
 #[test]
 fn edges_join_vertices_of_every_two_sorts() {
     let [mut inner, mut rims] = [BTreeSet::new(), BTreeSet::new()];
-    for (_, drawn) in dressed(Dressing::Scattered, Tension::OLD) {
-        let start = drawn.start();
+    for (_, control) in dressed(Dressing::Scattered, Tension::OLD) {
+        let start = control.start();
         inner.extend(Met::of(&start).ends);
         let adjacency = Adjacency::new(&start);
         for (from, to) in Topology::edges_in_order(&start.faces) {
@@ -109,8 +109,8 @@ impl Refined {
 /// Nets where refining begins, and after a round; every `step`th of the named ones.
 fn refined(dressing: Dressing, tension: Tension, step: usize) -> impl Iterator<Item = Refined> {
     let nets = dressed(dressing, tension).step_by(step);
-    nets.flat_map(move |(_, drawn)| {
-        let start = drawn.start();
+    nets.flat_map(move |(_, control)| {
+        let start = control.start();
         let after = refine_once(&start, tension).net;
         [start, after].map(|net| Refined::new(net, tension))
     })
@@ -223,19 +223,19 @@ fn peaks_are_as_far_out_as_can_be() {
     // Every fourth net, at all tensions by turns.
     let tensions = Tension::ALL.into_iter().cycle();
     for ((seed, named), tension) in (0..).zip(NAMED.iter()).step_by(4).zip(tensions) {
-        let drawn = named.dressed(Dressing::Peaks, tension, &mut Rng::new(seed));
+        let control = named.dressed(Dressing::Peaks, tension, &mut Rng::new(seed));
         let name = named.name.as_str();
-        assert_accepted((name, drawn.clone()));
-        if drawn.has_sides() {
+        assert_accepted((name, control.clone()));
+        if control.has_sides() {
             continue;
         }
-        let sums = weights(&drawn, tension).into_iter().map(|new| {
+        let sums = weights(&control, tension).into_iter().map(|new| {
             let total = new.of_vertices.iter().copied().reduce(|a, b| a + b);
             assert_eq!(total, Some(Fraction::whole(1)));
             new.absolute_sum() * 1_048_576
         });
         let sums: Vec<Fraction> = sums.collect();
-        let Refined { edges, faces, .. } = Refined::new(drawn.start(), tension);
+        let Refined { edges, faces, .. } = Refined::new(control.start(), tension);
         let (of_edges, of_faces) = sums.split_at(edges.len());
         let [far, low] = [greatest(of_edges), greatest(of_faces) * -1];
         assert!(edges.values().any(|point| point.0[0] == far), "{name}");

@@ -4,7 +4,7 @@
 use std::collections::{BTreeMap, BTreeSet};
 
 use nets::accepted::{Shape, Size, accepted};
-use nets::case::Drawn;
+use nets::case::ControlNet;
 use nets::change::{boundary_loops, flip, renumber};
 use nets::coordinates::{Weights, weights};
 use nets::rng::Rng;
@@ -116,7 +116,7 @@ fn rounded_curves_stay_near_the_exact_ones() {
 
 /// The largest sum of absolute weights of a new point.
 fn largest_weight_sum(net: Net, tension: Tension) -> Fraction {
-    let new = weights(&Drawn::Plain(net), tension);
+    let new = weights(&ControlNet::Plain(net), tension);
     let sums = new.iter().map(Weights::absolute_sum);
     let larger = |a: Fraction, b: Fraction| if (a - b).numerator() > 0 { a } else { b };
     sums.fold(Fraction::ZERO, larger)

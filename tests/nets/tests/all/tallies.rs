@@ -18,12 +18,12 @@ fn answered(case: &Case) -> (Outcome, u64) {
 }
 
 #[test]
-fn new_points_are_known_from_the_counts_of_the_drawn_net() {
+fn new_points_are_known_from_the_counts_of_the_control_net() {
     for number in 0..NAMED.len() {
         let (named, dressing, tension) = by_turns(number);
         for rounds in 0..=1 {
-            let drawn = named.dressed(dressing, tension, &mut Rng::new(7));
-            let case = drawn.accepted_case(tension, rounds);
+            let control = named.dressed(dressing, tension, &mut Rng::new(7));
+            let case = control.accepted_case(tension, rounds);
             let due = new_points(&case);
             assert_eq!(answered(&case).1, due, "{} {rounds}", named.name);
         }
@@ -35,8 +35,8 @@ fn every_figure_gets_its_answer() {
     for (number, figure) in (0..NAMED.len()).zip(Figure::ALL.into_iter().cycle()) {
         let (named, dressing, tension) = by_turns(number);
         let rng = &mut Rng::new(number as u64);
-        let drawn = named.dressed(dressing, tension, rng);
-        let accepted = drawn.accepted_case(tension, rng.pick(&[0, 1]));
+        let control = named.dressed(dressing, tension, rng);
+        let accepted = control.accepted_case(tension, rng.pick(&[0, 1]));
         let added = new_points(&accepted);
         let case = with_figure(accepted, figure, rng);
         let (outcome, after) = answered(&case);

@@ -117,7 +117,7 @@ fn wheels_of_eight_and_fans_of_six_are_accepted() {
 }
 
 #[test]
-fn drawn_calls_get_their_refusals() {
+fn generated_calls_get_their_refusals() {
     let mut met = BTreeSet::new();
     for seed in 0..60 {
         let case = any_call(&mut Rng::new(seed));

@@ -3,7 +3,7 @@
 use std::collections::BTreeSet;
 
 use crate::common::{
-    SAMPLE_TEXT, bent_grid, cube, grid, refine_drawn, scattered, square, unmarked, wheel,
+    SAMPLE_TEXT, bent_grid, cube, grid, refine_control, scattered, square, unmarked, wheel,
     with_marks,
 };
 use reference::call::{Call, Outcome, Tables, refine};
@@ -27,8 +27,8 @@ fn letters_of_polygons(net: &PolygonNet, rounds: u32) -> String {
 }
 
 /// Letters are the same at every tension.
-fn letters_from(start: &Net, drawn: usize, rounds: u32) -> String {
-    let at = |tension| refine_with_letters(start.clone(), tension, drawn, rounds).1;
+fn letters_from(start: &Net, control: usize, rounds: u32) -> String {
+    let at = |tension| refine_with_letters(start.clone(), tension, control, rounds).1;
     let [old, others @ ..] = [4, 0, 1, 2, 3].map(|t: usize| at(Tension::ALL[t]));
     assert!(others.iter().all(|letters| *letters == old));
     text(&old)
@@ -146,9 +146,9 @@ fn kept_points_keep_their_letters() {
         for pair in by_rounds.windows(2) {
             assert!(pair[1].starts_with(&pair[0]) && pair[1].len() > pair[0].len());
         }
-        let drawn = net.points.len();
-        assert_eq!(by_rounds[0], "V".repeat(drawn));
-        assert_eq!(count(&by_rounds[3], 'V'), drawn);
+        let control = net.points.len();
+        assert_eq!(by_rounds[0], "V".repeat(control));
+        assert_eq!(count(&by_rounds[3], 'V'), control);
     }
     let triangle = PolygonNet {
         points: scattered(3),
@@ -176,7 +176,7 @@ fn tables(refined_faces: usize, with_letters: bool, letters: usize) -> Tables {
 }
 
 fn call(tally: u64, net: &Net, rounds: u32, tables: &mut Tables) -> Outcome {
-    refine_drawn(&mut { tally }, net, &[], 1, rounds, tables)
+    refine_control(&mut { tally }, net, &[], 1, rounds, tables)
 }
 
 #[test]
@@ -298,15 +298,15 @@ fn the_program_prints_a_last_column_if_the_first_line_asks() {
 }
 
 /// Each point of a net is what its letter says, in every round.
-fn assert_by_letters(start: &Net, tension: Tension, drawn: usize, rounds: u32) {
+fn assert_by_letters(start: &Net, tension: Tension, control: usize, rounds: u32) {
     let mut before = start.clone();
     for k in 0..=rounds {
-        let (net, letters) = refine_with_letters(start.clone(), tension, drawn, k);
+        let (net, letters) = refine_with_letters(start.clone(), tension, control, k);
         let letters = letter_table(&letters);
         let front = start.points.len();
         let [points, named] = [&net.points[..front], &start.points];
         assert_eq!(points, named);
-        assert!(start_is_by_letters(start, drawn, points, &letters[..front]));
+        assert!(start_is_by_letters(start, control, points, &letters[..front]));
         if k > 0 {
             assert!(round_is_by_letters(&before, tension, &net.points, &letters));
         }
@@ -321,8 +321,8 @@ fn the_rule_that_a_letter_names_gives_the_point() {
     for net in [square(), cube(), grid(5, 5), bent] {
         for tension in Tension::ALL {
             assert_by_letters(&net, tension, net.points.len(), 3);
-            let drawn = PolygonNet::from(&net);
-            assert_by_letters(&split(&drawn), tension, drawn.points.len(), 2);
+            let control = PolygonNet::from(&net);
+            assert_by_letters(&split(&control), tension, control.points.len(), 2);
         }
     }
 }

@@ -25,7 +25,7 @@ fn lone(n: u32) -> PolygonNet {
 
 /// A call with side counts, whose tables may be changed.
 #[derive(Clone)]
-struct Drawn {
+struct ControlNet {
     rounds: u32,
     vertices: Vec<i32>,
     faces: Vec<u32>,
@@ -35,7 +35,7 @@ struct Drawn {
     capacity: Capacity,
 }
 
-impl Drawn {
+impl ControlNet {
     fn new(net: &PolygonNet, rounds: u32) -> Self {
         let faces = net.face_table();
         Self {
@@ -110,7 +110,7 @@ impl Drawn {
 }
 
 fn verdict(net: &PolygonNet) -> (u32, u32) {
-    Drawn::new(net, 0).refusal()
+    ControlNet::new(net, 0).refusal()
 }
 
 // ---- the split
@@ -118,7 +118,7 @@ fn verdict(net: &PolygonNet) -> (u32, u32) {
 #[test]
 fn a_triangle_becomes_three_quadrilaterals() {
     let net = polygons(&[[0, 0, 0], [6, 0, 0], [0, 6, 0]], &[&[0, 1, 2]]);
-    let start = Drawn::new(&net, 0).refined();
+    let start = ControlNet::new(&net, 0).refined();
     assert_eq!(start.points[..3], net.points);
     assert_eq!(
         start.points[3..],
@@ -131,8 +131,8 @@ fn a_triangle_becomes_three_quadrilaterals() {
 #[test]
 fn four_sided_faces_are_split_too() {
     let net = square();
-    let drawn = Drawn::new(&PolygonNet::from(&net), 0);
-    let start = drawn.refined();
+    let control = ControlNet::new(&PolygonNet::from(&net), 0);
+    let start = control.refined();
     assert_eq!(
         start.points[4..],
         [[8, 0, 0], [16, 8, 0], [8, 16, 0], [0, 8, 0], [8, 8, 0]]
@@ -143,10 +143,10 @@ fn four_sided_faces_are_split_too() {
     );
     assert_eq!(refined(&net, 1).points[4], [8, -2, 0]);
     // A round after the split, and no round without counts.
-    let once = drawn.with(|d| d.rounds = 1);
+    let once = control.with(|d| d.rounds = 1);
     let once = once.with(|d| d.capacity = Capacity::for_refined_faces(16));
     assert_eq!(once.refined(), refine_once(&start, Tension::OLD).net);
-    assert_eq!(drawn.with(|d| d.sides.clear()).refined(), net);
+    assert_eq!(control.with(|d| d.sides.clear()).refined(), net);
 }
 
 #[test]
@@ -205,15 +205,15 @@ fn faces_and_edges_are_counted_on() {
 #[test]
 fn every_polygon_is_accepted_and_refined() {
     for n in 3..=8 {
-        let drawn = Drawn::new(&lone(n), 2);
-        let faces = drawn.refined().faces.len();
+        let control = ControlNet::new(&lone(n), 2);
+        let faces = control.refined().faces.len();
         assert_eq!(faces, 16 * n as usize);
     }
 }
 
 /// The split of a net without refusals has none, and it fits the tables.
 #[test]
-fn lone_triangles_have_more_vertices_after_the_split_than_can_be_drawn() {
+fn lone_triangles_have_more_vertices_after_the_split_than_can_be_control() {
     let faces: Vec<Vec<u32>> = (0..1_365)
         .map(|t| vec![3 * t, 3 * t + 1, 3 * t + 2])
         .collect();
@@ -222,7 +222,7 @@ fn lone_triangles_have_more_vertices_after_the_split_than_can_be_drawn() {
         marks: vec![0; 4_095],
         faces,
     };
-    let start = Drawn::new(&net, 0).refined();
+    let start = ControlNet::new(&net, 0).refined();
     assert_eq!((start.points.len(), start.faces.len()), (9_555, 4_095));
     assert_eq!(check_net(&start), Ok(()));
 }
@@ -230,9 +230,9 @@ fn lone_triangles_have_more_vertices_after_the_split_than_can_be_drawn() {
 // ---- refusal 14 and the order
 
 /// A square with a triangle beside it: seven corners.
-fn house() -> Drawn {
+fn house() -> ControlNet {
     let net = polygons(&scattered(5), &[&[0, 1, 2, 3], &[2, 1, 4]]);
-    Drawn::new(&net, 1)
+    ControlNet::new(&net, 1)
 }
 
 #[test]
@@ -277,7 +277,7 @@ fn counts_that_do_not_add_up_get_14() {
     for more in [256, 65_536] {
         let sides = vec![8; (more + 8) / 8];
         assert_eq!(
-            Drawn::new(&lone(8), 0)
+            ControlNet::new(&lone(8), 0)
                 .with(|d| d.sides = sides.clone())
                 .refusal(),
             (14, 0)
@@ -287,7 +287,7 @@ fn counts_that_do_not_add_up_get_14() {
 
 #[test]
 fn counts_without_corners_get_14() {
-    let empty = Drawn::zeros(0, 0, vec![]);
+    let empty = ControlNet::zeros(0, 0, vec![]);
     assert_eq!(empty.refusal(), (0, 0));
     for sides in [vec![0], vec![3], vec![4], vec![0; 9]] {
         assert_eq!(empty.with(|d| d.sides = sides.clone()).refusal(), (14, 0));
@@ -336,8 +336,8 @@ fn a_tension_above_4_comes_after_side_counts_and_tables() {
 fn the_split_is_the_same_at_every_tension() {
     for n in 3..=8 {
         let at = |rounds, tension| {
-            let drawn = Drawn::new(&lone(n), rounds);
-            drawn.with(|d| d.tension = tension).refined()
+            let control = ControlNet::new(&lone(n), rounds);
+            control.with(|d| d.tension = tension).refined()
         };
         for tension in 0..4 {
             assert_eq!(at(0, tension), at(0, 4));
@@ -348,7 +348,7 @@ fn the_split_is_the_same_at_every_tension() {
 
 #[test]
 fn limits_count_the_quadrilaterals_after_the_split() {
-    let short = |drawn: Drawn| drawn.with(|d| d.capacity.workspace = 0);
+    let short = |control: ControlNet| control.with(|d| d.capacity.workspace = 0);
     for (rounds, sides, reason) in [
         (0, vec![4; 1_024], 4),
         (3, vec![4; 1_024], 4),
@@ -361,41 +361,41 @@ fn limits_count_the_quadrilaterals_after_the_split() {
         (5, vec![8; 32], 4),
         (5, [vec![8; 31], vec![5, 4]].concat(), 3),
     ] {
-        let zeros = Drawn::zeros(0, 4, sides);
+        let zeros = ControlNet::zeros(0, 4, sides);
         assert_eq!(
             short(zeros.with(|d| d.rounds = rounds)).refusal(),
             (reason, 0)
         );
     }
-    assert_eq!(short(Drawn::zeros(0, 8_192, vec![3])).refusal(), (4, 0));
-    assert_eq!(short(Drawn::zeros(0, 8_193, vec![3])).refusal(), (3, 0));
+    assert_eq!(short(ControlNet::zeros(0, 8_192, vec![3])).refusal(), (4, 0));
+    assert_eq!(short(ControlNet::zeros(0, 8_193, vec![3])).refusal(), (3, 0));
     // The drawn vertices are within the limit, the bad face is found.
-    assert_eq!(Drawn::zeros(0, 8_192, vec![8; 512]).refusal(), (7, 0));
+    assert_eq!(ControlNet::zeros(0, 8_192, vec![8; 512]).refusal(), (7, 0));
 }
 
 #[test]
 fn each_table_must_be_long_enough_for_the_split_net() {
     for rounds in 0..=2 {
-        let drawn = Drawn::new(&lone(5), rounds);
-        assert_eq!(drawn.refusal(), (0, 0));
-        assert_eq!(drawn.with(|d| d.capacity.vertices -= 1).refusal(), (4, 0));
-        assert_eq!(drawn.with(|d| d.capacity.faces -= 1).refusal(), (4, 0));
-        assert_eq!(drawn.with(|d| d.capacity.marks -= 1).refusal(), (4, 0));
-        assert_eq!(drawn.with(|d| d.capacity.workspace -= 1).refusal(), (4, 0));
+        let control = ControlNet::new(&lone(5), rounds);
+        assert_eq!(control.refusal(), (0, 0));
+        assert_eq!(control.with(|d| d.capacity.vertices -= 1).refusal(), (4, 0));
+        assert_eq!(control.with(|d| d.capacity.faces -= 1).refusal(), (4, 0));
+        assert_eq!(control.with(|d| d.capacity.marks -= 1).refusal(), (4, 0));
+        assert_eq!(control.with(|d| d.capacity.workspace -= 1).refusal(), (4, 0));
     }
 }
 
-fn run(drawn: &Drawn) -> (Outcome, Tables, Tables) {
+fn run(control: &ControlNet) -> (Outcome, Tables, Tables) {
     let before = Tables {
-        vertices: vec![-77; drawn.capacity.vertices],
-        faces: vec![77; drawn.capacity.faces],
-        marks: vec![7; drawn.capacity.marks],
+        vertices: vec![-77; control.capacity.vertices],
+        faces: vec![77; control.capacity.faces],
+        marks: vec![7; control.capacity.marks],
         with_letters: false,
         letters: vec![],
-        workspace: vec![777; drawn.capacity.workspace],
+        workspace: vec![777; control.capacity.workspace],
     };
     let mut after = before.clone();
-    let outcome = refine_into(&mut 0, drawn.rounds, drawn.record(), &mut after);
+    let outcome = refine_into(&mut 0, control.rounds, control.record(), &mut after);
     (outcome, before, after)
 }
 
@@ -503,7 +503,7 @@ fn two(n: u32) -> PolygonNet {
 }
 
 #[test]
-fn refusals_5_to_12_have_their_place_in_the_drawn_net() {
+fn refusals_5_to_12_have_their_place_in_the_control_net() {
     for n in SIZES {
         let net = two(n);
         let changed = |change: &dyn Fn(&mut PolygonNet)| {
@@ -614,7 +614,7 @@ fn the_boundary_of_the_split_net_is_a_curve_of_its_own() {
 }
 
 #[test]
-fn a_drawn_segment_is_shared_by_two_nets_with_counts_and_by_no_mixed_pair() {
+fn a_control_segment_is_shared_by_two_nets_with_counts_and_by_no_mixed_pair() {
     let mut triangle = polygons(&[[0, 0, 0], [8, 0, 0], [4, 9, 3]], &[&[0, 1, 2]]);
     let mut plain = grid(1, 1);
     plain.points[..2].copy_from_slice(&triangle.points[..2]);

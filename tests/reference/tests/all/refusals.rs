@@ -1,7 +1,7 @@
 //! Refusals 1 to 12 and 16: their order, their places and what they leave behind.
 
 use crate::common::{
-    cube, fan, grid, refine_at, refine_drawn, refine_net, scattered, square, unmarked, verdict,
+    cube, fan, grid, refine_at, refine_control, refine_net, scattered, square, unmarked, verdict,
     wheel, with_marks,
 };
 use reference::call::{Call, Outcome, Tables, refine};
@@ -284,7 +284,7 @@ fn run(net: &Net, rounds: u32, tables: Tables) -> (Outcome, Tables) {
 
 /// The same at any tension.
 fn run_at(net: &Net, tension: u32, rounds: u32, mut tables: Tables) -> (Outcome, Tables) {
-    let outcome = refine_drawn(&mut 0, net, &[], tension, rounds, &mut tables);
+    let outcome = refine_control(&mut 0, net, &[], tension, rounds, &mut tables);
     (outcome, tables)
 }
 

@@ -1,7 +1,7 @@
 //! Paper 02, the usage tally: "An accepted call adds refined vertices minus
 //! drawn vertices; a refused call adds nothing."
 
-use crate::common::{cube, grid, refine_drawn, square, unmarked, with_marks};
+use crate::common::{cube, grid, refine_control, square, unmarked, with_marks};
 use reference::call::{Outcome, Tables};
 use reference::net::{Net, PolygonNet};
 use reference::refusal::{Capacity, MAX_TALLY};
@@ -28,7 +28,7 @@ fn tables(refined_faces: usize) -> Tables {
 /// A call without side counts on a record.
 fn call(tally: &mut u64, net: &Net, rounds: u32) -> Outcome {
     let refined = net.faces.len() << (2 * rounds.min(6));
-    refine_drawn(
+    refine_control(
         tally,
         net,
         &[],
@@ -41,7 +41,7 @@ fn call(tally: &mut u64, net: &Net, rounds: u32) -> Outcome {
 /// The same with side counts.
 fn call_with_sides(tally: &mut u64, net: &PolygonNet, rounds: u32) -> Outcome {
     let tables = &mut tables(net.corners().count() << (2 * rounds));
-    refine_drawn(
+    refine_control(
         tally,
         net,
         &net.side_table(),
@@ -111,7 +111,7 @@ fn a_refusal_by_the_record_clears_the_workspace_only() {
     let mut after = tables(4);
     let mut tally = MAX_TALLY - 4;
     let old = Tension::OLD.number();
-    let outcome = refine_drawn(&mut tally, &net, &[], old, 1, &mut after);
+    let outcome = refine_control(&mut tally, &net, &[], old, 1, &mut after);
     assert_eq!(outcome, REFUSED);
     let mut expected = tables(4);
     expected.workspace[..64].fill(0);
@@ -141,13 +141,13 @@ fn the_record_is_judged_last() {
 fn the_tension_adds_no_points() {
     for tension in 0..=4 {
         let mut tally = 7;
-        refine_drawn(&mut tally, &grid(2, 2), &[], tension, 1, &mut tables(16));
+        refine_control(&mut tally, &grid(2, 2), &[], tension, 1, &mut tables(16));
         assert_eq!(tally, 7 + 16);
     }
     for figure in [0, MAX_TALLY, u64::MAX] {
         for tension in [5, 256, u32::MAX] {
             let (mut tally, mut after) = (figure, tables(16));
-            let outcome = refine_drawn(&mut tally, &grid(2, 2), &[], tension, 1, &mut after);
+            let outcome = refine_control(&mut tally, &grid(2, 2), &[], tension, 1, &mut after);
             let refused = Outcome::Refused {
                 reason: 16,
                 place: 0,

@@ -135,7 +135,7 @@ pub fn refine_at(net: &Net, tension: u32, rounds: u32) -> Outcome {
 }
 
 /// Any call, with the record and the tables that it writes.
-pub fn refine_drawn<F: AsRef<[u32]>>(
+pub fn refine_control<F: AsRef<[u32]>>(
     tally: &mut u64,
     net: &Mesh<F>,
     sides: &[u8],

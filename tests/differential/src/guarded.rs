@@ -54,7 +54,7 @@ pub enum Side {
 
 /// A table between two zones.
 #[derive(Debug)]
-pub struct Lent<T: Entry> {
+pub struct Guarded<T: Entry> {
     /// The zone before the pages.
     zone: *mut u8,
     /// Bytes of the pages.
@@ -67,12 +67,12 @@ pub struct Lent<T: Entry> {
     entry: PhantomData<T>,
 }
 
-impl<T: Entry> Lent<T> {
+impl<T: Entry> Guarded<T> {
     /// A copy of the table that a call may read and write.
     pub fn new(table: &[T], side: Side) -> Self {
         let bytes = size_of_val(table);
         let pages = bytes.next_multiple_of(PAGE);
-        let lent = Self {
+        let guarded = Self {
             zone: reserve(ZONE + pages + ZONE),
             pages,
             before: if side == Side::Before {
@@ -84,20 +84,20 @@ impl<T: Entry> Lent<T> {
             told: table.len(),
             entry: PhantomData,
         };
-        lent.allow(READ_AND_WRITE);
+        guarded.allow(READ_AND_WRITE);
         // SAFETY: the pages are open and hold the table.
         unsafe {
-            ptr::write_bytes(lent.first_page(), CANARY, pages);
-            ptr::copy_nonoverlapping(table.as_ptr(), lent.pointer(), table.len());
+            ptr::write_bytes(guarded.first_page(), CANARY, pages);
+            ptr::copy_nonoverlapping(table.as_ptr(), guarded.pointer(), table.len());
         }
-        lent
+        guarded
     }
 
     /// A copy of the table that a call may only read.
     pub fn read_only(table: &[T], side: Side) -> Self {
-        let lent = Self::new(table, side);
-        lent.allow(READ);
-        lent
+        let guarded = Self::new(table, side);
+        guarded.allow(READ);
+        guarded
     }
 
     /// Tells calls of a longer table. What is told beyond the pages lies in
@@ -166,7 +166,7 @@ impl<T: Entry> Lent<T> {
     }
 }
 
-impl<T: Entry> Drop for Lent<T> {
+impl<T: Entry> Drop for Guarded<T> {
     fn drop(&mut self) {
         // SAFETY: the table's own pages and zones, which no one uses any more.
         unsafe { munmap(self.zone.cast(), ZONE + self.pages + ZONE) };
