@@ -15,7 +15,7 @@ kobbelt = record { near = 9; far = 1 }
 abbrev pub tension : ℕ → Weights
 tension t = record { near = 32 + t; far = t }
 
--- the denominator: 16, and 64 at a tension
+-- the denominator: 16, and 64 at a tension. Up to tension 4 far is at most a ninth of near, so no difference below is cut off at 0
 abbrev pub scale : Weights → ℕ
 scale w = 2 * (w .near - w .far)
 

@@ -23,7 +23,7 @@ use Rattle.scheme.specs.Rings.{extrapolatedAt, fanNeighbour, fanCorner, ringVir
 use Rattle.scheme.specs.Points.{edgeRule, edgeValue, edgePoint, direction, inner, fourInner, faceRule, faceValue}
 use Rattle.scheme.specs.Step.{step, steps}
 use Rattle.splitting.specs.Splitting.{split, startNet}
-use Rattle.origins.specs.Origins.{Rule, withinSegment, endEdge, singleEdge, interiorEdge, fourInnerEdges, otherFace, letterOf, madeBy, newRule, ruleValue, startOrigin, originFrom, originAfter, letters, faceCase}
+use Rattle.origins.specs.Origins.{Rule, withinSegment, endRule, singleRule, interiorEdge, fourInnerEdges, otherFace, letterOf, madeBy, newRule, ruleValue, startOrigin, originFrom, originAfter, letters, faceCase}
 
 -- a square with these side counts and marks; letters see no coordinates
 abbrev square : (sides marks : List ℕ) → ControlNet
@@ -94,7 +94,7 @@ value l marks heights i r = toWhole (ruleValue kobbelt l marks (λ (v : ℕ). ge
 abbrev firstSide : (marks : List ℕ) → Rule → ℤ
 firstSide marks = value (0 ∷ 1 ∷ 2 ∷ 3 ∷ []) marks (pos 16 ∷ pos 0 ∷ pos 0 ∷ pos 160 ∷ []) 4
 
-edges-at-their-word : firstSide (replicate 4 1) withinSegment ∷ firstSide (replicate 4 1) endEdge ∷ firstSide (replicate 4 1) singleEdge ∷ firstSide (replicate 4 0) endEdge ∷ firstSide (replicate 4 0) singleEdge ∷ firstSide (replicate 4 0) interiorEdge ∷ []
+edges-at-their-word : firstSide (replicate 4 1) withinSegment ∷ firstSide (replicate 4 1) endRule ∷ firstSide (replicate 4 1) singleRule ∷ firstSide (replicate 4 0) endRule ∷ firstSide (replicate 4 0) singleRule ∷ firstSide (replicate 4 0) interiorEdge ∷ []
     ≡ negsuc 0 ∷ pos 7 ∷ pos 8 ∷ pos 0 ∷ pos 8 ∷ pos 1 ∷ []
 unfolding round sumᶠ virtual firstFrom first count iterate quads from to opposed mate firstMet edgeCount edge edgeAt isBoundaryFrom isBoundaryInto boundaryFrom boundaryInto along back leaves valence turn interiorPoint endPoint midpoint extrapolated extrapolatedCorner oppositeCorner fanEnd extrapolatedAt fanNeighbour fanCorner fanPlace ringVirtual fanVirtual virtualAt marked edgeRule edgeValue edgePoint across beyond direction inner fourInner faceRule faceValue ruleValue
 edges-at-their-word = refl

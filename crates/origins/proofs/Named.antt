@@ -23,13 +23,13 @@ use Rattle.schemelaws.proofs.Steps.{step-count, step-axis, step-kept, steps-cou
 use Rattle.splitting.specs.Splitting.{startNet}
 use Rattle.splitting.proofs.Coordinates.{split-new}
 use Rattle.splitting.proofs.Split.{split-count, split-axis, start-none, start-split, start-grows}
-use Rattle.origins.specs.Origins.{Rule, endEdge, fourInnerEdges, Origin, controlVertex, splitPoint, madeBy, edgeCase, faceCase, sideOf, faceOf, newRule, fourInnerRule, ruleValue, startOrigin, originFrom, originAfter}
+use Rattle.origins.specs.Origins.{Rule, endRule, fourInnerEdges, Origin, controlVertex, splitPoint, madeBy, edgeCase, faceCase, sideOf, faceOf, newRule, fourInnerRule, ruleValue, startOrigin, originFrom, originAfter}
 use Rattle.origins.specs.Named.{MadeIn, MadeInSplit, MadeEarlier, HasOrigin}
 
 -- ---- one round: the own rule of a new vertex gives its coordinate
 module _ (w : Weights) (l marks : List ℕ) (p : ℕ → ℤ) (i : ℕ) where
   end-named : (b : Bool) → marked marks (from l (sideOf l marks i)) ≡ b
-      → cond b (edgeValue w l p (sideOf l marks i) startOfSegment) (edgeValue w l p (sideOf l marks i) endOfSegment) ≡ ruleValue w l marks p i endEdge
+      → cond b (edgeValue w l p (sideOf l marks i) startOfSegment) (edgeValue w l p (sideOf l marks i) endOfSegment) ≡ ruleValue w l marks p i endRule
   unfolding ruleValue
   end-named b y = rw y
 

@@ -18,7 +18,7 @@ use Rattle.splitting.specs.Splitting.{startNet}
 
 -- the rules of a round that have a letter each
 pub data Rule : Type 0 where
-  withinSegment endEdge singleEdge interiorEdge fourInnerEdges otherFace : Rule
+  withinSegment endRule singleRule interiorEdge fourInnerEdges otherFace : Rule
 
 -- a vertex of the net as it is drawn, a point of the split, or a point that a round made by a rule
 pub data Origin : Type 0 where
@@ -30,8 +30,8 @@ abbrev pub letterOf : Origin → ℕ
 letterOf controlVertex = 86  -- V
 letterOf splitPoint = 83  -- S
 letterOf (madeBy withinSegment) = 65  -- A
-letterOf (madeBy endEdge) = 66  -- B
-letterOf (madeBy singleEdge) = 77  -- M
+letterOf (madeBy endRule) = 66  -- B
+letterOf (madeBy singleRule) = 77  -- M
 letterOf (madeBy interiorEdge) = 67  -- C
 letterOf (madeBy fourInnerEdges) = 68  -- D
 letterOf (madeBy otherFace) = 69  -- E
@@ -39,9 +39,9 @@ letterOf (madeBy otherFace) = 69  -- E
 -- ---- one round, on a net with corners l and marks: "its letter is that of its own case", by adjacency and marks alone
 abbrev pub edgeCase : EdgeRule → Rule
 edgeCase insideSegment = withinSegment
-edgeCase startOfSegment = endEdge
-edgeCase endOfSegment = endEdge
-edgeCase wholeSegment = singleEdge
+edgeCase startOfSegment = endRule
+edgeCase endOfSegment = endRule
+edgeCase wholeSegment = singleRule
 edgeCase innerRule = interiorEdge
 
 -- "D one direction with four inner edges or both"
@@ -65,7 +65,7 @@ newRule l marks i =
     (faceCase (faceRule l (faceOf l marks i)))
 
 -- ---- what the rule that a letter names gives for the new vertex i, on one coordinate p; the letter is taken at its word
--- D: the direction with four inner edges, or the mean if both have them; where neither has them, the first
+-- D: the direction with four inner edges, or the mean if both have them; where neither has them, which no point with this letter is asked for, the first
 abbrev pub fourInnerRule : FaceRule → FaceRule
 fourInnerRule firstAlone = firstAlone
 fourInnerRule secondAlone = secondAlone
@@ -75,8 +75,8 @@ fourInnerRule neitherInner = firstAlone
 -- B: the end rule from the marked end. E: the mean
 unfoldable pub ruleValue : Weights → (l marks : List ℕ) → (ℕ → ℤ) → ℕ → Rule → Fraction
 ruleValue w l marks p i withinSegment = edgeValue w l p (sideOf l marks i) insideSegment
-ruleValue w l marks p i endEdge = cond (marked marks (from l (sideOf l marks i))) (edgeValue w l p (sideOf l marks i) startOfSegment) (edgeValue w l p (sideOf l marks i) endOfSegment)
-ruleValue w l marks p i singleEdge = edgeValue w l p (sideOf l marks i) wholeSegment
+ruleValue w l marks p i endRule = cond (marked marks (from l (sideOf l marks i))) (edgeValue w l p (sideOf l marks i) startOfSegment) (edgeValue w l p (sideOf l marks i) endOfSegment)
+ruleValue w l marks p i singleRule = edgeValue w l p (sideOf l marks i) wholeSegment
 ruleValue w l marks p i interiorEdge = edgeValue w l p (sideOf l marks i) innerRule
 ruleValue w l marks p i fourInnerEdges = faceValue w l (edgePoint w l marks p) (faceOf l marks i) (fourInnerRule (faceRule l (faceOf l marks i)))
 ruleValue w l marks p i otherFace = faceValue w l (edgePoint w l marks p) (faceOf l marks i) neitherInner

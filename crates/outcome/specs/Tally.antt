@@ -10,7 +10,7 @@ use Rattle.verdict.specs.Verdict.{Verdict, refusedIf}
 use Rattle.scheme.specs.Step.{steps}
 use Rattle.splitting.specs.Splitting.{startNet}
 
--- "refined vertices minus drawn vertices", of the net m after k rounds
+-- "refined vertices minus drawn vertices", of the net m after k rounds: the same at every tension, and never cut off, as drawn vertices are among the refined
 unfoldable pub newPoints : (t k : ℕ) → ControlNet → ℕ
 newPoints t k m = vertexCount (steps (tension t) k (startNet m)) - length (m .marks)
 

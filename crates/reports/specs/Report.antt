@@ -18,7 +18,7 @@ abbrev pub report : Result → Report
 report (refinedTo v f) = record { reason = 0; place = 0; vertices = v; faces = f }
 report (refusedWith r p) = record { reason = r; place = p; vertices = 0; faces = 0 }
 
--- the lengths, or the refusal that holds whatever tables are given, with lengths 0
+-- the lengths, or the refusal that holds whatever tables are given, with lengths 0; a letter table is as long as the marks
 abbrev pub sizesBy : Verdict → Room → Sizes
 sizesBy accepted n = record { reason = 0; «out_vertices» = n .vertices; «out_faces» = n .faces; «out_marks» = n .marks; work = n .work }
 sizesBy (refused r p) n = record { reason = r; «out_vertices» = 0; «out_faces» = 0; «out_marks» = 0; work = 0 }

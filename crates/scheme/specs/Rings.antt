@@ -16,6 +16,7 @@ use Rattle.topology.specs.Vertex.{valence, turns}
 use Rattle.topology.specs.Quads.{oppositeCorner, fanEnd, fanPlace}
 
 -- "For a boundary vertex P in m faces, P* = 2P minus the mean of the far ends of its m - 1 inner edges; for m = 1, P* = 2P minus the opposite corner of its face."
+-- Of the ends 0 to m of the fan the first and the last are on the boundary, and 1 to m - 1 those of inner edges
 unfoldable pub extrapolatedAt : List ℕ → (ℕ → ℤ) → ℕ → Fraction
 extrapolatedAt l p v =
     let m = valence l v in
@@ -44,7 +45,8 @@ fanCorner l p v i =
     (cond (eqb i (m + 1)) (extrapolatedAt l p (fanEnd l s 0))
     (whole (p (oppositeCorner l (turns quads l i s)))))
 
--- the virtual point at the vertex that h leaves, on the edge of h: the ring is taken from h on, or the fan from its start
+-- the virtual point at the vertex that h leaves, on the edge of h: the ring is taken from h on, or the fan from its start. A turn goes over the side before h, so
+-- the face of h lies between neighbours 0 and 1, and its opposite corner is corner 0
 unfoldable pub ringVirtual : Weights → List ℕ → (ℕ → ℤ) → ℕ → Fraction
 ringVirtual w l p h =
     virtual w (valence l (from l h)) (λ (i : ℕ). whole (p (to quads l (turns quads l i h)))) (λ (i : ℕ). whole (p (oppositeCorner l (turns quads l i h)))) 0

@@ -4,7 +4,7 @@ use Prim.Native.Nat.{ℕ, _+_, _≤_, _<_}
 use mathlib.Core.List.{List, _++_}
 use lib.ListN.{length, getD, set, take, drop, replicate}
 
--- "fills .. from the front", "the rest of every output as found"
+-- "fills .. from the front", "the rest of every output as found"; a table that is shorter than what fills it is refused (4)
 unfoldable pub filled : {A : Type 0} → List A → List A → List A
 filled s d = s ++ drop (length s) d
 

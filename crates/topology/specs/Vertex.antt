@@ -14,7 +14,7 @@ use Rattle.topology.specs.Boundary.{boundaryFrom}
 unfoldable pub leaves : List ℕ → ℕ → ℕ → Bool
 leaves l p g = eqb (from l g) p
 
--- the number of faces at p: one half-edge of each leaves p
+-- the number of faces at p: one half-edge of each leaves p, past refusal 7
 unfoldable pub valence : List ℕ → ℕ → ℕ
 valence l p = count (leaves l p) (length l)
 

@@ -44,7 +44,7 @@ pub record Call : Type 0 where
 abbrev pub call : ℕ → ControlNet → (tension : ℕ) → Room → Call
 call rounds net tension room = record { rounds = rounds; net = net; tension = tension; room = room }
 
--- "V and F are their counts."
+-- "V and F are their counts." Past refusal 2 there is a mark for each vertex, so the marks are counted
 abbrev pub vertexCount : Net → ℕ
 vertexCount m = length (m .marks)
 
