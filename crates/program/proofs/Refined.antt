@@ -10,7 +10,7 @@ use Rattle.curve.specs.Weights.{tension}
 use Rattle.nets.specs.Net.{Net, plain}
 use Rattle.tables.specs.Tables.{filled}
 use Rattle.verdict.specs.Call.{lengthsOf, Call}
-use Rattle.verdict.specs.Verdict.{Verdict, accepted, refused, limitsVerdict, netVerdict, verdict, workAfter}
+use Rattle.verdict.specs.Verdict.{Verdict, accepted, refused, limitsVerdict, netVerdict, verdict}
 use Rattle.verdict.proofs.Accepted.{within-if}
 use Rattle.scheme.specs.Step.{steps}
 use Rattle.splitting.specs.Splitting.{startNet}
@@ -18,7 +18,7 @@ use Rattle.splitting.proofs.Room.{refinable-vertices-le}
 use Rattle.schemelaws.specs.Nets.{Refinable}
 use Rattle.schemelaws.proofs.Steps.{refinable-steps}
 use Rattle.tables.proofs.Laws.{filled-at}
-use Rattle.outcome.specs.Outcome.{Result, refinedTo, refusedWith, Request, request, Outcome, callOf, toAdd, lettered, outcomeBy, outcome}
+use Rattle.outcome.specs.Outcome.{Result, refinedTo, refusedWith, Request, request, Outcome, callOf, lettered, outcomeBy, outcome}
 use Rattle.nets.specs.Buffers.{Buffers, letterTable}
 use Rattle.origins.specs.Origins.{letters}
 use Rattle.origins.proofs.Letters.{length-letters}

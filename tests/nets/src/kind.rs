@@ -182,7 +182,8 @@ pub fn named_texts(seed: u64) -> Vec<(String, TextCase)> {
         let (named, dressing, _) = by_turns(number);
         let rounds = most_rounds(named.control.quadrilaterals(), PROGRAM_REFINED_FACES);
         let rng = &mut Rng::new(seed.wrapping_add(number as u64));
-        if let (ControlNet::Plain(net), 1..) = (named.dressed(dressing, Tension::OLD, rng), rounds) {
+        if let (ControlNet::Plain(net), 1..) = (named.dressed(dressing, Tension::OLD, rng), rounds)
+        {
             let name = format!("named-{}-{}", named.name, dressing.name());
             texts.push((name, accepted_text(&net, rounds, rng)));
         }

@@ -3,7 +3,6 @@ use mathlib.Core.Path.{_≡_, subst}
 use mathlib.Core.List.{List}
 use Prim.Native.Nat.{ℕ}
 use native.Mathlib.Omega.{arith}
-use lib.ListN.{length}
 use Rattle.nets.specs.Net.{ControlNet}
 use Rattle.verdict.specs.Call.{Room, Call}
 use Rattle.limits.specs.Answer.{roomIn}

@@ -16,7 +16,10 @@ use reference::step::{Surface, refine_once};
 use reference::topology::Topology;
 
 /// Every net in a dressing, for calls at a tension.
-fn dressed(dressing: Dressing, tension: Tension) -> impl Iterator<Item = (&'static str, ControlNet)> {
+fn dressed(
+    dressing: Dressing,
+    tension: Tension,
+) -> impl Iterator<Item = (&'static str, ControlNet)> {
     (0..).zip(NAMED.iter()).map(move |(seed, named)| {
         let control = named.dressed(dressing, tension, &mut Rng::new(seed));
         (named.name.as_str(), control)

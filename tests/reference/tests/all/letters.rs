@@ -306,7 +306,12 @@ fn assert_by_letters(start: &Net, tension: Tension, control: usize, rounds: u32)
         let front = start.points.len();
         let [points, named] = [&net.points[..front], &start.points];
         assert_eq!(points, named);
-        assert!(start_is_by_letters(start, control, points, &letters[..front]));
+        assert!(start_is_by_letters(
+            start,
+            control,
+            points,
+            &letters[..front]
+        ));
         if k > 0 {
             assert!(round_is_by_letters(&before, tension, &net.points, &letters));
         }

@@ -367,8 +367,14 @@ fn limits_count_the_quadrilaterals_after_the_split() {
             (reason, 0)
         );
     }
-    assert_eq!(short(ControlNet::zeros(0, 8_192, vec![3])).refusal(), (4, 0));
-    assert_eq!(short(ControlNet::zeros(0, 8_193, vec![3])).refusal(), (3, 0));
+    assert_eq!(
+        short(ControlNet::zeros(0, 8_192, vec![3])).refusal(),
+        (4, 0)
+    );
+    assert_eq!(
+        short(ControlNet::zeros(0, 8_193, vec![3])).refusal(),
+        (3, 0)
+    );
     // The drawn vertices are within the limit, the bad face is found.
     assert_eq!(ControlNet::zeros(0, 8_192, vec![8; 512]).refusal(), (7, 0));
 }
@@ -381,7 +387,10 @@ fn each_table_must_be_long_enough_for_the_split_net() {
         assert_eq!(control.with(|d| d.capacity.vertices -= 1).refusal(), (4, 0));
         assert_eq!(control.with(|d| d.capacity.faces -= 1).refusal(), (4, 0));
         assert_eq!(control.with(|d| d.capacity.marks -= 1).refusal(), (4, 0));
-        assert_eq!(control.with(|d| d.capacity.workspace -= 1).refusal(), (4, 0));
+        assert_eq!(
+            control.with(|d| d.capacity.workspace -= 1).refusal(),
+            (4, 0)
+        );
     }
 }
 
