@@ -9,7 +9,7 @@ ghost use Rattle.verdict.specs.Call.{room, call};
 ghost use lib.Dec.{ltb};
 ghost use Rattle.limits.specs.Answer.{limitsOf, lengthsIn};
 ghost use Rattle.verdict.specs.Verdict.{orElse, refusedIf, limitsVerdict, vertexVerdict, adjacencyVerdict, facesVerdict, shapeVerdict, netVerdict};
-ghost use Rattle.slots.specs.Slots.{SlotTables};
+ghost use Rattle.slotsteps.specs.Slots.{SlotTables};
 ghost use Rattle.vertexcounts.specs.Counts.{Counted};
 ghost use Rattle.admission.specs.Answer.{verdictOf, found, checked};
 ghost use Rattle.admission.specs.Examine.{CheckTables, Joined, Examined};
