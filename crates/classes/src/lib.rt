@@ -4,7 +4,7 @@ ghost use Prim.Native.Nat.{_+_, _≤_, _<_};
 ghost use lib.ListN.{length};
 ghost use Rattle.tables.specs.Tables.{SameOutside};
 ghost use Rattle.halfedges.specs.Tables.{Connectivity};
-ghost use Rattle.classes.specs.Classes.{RingSizes, sizeAt, ordinaryBy, Countable, shareOf, CountedBelow};
+ghost use Rattle.ringsizes.specs.Classes.{RingSizes, sizeAt, ordinaryBy, Countable, shareOf, CountedBelow};
 
 // The ring size at a place of the table.
 fn size_at(work: &[u32], i: usize) -> u16

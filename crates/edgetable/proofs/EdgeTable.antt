@@ -35,8 +35,8 @@ use Rattle.schemelaws.specs.Ordinary.{Ordinary}
 use Rattle.schemelaws.proofs.Coordinates.{edge-either, refined-old, refined-edge}
 use Rattle.schemelaws.proofs.Sizes.{edge-size}
 use Rattle.walks.specs.Ready.{Ready}
-use Rattle.classes.specs.Classes.{Classes}
-use Rattle.classes.proofs.Classes.{classes-same}
+use Rattle.ringsizes.specs.Classes.{Classes}
+use Rattle.ringsizes.proofs.Classes.{classes-same}
 use Rattle.coordinates.specs.Points.{Points, Marks, putPoint, PointsWritten}
 use Rattle.edgeentries.specs.Packed.{putThree, Holds}
 use Rattle.edgeentries.specs.Entry.{wideFlag, boundaryFlag, entryOf, edgeOf, pointPlace, placeOf, putEdge, copied, unitOf}

@@ -16,7 +16,7 @@ use Rattle.scheme.specs.Step.{refinedCoordinate}
 use Rattle.schemelaws.specs.Numerators.{edgeZ}
 use Rattle.halfedges.specs.Tables.{Connectivity}
 use Rattle.walks.specs.Ready.{Ready}
-use Rattle.classes.specs.Classes.{Classes}
+use Rattle.ringsizes.specs.Classes.{Classes}
 use Rattle.coordinates.specs.Points.{Points, Marks, putPoint, PointsWritten}
 use Rattle.edgeentries.specs.Packed.{Holds}
 use Rattle.edgeentries.specs.Entry.{entryOf, pointPlace, placeOf, putEdge, copied, unitOf}

@@ -31,7 +31,7 @@ use Rattle.schemelaws.proofs.FanOfTwo.{virtual-ordinary}
 use Rattle.schemelaws.proofs.Ties.{equals-virtualAt, edge-boundary}
 use Rattle.schemelaws.proofs.Sizes.{virtual-range, edge-range}
 use Rattle.schemelaws.proofs.Plain.{edge-plain}
-use Rattle.classes.specs.Classes.{ordinaryBy}
+use Rattle.ringsizes.specs.Classes.{ordinaryBy}
 use Rattle.coordinates.specs.declared.Far.{Far}
 use Rattle.coordinates.specs.declared.Far.the-variants.{At, Nowhere}
 use Rattle.coordinates.specs.Points.{Points, OnAxes}

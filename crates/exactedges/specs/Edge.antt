@@ -12,7 +12,7 @@ use Rattle.topology.specs.HalfEdge.{from, to, mate}
 use Rattle.topology.specs.Boundary.{along, back}
 use Rattle.nets.specs.Net.{marked}
 use Rattle.schemelaws.specs.Ordinary.{Ordinary, straight}
-use Rattle.classes.specs.Classes.{ordinaryBy}
+use Rattle.ringsizes.specs.Classes.{ordinaryBy}
 use Rattle.coordinates.specs.declared.Far.{Far}
 use Rattle.coordinates.specs.declared.Far.the-variants.{At, Nowhere}
 use Rattle.edgeentries.specs.Entry.{wideFlag, boundaryFlag, unitOf}

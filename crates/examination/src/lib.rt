@@ -6,7 +6,7 @@ ghost use Rattle.refusals.specs.Refusals.{badCorner};
 ghost use Rattle.polygons.specs.Polygons.{shapeOf};
 ghost use Rattle.nets.specs.Net.{controlNet};
 ghost use Rattle.verdict.specs.Verdict.{vertexVerdict, adjacencyVerdict, facesVerdict, shapeVerdict, netVerdict};
-ghost use Rattle.slots.specs.Slots.{SlotTables};
+ghost use Rattle.slotsteps.specs.Slots.{SlotTables};
 ghost use Rattle.vertexcounts.specs.Counts.{Counted};
 ghost use Rattle.examination.specs.Examine.{verdictOf, CheckTables, Joined, Examined};
 

@@ -29,7 +29,7 @@ use Rattle.roundfaces.specs.Faces.{extended, FacesIn}
 use Rattle.roundfaces.proofs.Round.{vertices-refined, marks-refined, marks-cong}
 use Rattle.roundmates.specs.Mates.{MatesIn, LaterIn}
 use Rattle.roundmates.proofs.Round.{mates-in, mated-refined, mates-rest}
-use Rattle.classes.specs.Classes.{Classes}
+use Rattle.ringsizes.specs.Classes.{Classes}
 use Rattle.edgeentries.specs.Entry.{entryOf, edgeOf}
 use Rattle.facerules.specs.Faces.{faceCoordinates, FaceTable}
 use Rattle.familyfaces.specs.Family.{FamilyTable}

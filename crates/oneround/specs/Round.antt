@@ -11,7 +11,7 @@ use Rattle.scheme.specs.Step.{step}
 use Rattle.schemelaws.specs.Nets.{Refinable}
 use Rattle.integers.specs.Within.{Within}
 use Rattle.halfedges.specs.Tables.{MateTable}
-use Rattle.classes.specs.Classes.{Classes}
+use Rattle.ringsizes.specs.Classes.{Classes}
 
 -- the net at the front can be refined, its mates stand in the work table, the classes of its vertices from `at` on, and all tables have room for the refined net
 pub record Current (t v n at initial : ℕ) (B : Buffers) : Type 0 where

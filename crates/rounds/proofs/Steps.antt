@@ -29,8 +29,8 @@ use Rattle.schemelaws.proofs.Growth.{steps-input}
 use Rattle.refinedfaces.specs.Families.{AfterRound}
 use Rattle.halfedges.specs.Tables.{MateTable}
 use Rattle.halfedges.proofs.Tables.{mates-cong}
-use Rattle.classes.specs.Classes.{RingSizes, Classes, Countable}
-use Rattle.classes.proofs.Classes.{classes-counted, classes-same, classes-refined}
+use Rattle.ringsizes.specs.Classes.{RingSizes, Classes, Countable}
+use Rattle.ringsizes.proofs.Classes.{classes-counted, classes-same, classes-refined}
 use Rattle.refinedfaces.specs.Mates.{refinedMates}
 use Rattle.roundmates.specs.Mates.{MatesIn, LaterIn}
 use Rattle.origins.specs.Origins.{letterOf, originFrom}

@@ -10,7 +10,7 @@ use Rattle.topology.specs.Shape.{quads}
 use Rattle.topology.specs.HalfEdge.{from, to}
 use Rattle.polygons.specs.Polygons.{shapeOf, polygons, faceThen, noFace, sideAfter}
 use Rattle.adjacency.specs.Chains.{side}
-use Rattle.slots.specs.Slots.{firstAlike, repeats}
+use Rattle.slotsteps.specs.Slots.{firstAlike, repeats}
 
 -- side counts, corners, and 1 at each half-edge that repeats a side
 record Case : Type 0 where

@@ -5,8 +5,8 @@ use native.Mathlib.Omega.{arith}
 use lib.ListN.{length}
 use Rattle.tables.specs.Tables.{SameOutside}
 use Rattle.tables.proofs.Laws.{same-outside, outside-then}
-use Rattle.classes.specs.Classes.{CountedBelow}
-use Rattle.classes.proofs.Classes.{counted-none, countable-next, counted-all}
+use Rattle.ringsizes.specs.Classes.{CountedBelow}
+use Rattle.ringsizes.proofs.Classes.{counted-none, countable-next, counted-all}
 use Rattle.classes.proofs.count_ring_sizes.Statement.{statement}
 use Rattle.classes.proofs.count_ring_sizes.Tie as tie
 

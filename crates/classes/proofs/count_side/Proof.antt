@@ -5,8 +5,8 @@ use native.Mathlib.Omega.{arith}
 use lib.ListN.{length, getD}
 use Rattle.topology.specs.HalfEdge.{from}
 use Rattle.tables.proofs.Laws.{same-outside, outside-set}
-use Rattle.classes.specs.Classes.{sizeAt}
-use Rattle.classes.proofs.Classes.{share-le, place-lt, counted-few, size-here, counted-next}
+use Rattle.ringsizes.specs.Classes.{sizeAt}
+use Rattle.ringsizes.proofs.Classes.{share-le, place-lt, counted-few, size-here, counted-next}
 use borrow.Author.Needs.{needs}
 use Rattle.classes.proofs.count_side.Statement.{statement}
 use Rattle.classes.proofs.count_side.Tie as tie

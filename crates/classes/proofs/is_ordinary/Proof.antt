@@ -3,7 +3,7 @@ use mathlib.Core.Path.{ap}
 use Prim.Native.Nat.{ℕ}
 use lib.Dec.{eqb}
 use borrow.Author.Tests.{lt-ltb, le-ltb}
-use Rattle.classes.specs.Classes.{ordinaryBy}
+use Rattle.ringsizes.specs.Classes.{ordinaryBy}
 use borrow.Author.Needs.{needs}
 use Rattle.classes.proofs.is_ordinary.Statement.{statement}
 use Rattle.classes.proofs.is_ordinary.Tie as tie

@@ -4,7 +4,7 @@ use lib.ListN.{length}
 use borrow.Author.Tests.{lt-ltb, le-ltb}
 use Rattle.topology.specs.Shape.{quads}
 use Rattle.topology.specs.HalfEdge.{mate}
-use Rattle.classes.specs.Classes.{shareOf}
+use Rattle.ringsizes.specs.Classes.{shareOf}
 use borrow.Author.Needs.{needs}
 use Rattle.classes.proofs.share.Statement.{statement}
 use Rattle.classes.proofs.share.Tie as tie

@@ -1,7 +1,7 @@
 -- `end_virtual` meets its contract. Assumes nothing.
 use mathlib.Core.Path.{sym, ap, _∙_}
 use borrow.Author.Needs.{needs}
-use Rattle.classes.specs.Classes.{ordinaryBy}
+use Rattle.ringsizes.specs.Classes.{ordinaryBy}
 use Rattle.edgepoints.proofs.end_virtual.Statement.{statement}
 use Rattle.edgepoints.proofs.end_virtual.Tie as tie
 

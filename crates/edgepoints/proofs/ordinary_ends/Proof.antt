@@ -2,7 +2,7 @@
 use mathlib.Core.Path.{refl, sym, ap, _∙_}
 use borrow.Author.Needs.{needs}
 use Rattle.search.proofs.Tests.{clash}
-use Rattle.classes.specs.Classes.{ordinaryBy}
+use Rattle.ringsizes.specs.Classes.{ordinaryBy}
 use Rattle.exactedges.proofs.Wide.{classed-end, irregular-end}
 use Rattle.edgepoints.proofs.ordinary_ends.Statement.{statement}
 use Rattle.edgepoints.proofs.ordinary_ends.Tie as tie

@@ -3,7 +3,7 @@ use mathlib.Core.Path.{refl, sym, ap, _∙_}
 use Prim.Native.Nat.{_+_}
 use native.Mathlib.Omega.{arith}
 use Rattle.search.proofs.Tests.{clash}
-use Rattle.classes.specs.Classes.{ordinaryBy}
+use Rattle.ringsizes.specs.Classes.{ordinaryBy}
 use Rattle.familyedges.proofs.plain_family.Statement.{statement}
 use Rattle.familyedges.proofs.plain_family.Tie as tie
 

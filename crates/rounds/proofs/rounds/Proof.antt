@@ -6,7 +6,7 @@ use borrow.Author.Tests.{ltb-true}
 use lib.ListN.{length, take}
 use Rattle.letters.specs.Letters.{newLetter, WrittenIf}
 use Rattle.halfedges.specs.Tables.{MateTable}
-use Rattle.classes.specs.Classes.{Classes}
+use Rattle.ringsizes.specs.Classes.{Classes}
 use Rattle.curve.specs.Weights.{tension}
 use Rattle.scheme.specs.Step.{steps}
 use Rattle.nets.specs.Net.{frontNet}

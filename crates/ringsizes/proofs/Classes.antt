@@ -27,7 +27,7 @@ use Rattle.halfedges.proofs.Tables.{mates-cong}
 use Rattle.refinedfaces.specs.Refined.{refinedVertices, refined}
 use Rattle.schemelaws.specs.Ordinary.{Ordinary, ringOfFour, fanOfTwo}
 use Rattle.schemelaws.proofs.Made.{made-ordinary, old-ordinary, ordinary-old}
-use Rattle.classes.specs.Classes.{ringSize, sizeAt, RingSizes, ordinaryBy, Classes, Countable, shareOf, CountedBelow}
+use Rattle.ringsizes.specs.Classes.{ringSize, sizeAt, RingSizes, ordinaryBy, Classes, Countable, shareOf, CountedBelow}
 
 leaves-on : (l : List ℕ) (p h : ℕ) → from l h ≡ p → leaves l p h ≡ true
 unfolding leaves
