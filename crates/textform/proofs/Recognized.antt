@@ -211,7 +211,11 @@ module _ (l : List ℕ) where
   accepted n m e = subst (Shown l) e shown
 
   refused : (p : ℕ) → parse l ≡ badLine p → FirstBadLine l p
-  refused p e = record { before = subst (Shown l) e shown; with = λ b. let h : p < p = subst (Beyond p) e (reaches l p b) in omega arith }
+  refused p e = record {
+    unwritten = λ n w. let a : parse l ≡ parsed n [] = ap parse (w .text) ∙ net-back (w .columns) n (w .fits) in let z : _≡_ {A = ℕ} 0 1 = cc in omega arith;
+    before = subst (Shown l) e shown;
+    with = λ b. let h : p < p = subst (Beyond p) e (reaches l p b) in omega arith;
+  }
 
 pub text-form : RecognizesText
 text-form = record { written = net-back; accepted = accepted; refused = refused }

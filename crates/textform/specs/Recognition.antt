@@ -23,8 +23,9 @@ pub record Begins (l : List ℕ) (k : ℕ) : Type 0 where
   pub text : l ≡ linesText (take k (netLines columns net)) ++ rest
 
 -- Paper 01: "the place is the first bad line from 1"; "A surplus line is a bad line; where a line is missing, the place is the number it would have had":
--- the lines before line p are the first of a net, and with line p they are not
+-- l is the text of no net; its lines before line p are the first of one, and with line p they are not
 pub record FirstBadLine (l : List ℕ) (p : ℕ) : Type 0 where
+  pub unwritten : (n : TextNet) → WrittenAs l n → ⊥
   pub before : (k : ℕ) → k < p → Begins l k
   pub with : Begins l p → ⊥
 

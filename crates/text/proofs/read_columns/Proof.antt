@@ -1,11 +1,9 @@
 -- `text::read_columns` meets its contract. Assumes nothing.
-use mathlib.Core.Path.{_≡_, sym, _∙_}
-use mathlib.Core.Bool.{true, false}
-use mathlib.Core.List.{[]}
-use native.Mathlib.Omega.{arith}
+use mathlib.Core.Path.{_≡_, refl, sym, _∙_}
+use mathlib.Core.Bool.{false}
 use Rattle.textform.specs.Bytes.{bytes}
 use Rattle.textform.specs.Form.{startsWith, withCorner, withoutCorner, columnNames}
-use Rattle.textform.proofs.Lines.{starts-length, names-here, names-later, names-none}
+use Rattle.text.proofs.Lines.{first-names, second-names, no-names}
 use borrow.Author.Needs.{needs}
 use Rattle.text.proofs.read_columns.Statement.{statement}
 use Rattle.text.proofs.read_columns.Tie as tie
@@ -23,10 +21,7 @@ starts-with-requires c κs = search needs
 
 returns : tie.Need-returns
 unfolding bytes
-returns c =
-    let l = c .before .before .before .before .args .text .now in
-    let e : startsWith (columnNames withCorner) l ≡ true = sym (c .before .starts-with .ensures) ∙ c .if1 .taken in
-    record { reads = sym (names-here columnNames withCorner _ l e); within = starts-length (columnNames withCorner) l e }
+returns c = first-names _ _ columnNames withCorner withoutCorner _ _ refl refl (sym (c .before .starts-with .ensures) ∙ c .if1 .taken)
 
 slice-aggregate-starts-with-2 : tie.Need-slice-aggregate-starts-with-2
 slice-aggregate-starts-with-2 c = search needs
@@ -36,23 +31,11 @@ starts-with-requires-2 c κs = search needs
 
 returns-2 : tie.Need-returns-2
 unfolding bytes
-returns-2 c =
-    let l = c .before .before .before .before .before .before .before .args .text .now in
-    let e : startsWith (columnNames withoutCorner) l ≡ true = sym (c .before .starts-with2 .ensures) ∙ c .if2 .taken in
-    record {
-      reads = sym (names-later columnNames withCorner _ l (not-first (c .before .before .before)) ∙ names-here columnNames withoutCorner [] l e);
-      within = starts-length (columnNames withoutCorner) l e;
-    }
+returns-2 c = second-names _ _ columnNames withCorner withoutCorner _ _ refl refl (not-first (c .before .before .before)) (sym (c .before .starts-with2 .ensures) ∙ c .if2 .taken)
 
 returns-3 : tie.Need-returns-3
 unfolding bytes
-returns-3 c =
-    let l = c .before .before .before .before .before .before .before .args .text .now in
-    let e : startsWith (columnNames withoutCorner) l ≡ false = sym (c .before .starts-with2 .ensures) ∙ c .if2 .left in
-    record {
-      reads = sym (names-later columnNames withCorner _ l (not-first (c .before .before .before)) ∙ names-later columnNames withoutCorner [] l e ∙ names-none columnNames l);
-      within = omega arith;
-    }
+returns-3 c = no-names _ _ columnNames withCorner withoutCorner _ _ refl refl (not-first (c .before .before .before)) (sym (c .before .starts-with2 .ensures) ∙ c .if2 .left)
 
 pub read-columns-spec : {M : Type 1} → statement M
 read-columns-spec =
