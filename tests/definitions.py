@@ -93,7 +93,7 @@ GROUPS = {
         "seam.Reading": "",
     },
 }
-RULES = {"A": "withinSegment", "B": "endEdge", "M": "singleEdge", "C": "interiorEdge", "D": "fourInnerEdges", "E": "otherFace"}
+RULES = {"A": "withinSegment", "B": "endRule", "M": "singleRule", "C": "interiorEdge", "D": "fourInnerEdges", "E": "otherFace"}
 GROUPS["Letters"] = {**GROUPS["Round"], **GROUPS["Split"], "fractions.Fraction": "toWhole", "origins.Origins": "letterOf, madeBy, " + ", ".join(RULES.values())}
 GROUPS["Outcome"] = {
     **GROUPS["Round"],
@@ -645,7 +645,7 @@ MUTATIONS = {
     "the record passes its limit by one": ("Outcome", "polygons-stored-tally", "outcome/specs/Tally.antt", [("ltb 4000000000 ", "ltb 4000000001 ")]),
     "drawn vertices billed": ("Outcome", "polygons-stored-tally", "outcome/specs/Tally.antt", [("(startNet m)) - length (m .marks)", "(startNet m))")]),
     "D only if both directions have four inner edges": ("Letters", "annulus", "origins/specs/Origins.antt", [("faceCase firstAlone = fourInnerEdges", "faceCase firstAlone = otherFace")]),
-    "an end edge called inside": ("Letters", "single", "origins/specs/Origins.antt", [("edgeCase endOfSegment = endEdge", "edgeCase endOfSegment = withinSegment")]),
+    "an end edge called inside": ("Letters", "single", "origins/specs/Origins.antt", [("edgeCase endOfSegment = endRule", "edgeCase endOfSegment = withinSegment")]),
     "points of the split called drawn": ("Letters", "polygons-lone", "origins/specs/Origins.antt", [("(ltb i v) controlVertex splitPoint", "(ltb i v) controlVertex controlVertex")]),
     "D without four inner edges taken as the mean": ("Letters", "ring", "origins/specs/Origins.antt", [("fourInnerRule neitherInner = firstAlone", "fourInnerRule neitherInner = neitherInner")]),
     "a letter table measured that is not asked for": ("Verdict", "polygons-stored-letters-not-asked", "verdict/specs/Verdict.antt", [("room .asked && ltb (room .letters)", "ltb (room .letters)")]),
