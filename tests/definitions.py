@@ -642,7 +642,7 @@ MUTATIONS = {
     "corners summed over four": ("Split", "polygons-lone", "splitting/specs/Splitting.antt", [("/ᶠ S .sides h", "/ᶠ 4")]),
     "a side's first end twice": ("Split", "polygons-lone", "splitting/specs/Splitting.antt", [("(whole (p (to S l h)))", "(whole (p (from l h)))")]),
     "quadrilaterals left whole": ("Split", "polygons-quads", "splitting/specs/Splitting.antt", [("startBy (c ∷ s) m = split m", "startBy (c ∷ s) m = controlTables m")]),
-    "the record passes its limit by one": ("Outcome", "polygons-stored-tally", "outcome/specs/Tally.antt", [("ltb 4000000000 ", "ltb 4000000001 ")]),
+    "the record passes its limit by one": ("Outcome", "polygons-stored-tally", "outcome/specs/Tally.antt", [("ltb maxTally ", "ltb (maxTally + 1) ")]),
     "drawn vertices billed": ("Outcome", "polygons-stored-tally", "outcome/specs/Tally.antt", [("(startNet m)) - length (m .marks)", "(startNet m))")]),
     "D only if both directions have four inner edges": ("Letters", "annulus", "origins/specs/Origins.antt", [("faceCase firstAlone = fourInnerEdges", "faceCase firstAlone = otherFace")]),
     "an end edge called inside": ("Letters", "single", "origins/specs/Origins.antt", [("edgeCase endOfSegment = endRule", "edgeCase endOfSegment = withinSegment")]),
@@ -675,7 +675,7 @@ MUTATIONS = {
         "verdict/specs/Verdict.antt",
         [("workAfter c w = afterCall (callVerdict c) w", "workAfter c w = afterCall (limitsVerdict (c .rounds) (c .net .sides) (lengthsOf (c .net) (c .room))) w")],
     ),
-    "the old tension in a call": ("Outcome", "polygons-stored-tension-0", "outcome/specs/Outcome.antt", [("(steps (tension (a .tension)) (a .rounds)", "(steps (tension 4) (a .rounds)")]),
+    "the old tension in a call": ("Outcome", "polygons-stored-tension-0", "outcome/specs/Outcome.antt", [("= steps (tension (a .tension)) (a .rounds)", "= steps (tension 4) (a .rounds)")]),
     "another end weight of the curve": ("Curve", "single", "curve/specs/Weights.antt", [("pos (w .near + w .far) *ℤ q", "pos (w .near) *ℤ q")]),
     "a loop followed backwards": ("Reading", "single", "topology/specs/Boundary.antt", [("boundaryStep S l withSides h = along S l h", "boundaryStep S l withSides h = back S l h")]),
 }
