@@ -113,7 +113,7 @@ module _ (k : ℕ) (m : ControlNet) (tension : ℕ) (room : Room) (w : List ℕ)
 
 -- ---- an admitted call
 module _ (c : Call) (g : ℕ) (w : List ℕ) (a : AdmittedCall c g w) where
-  pub admitted-within : WithinLimits (c .rounds) (c .net .sides) (lengthsOf (c .net) (c .room))
+  admitted-within : WithinLimits (c .rounds) (c .net .sides) (lengthsOf (c .net) (c .room))
   admitted-within = accepted-limits c (a .accepts)
 
   pub admitted-faces : g ≤ maxRefinedFaces

@@ -20,7 +20,7 @@ take-point v i t x y z h =
     ∙ take-set-le (3 * v) (set t (3 * i) x) (3 * i + 1) y (omega arith)
     ∙ take-set-le (3 * v) t (3 * i) x (omega arith)
 
-pub length-point : (t : List ℤ) (i : ℕ) (x y z : ℤ) → length (putPoint t i x y z) ≡ length t
+length-point : (t : List ℤ) (i : ℕ) (x y z : ℤ) → length (putPoint t i x y z) ≡ length t
 unfolding putPoint
 length-point t i x y z = simp length-set
 

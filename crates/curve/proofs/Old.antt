@@ -35,7 +35,7 @@ exact-carries n = record {
 }
 
 -- a number is once itself, and n times itself for n = 1
-pub times-one : (n : ℕ) → n ≡ 1 → (x : ℤ) → Times n x x
+times-one : (n : ℕ) → n ≡ 1 → (x : ℤ) → Times n x x
 times-one n e x = record { is = rw e (same (var 0) (lit (pos 1) ⊠ var 0) (x ∷ []) refl) }
 
 pub once : (x : ℤ) → Times 1 x x

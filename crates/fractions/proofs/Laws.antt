@@ -88,7 +88,7 @@ equals-sum zero f g d h = record { some = omega arith; value = zero-*ℤ (pos d)
 equals-sum (suc n) f g d h = equals-add (equals-sum n f g d (λ i k. h i (omega arith))) (h n (omega arith))
 
 -- ---- a common factor goes out
-pub cancel : (d : ℕ) (a b : ℤ) → 0 < d → pos d *ℤ a ≡ pos d *ℤ b → a ≡ b
+cancel : (d : ℕ) (a b : ℤ) → 0 < d → pos d *ℤ a ≡ pos d *ℤ b → a ≡ b
 cancel d a b h e =
     let p : up a ≡ up b = eq-of-mul-eq-mul-left d h (up a) (up b) (sym (up-mul d a) ∙ ap up e ∙ up-mul d b) in
     let q : dn a ≡ dn b = eq-of-mul-eq-mul-left d h (dn a) (dn b) (sym (dn-mul d a) ∙ ap dn e ∙ dn-mul d b) in

@@ -21,12 +21,12 @@ bounded-grown : (c : Counts) → Bounded c → Bounded (grown c)
 unfolding grown
 bounded-grown c b = let v = b .vertices in let e = b .edges in let f = b .faces in record { vertices = omega arith; edges = omega arith; faces = omega arith }
 
-pub bounded-by : (k : ℕ) (c : Counts) → Bounded c → Bounded (grownBy k c)
+bounded-by : (k : ℕ) (c : Counts) → Bounded c → Bounded (grownBy k c)
 unfolding grownBy
 bounded-by zero c b = b
 bounded-by (suc k) c b = bounded-grown (grownBy k c) (bounded-by k c b)
 
-pub corners-by : (k : ℕ) (c : Counts) → grownBy k c .corners ≡ c .corners * 4 ^ k
+corners-by : (k : ℕ) (c : Counts) → grownBy k c .corners ≡ c .corners * 4 ^ k
 unfolding grownBy grown
 corners-by zero c = omega arith
 corners-by (suc k) c =
@@ -53,7 +53,7 @@ small-by k c b few seven =
     record { vertices = omega arith; edges = omega arith; faces = omega arith; corners = omega arith }
 
 -- a face has three corners or more
-pub faces-few : (s : List ℕ) (n : ℕ) → Sided s n → 3 * shapeOf s .faces n ≤ n
+faces-few : (s : List ℕ) (n : ℕ) → Sided s n → 3 * shapeOf s .faces n ≤ n
 unfolding quads
 faces-few s n k = go (decLt 0 (length s))
   where

@@ -22,7 +22,7 @@ use Rattle.splitting.specs.WellFormed.{WellFormed}
 use Rattle.splitting.proofs.Split.{split-faces, split-count, control-manifold, split-refinable, plain-refinable, start-cases}
 use Rattle.growth.specs.Growth.{Counts, counts, countsOf, grown, grownBy, splits}
 
-pub counts-refined : (S : Shape) (v : ℕ) (l : List ℕ) → Oriented S v l → countsOf quads (refinedVertices S v l) (refined S v l) ≡ grown (countsOf S v l)
+counts-refined : (S : Shape) (v : ℕ) (l : List ℕ) → Oriented S v l → countsOf quads (refinedVertices S v l) (refined S v l) ≡ grown (countsOf S v l)
 unfolding countsOf grown quads
 counts-refined S v l ok =
     let n = length-refined S v l in
@@ -30,7 +30,7 @@ counts-refined S v l ok =
     λ i. counts (refinedVertices S v l) (edges-refined S v l ok i) (f i) (n i)
 
 -- ---- the rounds
-pub counts-steps : (w : Weights) (m : Net) → Refinable m → (k : ℕ)
+counts-steps : (w : Weights) (m : Net) → Refinable m → (k : ℕ)
     → countsOf quads (length (steps w k m .marks)) (steps w k m .faces) ≡ grownBy k (countsOf quads (length (m .marks)) (m .faces))
 unfolding steps grownBy
 counts-steps w m ok zero = refl

@@ -67,19 +67,19 @@ unfolding up dn
 dn-mul k (pos n) = sym (mul-zero k)
 dn-mul k (negsuc n) = dn-neg (pos (k * suc n))
 
-pub diff-add : (x y : ℤ) (a b c d : ℕ) → Diff x a b → Diff y c d → Diff (x +ℤ y) (a + c) (b + d)
+diff-add : (x y : ℤ) (a b c d : ℕ) → Diff x a b → Diff y c d → Diff (x +ℤ y) (a + c) (b + d)
 diff-add x y a b c d h k = let s = diff-sum x y in omega arith
 
-pub diff-neg : (x : ℤ) (a b : ℕ) → Diff x a b → Diff (negℤ x) b a
+diff-neg : (x : ℤ) (a b : ℕ) → Diff x a b → Diff (negℤ x) b a
 diff-neg x a b h = let s = up-neg x in let t = dn-neg x in omega arith
 
-pub diff-mul : (k : ℕ) (x : ℤ) (a b : ℕ) → Diff x a b → Diff (pos k *ℤ x) (k * a) (k * b)
+diff-mul : (k : ℕ) (x : ℤ) (a b : ℕ) → Diff x a b → Diff (pos k *ℤ x) (k * a) (k * b)
 diff-mul k x a b h =
     ap (λ (t : ℕ). t + k * b) (up-mul k x) ∙ sym (mul-add k (up x) b) ∙ ap (λ (t : ℕ). k * t) h ∙ mul-add k (dn x) a ∙ ap (λ (t : ℕ). t + k * a) (sym (dn-mul k x))
 
 -- ---- the two sums of an expression
 abbrev mutual
-  pub hi : Linear → List ℤ → ℕ
+  hi : Linear → List ℤ → ℕ
   hi (at i) ρ = up (nth ρ i)
   hi (whole (pos n)) ρ = n
   hi (whole (negsuc n)) ρ = 0
@@ -88,7 +88,7 @@ abbrev mutual
   hi (pos k ⊙ a) ρ = k * hi a ρ
   hi (negsuc k ⊙ a) ρ = suc k * lo a ρ
 
-  pub lo : Linear → List ℤ → ℕ
+  lo : Linear → List ℤ → ℕ
   lo (at i) ρ = dn (nth ρ i)
   lo (whole (pos n)) ρ = 0
   lo (whole (negsuc n)) ρ = suc n

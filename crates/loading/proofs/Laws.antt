@@ -124,7 +124,7 @@ module _ (m : ControlNet) (o : Buffers) (ok : Loadable m o) where
     pub paired : PairedIn (length l) (o .work)
     paired = let f = ok .few in mates-paired S l (o .work) room₂ (ok .mated .mates) v oriented (omega arith)
 
-    pub counted : edgeCountBy (take (length l) (o .work)) ≡ edgeCount S l
+    counted : edgeCountBy (take (length l) (o .work)) ≡ edgeCount S l
     counted = edges-counted S l (o .work) (let r = room₂ in omega arith) (ok .mated .mates)
 
     -- ---- once the edges are numbered
@@ -218,7 +218,7 @@ module _ (m : ControlNet) (o : Buffers) (ok : Loadable m o) where
 
     -- ---- once the net is split
     module _ (o₁ : Buffers) (r : ℕ) (done : SplitInto m o o₁ r) (k : length (o₁ .work) ≡ length (o .work)) where
-      pub front-faces : take (4 * length l) (o₁ .faces) ≡ split m .faces
+      front-faces : take (4 * length l) (o₁ .faces) ≡ split m .faces
       front-faces = ap (take (4 * length l)) (done .faces) ∙ take-filled (split m .faces) (o .faces) (4 * length l) (sym (split-corners m))
 
       pub faces-long : 4 * length l ≤ length (o₁ .faces)

@@ -41,7 +41,7 @@ tally-le tally n e = go (decLt maxTally (tally + n))
 
 -- ---- new points
 -- fewer rounds, fewer points
-pub fewer-points : (t : ℕ) (m : ControlNet) (j k : ℕ) → j ≤ k → newPoints t j m ≤ newPoints t k m
+fewer-points : (t : ℕ) (m : ControlNet) (j k : ℕ) → j ≤ k → newPoints t j m ≤ newPoints t k m
 unfolding newPoints
 fewer-points t m j k h = let a = more-vertices t (startNet m) j k h in omega arith
 

@@ -87,7 +87,7 @@ total-suc (c ∷ s) (suc f) k = omega (arith, total-suc s f (le-of-suc-le-suc k)
 pub total-next : (s : List ℕ) (f : ℕ) → f < length s → total (take (f + 1) s) ≡ total (take f s) + getD s f 0
 total-next s f k = rw (add-one f) (total-suc s f k)
 
-pub total-le : (s : List ℕ) (f : ℕ) → total (take f s) ≤ total s
+total-le : (s : List ℕ) (f : ℕ) → total (take f s) ≤ total s
 unfolding total
 total-le [] zero = omega arith
 total-le [] (suc f) = omega arith
@@ -112,7 +112,7 @@ pub record FaceAt (S : Shape) (a c f : ℕ) : Type 0 where
   pub face : (j : ℕ) → j < c → S .face (a + j) ≡ f
   pub sides : (j : ℕ) → j < c → S .sides (a + j) ≡ c
 
-pub face-at : (s : List ℕ) (f : ℕ) → f < length s → FaceAt (polygons s) (total (take f s)) (getD s f 0) f
+face-at : (s : List ℕ) (f : ℕ) → f < length s → FaceAt (polygons s) (total (take f s)) (getD s f 0) f
 unfolding polygons total
 face-at [] f k = absurd (not-suc-le-zero k)
 face-at (c ∷ s) zero k = record {

@@ -22,7 +22,7 @@ module _ (S : Shape) (v : ℕ) (l : List ℕ) (ok : Manifold S v l) where
   pub first-half : (h : ℕ) → OnBoundary S l h → OnBoundary quads (refined S v l) (4 * h)
   first-half h o = let n = length-refined S v l in let a = o .lt in record { lt = omega arith; none = mate₀-none S v l (ok .oriented) h a (o .none) ∙ sym n }
 
-  pub second-half : (h : ℕ) → OnBoundary S l h → OnBoundary quads (refined S v l) (4 * S .next h + 3)
+  second-half : (h : ℕ) → OnBoundary S l h → OnBoundary quads (refined S v l) (4 * S .next h + 3)
   second-half h o =
       let n = length-refined S v l in
       let i = ok .oriented .shape .next-lt h (o .lt) in
@@ -33,13 +33,13 @@ module _ (S : Shape) (v : ℕ) (l : List ℕ) (ok : Manifold S v l) where
   pub first-from : (h : ℕ) → OnBoundary S l h → from (refined S v l) (4 * h) ≡ from l h
   first-from h o = quad S v l h (o .lt) .from₀
 
-  pub first-to : (h : ℕ) → OnBoundary S l h → to quads (refined S v l) (4 * h) ≡ v + edge S l h
+  first-to : (h : ℕ) → OnBoundary S l h → to quads (refined S v l) (4 * h) ≡ v + edge S l h
   first-to h o = quad S v l h (o .lt) .to₀
 
   pub second-from : (h : ℕ) → OnBoundary S l h → from (refined S v l) (4 * S .next h + 3) ≡ v + edge S l h
   second-from h o = quad S v l (S .next h) (ok .oriented .shape .next-lt h (o .lt)) .from₃ ∙ ap (λ (x : ℕ). v + edge S l x) (ok .oriented .shape .prev-next h)
 
-  pub second-to : (h : ℕ) → OnBoundary S l h → to quads (refined S v l) (4 * S .next h + 3) ≡ to S l h
+  second-to : (h : ℕ) → OnBoundary S l h → to quads (refined S v l) (4 * S .next h + 3) ≡ to S l h
   unfolding to
   second-to h o = quad S v l (S .next h) (ok .oriented .shape .next-lt h (o .lt)) .to₃
 
@@ -62,30 +62,30 @@ module _ (S : Shape) (v : ℕ) (l : List ℕ) (ok : Manifold S v l) where
           let x = ring-boundaryFrom quads (refinedVertices S v l) (refined S v l) (manifold-refined S v l ok .oriented) p (4 * start S l p) (valence l p) (ring-refined S v l (ok .oriented) p (start S l p) (valence l p) b (ring-start S v l ok p b e)) in
           omega arith
 
-  pub boundaryFrom-edge : (h : ℕ) → OnBoundary S l h → boundaryFrom quads (refined S v l) (v + edge S l h) ≡ 4 * S .next h + 3
+  boundaryFrom-edge : (h : ℕ) → OnBoundary S l h → boundaryFrom quads (refined S v l) (v + edge S l h) ≡ 4 * S .next h + 3
   boundaryFrom-edge h o = refined-start (v + edge S l h) (4 * S .next h + 3) (second-half h o) (second-from h o)
 
-  pub boundaryInto-old : (h : ℕ) → OnBoundary S l h → boundaryInto quads (refined S v l) (to S l h) ≡ 4 * S .next h + 3
+  boundaryInto-old : (h : ℕ) → OnBoundary S l h → boundaryInto quads (refined S v l) (to S l h) ≡ 4 * S .next h + 3
   boundaryInto-old h o = refined-end (to S l h) (4 * S .next h + 3) (second-half h o) (second-to h o)
 
-  pub boundaryInto-edge : (h : ℕ) → OnBoundary S l h → boundaryInto quads (refined S v l) (v + edge S l h) ≡ 4 * h
+  boundaryInto-edge : (h : ℕ) → OnBoundary S l h → boundaryInto quads (refined S v l) (v + edge S l h) ≡ 4 * h
   boundaryInto-edge h o = refined-end (v + edge S l h) (4 * h) (first-half h o) (first-to h o)
 
   -- ---- one step along, and one back
 
-  pub along-first : (h : ℕ) → OnBoundary S l h → along quads (refined S v l) (4 * h) ≡ 4 * S .next h + 3
+  along-first : (h : ℕ) → OnBoundary S l h → along quads (refined S v l) (4 * h) ≡ 4 * S .next h + 3
   unfolding along
   along-first h o = ap (boundaryFrom quads (refined S v l)) (first-to h o) ∙ boundaryFrom-edge h o
 
-  pub along-second : (h : ℕ) → OnBoundary S l h → along quads (refined S v l) (4 * S .next h + 3) ≡ 4 * along S l h
+  along-second : (h : ℕ) → OnBoundary S l h → along quads (refined S v l) (4 * S .next h + 3) ≡ 4 * along S l h
   unfolding along
   along-second h o = ap (boundaryFrom quads (refined S v l)) (second-to h o) ∙ boundaryFrom-old (to S l h) (to-lt S v l ok h (o .lt))
 
-  pub back-second : (h : ℕ) → OnBoundary S l h → back quads (refined S v l) (4 * S .next h + 3) ≡ 4 * h
+  back-second : (h : ℕ) → OnBoundary S l h → back quads (refined S v l) (4 * S .next h + 3) ≡ 4 * h
   unfolding back
   back-second h o = ap (boundaryInto quads (refined S v l)) (second-from h o) ∙ boundaryInto-edge h o
 
-  pub back-first : (h : ℕ) → OnBoundary S l h → back quads (refined S v l) (4 * h) ≡ 4 * S .next (back S l h) + 3
+  back-first : (h : ℕ) → OnBoundary S l h → back quads (refined S v l) (4 * h) ≡ 4 * S .next (back S l h) + 3
   unfolding back
   back-first h o =
       let b = back-on S v l ok h o in

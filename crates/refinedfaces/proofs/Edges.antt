@@ -69,7 +69,7 @@ module _ (S : Shape) (v : ℕ) (l : List ℕ) (ok : Oriented S v l) where
     moved = λ h k t. mate-not S v l ok h k;
   })
 
-  pub edges-twice : 2 * edgeCount S l ≡ length l + boundaryCount S l
+  edges-twice : 2 * edgeCount S l ≡ length l + boundaryCount S l
   unfolding edgeCount firstMet boundaryCount
   edges-twice =
       let n : ℕ = length l in
@@ -126,7 +126,7 @@ module _ (S : Shape) (v : ℕ) (l : List ℕ) (ok : Oriented S v l) where
       (record { inside = λ h k t. ok .shape .prev-lt h k; passes = λ h k t. t; back = λ h k t. ok .shape .next-prev h })
       (record { inside = λ h k t. ok .shape .next-lt h k; passes = λ h k t. ap (isBoundary S l) (ok .shape .prev-next h) ∙ t; back = λ h k t. ok .shape .prev-next h })
 
-  pub boundary-refined : boundaryCount quads (refined S v l) ≡ 2 * boundaryCount S l
+  boundary-refined : boundaryCount quads (refined S v l) ≡ 2 * boundaryCount S l
   unfolding boundaryCount
   boundary-refined =
       let n : ℕ = length l in

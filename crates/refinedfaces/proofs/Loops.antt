@@ -13,7 +13,7 @@ use Rattle.refinedfaces.specs.Refined.{refined}
 use Rattle.refinedfaces.proofs.Boundary.{first-from, second-from, step-first, step-second}
 
 module _ (S : Shape) (v : ℕ) (l : List ℕ) (ok : Manifold S v l) (w : Way) where
-  pub steps-even : (k h : ℕ) → OnBoundary S l h → iterate (boundaryStep quads (refined S v l) w) (2 * k) (4 * h) ≡ 4 * iterate (boundaryStep S l w) k h
+  steps-even : (k h : ℕ) → OnBoundary S l h → iterate (boundaryStep quads (refined S v l) w) (2 * k) (4 * h) ≡ 4 * iterate (boundaryStep S l w) k h
   unfolding iterate
   steps-even zero h o = refl
   steps-even (suc k) h o =
@@ -23,7 +23,7 @@ module _ (S : Shape) (v : ℕ) (l : List ℕ) (ok : Manifold S v l) (w : Way) wh
       ∙ ap (boundaryStep quads (refined S v l) w) (step-first S v l ok w (iterate (boundaryStep S l w) k h) g)
       ∙ step-second S v l ok w (iterate (boundaryStep S l w) k h) g)
 
-  pub steps-odd : (k h : ℕ) → OnBoundary S l h → iterate (boundaryStep quads (refined S v l) w) (suc (2 * k)) (4 * h) ≡ 4 * S .next (passed S l w (iterate (boundaryStep S l w) k h)) + 3
+  steps-odd : (k h : ℕ) → OnBoundary S l h → iterate (boundaryStep quads (refined S v l) w) (suc (2 * k)) (4 * h) ≡ 4 * S .next (passed S l w (iterate (boundaryStep S l w) k h)) + 3
   unfolding iterate
   steps-odd k h o = ap (boundaryStep quads (refined S v l) w) (steps-even k h o) ∙ step-first S v l ok w (iterate (boundaryStep S l w) k h) (steps-on S v l ok w k h o)
 

@@ -79,14 +79,14 @@ unrefused-refined S v l w u = unrefused-if quads (refinedVertices S v l) (refine
 -- ---- counts
 
 -- four refined faces for each face
-pub quads-refined : (v : ℕ) (l : List ℕ) → length l % 4 ≡ 0 → quads .faces (length (refined quads v l)) ≡ 4 * quads .faces (length l)
+quads-refined : (v : ℕ) (l : List ℕ) → length l % 4 ≡ 0 → quads .faces (length (refined quads v l)) ≡ 4 * quads .faces (length l)
 unfolding quads
 quads-refined v l w = let n = length-refined quads v l in omega arith
 
 -- ---- any number of rounds
 
 module _ (v : ℕ) (l : List ℕ) where
-  pub whole-after : length l % 4 ≡ 0 → (k : ℕ) → length (cornersAfter k v l) % 4 ≡ 0
+  whole-after : length l % 4 ≡ 0 → (k : ℕ) → length (cornersAfter k v l) % 4 ≡ 0
   unfolding cornersAfter
   whole-after w zero = w
   whole-after w (suc k) = let e = length-refined quads (verticesAfter k v l) (cornersAfter k v l) in omega arith

@@ -20,11 +20,11 @@ use Rattle.refinedfaces.proofs.Mates.{mate₀, mate₀-none, mate₁, m
 module _ (S : Shape) (v : ℕ) (l : List ℕ) (ok : Oriented S v l) where
   -- ---- an old vertex keeps its ring or fan
 
-  pub turn-refined : (h : ℕ) → h < length l → turn quads (refined S v l) (4 * h) ≡ 4 * turn S l h
+  turn-refined : (h : ℕ) → h < length l → turn quads (refined S v l) (4 * h) ≡ 4 * turn S l h
   unfolding turn
   turn-refined h k = ap (mate quads (refined S v l)) (four-sides h .prev₀) ∙ mate₃ S v l ok h k
 
-  pub turns-refined : (h k : ℕ) → ((j : ℕ) → j < k → turns S l j h < length l) → turns quads (refined S v l) k (4 * h) ≡ 4 * turns S l k h
+  turns-refined : (h k : ℕ) → ((j : ℕ) → j < k → turns S l j h < length l) → turns quads (refined S v l) k (4 * h) ≡ 4 * turns S l k h
   unfolding iterate
   turns-refined h zero f = refl
   turns-refined h (suc k) f =

@@ -30,7 +30,7 @@ getD-mates S l h k = getD-tabulate (length l) (mate S l) h 0 k
 
 module _ (S : Shape) (v : ℕ) (l : List ℕ) (ok : Oriented S v l) where
   -- for any function m that gives the mates
-  pub mate-refined : (m : ℕ → ℕ) → ((h : ℕ) → h < length l → m h ≡ mate S l h) → (g : ℕ) → g < 4 * length l → mate quads (refined S v l) g ≡ refinedMate S (length l) m (g / 4) (g % 4)
+  mate-refined : (m : ℕ → ℕ) → ((h : ℕ) → h < length l → m h ≡ mate S l h) → (g : ℕ) → g < 4 * length l → mate quads (refined S v l) g ≡ refinedMate S (length l) m (g / 4) (g % 4)
   unfolding refinedMate
   mate-refined m f = quarters (length l) (λ g. mate quads (refined S v l) g ≡ refinedMate S (length l) m (g / 4) (g % 4))
       (λ h k. let q : 4 * h / 4 ≡ h = omega arith in let r : 4 * h % 4 ≡ 0 = omega arith in let e = f h k in rw (q, r, e) (side₀ h k (decLt (mate S l h) (length l))))

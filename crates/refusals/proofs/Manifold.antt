@@ -50,7 +50,7 @@ module _ (S : Shape) (v : ℕ) (l : List ℕ) (ok : Oriented S v l) where
       let y = first-reach (leaves l p) (length l) (x .0) (x .1) (x .2) in
       omega (arith, x .1)
 
-  pub manifold-fan : (p : ℕ) → nonManifold S l p ≡ false → boundaryFrom S l p < length l → Fan S l p (start S l p) (valence l p)
+  manifold-fan : (p : ℕ) → nonManifold S l p ≡ false → boundaryFrom S l p < length l → Fan S l p (start S l p) (valence l p)
   manifold-fan p e b =
       let u = unbroken p e in
       let s = start-open S l p b in
@@ -95,7 +95,7 @@ module _ (S : Shape) (v : ℕ) (l : List ℕ) (ok : Oriented S v l) where
 
   -- ---- 10 and 11
 
-  pub around-if : (p : ℕ) → nonManifold S l p ≡ false → badValence S l p ≡ false → Around S l p
+  around-if : (p : ℕ) → nonManifold S l p ≡ false → badValence S l p ≡ false → Around S l p
   around-if p e f = go (decLt (boundaryFrom S l p) (length l))
     where
       go : Dec (boundaryFrom S l p < length l) → Around S l p

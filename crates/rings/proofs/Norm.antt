@@ -38,7 +38,7 @@ total-scaled a b f g h (suc n) =
 product-abs : (u x : ℤ) (b B : ℕ) → natAbs x ≤ b * B → natAbs (u *ℤ x) ≤ natAbs u * b * B
 product-abs u x b B h = rw (abs-mul u x, mul-assoc (natAbs u) b B) (mul-le-mul (le-refl (natAbs u)) h)
 
-pub weighted-abs : (n : ℕ) (u v x y : ℕ → ℤ) (p q : ℕ → ℕ) (B : ℕ) → ((d : ℕ) → d < n → natAbs (x d) ≤ p d * B) → ((d : ℕ) → d < n → natAbs (y d) ≤ q d * B)
+weighted-abs : (n : ℕ) (u v x y : ℕ → ℤ) (p q : ℕ → ℕ) (B : ℕ) → ((d : ℕ) → d < n → natAbs (x d) ≤ p d * B) → ((d : ℕ) → d < n → natAbs (y d) ≤ q d * B)
     → natAbs (sum n (λ (d : ℕ). u d *ℤ x d +ℤ v d *ℤ y d)) ≤ total n (λ (d : ℕ). natAbs (u d) * p d + natAbs (v d) * q d) * B
 unfolding sum
 weighted-abs zero u v x y p q B h k = omega arith
@@ -98,7 +98,7 @@ threeAround t d = cond (eqb d t) 3 (cond (eqb (suc d) t) 3 1)
 inside : ℕ → Bool
 inside i = leb (norm kobbelt (i + 3) once once) (40 * (i + 3))
 
-pub inside-norm : (n : ℕ) → 3 ≤ n → n ≤ 8 → norm kobbelt n once once ≤ 40 * n
+inside-norm : (n : ℕ) → 3 ≤ n → n ≤ 8 → norm kobbelt n once once ≤ 40 * n
 unfolding inside
 inside-norm n h k =
     let e : n - 3 + 3 ≡ n = omega arith in
@@ -117,7 +117,7 @@ boundary-norm n t h k =
 -- ---- two rings, at places counted from the edge
 module _ (n : ℕ) (l k l′ k′ : ℕ → ℤ) (h : 3 ≤ n) (rl : Periodic n l) (rk : Periodic n k) (rl′ : Periodic n l′) (rk′ : Periodic n k′) (j : ℕ) where
   module _ (w : Weights) where
-    pub virtual-near : (p q : ℕ → ℕ) (B : ℕ) → ((d : ℕ) → d < n → natAbs (l (j + d) -ℤ l′ (j + d)) ≤ p d * B) → ((d : ℕ) → d < n → natAbs (k (j + d) -ℤ k′ (j + d)) ≤ q d * B)
+    virtual-near : (p q : ℕ → ℕ) (B : ℕ) → ((d : ℕ) → d < n → natAbs (l (j + d) -ℤ l′ (j + d)) ≤ p d * B) → ((d : ℕ) → d < n → natAbs (k (j + d) -ℤ k′ (j + d)) ≤ q d * B)
         → natAbs (virtualZ w n l k j -ℤ virtualZ w n l′ k′ j) ≤ norm w n p q * B
     virtual-near p q B a b =
         subst (λ (z : ℤ). natAbs z ≤ norm w n p q * B)
@@ -137,13 +137,13 @@ module _ (n : ℕ) (l k l′ k′ : ℕ → ℤ) (h : 3 ≤ n) (rl : Periodic n 
       omega arith
 
   -- inside: 40/9
-  pub inside-near : (w : Weights) → 9 * w .far ≤ w .near → n ≤ 8 → (B : ℕ)
+  inside-near : (w : Weights) → 9 * w .far ≤ w .near → n ≤ 8 → (B : ℕ)
       → ((d : ℕ) → d < n → natAbs (l (j + d) -ℤ l′ (j + d)) ≤ B) → ((d : ℕ) → d < n → natAbs (k (j + d) -ℤ k′ (j + d)) ≤ B)
       → 9 * natAbs (virtualZ w n l k j -ℤ virtualZ w n l′ k′ j) ≤ w .near * (40 * n * B)
   inside-near w small g B a b = near-by w small once once B 40 (inside-norm n h g) (λ d z. rw (one-mul B) (a d z)) (λ d z. rw (one-mul B) (b d z))
 
   -- at a boundary vertex, P* being t places on from the edge: 17/3
-  pub boundary-near : (w : Weights) → 9 * w .far ≤ w .near → n ≤ 8 → (B t : ℕ) → t < n - 1
+  boundary-near : (w : Weights) → 9 * w .far ≤ w .near → n ≤ 8 → (B t : ℕ) → t < n - 1
       → ((d : ℕ) → d < n → natAbs (l (j + d) -ℤ l′ (j + d)) ≤ threeAt t d * B) → ((d : ℕ) → d < n → natAbs (k (j + d) -ℤ k′ (j + d)) ≤ threeAround t d * B)
       → 9 * natAbs (virtualZ w n l k j -ℤ virtualZ w n l′ k′ j) ≤ w .near * (51 * n * B)
   boundary-near w small g B t z a b = near-by w small (threeAt t) (threeAround t) B 51 (boundary-norm n t g z) a b

@@ -20,7 +20,7 @@ module _ {A : Type 0} (n : ℕ) (f : ℕ → A) where
   pub wrap-periodic : Periodic n (wrap n f)
   wrap-periodic = record { again = λ i. ap f (add-mod-right i n) }
 
-  pub turned : (j : ℕ) → Periodic n f → Periodic n (λ (d : ℕ). f (j + d))
+  turned : (j : ℕ) → Periodic n f → Periodic n (λ (d : ℕ). f (j + d))
   turned j r = record { again = λ i. sym (ap f (add-assoc j i n)) ∙ r .again (j + i) }
 
 pub periodic-sub : (n : ℕ) (f g : ℕ → ℤ) → Periodic n f → Periodic n g → Periodic n (λ (d : ℕ). f d -ℤ g d)

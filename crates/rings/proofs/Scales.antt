@@ -7,14 +7,14 @@ use Rattle.curve.specs.Weights.{Weights, scale}
 use Rattle.rings.specs.Scales.{virtualScale, edgeScale, directionScale, faceScale}
 
 module _ (w : Weights) (near : 0 < w .near) where
-  pub virtualScale-some : 0 < virtualScale w
+  virtualScale-some : 0 < virtualScale w
   virtualScale-some = omega arith
 
   module _ (apart : 0 < scale w) where
     pub edgeScale-some : 0 < edgeScale w
     edgeScale-some = mul-pos apart virtualScale-some
 
-    pub directionScale-some : 0 < directionScale w
+    directionScale-some : 0 < directionScale w
     directionScale-some = mul-pos apart edgeScale-some
 
     pub faceScale-some : 0 < faceScale w

@@ -63,7 +63,7 @@ unit-small n h k o l =
 product-small : (c : ℕ) (x : ℤ) → c ≤ 36 → natAbs x ≤ 4 → natAbs (pos c *ℤ x) ≤ 144
 product-small c x h k = let a = abs-mul (pos c) x in let m : c * natAbs x ≤ 36 * 4 = mul-le-mul h k in omega arith
 
-pub weight-small : (t o : ℕ) (x : ℤ) → t ≤ 4 → natAbs x ≤ 4 → natAbs (weightOf (tension t) o x) ≤ 144
+weight-small : (t o : ℕ) (x : ℤ) → t ≤ 4 → natAbs x ≤ 4 → natAbs (weightOf (tension t) o x) ≤ 144
 weight-small t o x h k = go (ltb o 8)
   where
     go : (b : Bool) → natAbs (cond b (pos (32 + t) *ℤ x) (pos t *ℤ x)) ≤ 144

@@ -13,20 +13,20 @@ module _ (t : ℕ) where
   pub edge-scale-at : edgeScale (tension t) ≡ 3225600 * (32 + t)
   edge-scale-at = let e = ap (λ (s : ℕ). s * virtualScale (tension t)) (scale-at t) in omega arith
 
-  pub direction-scale-at : directionScale (tension t) ≡ 206438400 * (32 + t)
+  direction-scale-at : directionScale (tension t) ≡ 206438400 * (32 + t)
   direction-scale-at = let e = ap (λ (s : ℕ). s * edgeScale (tension t)) (scale-at t) in let f = edge-scale-at in omega arith
 
   pub face-scale-at : faceScale (tension t) ≡ 412876800 * (32 + t)
   face-scale-at = let e = direction-scale-at in omega arith
 
   -- ---- ranges, with coordinates within 67,108,864
-  pub virtual-range-at : virtualRange (tension t) ≡ 285600 * (32 + t) * 67108864
+  virtual-range-at : virtualRange (tension t) ≡ 285600 * (32 + t) * 67108864
   virtual-range-at = omega arith
 
   pub edge-range-at : edgeRange (tension t) ≡ 5913600 * (32 + t) * 67108864
   edge-range-at = let e = edge-scale-at in omega arith
 
-  pub direction-range-at : directionRange (tension t) ≡ 80 * edgeRange (tension t)
+  direction-range-at : directionRange (tension t) ≡ 80 * edgeRange (tension t)
   direction-range-at = let e = scale-at t in let f : scale (tension t) / 4 * 5 ≡ 80 = omega arith in ap (λ (s : ℕ). s * edgeRange (tension t)) f
 
   module _ (h : t ≤ 4) where

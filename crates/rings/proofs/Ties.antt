@@ -54,7 +54,7 @@ straight-across w some l k L K e rl rk el ek j =
 divides : ℕ → Bool
 divides i = eqb (valenceScale / (i + 3) * (i + 3)) valenceScale
 
-pub valence-divides : (n : ℕ) → 3 ≤ n → n ≤ 8 → valenceScale / n * n ≡ valenceScale
+valence-divides : (n : ℕ) → 3 ≤ n → n ≤ 8 → valenceScale / n * n ≡ valenceScale
 unfolding divides
 valence-divides n h k =
     let e : n - 3 + 3 ≡ n = omega arith in

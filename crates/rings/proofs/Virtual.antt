@@ -42,7 +42,7 @@ module _ (w : Weights) (n : ℕ) (f : ℕ → ℤ) (h : 3 ≤ n) where
   two-sums c e p = sum-add n (λ (d : ℕ). c *ℤ f d) (λ (d : ℕ). e *ℤ (p d *ℤ f d)) ∙ ap₂ _+ℤ_ (sum-times c n f) (sum-times e n (λ (d : ℕ). p d *ℤ f d))
 
   -- what the neighbours add, and what the opposite corners add
-  pub weighted-l : sum n (λ (d : ℕ). weightL w n d *ℤ f d) ≡ pos (w .near) *ℤ (pos 4 *ℤ sum n f -ℤ pos n *ℤ (f (n - 1) +ℤ f 0 +ℤ f 1))
+  weighted-l : sum n (λ (d : ℕ). weightL w n d *ℤ f d) ≡ pos (w .near) *ℤ (pos 4 *ℤ sum n f -ℤ pos n *ℤ (f (n - 1) +ℤ f 0 +ℤ f 1))
   weighted-l =
       let W : ℤ = pos (w .near) in
       let N : ℤ = pos n in
@@ -53,7 +53,7 @@ module _ (w : Weights) (n : ℕ) (f : ℕ → ℤ) (h : 3 ≤ n) where
       ∙ ap (λ (t : ℤ). (W *ℤ pos 4) *ℤ sum n f +ℤ (negsuc 0 *ℤ (W *ℤ N)) *ℤ t) three
       ∙ same ((var 0 ⊠ lit (pos 4)) ⊠ var 2 ⊞ (lit (negsuc 0) ⊠ (var 0 ⊠ var 1)) ⊠ var 3) (var 0 ⊠ (lit (pos 4) ⊠ var 2 ⊟ var 1 ⊠ var 3)) (W ∷ N ∷ sum n f ∷ (f (n - 1) +ℤ f 0 +ℤ f 1) ∷ []) refl
 
-  pub weighted-k : sum n (λ (d : ℕ). weightK w n d *ℤ f d) ≡ pos (w .far) *ℤ (pos n *ℤ (f (n - 2) +ℤ f (n - 1) +ℤ f 0 +ℤ f 1) -ℤ pos 4 *ℤ sum n f)
+  weighted-k : sum n (λ (d : ℕ). weightK w n d *ℤ f d) ≡ pos (w .far) *ℤ (pos n *ℤ (f (n - 2) +ℤ f (n - 1) +ℤ f 0 +ℤ f 1) -ℤ pos 4 *ℤ sum n f)
   weighted-k =
       let W : ℤ = pos (w .far) in
       let N : ℤ = pos n in

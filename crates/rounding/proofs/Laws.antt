@@ -210,7 +210,7 @@ round-raised z h K u g e =
     }))
 
 -- ---- by a shift: half the divisor added, and the floor taken; the machine's signed shift to the right goes downward too
-pub round-floor : (z : ℤ) (h : ℕ) → 0 < h → floor (z +ℤ pos h) (2 * h) ≡ round z (2 * h)
+round-floor : (z : ℤ) (h : ℕ) → 0 < h → floor (z +ℤ pos h) (2 * h) ≡ round z (2 * h)
 round-floor z h g =
     let s = floor-rest (z +ℤ pos h) (2 * h) (omega arith) in
     let q : ℤ = floor (z +ℤ pos h) (2 * h) in

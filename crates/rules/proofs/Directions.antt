@@ -25,7 +25,7 @@ pub record Compatible (w : Weights) (p m a b s t : ℤ) : Type 0 where
   pub law : pos (w .near) *ℤ (m -ℤ p) ≡ pos (w .near) *ℤ (a -ℤ b) +ℤ pos (w .far) *ℤ (t -ℤ s)
 
 -- the law of a ring: the virtual points of neighbouring edges
-pub virtual-compatible : (w : Weights) (n : ℕ) (L K : ℕ → ℤ) (q : ℕ) → 3 ≤ n → Periodic n L → Periodic n K
+virtual-compatible : (w : Weights) (n : ℕ) (L K : ℕ → ℤ) (q : ℕ) → 3 ≤ n → Periodic n L → Periodic n K
     → Compatible w (pos q *ℤ virtualZ w n L K 0) (pos q *ℤ virtualZ w n L K 1)
     (pos (q * (w .near * n)) *ℤ L (n - 1)) (pos (q * (w .near * n)) *ℤ L 2) (pos (q * (w .near * n)) *ℤ K (n - 2)) (pos (q * (w .near * n)) *ℤ K 2)
 virtual-compatible w n L K q h rl rk =
@@ -91,7 +91,7 @@ module _ (w : Weights) (c p m a b s t : ℕ → ℤ) where
         ∙ same (var 0 ⊞ var 1 ⊠ (lit (pos 0) ⊟ lit (pos 0) ⊞ lit (pos 0) ⊟ lit (pos 0))) (var 0) (x ∷ f ∷ []) refl
 
     -- so eight edge points whose numerators are these give one face point, whichever direction is taken
-    pub directions-agree : (D : ℕ) → 0 < scale w → 0 < D → {b₀ s₀ s₂ b₂ b₁ s₁ s₃ b₃ : Fraction}
+    directions-agree : (D : ℕ) → 0 < scale w → 0 < D → {b₀ s₀ s₂ b₂ b₁ s₁ s₃ b₃ : Fraction}
         → Equals b₀ (beyond 0 1) D → Equals s₀ (side 0 1) D → Equals s₂ (side 2 3) D → Equals b₂ (beyond 2 3) D
         → Equals b₁ (beyond 1 2) D → Equals s₁ (side 1 2) D → Equals s₃ (side 3 0) D → Equals b₃ (beyond 3 0) D
         → Same (directionTwo w b₀ s₀ s₂ b₂) (directionTwo w b₁ s₁ s₃ b₃)

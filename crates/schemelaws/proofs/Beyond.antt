@@ -25,12 +25,12 @@ module _ (v : ℕ) (l : List ℕ) (ok : Manifold quads v l) where
     unfolding oppositeCorner to across
     opposite-across = refl
 
-    pub turn-next : turn quads l (quads .next h) ≡ mate quads l h
+    turn-next : turn quads l (quads .next h) ≡ mate quads l h
     unfolding turn
     turn-next = ap (mate quads l) (ok .oriented .shape .prev-next h)
 
     module _ (k : h < length l) where
-      pub across-across : across (across h) ≡ h
+      across-across : across (across h) ≡ h
       unfolding across iterate quads
       across-across = ok .oriented .shape .closes h k
 
@@ -42,14 +42,14 @@ module _ (v : ℕ) (l : List ℕ) (ok : Manifold quads v l) where
       unfolding across
       across-next = next-across
 
-      pub prev-prev : quads .prev (quads .prev h) ≡ across h
+      prev-prev : quads .prev (quads .prev h) ≡ across h
       prev-prev = ap (quads .prev) (sym next-across) ∙ ok .oriented .shape .prev-next (across h)
 
   module _ (h : ℕ) (k : h < length l) (m : mate quads l h < length l) where
     -- ---- at its start, which has a ring of n faces
     module _ (n : ℕ) (r : Ring quads l (from l h) h n) (s : 3 ≤ n) where
       -- one turn before h
-      pub last-turn : turns quads l (n - 1) h ≡ quads .next (mate quads l h)
+      last-turn : turns quads l (n - 1) h ≡ quads .next (mate quads l h)
       unfolding iterate unturn
       last-turn =
           let e : suc (n - 1) ≡ n = omega arith in

@@ -47,7 +47,7 @@ module _ (w : Weights) (v : ℕ) (l marks : List ℕ) (p : ℕ → ℤ) where
       let d : v + e - v ≡ e = omega arith in
       rw (s, t, d)
 
-  pub refined-face-at : (f : ℕ) → refinedCoordinate w v l marks p (v + edgeCount quads l + f) ≡ toWhole (facePoint w l marks p f)
+  refined-face-at : (f : ℕ) → refinedCoordinate w v l marks p (v + edgeCount quads l + f) ≡ toWhole (facePoint w l marks p f)
   unfolding refinedCoordinate
   refined-face-at f =
       let s = le-ltb (v + edgeCount quads l + f) v (omega arith) in

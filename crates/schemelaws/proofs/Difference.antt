@@ -70,18 +70,18 @@ virtual w n j {L} {K} f g = times (valenceScale / n) {F = λ (p : ℕ → ℤ). 
 
 module _ (l : List ℕ) where
   -- ---- over `extrapolatedScale`
-  pub extrapolatedAtZ-sub : (v : ℕ) → Additive (λ (p : ℕ → ℤ). extrapolatedAtZ l p v)
+  extrapolatedAtZ-sub : (v : ℕ) → Additive (λ (p : ℕ → ℤ). extrapolatedAtZ l p v)
   unfolding extrapolatedAtZ
   extrapolatedAtZ-sub v =
       let s : ℕ = boundaryFrom quads l v in
       either (eqb (valence l v) 1) (record { sub = λ p q. extrapolated-corner-sub (p v) (p (oppositeCorner l s)) (q v) (q (oppositeCorner l s)) })
       (record { sub = λ p q. extrapolated-sub (p v) (q v) (valence l v - 1) (λ (i : ℕ). p (fanEnd l s (suc i))) (λ (i : ℕ). q (fanEnd l s (suc i))) })
 
-  pub fanNeighbourZ-sub : (v i : ℕ) → Additive (λ (p : ℕ → ℤ). fanNeighbourZ l p v i)
+  fanNeighbourZ-sub : (v i : ℕ) → Additive (λ (p : ℕ → ℤ). fanNeighbourZ l p v i)
   unfolding fanNeighbourZ
   fanNeighbourZ-sub v i = either (eqb i (valence l v + 1)) (extrapolatedAtZ-sub v) (times extrapolatedScale (point (fanEnd l (boundaryFrom quads l v) i)))
 
-  pub fanCornerZ-sub : (v i : ℕ) → Additive (λ (p : ℕ → ℤ). fanCornerZ l p v i)
+  fanCornerZ-sub : (v i : ℕ) → Additive (λ (p : ℕ → ℤ). fanCornerZ l p v i)
   unfolding fanCornerZ
   fanCornerZ-sub v i =
       let s : ℕ = boundaryFrom quads l v in
@@ -90,7 +90,7 @@ module _ (l : List ℕ) where
 
 module _ (w : Weights) (l : List ℕ) where
   -- ---- over `virtualScale`
-  pub virtualAtZ-sub : (h : ℕ) → Additive (λ (p : ℕ → ℤ). virtualAtZ w l p h)
+  virtualAtZ-sub : (h : ℕ) → Additive (λ (p : ℕ → ℤ). virtualAtZ w l p h)
   unfolding virtualAtZ fanVirtualZ ringVirtualZ ringNeighbourZ ringCornerZ
   virtualAtZ-sub h =
       let v : ℕ = from l h in
@@ -112,7 +112,7 @@ module _ (w : Weights) (l : List ℕ) where
   edgeZ-sub marks h = value-sub h (edgeRule l marks h)
 
   -- ---- in the edge points
-  pub directionZ-sub : (h : ℕ) → Additive (λ (e : ℕ → ℤ). directionZ w l e h)
+  directionZ-sub : (h : ℕ) → Additive (λ (e : ℕ → ℤ). directionZ w l e h)
   unfolding directionZ
   directionZ-sub h =
       let g : ℕ = across h in

@@ -153,7 +153,7 @@ module _ (v : ℕ) (l : List ℕ) (ok : Manifold quads v l) (f : ℕ) (reg : Reg
     end-four : valence l (to quads l (beyond l h)) ≡ 4
     end-four = subst (λ (q : ℕ). valence l q ≡ 4) end-at (reg .four (quads .next h) (mate quads l (quads .prev t)) (next-side v l ok f h s) beside-end end-off)
 
-  pub regular-beyond : FourBeyond l f
+  regular-beyond : FourBeyond l f
   regular-beyond = record { corners = reg .corners; startInside = start-inside; startFour = start-four; endInside = end-inside; endFour = end-four }
 
 -- ---- the law, at any weights

@@ -39,11 +39,11 @@ use Rattle.schemelaws.proofs.Ties.{equals-fanNeighbour, equals-fanCorne
 
 -- ---- what lies straight across, by the kind of the vertex
 module _ (l : List ℕ) (p : ℕ → ℤ) (h : ℕ) where
-  pub straight-ring : boundaryFrom quads l (from l h) ≡ length l → straight l p h ≡ p (to quads l (turns quads l 2 h))
+  straight-ring : boundaryFrom quads l (from l h) ≡ length l → straight l p h ≡ p (to quads l (turns quads l 2 h))
   unfolding straight
   straight-ring b = let t = le-ltb (boundaryFrom quads l (from l h)) (length l) (omega arith) in rw t
 
-  pub straight-fan : boundaryFrom quads l (from l h) < length l → straight l p h ≡ mirror (p (from l h)) (p (to quads l h))
+  straight-fan : boundaryFrom quads l (from l h) < length l → straight l p h ≡ mirror (p (from l h)) (p (to quads l h))
   unfolding straight
   straight-fan b = let t = lt-ltb (boundaryFrom quads l (from l h)) (length l) b in rw t
 
@@ -90,7 +90,7 @@ module _ (w : Weights) (near : 0 < w .near) (v : ℕ) (l : List ℕ) (ok : Manif
         (λ i. equals-fanNeighbour v l ok p P b _) (λ i. equals-fanCorner v l ok p P b _) 1)))
 
     -- "a fan of two": the virtual point
-    pub virtual-fan-of-two : Equals (virtualAt w l p h) (mirror (p (from l h)) (p (to quads l h))) 1
+    virtual-fan-of-two : Equals (virtualAt w l p h) (mirror (p (from l h)) (p (to quads l h))) 1
     unfolding virtualAt
     virtual-fan-of-two = let t = lt-ltb (boundaryFrom quads l (from l h)) (length l) b in rw t fan-of-two
 
@@ -114,7 +114,7 @@ module _ (w : Weights) (near : 0 < w .near) (v : ℕ) (l : List ℕ) (ok : Manif
   virtual-ordinary m (fanOfTwo b n) = equals-cong (sym (straight-fan l p h b)) refl (virtual-fan-of-two m b n)
 
 -- ---- edge points, over the scale
-pub ordinary-inner : (w : Weights) (l marks : List ℕ) (p : ℕ → ℤ) (h : ℕ) → mate quads l h < length l
+ordinary-inner : (w : Weights) (l marks : List ℕ) (p : ℕ → ℤ) (h : ℕ) → mate quads l h < length l
     → ordinaryEdge w l marks p h ≡ interior w (straight l p h) (p (from l h)) (p (to quads l h)) (straight l p (mate quads l h))
 unfolding ordinaryEdge ordinaryValue
 ordinary-inner w l marks p h m = rw (inner-rule l marks h m)

@@ -27,7 +27,7 @@ use Rattle.schemelaws.proofs.Steps.{refinable-manifold, refinable-steps
 
 -- ---- sizes
 module _ (w : Weights) (tame : Tame w) (v : ℕ) (l marks : List ℕ) (ok : Manifold quads v l) (p : ℕ → ℤ) (B : ℕ) (small : (x : ℕ) → x < v → natAbs (p x) ≤ B) where
-  pub refined-size : (i : ℕ) → i < refinedVertices quads v l → natAbs (refinedCoordinate w v l marks p i) ≤ grown B
+  refined-size : (i : ℕ) → i < refinedVertices quads v l → natAbs (refinedCoordinate w v l marks p i) ≤ grown B
   refined-size = refined-cases quads v l (ok .oriented) (λ i. natAbs (refinedCoordinate w v l marks p i) ≤ grown B)
       (λ i b. let s = small i b in let g = grown-kept B in rw (refined-old w v l marks p i b) (omega arith))
       (λ h b.
@@ -40,7 +40,7 @@ module _ (w : Weights) (tame : Tame w) (v : ℕ) (l marks : List ℕ) (ok : Mani
       (rounded-grown (faceZ w l (edgeZ w l marks p) f) (faceScale w) B (faceScale-some w (tame-near w tame) (tame-apart w tame)) (face-size w tame v l marks ok p B small f b)))
 
 -- ---- a net
-pub step-within : (w : Weights) → Tame w → (m : Net) → Refinable m → (B : ℕ) → Within B (m .vertices) → Within (grown B) (step w m .vertices)
+step-within : (w : Weights) → Tame w → (m : Net) → Refinable m → (B : ℕ) → Within B (m .vertices) → Within (grown B) (step w m .vertices)
 unfolding axis
 step-within w tame m ok B t = record {
   at = λ i b.

@@ -47,7 +47,7 @@ module _ (v : ℕ) (l : List ℕ) (ok : Manifold quads v l) where
   fine : Oriented quads (refinedVertices quads v l) L
   fine = oriented-refined quads v l (ok .oriented)
 
-  pub made-face : (h : ℕ) → h < length l → Ring quads L (v + edgeCount quads l + quads .face h) (4 * h + 2) 4
+  made-face : (h : ℕ) → h < length l → Ring quads L (v + edgeCount quads l + quads .face h) (4 * h + 2) 4
   unfolding quads
   made-face h k = face-ring quads v l (ok .oriented) h k
 
@@ -65,7 +65,7 @@ module _ (v : ℕ) (l : List ℕ) (ok : Manifold quads v l) where
       side h k (no m) = ordinary-fan (refinedVertices quads v l) L fine _ _ (edge-fan quads v l (ok .oriented) h k (omega (arith, mate-le quads l h)))
 
   -- an old vertex: its boundary half-edge, or none, moves with the numbers
-  pub boundaryFrom-old : (q : ℕ) → q < v → boundaryFrom quads L q ≡ 4 * boundaryFrom quads l q
+  boundaryFrom-old : (q : ℕ) → q < v → boundaryFrom quads L q ≡ 4 * boundaryFrom quads l q
   boundaryFrom-old q b = go (ok .around q b)
     where
       go : Around quads l q → boundaryFrom quads (refined quads v l) q ≡ 4 * boundaryFrom quads l q

@@ -77,7 +77,7 @@ module _ (v : ℕ) (l marks : List ℕ) (ok : Manifold quads v l) (p : ℕ → �
   pub plain-midpoints : Same (edgePoint (tension 0) l marks p h) (midpoint (whole (p (from l h))) (whole (p (to quads l h))))
   plain-midpoints = same-of-equals (omega arith) point-half midpoint-half
 
-  pub midpoint-rounded : refinedCoordinate (tension 0) v l marks p (v + edge quads l h) ≡ toWhole (midpoint (whole (p (from l h))) (whole (p (to quads l h))))
+  midpoint-rounded : refinedCoordinate (tension 0) v l marks p (v + edge quads l h) ≡ toWhole (midpoint (whole (p (from l h))) (whole (p (to quads l h))))
   midpoint-rounded =
       refined-edge (tension 0) (omega arith) (omega arith) v l marks ok p h k
       ∙ sym (toWhole-equals (edgeScale-some (tension 0) (omega arith) (omega arith)) (equals-edge (tension 0) (omega arith) (omega arith) v l marks ok p h k))

@@ -45,17 +45,17 @@ module _ (w : Weights) (tame : Tame w) (v : ℕ) (l marks : List ℕ) (ok : Mani
       let n = edge-near w tame v l ok r (λ (x : ℕ). c) 0 no-difference marks h k in
       sym (edgeZ-sub w l marks h .sub q p) ∙ eq-of-abs (edgeZ w l marks r h) (edgeZ w l marks (λ (x : ℕ). c) h) (omega arith) ∙ edge-constant w v l ok c (tame-end w tame) marks h k
 
-  pub edge-moved : (h : ℕ) → h < length l → edgeZ w l marks q h ≡ edgeZ w l marks p h +ℤ pos (edgeScale w) *ℤ c
+  edge-moved : (h : ℕ) → h < length l → edgeZ w l marks q h ≡ edgeZ w l marks p h +ℤ pos (edgeScale w) *ℤ c
   edge-moved h k = from-difference (edgeZ w l marks q h) (edgeZ w l marks p h) (pos (edgeScale w) *ℤ c) (edge-difference h k)
 
-  pub face-moved : (f : ℕ) → f < quads .faces (length l) → faceZ w l (edgeZ w l marks q) f ≡ faceZ w l (edgeZ w l marks p) f +ℤ pos (faceScale w) *ℤ c
+  face-moved : (f : ℕ) → f < quads .faces (length l) → faceZ w l (edgeZ w l marks q) f ≡ faceZ w l (edgeZ w l marks p) f +ℤ pos (faceScale w) *ℤ c
   face-moved f k =
       let d : ℕ → ℤ = λ h. edgeZ w l marks q h -ℤ edgeZ w l marks p h in
       from-difference (faceZ w l (edgeZ w l marks q) f) (faceZ w l (edgeZ w l marks p) f) (pos (faceScale w) *ℤ c)
       (sym (faceZ-sub w l f .sub (edgeZ w l marks q) (edgeZ w l marks p)) ∙ faceZ-constant w (tame-end w tame) v l ok d (pos (edgeScale w) *ℤ c) edge-difference f k
       ∙ same (lit (pos 2) ⊠ var 0 ⊠ (var 1 ⊠ var 2)) (lit (pos 2) ⊠ (var 0 ⊠ var 1) ⊠ var 2) (pos (scale w) ∷ pos (edgeScale w) ∷ c ∷ []) refl)
 
-  pub refined-moved : (i : ℕ) → i < refinedVertices quads v l → refinedCoordinate w v l marks q i ≡ refinedCoordinate w v l marks p i +ℤ c
+  refined-moved : (i : ℕ) → i < refinedVertices quads v l → refinedCoordinate w v l marks q i ≡ refinedCoordinate w v l marks p i +ℤ c
   refined-moved = refined-cases quads v l (ok .oriented) (λ i. refinedCoordinate w v l marks q i ≡ refinedCoordinate w v l marks p i +ℤ c)
       (λ i b. rw (refined-old w v l marks q i b, refined-old w v l marks p i b) (shift i b))
       (λ h b. rw (refined-edge w (tame-near w tame) (tame-apart w tame) v l marks ok q h b, refined-edge w (tame-near w tame) (tame-apart w tame) v l marks ok p h b, edge-moved h b) (round-shift (edgeZ w l marks p h) c (edgeScale w) (edgeScale-some w (tame-near w tame) (tame-apart w tame))))
@@ -63,7 +63,7 @@ module _ (w : Weights) (tame : Tame w) (v : ℕ) (l marks : List ℕ) (ok : Mani
 
 -- ---- a net
 module _ (w : Weights) (tame : Tame w) (s : Point) where
-  pub step-moved : (m : Net) → Refinable m → step w (moved s m) ≡ moved s (step w m)
+  step-moved : (m : Net) → Refinable m → step w (moved s m) ≡ moved s (step w m)
   unfolding step
   step-moved m ok =
       let v : ℕ = length (m .marks) in

@@ -121,14 +121,14 @@ module _ (v : ℕ) (l marks : List ℕ) (ok : Manifold quads v l) (p : ℕ → �
       ap (λ (z : ℤ). round z (faceScale (tension 4))) (face-four l (edgeZ (tension 4) l marks p) (edgeZ kobbelt l marks p) (edge-four l marks p) f (faceRule l f) .is)
       ∙ round-scale 64 (faceValueZ kobbelt l (edgeZ kobbelt l marks p) f (faceRule l f)) (faceScale kobbelt) (omega arith) (omega arith)
 
-  pub old-coordinate : (i : ℕ) → i < refinedVertices quads v l → refinedCoordinate (tension 4) v l marks p i ≡ refinedCoordinate kobbelt v l marks p i
+  old-coordinate : (i : ℕ) → i < refinedVertices quads v l → refinedCoordinate (tension 4) v l marks p i ≡ refinedCoordinate kobbelt v l marks p i
   old-coordinate = refined-cases quads v l (ok .oriented) (λ i. refinedCoordinate (tension 4) v l marks p i ≡ refinedCoordinate kobbelt v l marks p i)
       (λ i b. refined-old (tension 4) v l marks p i b ∙ sym (refined-old kobbelt v l marks p i b))
       (λ h b. refined-edge (tension 4) (omega arith) (omega arith) v l marks ok p h b ∙ edge-same h ∙ sym (refined-edge kobbelt (omega arith) (omega arith) v l marks ok p h b))
       (λ f b. refined-face (tension 4) (omega arith) (omega arith) v l marks ok p f b ∙ face-same f ∙ sym (refined-face kobbelt (omega arith) (omega arith) v l marks ok p f b))
 
 -- ---- a net
-pub old-step : (m : Net) → Refinable m → step (tension 4) m ≡ step kobbelt m
+old-step : (m : Net) → Refinable m → step (tension 4) m ≡ step kobbelt m
 unfolding step
 old-step m ok =
     let v : ℕ = length (m .marks) in

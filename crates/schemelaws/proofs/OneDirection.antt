@@ -182,7 +182,7 @@ module _ (w : Weights) (near : 0 < w .near) (apart : 0 < scale w) (v : ℕ) (l m
   abbrev E : ℕ → Fraction
   E = edgePoint w l marks p
 
-  pub direction-two : (h : ℕ) → SideOf l f h → SideOf l f (across h) → direction w l E h ≡ directionTwo w (E (beyond l h)) (E h) (E (across h)) (E (beyond l (across h)))
+  direction-two : (h : ℕ) → SideOf l f h → SideOf l f (across h) → direction w l E h ≡ directionTwo w (E (beyond l h)) (E h) (E (across h)) (E (beyond l (across h)))
   unfolding direction
   direction-two h s u = rw (lt-ltb (mate quads l h) (length l) (mated v l ok f reg h s), lt-ltb (mate quads l (across h)) (length l) (mated v l ok f reg (across h) u))
 

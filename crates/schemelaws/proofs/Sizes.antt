@@ -70,7 +70,7 @@ module _ (w : Weights) (tame : Tame w) (v : ℕ) (l : List ℕ) (ok : Manifold q
   direction-size h k =
       once (directionZ w l e h) (directionZ w l origin h) (direction-constant w (tame-end w tame) v l ok origin (pos 0) (λ g c. refl) h k ∙ none (scale w)) (direction-near w tame v l ok e origin B edges-near h k)
 
-  pub faceZ-size : (f : ℕ) → f < quads .faces (length l) → natAbs (faceZ w l e f) ≤ 2 * ((5 * tame .quarter) * B)
+  faceZ-size : (f : ℕ) → f < quads .faces (length l) → natAbs (faceZ w l e f) ≤ 2 * ((5 * tame .quarter) * B)
   faceZ-size f k =
       once (faceZ w l e f) (faceZ w l origin f) (faceZ-constant w (tame-end w tame) v l ok origin (pos 0) (λ g c. refl) f k ∙ none (2 * scale w)) (faceZ-near w tame v l ok e origin B edges-near f k)
 

@@ -67,7 +67,7 @@ refinable-manifold m ok = manifold-if quads (length (m .marks)) (m .faces) (quad
 
 -- if refusals 6 to 12 hold nowhere in a net, they hold nowhere in its refined net
 module _ (w : Weights) (m : Net) where
-  pub refinable-step : Refinable m → Refinable (step w m)
+  refinable-step : Refinable m → Refinable (step w m)
   unfolding step
   refinable-step ok =
       let v : ℕ = length (m .marks) in
@@ -90,7 +90,7 @@ module _ (w : Weights) (m : Net) where
     steps-count zero = refl
     steps-count (suc k) = step-count w (steps w k m) ∙ ap₂ (refinedVertices quads) (steps-count k) (steps-faces k)
 
-    pub steps-faces : (k : ℕ) → steps w k m .faces ≡ cornersAfter k (length (m .marks)) (m .faces)
+    steps-faces : (k : ℕ) → steps w k m .faces ≡ cornersAfter k (length (m .marks)) (m .faces)
     steps-faces zero = refl
     steps-faces (suc k) = step-faces w (steps w k m) ∙ ap₂ (refined quads) (steps-count k) (steps-faces k)
 

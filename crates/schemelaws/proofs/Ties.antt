@@ -43,7 +43,7 @@ equals-cond false f g = g refl
 -- ---- a boundary vertex, over `extrapolatedScale`
 module _ (v : ℕ) (l : List ℕ) (ok : Manifold quads v l) (p : ℕ → ℤ) where
   module _ (P : ℕ) (b : boundaryFrom quads l P < length l) where
-    pub equals-extrapolatedAt : Equals (extrapolatedAt l p P) (extrapolatedAtZ l p P) extrapolatedScale
+    equals-extrapolatedAt : Equals (extrapolatedAt l p P) (extrapolatedAtZ l p P) extrapolatedScale
     unfolding extrapolatedAt extrapolatedAtZ
     equals-extrapolatedAt =
         let s = fan-at v l ok P b .some in
@@ -65,7 +65,7 @@ module _ (v : ℕ) (l : List ℕ) (ok : Manifold quads v l) (p : ℕ → ℤ) wh
 
 -- ---- virtual points, over `virtualScale`
 module _ (w : Weights) (near : 0 < w .near) (v : ℕ) (l : List ℕ) (ok : Manifold quads v l) (p : ℕ → ℤ) where
-  pub equals-fanVirtual : (h : ℕ) → boundaryFrom quads l (from l h) < length l → Equals (fanVirtual w l p h) (fanVirtualZ w l p h) (virtualScale w)
+  equals-fanVirtual : (h : ℕ) → boundaryFrom quads l (from l h) < length l → Equals (fanVirtual w l p h) (fanVirtualZ w l p h) (virtualScale w)
   unfolding fanVirtual fanVirtualZ
   equals-fanVirtual h b =
       let P : ℕ = from l h in
@@ -75,7 +75,7 @@ module _ (w : Weights) (near : 0 < w .near) (v : ℕ) (l : List ℕ) (ok : Manif
       equals-numerator w n (omega arith) (omega arith) near (wrap n (fanNeighbour l p P)) (wrap n (fanCorner l p P)) (wrap n (fanNeighbourZ l p P)) (wrap n (fanCornerZ l p P))
       (λ i. equals-fanNeighbour v l ok p P b (i % n)) (λ i. equals-fanCorner v l ok p P b (i % n)) (fanPlace l P h)
 
-  pub equals-ringVirtual : (h : ℕ) → h < length l → length l ≤ boundaryFrom quads l (from l h) → Equals (ringVirtual w l p h) (ringVirtualZ w l p h) (virtualScale w)
+  equals-ringVirtual : (h : ℕ) → h < length l → length l ≤ boundaryFrom quads l (from l h) → Equals (ringVirtual w l p h) (ringVirtualZ w l p h) (virtualScale w)
   unfolding ringVirtual ringVirtualZ ringNeighbourZ ringCornerZ
   equals-ringVirtual h k b =
       equals-numerator w (valence l (from l h)) (ring-ge v l ok h k b) (ring-le v l ok h k b) near (λ (i : ℕ). whole (p (to quads l (turns quads l i h)))) (λ (i : ℕ). whole (p (oppositeCorner l (turns quads l i h)))) (ringNeighbourZ l p h) (ringCornerZ l p h)
@@ -176,7 +176,7 @@ module _ (l : List ℕ) (f : ℕ) (k : f < quads .faces (length l)) where
   pub side₀ : SideOf l f (4 * f)
   side₀ = record { lt = side₀-lt l f k; face = unfold quads in omega arith }
 
-  pub side₁ : SideOf l f (4 * f + 1)
+  side₁ : SideOf l f (4 * f + 1)
   side₁ = record { lt = side₁-lt l f k; face = unfold quads in omega arith }
 
 module _ (v : ℕ) (l : List ℕ) (ok : Manifold quads v l) (f h : ℕ) (s : SideOf l f h) where
@@ -186,14 +186,14 @@ module _ (v : ℕ) (l : List ℕ) (ok : Manifold quads v l) (f h : ℕ) (s : Sid
   pub prev-side : SideOf l f (quads .prev h)
   prev-side = record { lt = ok .oriented .shape .prev-lt h (s .lt); face = face-prev quads (length l) (ok .oriented .shape) h ∙ s .face }
 
-pub across-side : (v : ℕ) (l : List ℕ) (ok : Manifold quads v l) (f h : ℕ) → SideOf l f h → SideOf l f (across h)
+across-side : (v : ℕ) (l : List ℕ) (ok : Manifold quads v l) (f h : ℕ) → SideOf l f h → SideOf l f (across h)
 unfolding across
 across-side v l ok f h s = next-side v l ok f (quads .next h) (next-side v l ok f h s)
 
 -- ---- tied at the edges of one face
 module _ (w : Weights) (apart : 0 < scale w) (v : ℕ) (l : List ℕ) (ok : Manifold quads v l) (f : ℕ) (e : ℕ → Fraction) (E : ℕ → ℤ) (D : ℕ)
     (side : (g : ℕ) → SideOf l f g → Equals (e g) (E g) D) (further : (g : ℕ) → SideOf l f g → mate quads l g < length l → Equals (e (beyond l g)) (E (beyond l g)) D) where
-  pub tied-direction : (h : ℕ) → SideOf l f h → Equals (direction w l e h) (directionZ w l E h) (scale w * D)
+  tied-direction : (h : ℕ) → SideOf l f h → Equals (direction w l e h) (directionZ w l E h) (scale w * D)
   unfolding direction directionZ
   tied-direction h s =
       let g : ℕ = across h in
@@ -204,7 +204,7 @@ module _ (w : Weights) (apart : 0 < scale w) (v : ℕ) (l : List ℕ) (ok : Mani
       (λ t. equals-cond (ltb (mate quads l g) (length l)) (λ r. equals-interior w apart (b₀ t) (side h s) (side g u) (b₁ r)) (λ r. equals-end w apart (side g u) (side h s) (b₀ t)))
       (λ t. equals-cond (ltb (mate quads l g) (length l)) (λ r. equals-end w apart (side h s) (side g u) (b₁ r)) (λ r. equals-single w apart (side h s) (side g u)))
 
-  pub tied-face : f < quads .faces (length l) → (r : FaceRule) → Equals (faceValue w l e f r) (faceValueZ w l E f r) (2 * (scale w * D))
+  tied-face : f < quads .faces (length l) → (r : FaceRule) → Equals (faceValue w l e f r) (faceValueZ w l E f r) (2 * (scale w * D))
   unfolding faceValue faceValueZ
   tied-face k firstAlone = equals-scaled 2 (tied-direction (4 * f) (side₀ l f k))
   tied-face k secondAlone = equals-scaled 2 (tied-direction (4 * f + 1) (side₁ l f k))

@@ -19,14 +19,14 @@ use Rattle.seam.proofs.Refined.{reading-after}
 use Rattle.seam.proofs.Step.{step-boundary, admissible-step}
 
 module _ (w : Weights) where
-  pub admissible-steps : (m : Net) → Admissible m → (k : ℕ) → Admissible (steps w k m)
+  admissible-steps : (m : Net) → Admissible m → (k : ℕ) → Admissible (steps w k m)
   unfolding steps
   admissible-steps m ok zero = ok
   admissible-steps m ok (suc k) = admissible-step w (steps w k m) (admissible-steps m ok k)
 
   module _ (some : 0 < scale w) (m : Net) (ok : Admissible m) (way : Way) (c : Kind) (u : ℕ) (L : List Point) where
     -- one round
-    pub reads-step : Reads m way c u L → Reads (step w m) way c u (curveStep (each (rounded w)) c L)
+    reads-step : Reads m way c u L → Reads (step w m) way c u (curveStep (each (rounded w)) c L)
     reads-step r = reading-after (each (rounded w)) (each-symmetric (rounded-symmetric w)) quads m (step w m) ok (step-boundary w some m ok) way c u L r
 
   module _ (some : 0 < scale w) (m : Net) (ok : Admissible m) (way : Way) (c : Kind) (u : ℕ) (L : List Point) (r : Reads m way c u L) where
@@ -36,7 +36,7 @@ module _ (w : Weights) where
     reads-steps zero = r
     reads-steps (suc k) = reads-step some (steps w k m) (admissible-steps m ok k) way c u (curve w c k L) (reads-steps k)
 
-    pub reads-exactly : (k : ℕ) (P : List Point) → Reads (steps w k m) way c u P ↔ (P ≡ curve w c k L)
+    reads-exactly : (k : ℕ) (P : List Point) → Reads (steps w k m) way c u P ↔ (P ≡ curve w c k L)
     reads-exactly k = reads-only quads (steps w k m) way c u (curve w c k L) (reads-steps k)
 
 -- demand 3, of the nets themselves

@@ -27,7 +27,7 @@ module _ (f : ℕ → ℕ) (D : ℕ → Type 0) (inj : (x y : ℕ) → D x → D
       iterate-cancel i k h (λ j c. s j (omega arith)) (inj (iterate f (i + k) h) (iterate f i h) (s (i + k) (omega arith)) (s i (omega arith)) (s (suc (i + k)) (omega arith)) b)
 
   -- it comes back within n steps, where D lies below n
-  pub iterate-return : (n h : ℕ) → ((x : ℕ) → D x → x < n) → ((j : ℕ) → D (iterate f j h)) → first (λ (k : ℕ). eqb (iterate f (suc k) h) h) n < n
+  iterate-return : (n h : ℕ) → ((x : ℕ) → D x → x < n) → ((j : ℕ) → D (iterate f j h)) → first (λ (k : ℕ). eqb (iterate f (suc k) h) h) n < n
   iterate-return n h b s = go (decLt (first q n) n)
     where
       q : ℕ → Bool

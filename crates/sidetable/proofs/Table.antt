@@ -20,7 +20,7 @@ table-none S n w = record { next = λ h k. let z : ⊥ = omega arith in absurd z
 other : (w : List ℕ) (i k x : ℕ) → (k ≡ i → ⊥) → getD (set w i x) k 0 ≡ getD w k 0
 other w i k x d = getD-set-other w i k x 0 d
 
-pub table-more : (S : Shape) (n h x y z : ℕ) (w : List ℕ) → h < n → 7 * n ≤ length w → x ≡ S .next h → y ≡ S .prev h → z ≡ S .face h → ShapeTable S n w h → ShapeTable S n (sideWritten n h x y z w) (h + 1)
+table-more : (S : Shape) (n h x y z : ℕ) (w : List ℕ) → h < n → 7 * n ≤ length w → x ≡ S .next h → y ≡ S .prev h → z ≡ S .face h → ShapeTable S n w h → ShapeTable S n (sideWritten n h x y z w) (h + 1)
 table-more S n h x y z w k r p q s t = record { next = λ g i. next g i (ℕ-discrete g h); prev = λ g i. prev g i (ℕ-discrete g h); face = λ g i. face g i (ℕ-discrete g h) }
   where
     w₁ : List ℕ

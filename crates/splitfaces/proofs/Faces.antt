@@ -106,13 +106,13 @@ module _ (w : List ℕ) (i a b c d : ℕ) where
   abbrev w₁ : List ℕ
   w₁ = set w₂ (i + 1) b
 
-  pub four-other : (k : ℕ) → ((j : ℕ) → j < 4 → k ≡ i + j → ⊥) → getD (putFour w i a b c d) k 0 ≡ getD w k 0
+  four-other : (k : ℕ) → ((j : ℕ) → j < 4 → k ≡ i + j → ⊥) → getD (putFour w i a b c d) k 0 ≡ getD w k 0
   unfolding putFour
   four-other k f =
       let n₀ : k ≡ i → ⊥ = λ e. f 0 (omega arith) (omega arith) in
       getD-set-other w₁ i k a 0 n₀ ∙ getD-set-other w₂ (i + 1) k b 0 (f 1 (omega arith)) ∙ getD-set-other w₃ (i + 2) k c 0 (f 2 (omega arith)) ∙ getD-set-other w (i + 3) k d 0 (f 3 (omega arith))
 
-  pub four-at : i + 4 ≤ length w → (F : ℕ → ℕ) → a ≡ F 0 → b ≡ F 1 → c ≡ F 2 → d ≡ F 3 → (j : ℕ) → j < 4 → getD (putFour w i a b c d) (i + j) 0 ≡ F j
+  four-at : i + 4 ≤ length w → (F : ℕ → ℕ) → a ≡ F 0 → b ≡ F 1 → c ≡ F 2 → d ≡ F 3 → (j : ℕ) → j < 4 → getD (putFour w i a b c d) (i + j) 0 ≡ F j
   unfolding putFour
   four-at r F ea eb ec ed =
       let l₃ : length w₃ ≡ length w = length-set w (i + 3) d in

@@ -109,7 +109,7 @@ module _ (S : Shape) (l : List ℕ) (c : Lawful S (length l)) where
       split-face-at S v l p f ∙ mean-rounded S l p (firstSide S l f) (omega (arith, c .three (firstSide S l f) b))
 
   -- where a face has the sides from a on
-  pub first-side-at : (a n f : ℕ) → a < length l → 0 < n → FaceAt S a n f → firstSide S l f ≡ a
+  first-side-at : (a n f : ℕ) → a < length l → 0 < n → FaceAt S a n f → firstSide S l f ≡ a
   unfolding firstSide
   first-side-at a n f k b r =
       let z : a + 0 ≡ a = omega arith in
@@ -123,7 +123,7 @@ module _ (s l : List ℕ) (ok : badSides s (length l) ≡ false) (f : ℕ) (k : 
   at : FaceFits s (length l) f
   at = face-fits s (length l) f ok k
 
-  pub first-side-counts : firstSide (polygons s) l f ≡ total (take f s)
+  first-side-counts : firstSide (polygons s) l f ≡ total (take f s)
   first-side-counts =
       let c = at .count .three in
       first-side-at (polygons s) l (polygons-lawful s (length l) ok) (total (take f s)) (getD s f 0) f (omega (arith, at .ends)) (omega arith) (at .at)

@@ -39,7 +39,7 @@ module _ (S : Shape) (v : ℕ) (l : List ℕ) (ok : Oriented S v l) (p : ℕ →
       rw (split-face S l (ok .shape) v p f k) (round-within (sum (S .sides h) g) (S .sides h) B (omega (arith, ok .shape .three h b))
       (abs-sum (S .sides h) g B (λ i c. small (from l (iterate (S .next) i h)) (ok .below (iterate (S .next) i h) (nexts-lt S (length l) (ok .shape) i h b)))))
 
-  pub split-size : (i : ℕ) → i < refinedVertices S v l → natAbs (splitCoordinate S v l p i) ≤ B
+  split-size : (i : ℕ) → i < refinedVertices S v l → natAbs (splitCoordinate S v l p i) ≤ B
   split-size = refined-cases S v l ok (λ i. natAbs (splitCoordinate S v l p i) ≤ B) (λ i b. rw (split-old S v l p i b) (small i b)) midpoint-size mean-size
 
 -- ---- a net

@@ -19,7 +19,7 @@ use Rattle.splitting.specs.WellFormed.{WellFormed}
 use Rattle.splitting.proofs.Split.{split-count, start-refinable}
 
 -- 8 holds nowhere: each vertex is a corner
-pub vertices-le : (l : List ℕ) (v : ℕ) → first (isolated l) v ≡ v → v ≤ length l
+vertices-le : (l : List ℕ) (v : ℕ) → first (isolated l) v ≡ v → v ≤ length l
 vertices-le l v e = go (decLt (length l) v)
   where
     go : Dec (length l < v) → v ≤ length l

@@ -73,7 +73,7 @@ module _ (m : ControlNet) where
 
 -- ---- if refusals 6 to 12 hold nowhere in a drawn net, they hold nowhere in its split
 module _ (m : ControlNet) (ok : WellFormed m) where
-  pub control-lawful : Lawful (shapeOf (m .sides)) (length (m .faces))
+  control-lawful : Lawful (shapeOf (m .sides)) (length (m .faces))
   control-lawful = shape-lawful (m .sides) (length (m .faces)) (ok .sided)
 
   pub control-manifold : Manifold (shapeOf (m .sides)) (length (m .marks)) (m .faces)

@@ -76,20 +76,20 @@ module _ (s l : List ℕ) (v : ℕ) (o : List ℤ) (ok : Splittable s l v o) whe
 
   -- ---- while the vertices below i are made
   module _ (t : List ℤ) (i : ℕ) (b : v ≤ i) (m : Made s l v o t i) where
-    pub control-axis : (a u : ℕ) → a < 3 → u < v → axis t a u ≡ axis (take (3 * v) o) a u
+    control-axis : (a u : ℕ) → a < 3 → u < v → axis t a u ≡ axis (take (3 * v) o) a u
     control-axis a u h k = made-axis s l v o t i a u m h (omega arith) ∙ old-axis a u k
 
-    pub bounded-vertex : (u : ℕ) → u < v → BoundedVertex t u
+    bounded-vertex : (u : ℕ) → u < v → BoundedVertex t u
     unfolding axis
     bounded-vertex u k = record {
       room = let r = ok .room in let e = m .kept in omega arith;
       small = λ a h. let f = front in rw (control-axis a u h k) (ok .within .at (3 * u + a) (omega arith));
     }
 
-    pub corner-vertex : (g : ℕ) → g < length l → BoundedVertex t (from l g)
+    corner-vertex : (g : ℕ) → g < length l → BoundedVertex t (from l g)
     corner-vertex g k = bounded-vertex (from l g) (ok .oriented .below g k)
 
-    pub front-kept : take (3 * v) t ≡ take (3 * v) o
+    front-kept : take (3 * v) t ≡ take (3 * v) o
     front-kept =
         let f = front in
         let r = ok .room in
@@ -99,7 +99,7 @@ module _ (s l : List ℕ) (v : ℕ) (o : List ℤ) (ok : Splittable s l v o) whe
         (λ k c. getD-take (3 * v) t k (pos 0) (omega arith) ∙ entry-axis t k ∙ control-axis (k % 3) (k / 3) (omega arith) (omega arith) ∙ sym (entry-axis (take (3 * v) o) k))
 
     -- so the table may be taken for the one at the start
-    pub same-split : splitAxis s l v t ≡ splitAxis s l v o
+    same-split : splitAxis s l v t ≡ splitAxis s l v o
     unfolding splitAxis
     same-split = let f : List ℤ → ℕ → ℕ → ℤ = λ x a u. splitCoordinate S v l (axis x a) u in ap f front-kept
 

@@ -78,15 +78,15 @@ module _ (S : Shape) (l : List ℕ) (p : ℕ) where
   unfolding start
   start-closed b = let c = le-ltb (boundaryFrom S l p) (length l) (omega arith) in rw c
 
-  pub boundaryInto-on : boundaryInto S l p < length l → OnBoundary S l (boundaryInto S l p)
+  boundaryInto-on : boundaryInto S l p < length l → OnBoundary S l (boundaryInto S l p)
   unfolding boundaryInto
   boundaryInto-on b = record { lt = b; none = into-none S l p (boundaryInto S l p) (first-holds (isBoundaryInto S l p) (length l) b) }
 
-  pub boundaryInto-at : boundaryInto S l p < length l → to S l (boundaryInto S l p) ≡ p
+  boundaryInto-at : boundaryInto S l p < length l → to S l (boundaryInto S l p) ≡ p
   unfolding boundaryInto
   boundaryInto-at b = into-at S l p (boundaryInto S l p) (first-holds (isBoundaryInto S l p) (length l) b)
 
-pub boundaryInto-reach : (S : Shape) (l : List ℕ) (h : ℕ) → OnBoundary S l h → boundaryInto S l (to S l h) ≤ h
+boundaryInto-reach : (S : Shape) (l : List ℕ) (h : ℕ) → OnBoundary S l h → boundaryInto S l (to S l h) ≤ h
 unfolding boundaryInto
 boundaryInto-reach S l h o = first-reach (isBoundaryInto S l (to S l h)) (length l) h (o .lt) (into-on S l (to S l h) h (o .none) refl)
 

@@ -39,7 +39,7 @@ module _ (S : Shape) (v : ℕ) (l : List ℕ) (ok : Manifold S v l) where
               (iterate-cancel (turn S l) (λ (x : ℕ). x < length l) (turn-inj S v l (ok .oriented)) k 2 h₀ (λ n q. r .walk .inside n (omega arith)) (ap (λ (n : ℕ). turns S l n h₀) u ∙ j ∙ sym d))
 
   -- two sides that follow each other lie on two other faces
-  pub next-apart : (h : ℕ) → h < length l → mate S l h < length l → mate S l (S .next h) < length l → S .face (mate S l h) ≡ S .face (mate S l (S .next h)) → ⊥
+  next-apart : (h : ℕ) → h < length l → mate S l h < length l → mate S l (S .next h) < length l → S .face (mate S l h) ≡ S .face (mate S l (S .next h)) → ⊥
   unfolding to turn
   next-apart h a m n e =
       let w = ok .oriented .shape in

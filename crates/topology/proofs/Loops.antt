@@ -17,7 +17,7 @@ use Rattle.topology.proofs.Mates.{mate-only, ends-differ}
 use Rattle.topology.proofs.Boundary.{along-on, along-from, back-on, back-along, along-back}
 
 module _ (S : Shape) (v : ℕ) (l : List ℕ) (ok : Manifold S v l) where
-  pub step-on : (w : Way) (h : ℕ) → OnBoundary S l h → OnBoundary S l (boundaryStep S l w h)
+  step-on : (w : Way) (h : ℕ) → OnBoundary S l h → OnBoundary S l (boundaryStep S l w h)
   unfolding boundaryStep
   step-on withSides h o = along-on S v l ok h o
   step-on againstSides h o = back-on S v l ok h o
@@ -33,7 +33,7 @@ module _ (S : Shape) (v : ℕ) (l : List ℕ) (ok : Manifold S v l) where
   step-undone withSides h o = back-along S v l ok h o
   step-undone againstSides h o = along-back S v l ok h o
 
-  pub step-inj : (w : Way) (x y : ℕ) → OnBoundary S l x → OnBoundary S l y → boundaryStep S l w x ≡ boundaryStep S l w y → x ≡ y
+  step-inj : (w : Way) (x y : ℕ) → OnBoundary S l x → OnBoundary S l y → boundaryStep S l w x ≡ boundaryStep S l w y → x ≡ y
   step-inj w x y a b e = sym (step-undone w x a) ∙ ap (boundaryStep S l (other w)) e ∙ step-undone w y b
 
   pub steps-on : (w : Way) (k h : ℕ) → OnBoundary S l h → OnBoundary S l (iterate (boundaryStep S l w) k h)
@@ -60,12 +60,12 @@ module _ (S : Shape) (v : ℕ) (l : List ℕ) (ok : Manifold S v l) where
       let m = mate-only S v l (ok .oriented) h (along S l h) (record { lt = q .lt; start = along-from S v l ok h o; end = sym (along-from S v l ok (along S l h) q) ∙ ap (from l) e }) in
       let x = q .lt in let y = o .none in omega arith
 
-  pub step-not : (w : Way) (h : ℕ) → OnBoundary S l h → boundaryStep S l w h ≡ h → ⊥
+  step-not : (w : Way) (h : ℕ) → OnBoundary S l h → boundaryStep S l w h ≡ h → ⊥
   unfolding boundaryStep
   step-not withSides h o e = along-not h o e
   step-not againstSides h o e = along-not h o (ap (along S l) (sym e) ∙ along-back S v l ok h o)
 
-  pub step-step-not : (w : Way) (h : ℕ) → OnBoundary S l h → boundaryStep S l w (boundaryStep S l w h) ≡ h → ⊥
+  step-step-not : (w : Way) (h : ℕ) → OnBoundary S l h → boundaryStep S l w (boundaryStep S l w h) ≡ h → ⊥
   unfolding boundaryStep
   step-step-not withSides h o e = along-along-not h o e
   step-step-not againstSides h o e =

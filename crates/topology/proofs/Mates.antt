@@ -55,7 +55,7 @@ unfolding mate
 mate-none S l h f = first-none (opposed S l h) (length l) (λ g k t. f g (opposed-mates S l h g k t))
 
 module _ (S : Shape) (v : ℕ) (l : List ℕ) (ok : Oriented S v l) where
-  pub mates-same : (h g k : ℕ) → Mates S l h g → Mates S l h k → g ≡ k
+  mates-same : (h g k : ℕ) → Mates S l h g → Mates S l h k → g ≡ k
   mates-same h g k a b = ok .once g k (a .lt) (b .lt) (a .start ∙ sym (b .start)) (a .end ∙ sym (b .end))
 
   pub mate-only : (h g : ℕ) → Mates S l h g → mate S l h ≡ g

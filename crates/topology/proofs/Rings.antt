@@ -81,7 +81,7 @@ module _ (S : Shape) (v : ℕ) (l : List ℕ) (ok : Oriented S v l) where
         go (no c) = let e : i - m + m ≡ i = omega arith in let x = again (i - m) in let y = r .walk .inside (i - m) (omega arith) in let z = ap (λ (k : ℕ). turns S l k h) e in omega arith
 
     -- a ring from any of its half-edges
-    pub ring-rotated : (k : ℕ) → k < m → Ring S l p (turns S l k h) m
+    ring-rotated : (k : ℕ) → k < m → Ring S l p (turns S l k h) m
     ring-rotated k b = record {
       walk = record {
         leaves = turns-from S v l ok p h k (r .walk .leaves) (λ j c. r .walk .inside j (omega arith));
@@ -179,11 +179,11 @@ module _ (S : Shape) (v : ℕ) (l : List ℕ) (ok : Oriented S v l) where
     listed = turns-listed S v l ok p h (facesMet S l h) s in-net not-back
 
     -- it ends, and meets no face twice
-    pub met-le : facesMet S l h ≤ valence l p
+    met-le : facesMet S l h ≤ valence l p
     unfolding valence
     met-le = listed-le (leaves l p) (length l) (λ (k : ℕ). turns S l k h) (facesMet S l h) listed
 
-    pub met-stops : first (stops S l h) (length l) < length l
+    met-stops : first (stops S l h) (length l) < length l
     unfolding facesMet valence
     met-stops = omega (arith, met-le, count-le (leaves l p) (length l))
 

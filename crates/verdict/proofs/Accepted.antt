@@ -47,7 +47,7 @@ pub if-false : (r : ℕ) (t : Bool) → refusedIf r t ≡ accepted → t ≡ fal
 if-false r true e = never r 0 e
 if-false r false e = refl
 
-pub at-none : (r : ℕ) (t : ℕ → Bool) (n : ℕ) (place : ℕ → ℕ) → refusedAt r t n place ≡ accepted → first t n ≡ n
+at-none : (r : ℕ) (t : ℕ → Bool) (n : ℕ) (place : ℕ → ℕ) → refusedAt r t n place ≡ accepted → first t n ≡ n
 at-none r t n place e = go (ltb (first t n) n) refl e
   where
     go : (b : Bool) → ltb (first t n) n ≡ b → cond b (refused r (place (first t n))) accepted ≡ accepted → first t n ≡ n
@@ -79,7 +79,7 @@ pub record WithinLimits (rounds : ℕ) (sides : List ℕ) (n : Lengths) : Type 0
   pub roomWork : 16 * (quadrilaterals sides (n .corners) * 4 ^ rounds) ≤ n .room .work
 
 -- corners by fours, or side counts that pass 14
-pub corners-if : (s : List ℕ) (n : ℕ) → cornersVerdict s n ≡ accepted → Sided s n
+corners-if : (s : List ℕ) (n : ℕ) → cornersVerdict s n ≡ accepted → Sided s n
 corners-if [] n e = record { fours = λ z. eqb-true (n % 4) 0 (not-false _ (if-false 2 _ e)); counts = λ p. let z : ⊥ = omega arith in absurd z }
 corners-if (c ∷ s) n e = record { fours = λ z. let y : ⊥ = omega arith in absurd y; counts = λ p. if-false 14 _ e }
 
@@ -156,7 +156,7 @@ module _ (k : ℕ) (s : List ℕ) (n : Lengths) where
         roomWork = d .work;
       }
 
-  pub if-within : WithinLimits k s n → limitsVerdict k s n ≡ accepted
+  if-within : WithinLimits k s n → limitsVerdict k s n ≡ accepted
   unfolding limitsVerdict tablesVerdict sizeVerdict roomVerdict
   if-within w =
       let g = quadrilaterals s (n .corners) * 4 ^ k in
@@ -176,7 +176,7 @@ module _ (k : ℕ) (s : List ℕ) (n : Lengths) where
       )
 
   -- fewer rounds need less room
-  pub within-fewer : (j : ℕ) → j ≤ k → WithinLimits k s n → WithinLimits j s n
+  within-fewer : (j : ℕ) → j ≤ k → WithinLimits k s n → WithinLimits j s n
   within-fewer j h w =
       let p : 4 ^ j ≤ 4 ^ k = pow-le-pow-right {n = 4} (omega arith) h in
       let g : quadrilaterals s (n .corners) * 4 ^ j ≤ quadrilaterals s (n .corners) * 4 ^ k = mul-le-mul-left (quadrilaterals s (n .corners)) p in
@@ -207,7 +207,7 @@ pub record NoRefusal (m : ControlNet) : Type 0 where
   pub no11 : first (badValence (shapeOf (m .sides)) (m .faces)) (length (m .marks)) ≡ length (m .marks)
   pub no12 : first (markedRing (shapeOf (m .sides)) (m .faces) (m .marks)) (length (m .marks)) ≡ length (m .marks)
 
-pub none-if : (m : ControlNet) → netVerdict m ≡ accepted → NoRefusal m
+none-if : (m : ControlNet) → netVerdict m ≡ accepted → NoRefusal m
 unfolding netVerdict coordinatesVerdict shapeVerdict facesVerdict adjacencyVerdict vertexVerdict
 none-if m e₀ =
     let a₅ = or-both _ _ e₀ in
@@ -247,7 +247,7 @@ pub accepted-net : (c : Call) → verdict c ≡ accepted → NoRefusal (c .net)
 unfolding verdict
 accepted-net c e = none-if (c .net) (or-both (callVerdict c) (netVerdict (c .net)) e .1)
 
-pub accepted-lawful : (c : Call) → verdict c ≡ accepted → Lawful (shapeOf (c .net .sides)) (length (c .net .faces))
+accepted-lawful : (c : Call) → verdict c ≡ accepted → Lawful (shapeOf (c .net .sides)) (length (c .net .faces))
 accepted-lawful c e = shape-lawful (c .net .sides) (length (c .net .faces)) (accepted-limits c e .sided)
 
 pub accepted-manifold : (c : Call) → verdict c ≡ accepted → Manifold (shapeOf (c .net .sides)) (length (c .net .marks)) (c .net .faces)
