@@ -1,7 +1,9 @@
 -- The pass goes on.
 use mathlib.Core.Path.{_≡_, sym, _∙_, subst}
+use mathlib.Core.Logic.{_⊎_, ⊎-elim}
 use mathlib.Core.List.{List}
-use Prim.Native.Nat.{ℕ, _+_, _<_}
+use Prim.Native.Nat.{ℕ, _+_, _≤_, _<_}
+use native.Mathlib.Omega.{arith}
 use lib.IntN.{ℤ}
 use lib.ListN.{length}
 use Rattle.topology.specs.Shape.{quads}
@@ -9,6 +11,10 @@ use Rattle.topology.specs.HalfEdge.{mate}
 use Rattle.edgetable.specs.EdgeTable.{Turn, Turned}
 use Rattle.familylines.specs.Steps.{Place, Going, Carries}
 use Rattle.edgetable.proofs.EdgeTable.{turn-in, turned-edges, turned-count}
+
+-- a side whose mate does not lie before the family from f on is first met here
+pub first-met : (f h m k : ℕ) → m ≡ k → f ≤ m → (k < f) ⊎ (h < k) → h < k
+first-met f h m k e b side = ⊎-elim (λ x. let z : ⊥ = omega arith in absurd z) (λ x. x) side
 
 module _ (t : ℕ) (l marks : List ℕ) where
   pub turn-now : (p : List ℤ) (w : List ℕ) (h e : ℕ) → (g : Going t l marks p w h e) → h < length l → Turn t l marks p w (g .at) (g .initial) h e

@@ -1,29 +1,20 @@
 -- `first_half` meets its contract. Assumes nothing.
-use mathlib.Core.Path.{_≡_, sym, ap, _∙_, subst}
-use mathlib.Core.Logic.{⊎-elim}
-use Prim.Native.Nat.{ℕ, _+_, _≤_, _<_}
+use mathlib.Core.Path.{sym, ap, _∙_, subst}
+use Prim.Native.Nat.{ℕ, _+_, _<_}
 use native.Mathlib.Omega.{arith}
 use borrow.Author.Needs.{needs}
 use lib.ListN.{length}
-use Rattle.topology.specs.Shape.{quads}
-use Rattle.topology.specs.HalfEdge.{from, mate}
-use Rattle.edgetable.specs.EdgeTable.{Turn}
+use Rattle.topology.specs.HalfEdge.{from}
 use Rattle.familylines.specs.Steps.{Line}
-use Rattle.familylines.proofs.Going.{turn-now}
+use Rattle.familylines.proofs.Going.{first-met, turn-now}
 use Rattle.familylines.proofs.first_half.Statement.{statement}
 use Rattle.familylines.proofs.first_half.Tie as tie
 
 lt : (s : tie.Start) → s .args .h < length (s .args .faces .now)
 lt s = let b = s .pre .1 .lt in omega arith
 
-turn : (s : tie.Start) → Turn (s .args .t) (s .args .faces .now) (s .args .marks .now) (s .args .points .now) (s .args .work .now) (s .pre .0 .at) (s .pre .0 .initial) (s .args .h) (s .args .edges)
-turn s = turn-now _ _ _ _ _ _ _ (s .pre .0) (lt s)
-
-new-here : (s : tie.Start) (m : ℕ) → m ≡ mate quads (s .args .faces .now) (s .args .h) → s .args .f ≤ m → s .args .h < mate quads (s .args .faces .now) (s .args .h)
-new-here s m e b = ⊎-elim (λ x. let z : ⊥ = omega arith in absurd z) (λ x. x) (s .pre .1 .side)
-
 mate-side-requires : tie.Need-mate-side-requires
-mate-side-requires c κs = let s = c .before .before .before .before in (turn s .ready .table, lt s)
+mate-side-requires c κs = let s = c .before .before .before .before in (turn-now _ _ _ _ _ _ _ (s .pre .0) (lt s) .ready .table, lt s)
 
 pass-edge-requires : tie.Need-pass-edge-requires
 pass-edge-requires c κs = search needs
@@ -41,7 +32,7 @@ add-mate-side : tie.Need-add-mate-side
 add-mate-side c = search needs
 
 mate-side-requires-2 : tie.Need-mate-side-requires-2
-mate-side-requires-2 c κs = let s = c .before .before .before .before .before .before .before in (turn s .ready .table, s .pre .1 .lt)
+mate-side-requires-2 c κs = let s = c .before .before .before .before .before .before .before in (turn-now _ _ _ _ _ _ _ (s .pre .0) (lt s) .ready .table, s .pre .1 .lt)
 
 add-start-of : tie.Need-add-start-of
 add-start-of c = search needs
@@ -56,7 +47,7 @@ make-edge-requires c κs =
     let i = y .before .before in
     let x = i .before in
     let s = c .before .before .before .before .before .before .before .before .before .before .before in
-    let new = new-here s (x .mate-side .result) (x .mate-side .ensures) (i .if1 .left) in (
+    let new = first-met _ _ _ _ (x .mate-side .ensures) (i .if1 .left) (s .pre .1 .side) in (
       s .pre .0,
       subst (λ (o : ℕ). Line (s .args .faces .now) (s .args .h) o (s .args .c) (s .args .e) (s .args .d)) (sym (a .start-of .ensures ∙ ap (λ (j : ℕ). from (s .args .faces .now) (j + 3)) (y .mate-side2 .ensures))) (s .pre .1 .line new),
     )
