@@ -1,8 +1,9 @@
 -- A call as the caller makes it.
-use mathlib.Core.Bool.{Bool, true}
+use mathlib.Core.Bool.{Bool, true, false}
 use mathlib.Core.List.{List, [], _∷_}
 use Prim.Native.Nat.{ℕ, _*_, _/_, _^_}
 use lib.ListN.{length}
+use Rattle.bounds.specs.Bounds.{maxFaces}
 use Rattle.nets.specs.Net.{Net, ControlNet}
 
 -- how many numbers the output tables and the work table hold; and whether letters are asked for, and how many bytes their table holds
@@ -43,6 +44,11 @@ pub record Call : Type 0 where
 
 abbrev pub call : ℕ → ControlNet → (tension : ℕ) → Room → Call
 call rounds net tension room = record { rounds = rounds; net = net; tension = tension; room = room }
+
+-- Paper 02: "checks each net as a call of zero rounds would"; "no outputs or tally are lent": a net by itself, with outputs as long as 4,096 faces need them, no letters, and a work
+-- table of w numbers
+abbrev pub alone : ControlNet → (tension w : ℕ) → Call
+alone m t w = call 0 m t (room (12 * maxFaces) (4 * maxFaces) (4 * maxFaces) false 0 w)
 
 -- "V and F are their counts." Past refusal 2 there is a mark for each vertex, so the marks are counted
 abbrev pub vertexCount : Net → ℕ

@@ -1,0 +1,3 @@
+pub mod SeamTest
+pub mod Matching
+pub mod KeepsSeam

@@ -1,0 +1,1 @@
+// The seam test of two nets: definitions in specs/, laws in proofs/. No function.
