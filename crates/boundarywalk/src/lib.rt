@@ -79,7 +79,15 @@ pub fn step_in(faces: &[u32], sides: &[u8], work: &[u32], h: usize, against: boo
 }
 
 // Walks from the boundary half-edge h to the next mark, writes the vertices met to the work table from the place `at` on, and gives their number.
-pub fn walk_to_mark(faces: &[u32], sides: &[u8], marks: &[u8], work: &mut [u32], h: usize, against: bool, at: usize) -> usize
+pub fn walk_to_mark(
+    faces: &[u32],
+    sides: &[u8],
+    marks: &[u8],
+    work: &mut [u32],
+    h: usize,
+    against: bool,
+    at: usize,
+) -> usize
     requires { ⌜ Walkable (now sides) (now faces) (now work) ⌝ }
     requires { ⌜ StartsAtMark (now sides) (now faces) (now marks) h ⌝ }
     requires { ⌜ ListRoom (now sides) (now faces) (now work) at ⌝ }

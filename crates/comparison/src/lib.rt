@@ -52,7 +52,14 @@ pub fn first_apart(
     requires { ⌜ Comparable (walks (now vertices) (now faces) (now sides) (now marks) half (now «vertices_b») (now «marks_b») «start_b» (now work) at) e ⌝ }
     ensures { λ r. ⌜ r ≡ firstApart (walks (now (vertices .entry)) (now (faces .entry)) (now (sides .entry)) (now (marks .entry)) half (now («vertices_b» .entry)) (now («marks_b» .entry)) «start_b» (now (work .entry)) at) ⌝ }
 {
-    if !same_vertex(vertices, marks, faces[half] as usize, vertices_b, marks_b, start_b) {
+    if !same_vertex(
+        vertices,
+        marks,
+        faces[half] as usize,
+        vertices_b,
+        marks_b,
+        start_b,
+    ) {
         return 0;
     }
     let mut g = half;
