@@ -5,7 +5,7 @@ use limits::Room;
 ghost use mathlib.Core.Path.{_≡_};
 ghost use lib.ListN.{length};
 ghost use Rattle.nets.specs.Net.{controlNet};
-ghost use Rattle.verdict.specs.Call.{call};
+ghost use Rattle.verdict.specs.Call.{call, aloneRoom, alone};
 ghost use Rattle.limits.specs.Answer.{roomIn};
 ghost use Rattle.examination.specs.Examine.{verdictOf};
 ghost use Rattle.admission.specs.Answer.{checkedAs, checked};
@@ -95,4 +95,68 @@ pub fn check(
         }
         Admission::Refused(number, place) => Examination::Refused(number, place),
     }
+}
+
+// Outputs that serve every net at zero rounds, without letters.
+fn alone_room(work: usize) -> Room
+    ensures { λ r. ⌜ roomIn r ≡ aloneRoom work ⌝ }
+{
+    Room {
+        vertices: 12 * bounds::MAX_FACES,
+        faces: 4 * bounds::MAX_FACES,
+        marks: 4 * bounds::MAX_FACES,
+        with_letters: false,
+        letters: 0,
+        work,
+    }
+}
+
+// Admits a net by itself, as `admit` does for zero rounds and outputs that are long enough.
+pub fn admit_alone(
+    vertices: &[i32],
+    faces: &[u32],
+    sides: &[u8],
+    marks: &[u8],
+    tension: u32,
+    work: &mut [u32],
+) -> Admission
+    ensures { λ r. ⌜ Admits (alone (controlNet (now (vertices .entry)) (now (faces .entry)) (now (sides .entry)) (now (marks .entry))) tension (length (now (work .entry))))
+        (now (work .entry)) r (now (work .exit)) ⌝ }
+{
+    let room = alone_room(work.len());
+    admit(
+        0,
+        vertices,
+        faces,
+        sides,
+        marks,
+        tension,
+        room,
+        &mut *work,
+    )
+}
+
+// The verdict on a net by itself.
+pub fn check_alone(
+    vertices: &[i32],
+    faces: &[u32],
+    sides: &[u8],
+    marks: &[u8],
+    tension: u32,
+    work: &mut [u32],
+) -> Examination
+    ensures { λ r. ⌜ checkedAs (verdictOf r) (now (work .exit)) ≡
+        checked (alone (controlNet (now (vertices .entry)) (now (faces .entry)) (now (sides .entry)) (now (marks .entry))) tension (length (now (work .entry)))) (now (work .entry)) ⌝ }
+{
+    let room = alone_room(work.len());
+    check(
+        0,
+        vertices,
+        faces,
+        sides,
+        marks,
+        tension,
+        room,
+        &mut *work,
+    )
 }

@@ -47,8 +47,11 @@ call rounds net tension room = record { rounds = rounds; net = net; tension = te
 
 -- Paper 02: "checks each net as a call of zero rounds would"; "no outputs or tally are lent": a net by itself, with outputs as long as 4,096 faces need them, no letters, and a work
 -- table of w numbers
+abbrev pub aloneRoom : (w : ℕ) → Room
+aloneRoom w = room (12 * maxFaces) (4 * maxFaces) (4 * maxFaces) false 0 w
+
 abbrev pub alone : ControlNet → (tension w : ℕ) → Call
-alone m t w = call 0 m t (room (12 * maxFaces) (4 * maxFaces) (4 * maxFaces) false 0 w)
+alone m t w = call 0 m t (aloneRoom w)
 
 -- "V and F are their counts." Past refusal 2 there is a mark for each vertex, so the marks are counted
 abbrev pub vertexCount : Net → ℕ
