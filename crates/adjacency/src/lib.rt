@@ -9,6 +9,7 @@ ghost use Rattle.topology.specs.HalfEdge.{mate};
 ghost use Rattle.topology.specs.Vertex.{facesMet};
 ghost use Rattle.refusals.specs.Refusals.{isolated};
 ghost use Rattle.polygons.specs.Polygons.{shapeOf};
+ghost use Rattle.halfedges.specs.Tables.{MateTableOf};
 ghost use Rattle.tables.specs.Tables.{SameOutside};
 ghost use Rattle.sidetable.specs.Table.{Linked};
 ghost use Rattle.adjacency.specs.Chains.{side, Tables, Chained, Adjacency};
@@ -86,6 +87,16 @@ pub fn build_mates(faces: &[u32], sides: &[u8], work: &mut [u32])
         work[h] = find_mate(faces, sides, &*work, h) as u32;
         h += 1;
     }
+}
+
+// Builds the chains and the mates of the half-edges.
+pub fn link_faces(faces: &[u32], sides: &[u8], work: &mut [u32])
+    requires { ⌜ Tables (now sides) (now faces) (now work) ⌝ }
+    ensures { λ _. ⌜ MateTableOf (shapeOf (now (sides .entry))) (now (faces .entry)) (now (work .exit)) ⌝ }
+    ensures { λ _. ⌜ drop (3 * length (now (faces .entry))) (now (work .exit)) ≡ drop (3 * length (now (faces .entry))) (now (work .entry)) ⌝ }
+{
+    build_chains(faces, sides, &mut *work);
+    build_mates(faces, sides, &mut *work);
 }
 
 // The first of nv vertices that no half-edge leaves, or nv. The chains must be there.

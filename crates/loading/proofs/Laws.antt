@@ -36,15 +36,6 @@ use Rattle.loading.specs.Loading.{Loadable, SplitInto, Loaded}
 
 -- ---- chains and mates
 
--- what is written below 3n leaves the shape there
-pub tables-kept : (s l w w′ : List ℕ) → length w′ ≡ length w → SameOutside (length l) (3 * length l) w w′ → Tables s l w → Tables s l w′
-tables-kept s l w w′ k x ok = record {
-  shaped = shaped-kept s (length l) w w′ k (drop-later (3 * length l) (4 * length l) w′ w (omega arith) (x .rest)) (ok .shaped);
-  few = ok .few;
-  corners = ok .corners;
-  room = let r = ok .room in omega arith;
-}
-
 -- no side counts: four-sided faces
 shaped-quads : (n : ℕ) (w : List ℕ) → n % 4 ≡ 0 → n ≤ maxHalfEdges → Shaped [] n w
 shaped-quads n w a b = record {

@@ -1,12 +1,8 @@
 // Brings the net where refining begins to the caller's tables: a copy of the drawn net, or its split where there are side counts.
-ghost use mathlib.Core.Path.{_≡_};
-ghost use Prim.Native.Nat.{_*_, _<_};
-ghost use lib.ListN.{length, drop};
-ghost use Rattle.polygons.specs.Polygons.{shapeOf};
+ghost use Prim.Native.Nat.{_<_};
+ghost use lib.ListN.{length};
 ghost use Rattle.nets.specs.Net.{controlNet};
 ghost use Rattle.nets.specs.Buffers.{buffers};
-ghost use Rattle.halfedges.specs.Tables.{MateTableOf};
-ghost use Rattle.adjacency.specs.Chains.{Tables};
 ghost use Rattle.loading.specs.Loading.{Loadable, SplitInto, Loaded};
 
 // Splits the drawn net into the output tables; the answer is the number of vertices. The edges are numbered behind the mates.
@@ -35,16 +31,6 @@ fn split_tables(
     let count = v + edges + sides.len();
     roundfaces::extend_marks(&mut *out_marks, v, count);
     count
-}
-
-// Builds the chains and the mates of the half-edges.
-fn link_faces(faces: &[u32], sides: &[u8], work: &mut [u32])
-    requires { ⌜ Tables (now sides) (now faces) (now work) ⌝ }
-    ensures { λ _. ⌜ MateTableOf (shapeOf (now (sides .entry))) (now (faces .entry)) (now (work .exit)) ⌝ }
-    ensures { λ _. ⌜ drop (3 * length (now (faces .entry))) (now (work .exit)) ≡ drop (3 * length (now (faces .entry))) (now (work .entry)) ⌝ }
-{
-    adjacency::build_chains(faces, sides, &mut *work);
-    adjacency::build_mates(faces, sides, &mut *work);
 }
 
 // Loads the net; the answer is the number of vertices where refining begins. Without side counts the work table is not touched.
@@ -80,6 +66,6 @@ pub fn load(
         &mut *work,
     );
     let end = 4 * faces.len();
-    link_faces(&out_faces[..end], &sides[..0], &mut *work);
+    adjacency::link_faces(&out_faces[..end], &sides[..0], &mut *work);
     count
 }
