@@ -34,8 +34,8 @@ pub record Turning (l : List ℕ) (h g i : ℕ) : Type 0 where
 module _ (v : ℕ) (l : List ℕ) (ok : Manifold quads v l) (h : ℕ) (b : h < length l) where
   ring-circuit : boundaryFrom quads l (from l h) ≡ length l → Circuit l h (valence l (from l h))
   ring-circuit e =
-      let r = ring-here v l ok h b e in
-      record { some = r .some; few = ring-here-range v l ok h b e .1; inside = r .walk .inside; goes-on = r .not-before; ring = λ x. (refl, r .back); fan = λ x. absurd (omega arith); whole = λ x. refl }
+      let r = ring-here quads v l ok h b e in
+      record { some = r .some; few = ring-here-range quads v l ok h b e .1; inside = r .walk .inside; goes-on = r .not-before; ring = λ x. (refl, r .back); fan = λ x. absurd (omega arith); whole = λ x. refl }
 
   module _ (o : boundaryFrom quads l (from l h) < length l) (j : ℕ) (c : j < valence l (from l h)) (e : turns quads l j (boundaryFrom quads l (from l h)) ≡ h) where
     abbrev m : ℕ
@@ -52,18 +52,18 @@ module _ (v : ℕ) (l : List ℕ) (ok : Manifold quads v l) (h : ℕ) (b : h < l
     first-place x = go (decLt 0 j)
       where
         go : Dec (0 < j) → j ≡ 0
-        go (yes k) = absurd (fan-differ v l ok h b o 0 j k c (boundaryFrom-is quads v l ok (from l h) h x refl ∙ sym e))
+        go (yes k) = absurd (fan-differ quads v l ok h b o 0 j k c (boundaryFrom-is quads v l ok (from l h) h x refl ∙ sym e))
         go (no k) = omega arith
 
     fan-circuit : Circuit l h (m - j)
     fan-circuit =
-        let f = fan-here v l ok h b o in
-        let k = fan-here-range v l ok h b o in
+        let f = fan-here quads v l ok h b o in
+        let k = fan-here-range quads v l ok h b o in
         record {
           some = omega arith;
           few = omega arith;
           inside = λ i d. let x = on i in rw x (f .walk .inside (i + j) (omega arith));
-          goes-on = λ i d g q. fan-differ v l ok h b o j (i + j) (omega arith) (omega arith) (e ∙ sym q ∙ on i);
+          goes-on = λ i d g q. fan-differ quads v l ok h b o j (i + j) (omega arith) (omega arith) (e ∙ sym q ∙ on i);
           ring = λ x. absurd (omega arith);
           fan = λ x. let q : m - j + j ≡ m = omega arith in on (m - j) ∙ ap (λ (i : ℕ). turns quads l i s) q ∙ f .ends;
           whole = λ x. let z = first-place x in omega arith;
@@ -74,7 +74,7 @@ module _ (v : ℕ) (l : List ℕ) (ok : Manifold quads v l) (h : ℕ) (b : h < l
   turning-start = go (decLt (boundaryFrom quads l (from l h)) (length l))
     where
       go : Dec (boundaryFrom quads l (from l h) < length l) → Turning l h h 0
-      go (yes o) = let x = fan-here v l ok h b o .walk .all h b refl in let c = fan-circuit o (x .0) (x .1) (x .2) in record { count = valence l (from l h) - x .0; circuit = c; lt = c .some; at = refl }
+      go (yes o) = let x = fan-here quads v l ok h b o .walk .all h b refl in let c = fan-circuit o (x .0) (x .1) (x .2) in record { count = valence l (from l h) - x .0; circuit = c; lt = c .some; at = refl }
       go (no o) =
           let e : boundaryFrom quads l (from l h) ≡ length l = omega (arith, boundaryFrom-le quads l (from l h)) in
           let c = ring-circuit e in

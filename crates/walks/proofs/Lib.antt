@@ -1,3 +1,3 @@
 pub mod Around
-mod Unwinding
-mod Winding
+pub mod Unwinding
+pub mod Winding

@@ -32,7 +32,7 @@ ring-point-requires c κs =
     let l = s .args .faces .now in
     let g = t .before .before .gather in
     let e = g .ensures .circuit .ring (inner t) .0 in
-    let k = ring-here-range (r .vertices) l (r .net) (s .args .h) (s .pre .1 .1 .0) (inner t) in (
+    let k = ring-here-range quads (r .vertices) l (r .net) (s .args .h) (s .pre .1 .1 .0) (inner t) in (
       (s .pre .1 .0 .bounded, omega arith, omega arith, s .pre .1 .1 .2),
       (
         neighbours-in (r .vertices) l (r .net) (s .args .h) (g .result .count) (g .result .last) (g .result .after) _ _ (g .ensures) (s .args .points .now) (s .pre .1 .0),

@@ -11,13 +11,13 @@ use Rattle.walks.proofs.back_side.Statement.{statement}
 use Rattle.walks.proofs.back_side.Tie as tie
 
 abbrev Inv-loop : tie.InvT-loop
-Inv-loop faces work h n g₀ i₀ g i = (i ≤ 6) × Winding faces h g i
+Inv-loop faces work h n g₀ i₀ g i = (i ≤ 6) × Winding quads faces h g i
 
 abbrev μ-loop : tie.MeasureT-loop
 μ-loop faces work h n g₀ i₀ g i = 6 - i
 
 loop-holds : tie.Need-loop-holds Inv-loop μ-loop
-loop-holds c = let s = c .before .before in let r = s .pre .0 in (omega arith, winding-start (r .vertices) (s .args .faces .now) (r .net) (s .args .h) (s .pre .1))
+loop-holds c = let s = c .before .before in let r = s .pre .0 in (omega arith, winding-start quads (r .vertices) (s .args .faces .now) (r .net) (s .args .h) (s .pre .1))
 
 turn-side-requires : tie.Need-turn-side-requires Inv-loop μ-loop
 turn-side-requires c κs = (c .before .before .before .before .pre .0 .table, c .before .loop .inv .1 .lt)
@@ -32,7 +32,7 @@ returns c =
     let q = c .before .before .before .before in
     let r = s .pre .0 in
     c .prev-side .ensures
-    ∙ winding-hit (r .vertices) (s .args .faces .now) (r .net) (s .args .h) (s .pre .1) (q .loop .g) (q .loop .i) (q .loop .inv .1) (sym (c .before .before .turn-side .ensures) ∙ c .before .if1 .taken)
+    ∙ winding-hit quads (r .vertices) (s .args .faces .now) (r .net) (s .args .h) (s .pre .1) (q .loop .g) (q .loop .i) (q .loop .inv .1) (sym (c .before .before .turn-side .ensures) ∙ c .before .if1 .taken)
 
 add-i : tie.Need-add-i Inv-loop μ-loop
 add-i c = omega arith
@@ -48,14 +48,14 @@ loop-again c =
     let e = c .before .turn-side .ensures in
     let m = turn-le quads (s .args .faces .now) (q .loop .g) in
     let n : turn quads (s .args .faces .now) (q .loop .g) < length (s .args .faces .now) = omega (arith, c .if1 .left) in
-    (omega arith, rw (c .before .turn-side .ensures) (winding-step (r .vertices) (s .args .faces .now) (r .net) (s .args .h) (s .pre .1) (q .loop .g) (q .loop .i) (q .loop .inv .1) n))
+    (omega arith, rw (c .before .turn-side .ensures) (winding-step quads (r .vertices) (s .args .faces .now) (r .net) (s .args .h) (s .pre .1) (q .loop .g) (q .loop .i) (q .loop .inv .1) n))
 
 returns-2 : tie.Need-returns-2 Inv-loop μ-loop
 returns-2 c =
     let s = c .before .before .before .before in
     let q = c .before in
     let r = s .pre .0 in
-    winding-end (r .vertices) (s .args .faces .now) (r .net) (s .args .h) (s .pre .1) (q .loop .g) (q .loop .i) (q .loop .inv .1) (omega arith)
+    winding-end quads (r .vertices) (s .args .faces .now) (r .net) (s .args .h) (s .pre .1) (q .loop .g) (q .loop .i) (q .loop .inv .1) (omega arith)
 
 pub back-side-spec : {M : Type 1} → statement M
 back-side-spec = tie.close (tie.spec Inv-loop μ-loop loop-holds turn-side-requires prev-side-requires returns add-i loop-less loop-again returns-2)
