@@ -124,16 +124,7 @@ pub fn admit_alone(
         (now (work .entry)) r (now (work .exit)) ⌝ }
 {
     let room = alone_room(work.len());
-    admit(
-        0,
-        vertices,
-        faces,
-        sides,
-        marks,
-        tension,
-        room,
-        &mut *work,
-    )
+    admit(0, vertices, faces, sides, marks, tension, room, &mut *work)
 }
 
 // The verdict on a net by itself.
@@ -149,14 +140,5 @@ pub fn check_alone(
         checked (alone (controlNet (now (vertices .entry)) (now (faces .entry)) (now (sides .entry)) (now (marks .entry))) tension (length (now (work .entry)))) (now (work .entry)) ⌝ }
 {
     let room = alone_room(work.len());
-    check(
-        0,
-        vertices,
-        faces,
-        sides,
-        marks,
-        tension,
-        room,
-        &mut *work,
-    )
+    check(0, vertices, faces, sides, marks, tension, room, &mut *work)
 }
