@@ -35,10 +35,14 @@ pub or-both : (u v : Verdict) → orElse u v ≡ accepted → (u ≡ accepted) �
 or-both accepted v e = (refl, e)
 or-both (refused r p) v e = never r p e
 
+-- what follows matters only past an acceptance
+pub else-same : (u : Verdict) {v w : Verdict} → (u ≡ accepted → v ≡ w) → orElse u v ≡ orElse u w
+else-same accepted f = f refl
+else-same (refused r p) f = refl
+
 -- past a refusal nothing matters
 pub or-refused : (u v w : Verdict) → (u ≡ accepted → ⊥) → orElse u v ≡ orElse u w
-or-refused accepted v w n = absurd (n refl)
-or-refused (refused r p) v w n = refl
+or-refused u v w n = else-same u (λ e. absurd (n e))
 
 pub or-accepted : {u v : Verdict} → u ≡ accepted → v ≡ accepted → orElse u v ≡ accepted
 or-accepted e f = rw (e, f)
