@@ -45,7 +45,7 @@ unfolding badStart
 if-start a g = not-off _ (and-on _ _ (lt-ltb (a .start) (length (a .net .marks)) (g .vertex)) (g .mark))
 
 -- ---- its segment
-edges-some : (a : SeamSide) (way : Way) → 0 < edgesFrom a way
+pub edges-some : (a : SeamSide) (way : Way) → 0 < edgesFrom a way
 unfolding edgesFrom
 edges-some a way = omega arith
 

@@ -51,7 +51,7 @@ pub if-false : (r : ℕ) (t : Bool) → refusedIf r t ≡ accepted → t ≡ fal
 if-false r true e = never r 0 e
 if-false r false e = refl
 
-at-none : (r : ℕ) (t : ℕ → Bool) (n : ℕ) (place : ℕ → ℕ) → refusedAt r t n place ≡ accepted → first t n ≡ n
+pub at-none : (r : ℕ) (t : ℕ → Bool) (n : ℕ) (place : ℕ → ℕ) → refusedAt r t n place ≡ accepted → first t n ≡ n
 at-none r t n place e = go (ltb (first t n) n) refl e
   where
     go : (b : Bool) → ltb (first t n) n ≡ b → cond b (refused r (place (first t n))) accepted ≡ accepted → first t n ≡ n
