@@ -1,0 +1,3 @@
+pub mod Side
+pub mod Agree
+pub mod KeepsSeam

@@ -35,10 +35,14 @@ pub or-both : (u v : Verdict) → orElse u v ≡ accepted → (u ≡ accepted) �
 or-both accepted v e = (refl, e)
 or-both (refused r p) v e = never r p e
 
+-- what follows matters only past an acceptance
+pub else-same : (u : Verdict) {v w : Verdict} → (u ≡ accepted → v ≡ w) → orElse u v ≡ orElse u w
+else-same accepted f = f refl
+else-same (refused r p) f = refl
+
 -- past a refusal nothing matters
 pub or-refused : (u v w : Verdict) → (u ≡ accepted → ⊥) → orElse u v ≡ orElse u w
-or-refused accepted v w n = absurd (n refl)
-or-refused (refused r p) v w n = refl
+or-refused u v w n = else-same u (λ e. absurd (n e))
 
 pub or-accepted : {u v : Verdict} → u ≡ accepted → v ≡ accepted → orElse u v ≡ accepted
 or-accepted e f = rw (e, f)
@@ -47,7 +51,7 @@ pub if-false : (r : ℕ) (t : Bool) → refusedIf r t ≡ accepted → t ≡ fal
 if-false r true e = never r 0 e
 if-false r false e = refl
 
-at-none : (r : ℕ) (t : ℕ → Bool) (n : ℕ) (place : ℕ → ℕ) → refusedAt r t n place ≡ accepted → first t n ≡ n
+pub at-none : (r : ℕ) (t : ℕ → Bool) (n : ℕ) (place : ℕ → ℕ) → refusedAt r t n place ≡ accepted → first t n ≡ n
 at-none r t n place e = go (ltb (first t n) n) refl e
   where
     go : (b : Bool) → ltb (first t n) n ≡ b → cond b (refused r (place (first t n))) accepted ≡ accepted → first t n ≡ n

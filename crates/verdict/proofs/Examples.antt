@@ -12,7 +12,7 @@ use Rattle.topology.specs.Vertex.{leaves, valence, turn, start, stops, facesMet
 use Rattle.refusals.specs.Refusals.{badMark, badCorner, isolated, repeatedSide, nonManifold, badValence, markedRing}
 use Rattle.nets.specs.Net.{ControlNet, controlNet}
 use Rattle.polygons.specs.Polygons.{shapeOf, total, badCount, badSides}
-use Rattle.verdict.specs.Call.{Room, room, lengths, call}
+use Rattle.verdict.specs.Call.{Room, room, lengths, call, alone}
 use Rattle.verdict.specs.Verdict.{Verdict, accepted, refused, tablesVerdict, sizeVerdict, roomVerdict, limitsVerdict, badCoordinate, coordinatesVerdict, vertexVerdict, adjacencyVerdict, facesVerdict, shapeVerdict, netVerdict, verdict, workAfter}
 
 abbrev ample : Room
@@ -107,3 +107,8 @@ tension = refl
 untouched : workAfter (call 0 (netOf (pos 0) 3 square) 5 (room 12 4 4 false 0 16)) (7 ∷ 7 ∷ 7 ∷ []) ≡ 7 ∷ 7 ∷ 7 ∷ []
 unfolding limitsVerdict tablesVerdict sizeVerdict roomVerdict
 untouched = refl
+
+-- a net by itself: a square needs a work table of 16 numbers
+by-itself : verdict (alone (netOf (pos 0) 3 square) 4 15) ∷ verdict (alone (netOf (pos 0) 3 square) 4 16) ∷ [] ≡ refused 4 0 ∷ accepted ∷ []
+unfolding verdict limitsVerdict tablesVerdict sizeVerdict roomVerdict netVerdict coordinatesVerdict shapeVerdict facesVerdict adjacencyVerdict vertexVerdict badCoordinate badMark badCorner isolated repeatedSide nonManifold badValence markedRing shapeOf firstFrom first any count iterate quads from to opposed mate isBoundaryFrom boundaryFrom leaves valence turn start stops facesMet
+by-itself = refl
