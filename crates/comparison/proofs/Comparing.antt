@@ -2,7 +2,7 @@
 use mathlib.Core.Path.{_≡_, refl, sym, ap, _∙_}
 use mathlib.Core.Bool.{Bool, true, false, not, _&&_}
 use mathlib.Core.List.{List}
-use Prim.Native.Nat.{ℕ, suc, _+_, _-_, _≤_, _<_}
+use Prim.Native.Nat.{ℕ, zero, suc, _+_, _-_, _≤_, _<_}
 use native.Mathlib.Decide.{decLt}
 use native.Mathlib.Numerals.{add-one}
 use native.Mathlib.Omega.{arith}
@@ -11,7 +11,7 @@ use lib.ListN.{length, getD}
 use borrow.Author.Tests.{not-false}
 use Rattle.search.specs.Search.{first, iterate}
 use Rattle.search.proofs.Tests.{clash, and-right}
-use Rattle.search.proofs.First.{first-holds, first-reach, Passed, passed-start, passed-next, passed-hit, passed-end}
+use Rattle.search.proofs.First.{first-holds, first-before, first-reach, Passed, passed-start, passed-next, passed-hit, passed-end}
 use Rattle.topology.specs.HalfEdge.{from}
 use Rattle.topology.specs.Boundary.{OnBoundary, along, withSides, boundaryStep}
 use Rattle.topology.proofs.Loops.{steps-on, steps-meet}
@@ -51,6 +51,11 @@ edgesOf c = edgesTo (shapeOf (c .sides)) (c .faces) (c .marks) false (c .half)
 edges-are : (c : Walks) → edgesOf c ≡ suc (first (markAfter c) (length (c .faces)))
 unfolding edgesTo markAfter firstAt
 edges-are c = refl
+
+pub unmarked-before : (c : Walks) (i : ℕ) → 0 < i → i < edgesOf c → marked (c .marks) (firstAt c i) ≡ false
+unfolding markAfter
+unmarked-before c zero a b = absurd (omega arith)
+unmarked-before c (suc i) a b = let x = edges-are c in first-before (markAfter c) (length (c .faces)) i (omega arith)
 
 -- k steps are made and lead to g, none of them differs, and no mark is met after the start
 pub record Comparing (c : Walks) (e g k : ℕ) : Type 0 where
