@@ -11,7 +11,7 @@ use Rattle.topology.specs.Vertex.{leaves, valence, turn, start, stops, facesMet
 use Rattle.refusals.specs.Refusals.{badMark, badCorner, isolated, repeatedSide, nonManifold, badValence, markedRing}
 use Rattle.polygons.specs.Polygons.{sideAfter, sideBefore, faceThen, noFace, polygons, shapeOf, total, badCount, badSides}
 use Rattle.tables.specs.Tables.{cleared}
-use Rattle.nets.specs.Net.{ControlNet, controlNet, axis, marked}
+use Rattle.nets.specs.Net.{controlNet, axis, marked}
 use Rattle.verdict.specs.Verdict.{Verdict, accepted, refused, tablesVerdict, sizeVerdict, roomVerdict, limitsVerdict, badCoordinate, coordinatesVerdict, vertexVerdict, adjacencyVerdict, facesVerdict, shapeVerdict, netVerdict, verdict}
 use Rattle.seam.specs.Reading.{nextVertex, vertexAt}
 use Rattle.seamtest.specs.SeamTest.{SeamSide, seamSide, stepAt, edgesFrom, badStart, unlike, sameAxis, sameVertex, differs, seamVerdict, seamEdges, seamWork, SeamTested, seamTestedAs, seamTested}

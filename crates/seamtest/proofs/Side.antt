@@ -27,6 +27,7 @@ use Rattle.seam.specs.Split.{ReadsControl}
 use Rattle.seam.proofs.Vertices.{vertex-at, vertex-lt}
 use Rattle.seam.proofs.Readings.{reads-only}
 use Rattle.seamtest.specs.SeamTest.{SeamSide, aloneIn, stepAt, edgesFrom, badStart}
+use Rattle.seamtest.proofs.Examples
 
 -- ---- 17 does not hold: the start is a marked vertex
 pub record GoodStart (a : SeamSide) : Type 0 where
