@@ -1,29 +1,26 @@
 -- The seam test says yes exactly if one list is read from both nets; and what the first differing step says. Assumes nothing.
 use mathlib.Core.Path.{_≡_, refl, sym, ap, _∙_, subst}
 use mathlib.Core.Bool.{Bool, true, false, not, _&&_}
-use mathlib.Core.Logic.{_↔_}
-use Prim.Native.Nat.{ℕ, zero, suc, _≤_, _<_}
+use mathlib.Core.List.{List}
+use Prim.Native.Nat.{ℕ, suc, _≤_, _<_}
 use native.Mathlib.Decide.{decLt, ℕ-discrete}
 use native.Mathlib.Omega.{arith}
 use lib.IntN.{ℤ, natAbs, _-ℤ_, +ℤ-invr}
-use lib.ListN.{length, getD}
 use lib.Dec.{eqb}
-use mathlib.Core.List.{List}
-use borrow.Author.Tests.{eq-eqb, eqb-true, le-ltb, not-true, not-false}
+use borrow.Author.Tests.{eq-eqb, eqb-true, not-true, not-false}
 use Rattle.lists.specs.Tabulate.{tabulate}
 use Rattle.lists.proofs.Tabulate.{length-tabulate, tabulate-cong}
 use Rattle.integers.proofs.Order.{eq-of-abs}
 use Rattle.search.specs.Search.{first, iterate}
 use Rattle.search.proofs.Tests.{clash, not-off, and-on, and-left, and-right, or-off, or-left, or-right}
-use Rattle.search.proofs.First.{first-le, first-holds, first-before, first-none}
+use Rattle.search.proofs.First.{first-before, first-none}
 use Rattle.curve.specs.Curve.{Point}
 use Rattle.topology.specs.Boundary.{withSides, againstSides}
-use Rattle.polygons.specs.Polygons.{shapeOf}
 use Rattle.nets.specs.Net.{controlTables, axis, pointOf, marked}
-use Rattle.verdict.specs.Verdict.{Verdict, accepted, refused, refusedAt, verdict}
+use Rattle.verdict.specs.Verdict.{accepted, refused, refusedAt, verdict}
 use Rattle.verdict.proofs.Accepted.{never, or-both, if-false, at-none, last-hit, last-pass}
 use Rattle.seam.specs.Reading.{vertexAt, points}
-use Rattle.seamtest.specs.SeamTest.{SeamSide, aloneIn, stepAt, edgesFrom, badStart, same, hasSides, unlike, sameAxis, sameVertex, differs, refusedIfAt, seamVerdict, edgesBy, seamEdges}
+use Rattle.seamtest.specs.SeamTest.{SeamSide, aloneIn, stepAt, edgesFrom, badStart, same, hasSides, unlike, sameAxis, sameVertex, differs, refusedIfAt, seamVerdict, seamEdges}
 use Rattle.seamtest.specs.Matching.{Matching, YesExactly}
 use Rattle.seamtest.proofs.Side.{GoodStart, start-if, if-start, start-read, ends-there, unmarked-before, segment, edges-some, read-length, read-point}
 

@@ -1,3 +1,4 @@
+pub mod Examples
 pub mod Side
 pub mod Agree
 pub mod KeepsSeam

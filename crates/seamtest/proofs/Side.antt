@@ -1,7 +1,6 @@
 -- One side of the seam test whose net is accepted and whose start is a marked vertex: its boundary segment, up to the next mark. Assumes nothing.
 use mathlib.Core.Path.{_≡_, refl, ap, _∙_}
 use mathlib.Core.Bool.{Bool, true, false, _&&_}
-use mathlib.Core.Logic.{_↔_}
 use mathlib.Core.List.{List}
 use Prim.Native.Nat.{ℕ, zero, suc, _≤_, _<_}
 use native.Mathlib.Omega.{arith}
@@ -28,6 +27,7 @@ use Rattle.seam.specs.Split.{ReadsControl}
 use Rattle.seam.proofs.Vertices.{vertex-at, vertex-lt}
 use Rattle.seam.proofs.Readings.{reads-only}
 use Rattle.seamtest.specs.SeamTest.{SeamSide, aloneIn, stepAt, edgesFrom, badStart}
+use Rattle.seamtest.proofs.Examples
 
 -- ---- 17 does not hold: the start is a marked vertex
 pub record GoodStart (a : SeamSide) : Type 0 where

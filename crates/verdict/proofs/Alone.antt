@@ -8,7 +8,7 @@ use lib.Dec.{ltb}
 use borrow.Author.Tests.{le-ltb}
 use Rattle.bounds.specs.Bounds.{maxRounds, maxFaces}
 use Rattle.nets.specs.Net.{ControlNet}
-use Rattle.verdict.specs.Call.{Room, room, call, alone, quadrilaterals, lengthsOf}
+use Rattle.verdict.specs.Call.{Room, room, call, alone, quadrilaterals}
 use Rattle.verdict.specs.Verdict.{Verdict, orElse, refusedIf, tablesVerdict, sizeVerdict, roomVerdict, limitsVerdict, netVerdict, verdict}
 use Rattle.verdict.proofs.Accepted.{else-same, sized-faces}
 
