@@ -29,9 +29,7 @@ start q = q .before .before .before .before .before .before .before .before .bef
 mul-same-vertex : tie.Need-mul-same-vertex Inv-loop μ-loop
 mul-same-vertex c =
     let s = c .before .before .before .before .before in
-    let few = s .pre .first .table .shaped .space .few in
-    let lt = s .pre .starts .boundary .lt in
-    omega arith
+    omega (arith, s .pre .first .table .shaped .space .few, s .pre .starts .boundary .lt)
 
 shared-slice-read-same-vertex : tie.Need-shared-slice-read-same-vertex Inv-loop μ-loop
 shared-slice-read-same-vertex c = c .before .before .before .before .before .before .pre .starts .boundary .lt
@@ -71,10 +69,7 @@ arrived c =
     next-lt (both s) (s .args .e) (s .pre) (q .g) (q .k) (q .inv) (c .before .loop-test .taken) (c .along-in .result) (c .along-in .ensures)
 
 mul-u : tie.Need-mul-u Inv-loop μ-loop
-mul-u c =
-    let few = start (c .before .before) .pre .first .table .shaped .space .few in
-    let lt = arrived c in
-    omega arith
+mul-u c = omega (arith, start (c .before .before) .pre .first .table .shaped .space .few, arrived c)
 
 shared-slice-read-u : tie.Need-shared-slice-read-u Inv-loop μ-loop
 shared-slice-read-u c = arrived (c .before)
@@ -83,24 +78,14 @@ cast-u : tie.Need-cast-u Inv-loop μ-loop
 cast-u c = omega (arith, c .shared-slice-known7 .given (c .before .along-in .result))
 
 add-v : tie.Need-add-v Inv-loop μ-loop
-add-v c =
-    let s = start (c .before .before .before) in
-    let near = s .pre .near in
-    let small = s .pre .few in
-    omega arith
+add-v c = let s = start (c .before .before .before) in omega (arith, s .pre .near, s .pre .few)
 
 mul-v : tie.Need-mul-v Inv-loop μ-loop
-mul-v c =
-    let s = start (c .before .before .before) in
-    let near = s .pre .near in
-    let small = s .pre .few in
-    omega arith
+mul-v c = let s = start (c .before .before .before) in omega (arith, s .pre .near, s .pre .few)
 
 shared-slice-read-v : tie.Need-shared-slice-read-v Inv-loop μ-loop
 shared-slice-read-v c =
-    let room = start (c .before .before .before .before) .pre .room in
-    let d = c .before .before .before .loop-test .taken in
-    omega arith
+    omega (arith, start (c .before .before .before .before) .pre .room, c .before .before .before .loop-test .taken)
 
 cast-v : tie.Need-cast-v Inv-loop μ-loop
 cast-v c =
@@ -108,9 +93,7 @@ cast-v c =
     omega (arith, c .shared-slice-known8 .given (s .args .at + c .before .before .before .before .loop .k))
 
 add-k : tie.Need-add-k Inv-loop μ-loop
-add-k c =
-    let small = start (c .before .before .before .before) .pre .few in
-    omega arith
+add-k c = omega (arith, start (c .before .before .before .before) .pre .few)
 
 same-vertex-requires-2 : tie.Need-same-vertex-requires-2 Inv-loop μ-loop
 unfolding from
@@ -138,9 +121,7 @@ shared-slice-read-if3 c =
     next-pair (both s) (s .args .e) (s .pre) (q .g) (q .k) (q .inv) (d .before .loop-test .taken) (d .along-in .result) (d .along-in .ensures) .mark
 
 add-result : tie.Need-add-result Inv-loop μ-loop
-add-result c =
-    let small = start (c .before .before .before .before .before .before .before .before) .pre .few in
-    omega arith
+add-result c = omega (arith, start (c .before .before .before .before .before .before .before .before) .pre .few)
 
 returns-3 : tie.Need-returns-3 Inv-loop μ-loop
 unfolding from marked
@@ -169,10 +150,7 @@ loop-again c =
 
 -- ---- the loop does not run out
 add-result-2 : tie.Need-add-result-2 Inv-loop μ-loop
-add-result-2 c =
-    let le = c .before .loop .inv .le in
-    let small = start (c .before) .pre .few in
-    omega arith
+add-result-2 c = omega (arith, c .before .loop .inv .le, start (c .before) .pre .few)
 
 returns-4 : tie.Need-returns-4 Inv-loop μ-loop
 returns-4 c =

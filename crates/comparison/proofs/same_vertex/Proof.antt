@@ -1,16 +1,22 @@
 -- `same_vertex` meets its contract: each return rewrites with the tests that led there. Assumes nothing.
 use mathlib.Core.Path.{_≡_, sym, _∙_}
 use mathlib.Core.Bool.{true}
+use Prim.Native.Nat.{ℕ, _+_, _*_, _<_}
 use native.Mathlib.Omega.{arith}
-use lib.ListN.{getD}
+use lib.ListN.{length, getD}
 use borrow.Author.Tests.{eq-eqb, ne-eqb, not-true, not-false}
+use Rattle.bounds.specs.Bounds.{maxVertices}
 use Rattle.nets.specs.Net.{marked}
 use Rattle.seamtest.specs.SeamTest.{sameAxis, sameVertex}
 use Rattle.comparison.proofs.same_vertex.Statement.{statement}
 use Rattle.comparison.proofs.same_vertex.Tie as tie
 
+-- both vertices have a number on each axis
+there : (s : tie.Start) (x : ℕ) → x < 3 → let a = s .args in (a .u < maxVertices) × (a .v < maxVertices) × (x < 3) × (3 * a .u + x < length (a .a .now)) × (3 * a .v + x < length (a .b .now))
+there s x b = let r = s .pre in let p = r .point in let q = r .point′ in (r .few, r .few′, b, omega arith, omega arith)
+
 same-axis-requires : tie.Need-same-axis-requires
-same-axis-requires c κs = let r = c .before .before .pre in let a = r .few in let d = r .few′ in let e = r .point in let f = r .point′ in (omega arith, omega arith, omega arith, omega arith, omega arith)
+same-axis-requires c κs = there (c .before .before) 0 (omega arith)
 
 -- the axes that agree
 same-0 : (t : tie.Else1) → let a = t .before .before .before .before .args in sameAxis (a .a .now) (a .u) (a .b .now) (a .v) 0 ≡ true
@@ -27,15 +33,14 @@ unfolding sameVertex
 returns c = let x = sym (c .before .same-axis .ensures) ∙ not-true (c .before .same-axis .result) (c .if1 .taken) in rw x
 
 same-axis-requires-2 : tie.Need-same-axis-requires-2
-same-axis-requires-2 c κs = let r = c .before .before .before .before .pre in let a = r .few in let d = r .few′ in let e = r .point in let f = r .point′ in (omega arith, omega arith, omega arith, omega arith, omega arith)
+same-axis-requires-2 c κs = there (c .before .before .before .before) 1 (omega arith)
 
 returns-2 : tie.Need-returns-2
 unfolding sameVertex
 returns-2 c = let x = same-0 (c .before .before) in let y = sym (c .before .same-axis2 .ensures) ∙ not-true (c .before .same-axis2 .result) (c .if2 .taken) in rw (x, y)
 
 same-axis-requires-3 : tie.Need-same-axis-requires-3
-same-axis-requires-3 c κs =
-    let r = c .before .before .before .before .before .before .pre in let a = r .few in let d = r .few′ in let e = r .point in let f = r .point′ in (omega arith, omega arith, omega arith, omega arith, omega arith)
+same-axis-requires-3 c κs = there (c .before .before .before .before .before .before) 2 (omega arith)
 
 returns-3 : tie.Need-returns-3
 unfolding sameVertex
