@@ -1,0 +1,139 @@
+-- `share_marked` meets its contract: the second segment is listed, and the first one compared with the list. Assumes nothing.
+use mathlib.Core.Path.{_≡_, refl, sym, _∙_}
+use mathlib.Core.List.{List}
+use Prim.Native.Nat.{ℕ}
+use native.Mathlib.Omega.{arith}
+use Rattle.seamtest.specs.SeamTest.{SeamSide, unlike}
+use Rattle.comparison.proofs.Sides.{starts-at-mark}
+use borrow.Author.Needs.{needs}
+use Rattle.sharing.proofs.Laws.{not-alike, starts-second, walkable-second, walk-room, relink-room, walkable-first, compare-room, refused-step, shared-edges}
+use Rattle.sharing.proofs.share_marked.Statement.{statement}
+use Rattle.sharing.proofs.share_marked.Tie as tie
+
+-- both sides
+abbrev first : tie.Start → SeamSide
+first s = record {
+  net = record { vertices = s .args .vertices-a .now; faces = s .args .faces-a .now; sides = s .args .sides-a .now; marks = s .args .marks-a .now };
+  tension = s .args .tension-a;
+  start = s .args .start-a;
+}
+
+abbrev second : tie.Start → SeamSide
+second s = record {
+  net = record { vertices = s .args .vertices-b .now; faces = s .args .faces-b .now; sides = s .args .sides-b .now; marks = s .args .marks-b .now };
+  tension = s .args .tension-b;
+  start = s .args .start-b;
+}
+
+-- what the test of tensions and side counts says
+abbrev began : tie.After-unlike → tie.Start
+began x = x .before .before .before .before .before .before .before .before
+
+like : (x : tie.After-unlike) → x .unlike .result ≡ unlike (first (began x)) (second (began x))
+unfolding unlike
+like x = x .unlike .ensures
+
+-- after the walk in the second net: the work table, and what came before
+abbrev tested : tie.After-walk-to-mark → tie.After-unlike
+tested y = y .before .before .before .before .before
+
+abbrev list : tie.After-walk-to-mark → List ℕ
+list y = y .walk-to-mark .last .1 .1 .1 .0
+
+-- after the first net's tables are built
+abbrev walked : tie.After-relink → tie.After-walk-to-mark
+walked z = z .before .before .before .before
+
+abbrev tables : tie.After-relink → List ℕ
+tables z = z .relink .last .1 .1 .0
+
+unlike-requires : tie.Need-unlike-requires
+unlike-requires c κs = search needs
+
+returns : tie.Need-returns
+returns c =
+    let x = c .before in
+    let s = began x in
+    not-alike (first s) (second s) _ _ (s .pre) (sym (like x) ∙ c .if1 .taken)
+
+boundary-from-requires : tie.Need-boundary-from-requires
+boundary-from-requires c κs = let s = began (c .before .before) in walkable-second (first s) (second s) _ _ (s .pre)
+
+mul-walk-to-mark : tie.Need-mul-walk-to-mark
+mul-walk-to-mark c = search needs
+
+walk-to-mark-requires : tie.Need-walk-to-mark-requires
+walk-to-mark-requires c κs =
+    let y = c .before in
+    let s = began (y .before .before .before) in
+    (walkable-second (first s) (second s) _ _ (s .pre), (starts-at-mark (second s) _ (starts-second (first s) (second s) _ _ (s .pre) _ (y .boundary-from .ensures)), walk-room (first s) (second s) _ _ (s .pre)))
+
+relink-requires : tie.Need-relink-requires
+relink-requires c κs =
+    let y = c .before .before .before in
+    let s = began (tested y) in
+    relink-room (first s) (second s) (s .args .f) (s .args .work .now) (s .pre) _ (y .before .before .boundary-from .ensures) _ (y .walk-to-mark .ensures .0) (list y) (y .walk-to-mark .kept .1 .1 .1 .0) (y .walk-to-mark .ensures .1)
+
+boundary-from-requires-2 : tie.Need-boundary-from-requires-2
+boundary-from-requires-2 c κs =
+    let z = c .before .before .before in
+    let y = walked z in
+    let s = began (tested y) in
+    walkable-first (first s) (second s) (s .args .f) (s .args .work .now) (s .pre) _ (y .before .before .boundary-from .ensures) _ (y .walk-to-mark .ensures .0) (list y) (y .walk-to-mark .kept .1 .1 .1 .0) (y .walk-to-mark .ensures .1)
+    (tables z) (z .relink .kept .1 .1 .0) (z .relink .ensures) _ refl
+
+mul-first-apart : tie.Need-mul-first-apart
+mul-first-apart c = let s = began (tested (walked (c .before .before .before .before .before))) in let k = s .pre .passed .few in omega arith
+
+first-apart-requires : tie.Need-first-apart-requires
+first-apart-requires c κs =
+    let x = c .before in
+    let z = x .before .before .before .before in
+    let y = walked z in
+    let s = began (tested y) in
+    compare-room (first s) (second s) (s .args .f) (s .args .work .now) (s .pre) _ (y .before .before .boundary-from .ensures) _ (y .walk-to-mark .ensures .0) (list y) (y .walk-to-mark .kept .1 .1 .1 .0) (y .walk-to-mark .ensures .1)
+    (tables z) (z .relink .kept .1 .1 .0) (z .relink .ensures) _ (x .boundary-from2 .ensures)
+
+same-length : tie.Need-same-length
+same-length c = search needs
+
+returns-2 : tie.Need-returns-2
+returns-2 c =
+    let v = c .before in
+    let x = v .before .before in
+    let z = x .before .before .before .before in
+    let y = walked z in
+    let s = began (tested y) in
+    refused-step (first s) (second s) (s .args .f) (s .args .work .now) (s .pre) _ (y .before .before .boundary-from .ensures) _ (y .walk-to-mark .ensures .0) (list y) (y .walk-to-mark .kept .1 .1 .1 .0) (y .walk-to-mark .ensures .1)
+    (tables z) (z .relink .kept .1 .1 .0) (z .relink .ensures) _ (x .boundary-from2 .ensures) (sym (like (tested y)) ∙ y .before .before .before .before .if1 .left) _ (v .first-apart .ensures) (c .if2 .taken)
+
+same-length-2 : tie.Need-same-length-2
+same-length-2 c = search needs
+
+returns-3 : tie.Need-returns-3
+returns-3 c =
+    let v = c .before in
+    let x = v .before .before in
+    let z = x .before .before .before .before in
+    let y = walked z in
+    let s = began (tested y) in
+    shared-edges (first s) (second s) (s .args .f) (s .args .work .now) (s .pre) _ (y .before .before .boundary-from .ensures) _ (y .walk-to-mark .ensures .0) (list y) (y .walk-to-mark .kept .1 .1 .1 .0) (y .walk-to-mark .ensures .1)
+    (tables z) (z .relink .kept .1 .1 .0) (z .relink .ensures) _ (x .boundary-from2 .ensures) (sym (like (tested y)) ∙ y .before .before .before .before .if1 .left) _ (v .first-apart .ensures) (c .if2 .left)
+
+pub share-marked-spec : {M : Type 1} → statement M
+share-marked-spec =
+    tie.close
+    (tie.spec
+    unlike-requires
+    returns
+    boundary-from-requires
+    mul-walk-to-mark
+    walk-to-mark-requires
+    relink-requires
+    boundary-from-requires-2
+    mul-first-apart
+    first-apart-requires
+    same-length
+    returns-2
+    same-length-2
+    returns-3)
