@@ -45,6 +45,15 @@ public:
         return {last.reason, last.place};
     }
 
+    // The number of edges of the segment that two nets share from these vertices; 0 if they share none.
+    uint64_t share_seam(const Net &a, uint32_t start_a, const Net &b, uint32_t start_b)
+    {
+        return gedrovit_share_seam(&a.points.data()->x, 3 * a.points.size(), a.corners.data(), a.corners.size(), sides_of(a), a.sides.size(), a.marks.data(),
+                                   a.marks.size(), a.tension, start_a, &b.points.data()->x, 3 * b.points.size(), b.corners.data(), b.corners.size(),
+                                   sides_of(b), b.sides.size(), b.marks.data(), b.marks.size(), b.tension, start_b, work.data(), work.size())
+            .edges;
+    }
+
     bool gave(const Net &net) const override
     {
         return last.vertices == net.points.size() && 4 * last.faces == net.corners.size() &&

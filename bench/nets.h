@@ -191,7 +191,7 @@ struct bench_row {
     int letters;
 };
 
-enum { ROW_COUNT = 27, CHECK_ROW_COUNT = 14 };
+enum { ROW_COUNT = 27, CHECK_ROW_COUNT = 14, SEAM_ROW_COUNT = 4 };
 
 static inline struct bench_row refine_row(int which)
 {
@@ -209,6 +209,12 @@ static inline struct bench_row check_row(int which)
     static const struct bench_row rows[CHECK_ROW_COUNT] = {
         {GRID_8, 0, 4, 0}, {GRID_8, 6, 4, 0},    {GRID_64, 0, 4, 0},       {GRID_64, 3, 4, 0},  {CUBE, 0, 4, 0},     {RINGS, 0, 4, 0},   {STRIP, 0, 4, 0},
         {FANS, 0, 4, 0},   {TRIANGLES, 0, 4, 0}, {GRID_SHUFFLED, 0, 4, 0}, {TWO_HUBS, 0, 4, 0}, {HUB_RING, 0, 4, 0}, {HUB_FAN, 0, 4, 0}, {RANDOM_FACES, 0, 4, 0}};
+    return rows[which];
+}
+
+static inline struct bench_row seam_row(int which)
+{
+    static const struct bench_row rows[SEAM_ROW_COUNT] = {{GRID_8, 0, 4, 0}, {GRID_64, 0, 4, 0}, {STRIP, 0, 4, 0}, {TRIANGLES, 0, 4, 0}};
     return rows[which];
 }
 

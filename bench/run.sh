@@ -1,5 +1,6 @@
 #!/usr/bin/env bash
-# The benchmark. Compares refining and the check with straightforward C++ result by result, then measures both, and OpenSubdiv where it is installed.
+# The benchmark. Compares refining and the check with straightforward C++ result by result, then measures both, the seam test, and OpenSubdiv where it is
+# installed.
 #   bench/run.sh [ARCHIVE]    ARCHIVE is one that `rt staticlib capi` made; without it, it is made first
 set -euo pipefail
 load=$(cut -d' ' -f1 /proc/loadavg)
@@ -83,9 +84,10 @@ measure() {
     } | python3 bench/table.py "$1"
 }
 
-for source in agree samples refine check; do
+for source in agree samples refine check seam; do
     compile "$out/$source.o" "$source" g++ $plain
 done
+g++ -o "$out/seam" "$out/seam.o" "$archive"
 # shellcheck disable=SC2086
 build gcc-count g++ $gcc_count
 # shellcheck disable=SC2086
@@ -138,6 +140,19 @@ Tables, times, instructions and ratio: as above. With 3 and 6 rounds there is mo
 
 TEXT
 measure check
+
+cat <<TEXT
+THE SEAM TEST
+Two nets, the second one the first turned over. Each has one mark, so that the segment runs round its whole boundary: on the strip, of 4,095 faces, through
+every vertex, and no net has a longer one. The test checks both nets, then finds the segment in each and compares it. "both checks" are two calls of the
+check with 0 rounds, on the same nets.
+Figures are for each face of both nets. Tables, times and instructions: as above. Ratio: the seam test divided by both checks, in the same turn.
+
+TEXT
+{
+    counts g++ seam
+    times g++ seam
+} | python3 bench/table.py seam
 
 echo "OPENSUBDIV"
 if ! echo '#include <opensubdiv/version.h>' | g++ -E -x c++ - >/dev/null 2>&1; then

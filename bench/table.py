@@ -2,14 +2,17 @@
 """Prints the tables of the benchmark from measured rows on standard input.
 
 A line is: MEASURE COMPILER VALUE ROW CALL REFINED-FACES ROUNDS NAME-OF-THE-NET. The value of a `time` is in nanoseconds for each refined face, that of a
-`count` is the instructions of the whole call, that of a `ratio` is the product's time divided by that of the call.
+`count` is the instructions of the whole call, that of a `ratio` is the product's time divided by that of the call. Of the seam test the faces are those of both
+nets.
 """
 import sys
 
 PRODUCT = "gedrovit"
 MEASURES = {"count": "instructions", "time": "nanoseconds"}
-CALLS = {"refine": [PRODUCT, "rebuilt", "carried"], "check": [PRODUCT, "check"], "opensubdiv": ["whole", "positions"]}
+CALLS = {"refine": [PRODUCT, "rebuilt", "carried"], "check": [PRODUCT, "check"], "seam": [PRODUCT, "checks"], "opensubdiv": ["whole", "positions"]}
 HEADS = {"rebuilt": "anew"}
+# other calls of the product itself, which no compiler is named for
+OWN = {"checks": "both checks"}
 
 
 def read(lines):
@@ -40,7 +43,7 @@ def print_table(measure, calls, compilers, values, rows):
     ratios = PRODUCT in calls
     head = f"{MEASURES[measure]} for each refined face".ljust(51) + ("Gedrovit".rjust(11) if ratios else "")
     for compiler, call in others:
-        head += f"{compiler} {HEADS.get(call, call)}".rjust(16) + ("ratio".rjust(7) if ratios else "")
+        head += OWN.get(call, f"{compiler} {HEADS.get(call, call)}").rjust(16) + ("ratio".rjust(7) if ratios else "")
     print(head)
     for row, (faces, rounds, name) in sorted(rows.items()):
         line = f"{name:<29}{rounds:>2} round{'s' if rounds != 1 else ' '}{faces:>12,}".ljust(51)

@@ -86,7 +86,7 @@ targets() {
 
 # The archive defines no names but its own, and needs nothing but the C library's memory functions.
 symbols() {
-    diff <(printf 'gedrovit_%s\n' check refine sizes_for version "version_${version//./_}") <(nm -g --defined-only -j "$prefix/lib/libgedrovit.a" | grep -v ':$' | grep . | LC_ALL=C sort -u) \
+    diff <(printf 'gedrovit_%s\n' check refine share_seam sizes_for version "version_${version//./_}") <(nm -g --defined-only -j "$prefix/lib/libgedrovit.a" | grep -v ':$' | grep . | LC_ALL=C sort -u) \
         && ! nm -g --undefined-only -j "$prefix/lib/libgedrovit.a" | grep -v ':$' | grep . | grep -vxE 'mem(cpy|move|set)'
 }
 
@@ -152,7 +152,7 @@ cmake_finds() {
         && cmake -S "$scratch/find" -B "$scratch/find/build" -DCMAKE_PREFIX_PATH="$prefix" "${@:2}"
 }
 
-# of version 0.7.0, say
+# of version 0.8.0, say
 cmake_versions() {
     local major minor patch
     IFS=. read -r major minor patch <<<"$version"
@@ -210,7 +210,7 @@ wrong_constants() {
         wrong_header "s/(define GEDROVIT_${wrong%/*}) .*/\\1 ${wrong#*/}/" || return
     done
     local reason=1 next
-    for next in {2..12} 14 15 16; do
+    for next in {2..12} {14..18}; do
         wrong_header "s/^(    GEDROVIT_.* = )$reason,/\\1@,/; s/^(    GEDROVIT_.* = )$next(,?)$/\\1$reason\\2/; s/@/$next/" || return
         reason=$next
     done

@@ -1,4 +1,4 @@
-// Two panels that share a boundary segment are refined separately; the shared points are compared, and the new points of both are billed.
+// Two panels are tested for a shared boundary segment, then refined separately; the shared points are compared, and the new points of both are billed.
 #include <gedrovit.hpp>
 
 #include <algorithm>
@@ -17,13 +17,12 @@ using Point = std::array<std::int32_t, 3>;
 
 using gedrovit::net;
 
-// The refined net, its new points added to the bill; a refusal ends the program.
-net refined(gedrovit::tally &bill, std::uint32_t rounds, const net &panel)
+// What a call gave; a refusal ends the program.
+template <typename T> T given(std::variant<T, gedrovit::refusal> result)
 {
-    auto result = gedrovit::refine(bill, rounds, panel);
     if (const auto *refusal = std::get_if<gedrovit::refusal>(&result))
         throw std::runtime_error("refusal " + std::to_string(refusal->reason) + ", place " + std::to_string(refusal->place) + ": " + refusal->text());
-    return std::get<net>(std::move(result));
+    return std::get<T>(std::move(result));
 }
 
 // From each boundary vertex the next one, the way the sides run.
@@ -55,17 +54,18 @@ std::vector<Point> segment(const net &panel, std::uint32_t start)
 }
 
 int main() try {
-    // The shared segment runs up from vertex 1 of the left panel and down from vertex 0 of the right one.
+    // The shared segment runs up from vertex 1 of the left panel and down from vertex 0 of the right one, so up from its vertex 3 against the sides.
     const net left{{0, 0, 0, 40, 0, 0, 2, 30, 5, 44, 30, 6, 0, 60, 1, 38, 60, 9, 0, 90, 0, 40, 90, 0},
                    {0, 1, 3, 2, 2, 3, 5, 4, 4, 5, 7, 6}, {1, 1, 0, 0, 0, 0, 1, 1}};
     const net right{{40, 90, 0, 38, 60, 9, 44, 30, 6, 40, 0, 0, 90, 95, 7, 70, 55, 33, 85, 35, 21, 80, -5, 0},
                     {1, 5, 4, 0, 2, 6, 5, 1, 3, 7, 6, 2}, {1, 0, 0, 1, 1, 0, 0, 1}};
+    std::cout << "drawn: " << given(gedrovit::share_seam(left, 1, right, 3)) << " shared edges\n";
     gedrovit::tally bill{};
     bool same = true;
     for (std::uint32_t rounds = 0; rounds <= GEDROVIT_MAX_ROUNDS; rounds++) {
         const auto before = bill.points;
-        const auto up = segment(refined(bill, rounds, left), 1);
-        auto down = segment(refined(bill, rounds, right), 0);
+        const auto up = segment(given(gedrovit::refine(bill, rounds, left)), 1);
+        auto down = segment(given(gedrovit::refine(bill, rounds, right)), 0);
         std::reverse(down.begin(), down.end());
         same = same && up == down;
         std::cout << "rounds " << rounds << ": " << up.size() << " shared points "

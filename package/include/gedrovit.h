@@ -4,8 +4,8 @@
  * Every new coordinate is worked out exactly and rounded once, to the nearest whole number, halves
  * upward: 2.5 to 3, -2.5 to -2. Two nets of equal tension that share a boundary segment where
  * refining begins, after the split if there is one, share it afterwards, point for point, whatever the
- * rest of either net is. A net that is moved by whole numbers gives its refined net moved by the
- * same, if the coordinates of both are in range.
+ * rest of either net is; a call tests whether they do. A net that is moved by whole numbers gives its
+ * refined net moved by the same, if the coordinates of both are in range.
  *
  * C11 and C++17, x86-64 Linux (System V ABI). Link with libgedrovit.a; nothing but the C library is
  * needed beside it.
@@ -165,6 +165,47 @@
  *   - `with_letters` is 0 or 1. A bool of C or C++ is; a byte that another language passes must be.
  *
  *
+ * The seam test
+ *
+ * gedrovit_share_seam tests whether two nets share an open segment. It takes both nets, a start on
+ * each, which is the number of a marked vertex, and a work table. The first net's segment is read from
+ * its start the way the sides run, the second's from its start against it. Step i is the vertex that is
+ * i boundary edges on from the start; step 0 is the start.
+ *
+ * The answer is yes, reason 0, exactly if
+ *
+ *   - both nets would be accepted with 0 rounds, and the work table is long enough,
+ *   - both starts are marked vertices,
+ *   - the tensions are equal, and both nets have side counts or neither has,
+ *   - points and marks agree at every step from 0 to the next mark of the first net, both included.
+ *
+ * It comes with the number of edges of the segment as drawn, before any split, 1 or more. Whatever calls
+ * then refine the two nets at these tensions: the nets share the segment where refining begins, and after
+ * every step that both calls make, read from these starts and these ways. The numbers of vertices and
+ * faces and the side counts themselves may differ. A closed segment has no marked vertex and cannot be
+ * tested.
+ *
+ * Each net is first checked as by gedrovit_check with 0 rounds, no letters and output tables that are
+ * long enough. All reasons of the first net, whatever their numbers, go before those of the second, which
+ * is not looked at then. The answer does not tell which net was refused; gedrovit_check on each alone
+ * does. 17 comes after both checks, with place 1 for the first start and else 2 for the second; then 18.
+ * Its place is 0 if the tensions differ or only one net has side counts, else the first step that
+ * differs: so 0 also if the starts do. Where one segment ends before the other, the marks differ at the
+ * sooner end. The number of edges is 0 on every refusal.
+ *
+ * Both nets are only read, and may have tables in common. The call takes no outputs and no record of new
+ * points, and never says 1 or 15. The work table needs 16 times the larger F of the two nets, which is
+ * the larger `work` that gedrovit_sizes_for gives with 0 rounds. After the call:
+ *
+ *   answer                                    work
+ *   2, 3, 4, 14 or 16 by the first net        as before
+ *   5 to 12 by the first net, or              the first 16 F are 0, F of the first net
+ *   2, 3, 4, 14 or 16 by the second
+ *   5 to 12 by the second net, 17, 18, yes    the first 16 F are 0, F the larger of the two nets
+ *
+ * Work elements beyond these are never written.
+ *
+ *
  * What a call does not do
  *
  * It keeps no state, allocates nothing, takes no lock and does no input or output. Calls from any
@@ -176,10 +217,10 @@
  *
  * Functions and records
  *
- * gedrovit_refine, gedrovit_check and gedrovit_sizes_for are in the archive; each has a function over
- * records, gedrovit_refine_net and so on, which is inline here. Write against the records: later
- * versions add fields to them, and parameters to the functions in the archive. C++ programs may
- * write against gedrovit.hpp, which takes and gives vectors.
+ * gedrovit_refine, gedrovit_check, gedrovit_sizes_for and gedrovit_share_seam are in the archive; each
+ * has a function over records, gedrovit_refine_net and so on, which is inline here. Write against the
+ * records: later versions add fields to them, and parameters to the functions in the archive. C++
+ * programs may write against gedrovit.hpp, which takes and gives vectors.
  *
  *
  * Versions and plug-ins
@@ -202,7 +243,7 @@
  *
  * The net is checked first, in time linear in its tables. Side counts take time linear in the face
  * table, however many there are. After that the time is linear in G, for a net that is refused as
- * well: its work table is cleared.
+ * well: its work table is cleared. The seam test takes time linear in the tables of both nets.
  *
  * The archive has no unwind tables, no frame pointers and no debug information. A trace that a crash
  * handler, debugger or profiler takes while a call runs ends at the archive's innermost function or
@@ -222,9 +263,9 @@
 #include <stdint.h>
 
 /* The version of this header. */
-#define GEDROVIT_VERSION "0.7.0"
+#define GEDROVIT_VERSION "0.8.0"
 #define GEDROVIT_VERSION_MAJOR 0
-#define GEDROVIT_VERSION_MINOR 7
+#define GEDROVIT_VERSION_MINOR 8
 #define GEDROVIT_VERSION_PATCH 0
 
 /* The same as a number, to be compared with gedrovit_version(), and at the end of a name. */
@@ -274,6 +315,9 @@ extern "C" {
  *   1; 2 by the vertex table; with side counts 14, without them 2 by the face table;
  *   2 by the marks; 3; 4; 16; then 5 to 12, as they are numbered; 15.
  *
+ * The seam test reports the first by its first net in this order, then the first by its second; then 17
+ * and 18.
+ *
  * The place is the lowest vertex or face number concerned. 5 to 12 speak of the net as it is drawn,
  * before its split.
  */
@@ -319,7 +363,15 @@ enum gedrovit_reason {
     /* the record of new points would be above 4,000,000,000 after the call, even if nothing is added */
     GEDROVIT_TALLY_LIMIT = 15,
     /* tension above 4 */
-    GEDROVIT_TENSION_OUT_OF_RANGE = 16
+    GEDROVIT_TENSION_OUT_OF_RANGE = 16,
+
+    /* These are the seam test's alone. */
+
+    /* a start that is no marked vertex; place 1 for the first net's start, 2 for the second's */
+    GEDROVIT_INVALID_START = 17,
+    /* the segments or the tensions differ, or only one net has side counts; the place is 0 if the
+       tensions differ or only one net has side counts, else the first step that differs, from 0 */
+    GEDROVIT_SEAM_MISMATCH = 18
 };
 
 /* What a reason says, in English; the place is not in it. */
@@ -342,6 +394,8 @@ GEDROVIT_INLINE const char *gedrovit_reason_text(uint32_t reason) GEDROVIT_NOEXC
     case GEDROVIT_INVALID_SIDE_COUNTS: return "a side count is not from 3 to 8, or the counts do not add up to the corners";
     case GEDROVIT_TALLY_LIMIT: return "the record of new points would be above 4,000,000,000";
     case GEDROVIT_TENSION_OUT_OF_RANGE: return "the tension is above 4";
+    case GEDROVIT_INVALID_START: return "the start is no marked vertex";
+    case GEDROVIT_SEAM_MISMATCH: return "the segments or the tensions differ, or only one net has side counts";
     default: return "a reason that this version does not know";
     }
 }
@@ -401,6 +455,13 @@ typedef struct {
     uint64_t out_marks; /* of the letters too, where they are asked for */
     uint64_t work;
 } gedrovit_sizes;
+
+/* What gedrovit_share_seam answers. */
+typedef struct {
+    uint32_t reason; /* 0: yes, the nets share the segment; otherwise an enum gedrovit_reason */
+    uint64_t place;  /* 0 if reason is 0 */
+    uint64_t edges;  /* number of edges of the segment as drawn; 0 on a refusal */
+} gedrovit_seam_report;
 
 /*
  * A net, only read. Start it by gedrovit_net_of, never by {0} or a list of its fields: a field that a
@@ -534,9 +595,27 @@ GEDROVIT_API gedrovit_sizes gedrovit_sizes_for(uint32_t rounds, size_t vertices_
                                                size_t marks_length) GEDROVIT_NOEXCEPT;
 
 /*
+ * Tests whether two nets share the open segment that begins at `start_a`, read with the sides of the
+ * first net, and at `start_b`, read against those of the second. The work table needs 16 times the larger
+ * F: the larger `work` of gedrovit_sizes_for with 0 rounds for each net.
+ */
+GEDROVIT_API gedrovit_seam_report gedrovit_share_seam(const int32_t *vertices_a, size_t vertices_a_length,
+                                                      const uint32_t *faces_a, size_t faces_a_length,
+                                                      const uint8_t *sides_a, size_t sides_a_length,
+                                                      const uint8_t *marks_a, size_t marks_a_length,
+                                                      uint32_t tension_a, uint32_t start_a,
+                                                      const int32_t *vertices_b, size_t vertices_b_length,
+                                                      const uint32_t *faces_b, size_t faces_b_length,
+                                                      const uint8_t *sides_b, size_t sides_b_length,
+                                                      const uint8_t *marks_b, size_t marks_b_length,
+                                                      uint32_t tension_b, uint32_t start_b,
+                                                      uint32_t *work, size_t work_length) GEDROVIT_NOEXCEPT;
+
+/*
  * The same over records. A pointer may be null where its length is 0; the other duties stay.
  * gedrovit_check_net looks at the work table, at the lengths of the others, and at whether `letters`
- * is null alone. gedrovit_sizes_for_net does not look at the tension.
+ * is null alone. gedrovit_sizes_for_net does not look at the tension. The work table of
+ * gedrovit_share_seam_nets needs the larger `work` of gedrovit_sizes_for_net(0, a) and (0, b).
  */
 GEDROVIT_INLINE gedrovit_report gedrovit_refine_net(gedrovit_tally *tally, uint32_t rounds, const gedrovit_net *net,
                                                     const gedrovit_tables *tables) GEDROVIT_NOEXCEPT
@@ -581,6 +660,26 @@ GEDROVIT_INLINE gedrovit_sizes gedrovit_sizes_for_net(uint32_t rounds, const ged
     const uint8_t byte = 0;
     return gedrovit_sizes_for(rounds, net->vertices_length, net->faces_length,
                               net->sides_length == 0 ? &byte : net->sides, net->sides_length, net->marks_length);
+}
+
+GEDROVIT_INLINE gedrovit_seam_report gedrovit_share_seam_nets(const gedrovit_net *a, uint32_t start_a,
+                                                              const gedrovit_net *b, uint32_t start_b,
+                                                              uint32_t *work, size_t work_length) GEDROVIT_NOEXCEPT
+{
+    const int32_t coordinate = 0;
+    uint32_t number = 0;
+    const uint8_t byte = 0;
+    return gedrovit_share_seam(a->vertices_length == 0 ? &coordinate : a->vertices, a->vertices_length,
+                               a->faces_length == 0 ? &number : a->faces, a->faces_length,
+                               a->sides_length == 0 ? &byte : a->sides, a->sides_length,
+                               a->marks_length == 0 ? &byte : a->marks, a->marks_length,
+                               a->tension, start_a,
+                               b->vertices_length == 0 ? &coordinate : b->vertices, b->vertices_length,
+                               b->faces_length == 0 ? &number : b->faces, b->faces_length,
+                               b->sides_length == 0 ? &byte : b->sides, b->sides_length,
+                               b->marks_length == 0 ? &byte : b->marks, b->marks_length,
+                               b->tension, start_b,
+                               work_length == 0 ? &number : work, work_length);
 }
 
 #endif

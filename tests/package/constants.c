@@ -426,6 +426,73 @@ static void reasons_of_nets(void)
     answer("mark inside", 1, GEDROVIT_MARKED_INTERIOR_VERTEX, 0);
 }
 
+/* The seam test gives this answer; the edges are 0 on a refusal. */
+static void seam(const char *what, gedrovit_net a, uint32_t start_a, gedrovit_net b, uint32_t start_b, size_t work_length,
+                 uint32_t reason, uint64_t place, uint64_t edges)
+{
+    const gedrovit_seam_report report = gedrovit_share_seam_nets(&a, start_a, &b, start_b, work, work_length);
+    expect(what, report.reason, reason);
+    expect(what, report.place, place);
+    expect(what, report.edges, edges);
+}
+
+/* A row of three squares from vertex 0 to 3, and the same row moved to its other side, from 4 to 7. They have all tables but one in common. */
+static void seams(void)
+{
+    int32_t moved[24];
+    grid(3, 1);
+    marks[0] = marks[3] = marks[4] = marks[7] = 1;
+    for (int i = 0; i < 24; i++)
+        moved[i] = vertices[i] - (i % 3 == 1 ? 16 : 0);
+    gedrovit_net a = net(), b = a;
+    b.vertices = moved;
+    const size_t least = gedrovit_sizes_for_net(0, &a).work;
+    expect("work of the seam test", least, 16 * 3);
+    memset(work, FILL, sizeof work);
+    seam("one short", a, 0, b, 4, least - 1, GEDROVIT_TABLE_TOO_SHORT, 0, 0);
+    expect("one short: work", is_filled(work, sizeof work), 1);
+    seam("a seam", a, 0, b, 4, least, GEDROVIT_ACCEPTED, 0, 3);
+    expect("a seam: work", work[0] + (uint64_t)work[least - 1], 0);
+    expect("a seam: beyond", is_filled(work + least, sizeof work - least * sizeof *work), 1);
+    seam("from the other end", b, 7, a, 3, least, GEDROVIT_ACCEPTED, 0, 3);
+    seam("no vertex", a, (uint32_t)vertex_count, b, 4, least, GEDROVIT_INVALID_START, 1, 0);
+    seam("the largest number", a, 0, b, UINT32_MAX, least, GEDROVIT_INVALID_START, 2, 0);
+    seam("unmarked vertices", a, 1, b, 5, least, GEDROVIT_INVALID_START, 1, 0);
+    moved[3 * 6 + 2]++;
+    seam("step 2", a, 0, b, 4, least, GEDROVIT_SEAM_MISMATCH, 2, 0);
+    b.tension = GEDROVIT_DEFAULT_TENSION - 1;
+    seam("tensions before step 2", a, 0, b, 4, least, GEDROVIT_SEAM_MISMATCH, 0, 0);
+    seam("17 before 18", a, 0, b, 5, least, GEDROVIT_INVALID_START, 2, 0);
+    b.tension = GEDROVIT_MAX_TENSION + 1;
+    seam("16 before 17", a, 1, b, 5, least, GEDROVIT_TENSION_OUT_OF_RANGE, 0, 0);
+    moved[0] = GEDROVIT_MAX_COORDINATE + 1;
+    gedrovit_net far = b;
+    far.tension = a.tension;
+    seam("5 by the first net before 16 by the second", far, 4, b, 4, least, GEDROVIT_COORDINATE_OUT_OF_RANGE, 0, 0);
+    seam("16 by the first net before 5 by the second", b, 4, far, 4, least, GEDROVIT_TENSION_OUT_OF_RANGE, 0, 0);
+}
+
+/* With side counts on both nets the edges are the drawn ones, here those of a loop with one mark; with counts on one net alone they differ. */
+static void seams_of_sides(void)
+{
+    static const uint32_t turned[] = {3, 2, 1, 0};
+    square();
+    vertices[3] = vertices[7] = 16;
+    marks[0] = 1;
+    sides[0] = 4;
+    gedrovit_net a = net(), b = a;
+    b.faces = turned;
+    seam("a whole loop", a, 0, b, 0, 16, GEDROVIT_ACCEPTED, 0, 4);
+    a.sides = sides;
+    a.sides_length = 1;
+    seam("counts on one net", a, 0, b, 0, 64, GEDROVIT_SEAM_MISMATCH, 0, 0);
+    seam("counts on the other net", b, 0, a, 0, 64, GEDROVIT_SEAM_MISMATCH, 0, 0);
+    b.sides = sides;
+    b.sides_length = 1;
+    seam("counts on both nets", a, 0, b, 0, 64, GEDROVIT_ACCEPTED, 0, 4);
+    seam("counts on both nets, one short", a, 0, b, 0, 63, GEDROVIT_TABLE_TOO_SHORT, 0, 0);
+}
+
 /* Records with null pointers at length 0. */
 static void empty(void)
 {
@@ -433,6 +500,9 @@ static void empty(void)
     const gedrovit_tables t = gedrovit_tables_of(NULL, 0, NULL, 0, NULL, 0, NULL, 0);
     answer_by("empty", GEDROVIT_MAX_ROUNDS, n, t, GEDROVIT_ACCEPTED, 0);
     expect("no work", gedrovit_sizes_for_net(1, &n).work, 0);
+    const gedrovit_seam_report report = gedrovit_share_seam_nets(&n, 0, &n, 0, NULL, 0);
+    expect("no start", report.reason, GEDROVIT_INVALID_START);
+    expect("no start", report.place, 1);
     square();
     answer_by("no tables", 1, net(), t, GEDROVIT_TABLE_TOO_SHORT, 0);
 }
@@ -440,7 +510,7 @@ static void empty(void)
 static void texts(void)
 {
     const char *unknown = gedrovit_reason_text(UINT32_MAX);
-    for (uint32_t reason = 0; reason <= GEDROVIT_TENSION_OUT_OF_RANGE; reason++) {
+    for (uint32_t reason = 0; reason <= GEDROVIT_SEAM_MISMATCH; reason++) {
         expect("reason without a text", strcmp(gedrovit_reason_text(reason), unknown) == 0, reason == 13);
         for (uint32_t other = 0; other < reason; other++)
             expect("two reasons with one text", strcmp(gedrovit_reason_text(reason), gedrovit_reason_text(other)) == 0, 0);
@@ -469,6 +539,8 @@ int main(void)
     letters_of_points();
     points_of_tensions();
     reasons_of_nets();
+    seams();
+    seams_of_sides();
     empty();
     texts();
     return faults == 0 ? EXIT_SUCCESS : EXIT_FAILURE;

@@ -118,6 +118,7 @@ LIMITS = [
     (r"(?:net|nets) ha(?:s|ve) (?:the )?tension N", [(DEFAULT_TENSION,)], 1),
     (r"N bytes for each refined face", [(132,), (136,)], 2),
     (r"more than N bytes", [(TEXT,)], 0),
+    (r"N times the larger F", [FACTORS[-1]], 2),
 ]
 texts = {str(path.relative_to(ROOT)): running(path.read_text(encoding="utf-8"))
          for path in [HEADER, ROOT / "package/include/gedrovit.hpp", *sorted(ROOT.glob("*.md")), *sorted(RUST.glob("src/*.rs")), *sorted(ROOT.glob("docs/*.md"))]}

@@ -2,8 +2,8 @@
  * Measures the stack that calls use.
  *
  *   stack TEXT ..      refines the net of each text that can be read, without side counts and with counts of 4, without letters
- *                      and with them, at the default tension and at a lower one, on a painted stack and prints the deepest use;
- *                      the exit status is 1 if it is not below GEDROVIT_STACK_BYTES
+ *                      and with them, at the default tension and at a lower one, and tests it for a seam with itself, on a
+ *                      painted stack and prints the deepest use; the exit status is 1 if it is not below GEDROVIT_STACK_BYTES
  */
 #define _POSIX_C_SOURCE 200809L /* pthread_attr_setstack */
 
@@ -56,7 +56,14 @@ static int read_net(const char *path)
     return whole;
 }
 
-/* Both calls if there is an argument, none if not. */
+/* The first marked vertex, or 0. */
+static uint32_t first_marked(void)
+{
+    const uint8_t *mark = memchr(marks, 1, vertex_count);
+    return mark == NULL ? 0 : (uint32_t)(mark - marks);
+}
+
+/* All calls if there is an argument, none if not. */
 static void *calls(void *wanted)
 {
     if (wanted == NULL)
@@ -67,6 +74,10 @@ static void *calls(void *wanted)
     gedrovit_refine(&tally, rounds, vertices, 3 * vertex_count, faces, 4 * face_count, sides, sides_length, marks, vertex_count, tension,
                     out_vertices, sizeof out_vertices / 4, out_faces, sizeof out_faces / 4, out_marks, sizeof out_marks, with_letters, letters,
                     sizeof letters, work, sizeof work / 4);
+    const uint32_t start = first_marked();
+    gedrovit_share_seam(vertices, 3 * vertex_count, faces, 4 * face_count, sides, sides_length, marks, vertex_count, tension, start,
+                        vertices, 3 * vertex_count, faces, 4 * face_count, sides, sides_length, marks, vertex_count, tension, start,
+                        work, sizeof work / 4);
     return NULL;
 }
 

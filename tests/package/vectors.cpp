@@ -2,6 +2,7 @@
 // A line for each fault; the exit status is 1 if there is one.
 #include <gedrovit.hpp>
 
+#include <algorithm>
 #include <array>
 #include <cstdint>
 #include <iostream>
@@ -176,7 +177,30 @@ void closed_and_open()
     expect("open segment", first_edge_point(strip) == std::array<std::int32_t, 2>{9, -1});
 }
 
-// An open segment of two nets is shared at equal tensions, and here at no others.
+// The answer of the seam test: a number of edges, or a refusal.
+void seam(const char *what, const gedrovit::net &a, std::uint32_t start_a, const gedrovit::net &b, std::uint32_t start_b, std::uint64_t edges)
+{
+    const auto answer = gedrovit::share_seam(a, start_a, b, start_b);
+    const auto *given = std::get_if<std::uint64_t>(&answer);
+    expect(what, given != nullptr && *given == edges);
+}
+
+void no_seam(const char *what, const gedrovit::net &a, std::uint32_t start_a, const gedrovit::net &b, std::uint32_t start_b, std::uint32_t reason,
+             std::uint64_t place)
+{
+    const auto answer = gedrovit::share_seam(a, start_a, b, start_b);
+    const auto *refusal = std::get_if<gedrovit::refusal>(&answer);
+    expect(what, refusal != nullptr && refusal->reason == reason && refusal->place == place && refusal->text() == gedrovit_reason_text(reason));
+}
+
+// The net with its faces turned over, so that the boundary runs the other way.
+gedrovit::net turned(gedrovit::net net)
+{
+    std::reverse(net.faces.begin(), net.faces.end());
+    return net;
+}
+
+// An open segment of two nets is shared at equal tensions, and here at no others; the seam test tells both.
 void seams()
 {
     gedrovit::net one = strip, other = strip;
@@ -185,8 +209,34 @@ void seams()
     for (std::size_t i = 12; i < other.vertices.size(); i++)
         other.vertices[i] += static_cast<std::int32_t>(7 * i);
     for (one.tension = 0; one.tension <= GEDROVIT_MAX_TENSION; one.tension++)
-        for (other.tension = 0; other.tension <= GEDROVIT_MAX_TENSION; other.tension++)
-            expect("seam", (first_edge_point(one) == first_edge_point(other)) == (one.tension == other.tension));
+        for (other.tension = 0; other.tension <= GEDROVIT_MAX_TENSION; other.tension++) {
+            const bool equal = one.tension == other.tension;
+            expect("seam", (first_edge_point(one) == first_edge_point(other)) == equal);
+            if (equal)
+                seam("seam of equal tensions", one, 0, turned(other), 0, 3);
+            else
+                no_seam("seam of two tensions", one, 0, turned(other), 0, GEDROVIT_SEAM_MISMATCH, 0);
+        }
+}
+
+// The work table is allocated for the larger net, whichever it is, and refusals come as they do from the call.
+void seam_tests()
+{
+    const gedrovit::net other = turned(strip);
+    gedrovit::net lone{{0, 0, 0, 16, 0, 0, 16, 16, 0, 0, 16, 0}, {3, 2, 1, 0}, {1, 0, 0, 1}};
+    seam("a square behind the strip", strip, 0, lone, 0, 3);
+    seam("a strip behind the square", turned(lone), 0, other, 0, 3);
+    no_seam("against the sides", strip, 0, strip, 0, GEDROVIT_SEAM_MISMATCH, 1);
+    no_seam("an unmarked start", strip, 1, other, 0, GEDROVIT_INVALID_START, 1);
+    no_seam("a start beyond", strip, 0, other, 8, GEDROVIT_INVALID_START, 2);
+    no_seam("empty vectors", gedrovit::net(), 0, gedrovit::net(), 0, GEDROVIT_INVALID_START, 1);
+    lone.vertices[10]++;
+    no_seam("the last step", strip, 0, lone, 0, GEDROVIT_SEAM_MISMATCH, 3);
+    lone.marks.push_back(0);
+    no_seam("lengths of the second net", strip, 0, lone, 0, GEDROVIT_INVALID_LENGTHS, 0);
+    no_seam("lengths of the first net", lone, 0, strip, 0, GEDROVIT_INVALID_LENGTHS, 0);
+    lone.sides = {5};
+    no_seam("side counts of the second net", strip, 0, lone, 0, GEDROVIT_INVALID_SIDE_COUNTS, 0);
 }
 
 } // namespace
@@ -202,5 +252,6 @@ int main()
     tensions();
     closed_and_open();
     seams();
+    seam_tests();
     return faults == 0 ? 0 : 1;
 }

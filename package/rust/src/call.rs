@@ -1,11 +1,12 @@
 //! The functions of the archive over slices.
 
 use crate::foreign::{
-    gedrovit_check, gedrovit_refine, gedrovit_sizes_for, gedrovit_version, gedrovit_version_0_7_0,
+    gedrovit_check, gedrovit_refine, gedrovit_share_seam, gedrovit_sizes_for, gedrovit_version,
+    gedrovit_version_0_8_0,
 };
 use crate::{NetView, Refusal, Tables, Tally};
 
-/// The version of the archive: 0.7.0 is 7000.
+/// The version of the archive: 0.8.0 is 8000.
 #[must_use]
 pub fn version() -> u32 {
     // SAFETY: the function takes nothing.
@@ -16,7 +17,7 @@ pub fn version() -> u32 {
 /// another version does not link.
 fn same_version() {
     // SAFETY: the function takes nothing.
-    unsafe { gedrovit_version_0_7_0() };
+    unsafe { gedrovit_version_0_8_0() };
 }
 
 /// How many vertices and faces a refined net has.
@@ -91,7 +92,7 @@ pub fn lengths(rounds: u32, net: NetView<'_>) -> Result<Lengths, Refusal> {
 ///
 /// # Errors
 ///
-/// Every reason. The record, the vertices, faces, marks and letters stay as they are, and on reasons
+/// Every reason but 17 and 18. The record, the vertices, faces, marks and letters stay as they are, and on reasons
 /// 1 to 4, 14 and 16 the work numbers too.
 pub fn refine(
     tally: &mut Tally,
@@ -174,4 +175,53 @@ pub fn check(
         )
     };
     Refusal::accept(finding.reason, finding.place)
+}
+
+/// Whether two nets share the open segment that begins at vertex `start_a` of the first, read with
+/// its sides, and at vertex `start_b` of the second, read against its sides: the number of edges of
+/// that segment as drawn. A yes holds for every refining of the two nets. The work table needs the
+/// larger [`Lengths::work`] of the two nets with 0 rounds; it is left as by [`check`] of the first
+/// net and, if that is accepted, of the second. [`NetView::shares_with`] allocates it.
+///
+/// # Errors
+///
+/// The reasons of [`check`] with 0 rounds, those of the first net before those of the second; then 17
+/// and 18.
+pub fn share_seam(
+    a: NetView<'_>,
+    start_a: u32,
+    b: NetView<'_>,
+    start_b: u32,
+    work: &mut [u32],
+) -> Result<usize, Refusal> {
+    same_version();
+    // SAFETY: as in `refine`.
+    let report = unsafe {
+        gedrovit_share_seam(
+            a.vertices.as_ptr(),
+            a.vertices.len(),
+            a.faces.as_ptr(),
+            a.faces.len(),
+            a.sides.as_ptr(),
+            a.sides.len(),
+            a.marks.as_ptr(),
+            a.marks.len(),
+            a.tension,
+            start_a,
+            b.vertices.as_ptr(),
+            b.vertices.len(),
+            b.faces.as_ptr(),
+            b.faces.len(),
+            b.sides.as_ptr(),
+            b.sides.len(),
+            b.marks.as_ptr(),
+            b.marks.len(),
+            b.tension,
+            start_b,
+            work.as_mut_ptr(),
+            work.len(),
+        )
+    };
+    Refusal::accept(report.reason, report.place)?;
+    Ok(report.edges as usize)
 }

@@ -35,10 +35,18 @@ pub struct Sizes {
     pub work: u64,
 }
 
+#[repr(C)]
+#[derive(Clone, Copy, Debug, PartialEq, Eq)]
+pub struct SeamReport {
+    pub reason: u32,
+    pub place: u64,
+    pub edges: u64,
+}
+
 unsafe extern "C" {
     pub fn gedrovit_version() -> u32;
 
-    pub fn gedrovit_version_0_7_0() -> u32;
+    pub fn gedrovit_version_0_8_0() -> u32;
 
     pub fn gedrovit_refine(
         tally: *mut Tally,
@@ -93,4 +101,29 @@ unsafe extern "C" {
         sides_length: usize,
         marks_length: usize,
     ) -> Sizes;
+
+    pub fn gedrovit_share_seam(
+        vertices_a: *const i32,
+        vertices_a_length: usize,
+        faces_a: *const u32,
+        faces_a_length: usize,
+        sides_a: *const u8,
+        sides_a_length: usize,
+        marks_a: *const u8,
+        marks_a_length: usize,
+        tension_a: u32,
+        start_a: u32,
+        vertices_b: *const i32,
+        vertices_b_length: usize,
+        faces_b: *const u32,
+        faces_b_length: usize,
+        sides_b: *const u8,
+        sides_b_length: usize,
+        marks_b: *const u8,
+        marks_b_length: usize,
+        tension_b: u32,
+        start_b: u32,
+        work: *mut u32,
+        work_length: usize,
+    ) -> SeamReport;
 }

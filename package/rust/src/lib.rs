@@ -75,6 +75,25 @@
 //! # Ok::<(), gedrovit::Refusal>(())
 //! ```
 //!
+//! [`Net::shares_with`] tests whether two nets share a segment, before either is refined. It is read
+//! from a marked vertex of each, with the sides of the first net and against those of the second:
+//!
+//! ```
+//! let left = gedrovit::Net::new(
+//!     vec![0, 0, 0, 16, 0, 0, 16, 16, 0, 0, 16, 0],
+//!     vec![0, 1, 2, 3],
+//!     vec![1, 1, 1, 1],
+//! );
+//! let right = gedrovit::Net::new(
+//!     vec![16, 0, 0, 40, 0, 5, 40, 16, 5, 16, 16, 0],
+//!     vec![0, 1, 2, 3],
+//!     vec![1, 1, 1, 1],
+//! );
+//! assert_eq!(left.shares_with(1, &right, 0), Ok(1));
+//! let refused = left.shares_with(1, &right.with_tension(3), 0).unwrap_err();
+//! assert_eq!(refused.reason, gedrovit::Reason::SeamMismatch);
+//! ```
+//!
 //! The build takes the archive from the folder that the environment variable `GEDROVIT_LIB_DIR`
 //! names; without it, from where `pkg-config` finds this version of the package, or else from the
 //! repository that this crate is part of.
@@ -87,7 +106,7 @@ mod net;
 mod refusal;
 mod tally;
 
-pub use call::{check, lengths, refine, version, Counts, Lengths};
+pub use call::{check, lengths, refine, share_seam, version, Counts, Lengths};
 pub use foreign::Tally;
 pub use letter::Letter;
 pub use limits::*;

@@ -1,6 +1,6 @@
 //! Nets and the tables that a call fills.
 
-use crate::{lengths, refine, Counts, Letter, Refusal, Tally, DEFAULT_TENSION};
+use crate::{lengths, refine, share_seam, Counts, Letter, Refusal, Tally, DEFAULT_TENSION};
 
 /// A net in tables of its own, made by [`Net::new`] or by default, empty; later versions add fields.
 #[derive(Clone, Debug, PartialEq, Eq)]
@@ -111,7 +111,7 @@ impl Net {
     ///
     /// # Errors
     ///
-    /// Every reason but 4.
+    /// Every reason but 4, 17 and 18.
     pub fn refined(&self, tally: &mut Tally, rounds: u32) -> Result<Net, Refusal> {
         self.view().refined(tally, rounds)
     }
@@ -120,9 +120,21 @@ impl Net {
     ///
     /// # Errors
     ///
-    /// Every reason but 4.
+    /// Every reason but 4, 17 and 18.
     pub fn traced(&self, tally: &mut Tally, rounds: u32) -> Result<Traced, Refusal> {
         self.view().traced(tally, rounds)
+    }
+
+    /// Whether this net and another share the open segment that begins at vertex `start` of this one,
+    /// read with its sides, and at vertex `other_start` of the other, read against its sides: the
+    /// number of edges of that segment as drawn. Both starts are marked vertices. A yes holds for
+    /// every refining of the two nets.
+    ///
+    /// # Errors
+    ///
+    /// Every reason but 1, 4 and 15, those of this net before those of the other, then 17 and 18.
+    pub fn shares_with(&self, start: u32, other: &Net, other_start: u32) -> Result<usize, Refusal> {
+        self.view().shares_with(start, other.view(), other_start)
     }
 }
 
@@ -155,7 +167,7 @@ impl<'a> NetView<'a> {
     ///
     /// # Errors
     ///
-    /// Every reason but 4.
+    /// Every reason but 4, 17 and 18.
     pub fn refined(self, tally: &mut Tally, rounds: u32) -> Result<Net, Refusal> {
         let (mut net, mut work) = allocated(rounds, self)?;
         let tables = Tables::new(&mut net.vertices, &mut net.faces, &mut net.marks, &mut work);
@@ -168,7 +180,7 @@ impl<'a> NetView<'a> {
     ///
     /// # Errors
     ///
-    /// Every reason but 4.
+    /// Every reason but 4, 17 and 18.
     pub fn traced(self, tally: &mut Tally, rounds: u32) -> Result<Traced, Refusal> {
         let (mut net, mut work) = allocated(rounds, self)?;
         let mut letters = vec![0; net.marks.len()];
@@ -181,6 +193,23 @@ impl<'a> NetView<'a> {
             net,
             letters: letters.map(Letter::from).collect(),
         })
+    }
+
+    /// As [`Net::shares_with`].
+    ///
+    /// # Errors
+    ///
+    /// Every reason but 1, 4 and 15, those of this net before those of the other, then 17 and 18.
+    pub fn shares_with(
+        self,
+        start: u32,
+        other: NetView<'_>,
+        other_start: u32,
+    ) -> Result<usize, Refusal> {
+        // A net without lengths needs no work table: the call refuses it before it looks at that.
+        let needed = |net| lengths(0, net).map_or(0, |n| n.work);
+        let mut work = vec![0; needed(self).max(needed(other))];
+        share_seam(self, start, other, other_start, &mut work)
     }
 }
 

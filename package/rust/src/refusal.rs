@@ -41,6 +41,13 @@ pub enum Reason {
     TallyLimit,
     /// Tension above 4.
     TensionOutOfRange,
+    /// A start of the seam test that is no marked vertex. The place is 1 for that of the first net, 2
+    /// for that of the second.
+    InvalidStart,
+    /// The segments of the seam test or the tensions differ, or only one net has side counts. The
+    /// place is 0 if the tensions differ or only one net has side counts, else the first step that
+    /// differs, from 0.
+    SeamMismatch,
     /// A number that this version does not know.
     Unknown(u32),
 }
@@ -48,7 +55,7 @@ pub enum Reason {
 use Reason::*;
 
 /// The known reasons with their numbers.
-const ALL: [(u32, Reason); 15] = [
+const ALL: [(u32, Reason); 17] = [
     (1, TooManyRounds),
     (2, InvalidLengths),
     (3, NetTooLarge),
@@ -64,6 +71,8 @@ const ALL: [(u32, Reason); 15] = [
     (14, InvalidSideCounts),
     (15, TallyLimit),
     (16, TensionOutOfRange),
+    (17, InvalidStart),
+    (18, SeamMismatch),
 ];
 
 impl Reason {
@@ -109,17 +118,9 @@ impl Reason {
             }
             TallyLimit => "the record of new points would be above 4,000,000,000",
             TensionOutOfRange => "the tension is above 4",
+            InvalidStart => "the start is no marked vertex",
+            SeamMismatch => "the segments or the tensions differ, or only one net has side counts",
             Unknown(_) => "a reason that this version does not know",
-        }
-    }
-
-    /// What the place of a refusal is the number of, if it is one.
-    fn subject(self) -> Option<&'static str> {
-        match self {
-            TooManyRounds | InvalidLengths | NetTooLarge | TableTooShort | InvalidSideCounts
-            | TallyLimit | TensionOutOfRange | Unknown(_) => None,
-            InvalidCorner | RepeatedHalfEdge => Some("face"),
-            _ => Some("vertex"),
         }
     }
 }
@@ -129,7 +130,8 @@ impl Reason {
 pub struct Refusal {
     /// Why.
     pub reason: Reason,
-    /// The lowest vertex or face number concerned, from 0; 0 for reasons 1 to 4 and 14 to 16.
+    /// The lowest vertex or face number concerned, from 0; 0 for reasons 1 to 4 and 14 to 16; for 17
+    /// the net, 1 or 2, and for 18 a step of the segments.
     pub place: usize,
 }
 
@@ -144,12 +146,25 @@ impl Refusal {
             place: place as usize,
         })
     }
+
+    /// What the place is the number of, if it is one. Step 0 is not told: it stands for the tensions
+    /// and side counts too.
+    fn subject(&self) -> Option<&'static str> {
+        match self.reason {
+            TooManyRounds | InvalidLengths | NetTooLarge | TableTooShort | InvalidSideCounts
+            | TallyLimit | TensionOutOfRange | Unknown(_) => None,
+            InvalidCorner | RepeatedHalfEdge => Some("face"),
+            InvalidStart => Some("net"),
+            SeamMismatch => (self.place > 0).then_some("step"),
+            _ => Some("vertex"),
+        }
+    }
 }
 
 impl fmt::Display for Refusal {
     fn fmt(&self, f: &mut fmt::Formatter<'_>) -> fmt::Result {
         write!(f, "refusal {}", self.reason.number())?;
-        if let Some(subject) = self.reason.subject() {
+        if let Some(subject) = self.subject() {
             write!(f, " at {subject} {}", self.place)?;
         }
         write!(f, ": {}", self.reason.text())
@@ -171,7 +186,7 @@ mod tests {
 
     #[test]
     fn an_unknown_number_is_an_error() {
-        for number in [13, 17, u32::MAX] {
+        for number in [13, 19, u32::MAX] {
             let refusal = Refusal::accept(number, 5).unwrap_err();
             assert_eq!(refusal.reason, Unknown(number));
             assert!(refusal
@@ -191,5 +206,17 @@ mod tests {
         assert_eq!(refusal.to_string(), "refusal 1: more than 6 rounds");
         let refusal = Refusal::accept(14, 0).unwrap_err();
         assert!(refusal.to_string().starts_with("refusal 14: a side count"));
+        let refusal = Refusal::accept(17, 2).unwrap_err();
+        assert_eq!(
+            refusal.to_string(),
+            "refusal 17 at net 2: the start is no marked vertex"
+        );
+        for (place, told) in [
+            (0, "refusal 18: the seg"),
+            (3, "refusal 18 at step 3: the seg"),
+        ] {
+            let refusal = Refusal::accept(18, place).unwrap_err();
+            assert!(refusal.to_string().starts_with(told));
+        }
     }
 }

@@ -8,7 +8,7 @@ const HEADER: &str = include_str!("../../include/gedrovit.h");
 #[cfg(not(repository))]
 const HEADER: &str = "";
 
-const REASONS: [Reason; 15] = [
+const REASONS: [Reason; 17] = [
     TooManyRounds,
     InvalidLengths,
     NetTooLarge,
@@ -24,6 +24,8 @@ const REASONS: [Reason; 15] = [
     InvalidSideCounts,
     TallyLimit,
     TensionOutOfRange,
+    InvalidStart,
+    SeamMismatch,
 ];
 
 /// What stands between two texts, wherever they stand in one line of the header.
