@@ -6,8 +6,10 @@ use Rattle.admission.specs.Answer.{Checked}
 use Rattle.outcome.specs.Outcome.{Outcome}
 use Rattle.nets.specs.Buffers.{Buffers, buffers}
 use Rattle.reports.specs.declared.Finding.{Finding}
+use Rattle.seamtest.specs.SeamTest.{SeamTested}
 use Rattle.reports.specs.declared.Report.{Report}
-use Rattle.reports.specs.Report.{finding, report}
+use Rattle.reports.specs.declared.SeamReport.{SeamReport}
+use Rattle.reports.specs.Report.{finding, report, seamReportBy}
 
 -- the numbers that the function returns, and the work table as it leaves it
 pub record CheckExport : Type 0 where
@@ -33,3 +35,14 @@ exportOf report points outVertices outFaces outMarks letters work = record { rep
 
 abbrev pub refineExport : Outcome → RefineExport
 refineExport o = record { report = report (o .result); points = o .tally; buffers = o .buffers; letters = o .letters }
+
+-- the numbers that the seam test returns, and the work table as it leaves it
+pub record SeamExport : Type 0 where
+  pub report : SeamReport
+  pub work : List ℕ
+
+abbrev pub seamExportOf : SeamReport → List ℕ → SeamExport
+seamExportOf r w = record { report = r; work = w }
+
+abbrev pub seamExport : SeamTested → SeamExport
+seamExport t = seamExportOf (seamReportBy (t .verdict) (t .edges)) (t .work)

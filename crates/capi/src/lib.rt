@@ -7,12 +7,15 @@ ghost use Rattle.admission.specs.Answer.{checked};
 ghost use Rattle.outcome.specs.Outcome.{requestOn, outcome};
 ghost use Rattle.reports.specs.Report.{sizes};
 ghost use Rattle.reports.specs.Version.{version};
-ghost use Rattle.capi.specs.Export.{checkExportOf, checkExport, exportOf, refineExport};
+ghost use Rattle.seamtest.specs.SeamTest.{seamSide, seamTested};
+ghost use Rattle.capi.specs.Export.{checkExportOf, checkExport, exportOf, refineExport, seamExportOf, seamExport};
 use examination::Examination;
 use limits::Room;
 use reports::Finding;
 use reports::Report;
+use reports::SeamReport;
 use reports::Sizes;
+use sharing::Sharing;
 
 // The caller's record: the new points of the accepted calls.
 #[repr(C)]
@@ -147,6 +150,44 @@ pub extern "C" fn gedrovit_refine(
     charged.report
 }
 
+// Whether the boundary segment from start_a along the boundary of one net is that from start_b against the boundary of the other: reason 0 and the number of its edges, or the
+// refusal's number and place.
+#[no_mangle]
+pub extern "C" fn gedrovit_share_seam(
+    vertices_a: &[i32],
+    faces_a: &[u32],
+    sides_a: &[u8],
+    marks_a: &[u8],
+    tension_a: u32,
+    start_a: u32,
+    vertices_b: &[i32],
+    faces_b: &[u32],
+    sides_b: &[u8],
+    marks_b: &[u8],
+    tension_b: u32,
+    start_b: u32,
+    work: &mut [u32],
+) -> SeamReport
+    ensures { λ r. ⌜ seamExportOf r (now (work .exit)) ≡ seamExport (seamTested (seamSide (controlNet (now («vertices_a» .entry)) (now («faces_a» .entry)) (now («sides_a» .entry)) (now («marks_a» .entry))) «tension_a» «start_a») (seamSide (controlNet (now («vertices_b» .entry)) (now («faces_b» .entry)) (now («sides_b» .entry)) (now («marks_b» .entry))) «tension_b» «start_b») (now (work .entry))) ⌝ }
+{
+    let sharing: Sharing = sharing::share_seam(
+        vertices_a,
+        faces_a,
+        sides_a,
+        marks_a,
+        tension_a,
+        start_a as usize,
+        vertices_b,
+        faces_b,
+        sides_b,
+        marks_b,
+        tension_b,
+        start_b as usize,
+        &mut *work,
+    );
+    reports::seam_report_of(sharing)
+}
+
 // The lengths to provide for a call, from the side counts and the lengths of the net's other tables; or refusal 1, 2, 3 or 14, which no tables avert, and
 // lengths 0.
 #[no_mangle]
@@ -172,7 +213,7 @@ pub extern "C" fn gedrovit_version() -> u32
 
 // The same under a name that has the version in it: a program that was compiled with another version's header does not link.
 #[no_mangle]
-pub extern "C" fn gedrovit_version_0_7_0() -> u32
+pub extern "C" fn gedrovit_version_0_8_0() -> u32
     ensures { λ r. ⌜ r ≡ version ⌝ }
 {
     gedrovit_version()

@@ -7,6 +7,7 @@ use Rattle.outcome.specs.Outcome.{Result, refinedTo, refusedWith}
 use Rattle.reports.specs.declared.Finding.{Finding}
 use Rattle.reports.specs.declared.Report.{Report}
 use Rattle.reports.specs.declared.Sizes.{Sizes}
+use Rattle.reports.specs.declared.SeamReport.{SeamReport}
 
 -- reason 0: accepted
 abbrev pub finding : Verdict → Finding
@@ -28,3 +29,8 @@ unfoldable pub sizes : (rounds coordinates corners : ℕ) (sides : List ℕ) (ma
 sizes k nv nf s nm =
     let g = quadrilaterals s nf * 4 ^ k in
     sizesBy (limitsVerdict k s (lengths nv nf nm (needed g))) (needed g)
+
+-- the seam test; reason 0: the segments match
+abbrev pub seamReportBy : Verdict → (edges : ℕ) → SeamReport
+seamReportBy accepted e = record { reason = 0; place = 0; edges = e }
+seamReportBy (refused r p) e = record { reason = r; place = p; edges = e }

@@ -5,11 +5,11 @@ abbrev pub major : ℕ
 major = 0
 
 abbrev pub minor : ℕ
-minor = 7
+minor = 8
 
 abbrev pub patch : ℕ
 patch = 0
 
--- as one number: 0.7.0 is 7000
+-- as one number: 0.8.0 is 8000
 abbrev pub version : ℕ
 version = 1000000 * major + 1000 * minor + patch

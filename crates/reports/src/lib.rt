@@ -2,11 +2,13 @@
 ghost use mathlib.Core.Path.{_≡_};
 ghost use Rattle.examination.specs.Examine.{verdictOf};
 ghost use Rattle.refine.specs.Answer.{resultOf};
-ghost use Rattle.reports.specs.Report.{finding, report, sizes};
+ghost use Rattle.sharing.specs.Sharing.{verdictIn, edgesIn};
+ghost use Rattle.reports.specs.Report.{finding, report, sizes, seamReportBy};
 ghost use Rattle.reports.specs.Version as version;
 use examination::Examination;
 use limits::Lengths;
 use refine::Answer;
+use sharing::Sharing;
 
 // The verdict of the check: reason 0, or the refusal's number and place.
 #[repr(C)]
@@ -32,6 +34,14 @@ pub struct Sizes {
     pub out_faces: u64,
     pub out_marks: u64,
     pub work: u64,
+}
+
+// The result of the seam test: reason 0 and the number of edges, or the refusal's number and place.
+#[repr(C)]
+pub struct SeamReport {
+    pub reason: u32,
+    pub place: u64,
+    pub edges: u64,
 }
 
 pub fn finding_of(answer: Examination) -> Finding
@@ -64,6 +74,23 @@ pub fn report_of(answer: Answer) -> Report
             place: place as u64,
             vertices: 0,
             faces: 0,
+        },
+    }
+}
+
+pub fn seam_report_of(answer: Sharing) -> SeamReport
+    ensures { λ r. ⌜ r ≡ seamReportBy (verdictIn answer) (edgesIn answer) ⌝ }
+{
+    match answer {
+        Sharing::Shared(edges) => SeamReport {
+            reason: 0,
+            place: 0,
+            edges: edges as u64,
+        },
+        Sharing::Refused(reason, place) => SeamReport {
+            reason,
+            place: place as u64,
+            edges: 0,
         },
     }
 }
@@ -113,5 +140,5 @@ pub fn sizes_for(rounds: u32, vertices: usize, faces: usize, sides: &[u8], marks
 pub fn version() -> u32
     ensures { λ r. ⌜ r ≡ version.version ⌝ }
 {
-    7000
+    8000
 }
