@@ -14,7 +14,7 @@ use Rattle.topology.specs.Manifold.{Oriented}
 use Rattle.polygons.specs.Polygons.{shapeOf}
 use Rattle.polygons.proofs.Counts.{shape-none, shape-some, faces-polygons}
 use Rattle.refinedfaces.specs.Refined.{refinedVertices, refined}
-use Rattle.tables.specs.Tables.{filled, SameOutside}
+use Rattle.tables.specs.Tables.{filled}
 use Rattle.tables.proofs.Laws.{length-filled, take-filled, filled-at, filled-over}
 use Rattle.nets.specs.Net.{Net, ControlNet, controlTables, axis}
 use Rattle.nets.specs.Buffers.{Buffers, buffers}

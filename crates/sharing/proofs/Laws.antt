@@ -1,37 +1,35 @@
 -- How the steps of the seam test fit together. Assumes nothing.
 use mathlib.Core.Path.{_≡_, refl, sym, ap, _∙_, subst}
-use mathlib.Core.Bool.{Bool, true, false, cond}
+use mathlib.Core.Bool.{true, false}
 use mathlib.Core.List.{List, [], _∷_}
-use Prim.Native.Nat.{ℕ, suc, _+_, _-_, _*_, _/_, _%_, _^_, _≤_, _<_}
+use Prim.Native.Nat.{ℕ, suc, _+_, _-_, _*_, _≤_, _<_}
 use native.Mathlib.Decide.{decLt}
 use native.Mathlib.Omega.{arith}
 use lib.ListN.{length, getD, drop, length-drop}
 use lib.Seq.{getD-drop, ext-getD}
-use lib.Dec.{ltb}
-use borrow.Author.Tests.{lt-ltb, le-ltb}
-use Rattle.bounds.specs.Bounds.{maxFaces, maxCorners, maxHalfEdges}
+use Rattle.bounds.specs.Bounds.{maxFaces}
 use Rattle.lists.proofs.Parts.{drop-later}
 use Rattle.topology.specs.HalfEdge.{from}
-use Rattle.topology.specs.Boundary.{boundaryFrom, withSides, againstSides}
+use Rattle.topology.specs.Boundary.{boundaryFrom, againstSides}
 use Rattle.polygons.specs.Polygons.{shapeOf, Sided}
-use Rattle.tables.specs.Tables.{Written, cleared}
-use Rattle.tables.proofs.Laws.{same-rest, cleared-over}
+use Rattle.tables.specs.Tables.{Written}
+use Rattle.tables.proofs.Laws.{same-rest}
 use Rattle.nets.specs.Net.{marked}
 use Rattle.verdict.specs.Call.{quadrilaterals, lengthsOf, aloneRoom}
 use Rattle.verdict.specs.Verdict.{accepted, refused, verdict}
 use Rattle.verdict.proofs.Accepted.{WithinLimits, accepted-limits, accepted-manifold}
 use Rattle.splitting.proofs.Room.{control-vertices-le}
 use Rattle.outcome.proofs.Accepted.{accepted-well-formed}
-use Rattle.seamtest.specs.SeamTest.{SeamSide, aloneIn, stepAt, edgesFrom, badStart, unlike, differs, seamVerdict, seamEdges}
+use Rattle.seamtest.specs.SeamTest.{SeamSide, aloneIn, stepAt, edgesFrom, badStart, unlike, seamVerdict}
 use Rattle.seamtest.proofs.Side.{start-if, on-boundary, edges-le, ends-there}
 use Rattle.seamtest.proofs.Agree.{NoneBeforeSteps, firstDiffering, no-edges, differs-refused, agrees-accepted, agrees-reported}
 use Rattle.halfedges.specs.Tables.{MateTableOf}
 use Rattle.sidetable.specs.Table.{ShapeBuilt, Linked}
 use Rattle.sidetable.proofs.Table.{shaped-kept}
 use Rattle.adjacency.specs.Chains.{Tables}
-use Rattle.boundarywalk.specs.Walkable.{Walkable, StartsAtMark, ListRoom, stepped, edgesTo}
+use Rattle.boundarywalk.specs.Walkable.{Walkable, ListRoom, stepped, edgesTo}
 use Rattle.comparison.specs.Walks.{Comparable, firstApart}
-use Rattle.comparison.proofs.Sides.{Starts, starts-at-mark, step-is, edges-is, sidesAt, comparable, first-apart-is}
+use Rattle.comparison.proofs.Sides.{Starts, step-is, edges-is, sidesAt, comparable, first-apart-is}
 use Rattle.sharing.specs.declared.Sharing.the-variants.{Shared, Refused}
 use Rattle.sharing.specs.Walks.{facesOf, BothPassed, Started, Answered, LinkRoom, Relinked}
 

@@ -1,8 +1,8 @@
 -- The second net after the first, and the work table after both checks. Assumes nothing.
-use mathlib.Core.Path.{_≡_, refl, sym, ap, _∙_, subst}
+use mathlib.Core.Path.{_≡_, refl, sym, ap, _∙_}
 use mathlib.Core.Bool.{cond}
 use mathlib.Core.List.{List, _∷_, _++_}
-use Prim.Native.Nat.{ℕ, zero, suc, _+_, _-_, _*_, _^_, _≤_, _<_}
+use Prim.Native.Nat.{ℕ, zero, suc, _*_, _^_, _≤_, _<_}
 use native.Mathlib.Decide.{decLt}
 use native.Mathlib.Omega.{arith}
 use lib.ListN.{length, drop, replicate}
@@ -20,8 +20,8 @@ use Rattle.admission.proofs.Laws.{admitted-cleared}
 use Rattle.seamtest.specs.SeamTest.{SeamSide, aloneIn, seamVerdict, seamEdges, seamWork, SeamTested, seamTestedAs, seamTested}
 use Rattle.seamtest.proofs.Agree.{no-edges}
 use Rattle.sharing.specs.declared.Sharing.{Sharing}
-use Rattle.sharing.specs.declared.Sharing.the-variants.{Shared, Refused}
-use Rattle.sharing.specs.Sharing.{verdictIn, edgesIn, sharedAs}
+use Rattle.sharing.specs.declared.Sharing.the-variants.{Refused}
+use Rattle.sharing.specs.Sharing.{sharedAs}
 use Rattle.sharing.specs.Walks.{facesOf, FirstPassed, secondTested, BothPassed, Answered}
 use Rattle.sharing.proofs.Laws.{faces-few, faces-room, link-room}
 

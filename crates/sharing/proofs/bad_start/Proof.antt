@@ -1,5 +1,4 @@
 -- `bad_start` meets its contract. Assumes nothing.
-use mathlib.Core.Bool.{not, _&&_}
 use borrow.Author.Tests.{le-ltb, lt-ltb}
 use borrow.Author.Needs.{needs}
 use Rattle.nets.specs.Net.{marked}
