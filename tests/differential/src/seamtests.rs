@@ -4,7 +4,7 @@ use std::fmt::{self, Display, Formatter};
 
 use nets::case::{Case, Expected};
 use nets::rng::Rng;
-use nets::seamtest::{Match, SeamCase, SeamKind};
+use nets::seamtest::{SeamCase, SeamKind};
 use reference::curve::Form;
 use reference::refusal::{Capacity, Refusal};
 use reference::seam::{Reading, Way};
@@ -37,7 +37,7 @@ pub struct KnownTest {
 impl KnownTest {
     /// One of a series, with all kinds in turn.
     pub fn draw(number: u64, rng: &mut Rng) -> Result<Self, String> {
-        let kinds = rotation();
+        let kinds = SeamKind::rotation();
         let at = number % kinds.len() as u64;
         let kind = kinds[usize::try_from(at).expect("below a length")];
         let case = kind.draw(rng);
@@ -107,13 +107,6 @@ impl KnownTest {
         }
         Ok(most)
     }
-}
-
-/// All kinds; those that match, but for the longest, come more often.
-fn rotation() -> Vec<SeamKind> {
-    let often = Match::ALL.into_iter().filter(|&kind| kind != Match::Long);
-    let often: Vec<SeamKind> = often.map(SeamKind::Match).collect();
-    [SeamKind::all(), often.repeat(2)].concat()
 }
 
 fn report(answer: Result<usize, Refusal>) -> SeamReport {

@@ -238,6 +238,13 @@ impl SeamKind {
         kinds
     }
 
+    /// All kinds; those that match, but for the longest, come more often.
+    pub fn rotation() -> Vec<SeamKind> {
+        let often = Match::ALL.into_iter().filter(|&kind| kind != Match::Long);
+        let often: Vec<SeamKind> = often.map(SeamKind::Match).collect();
+        [SeamKind::all(), often.repeat(2)].concat()
+    }
+
     pub fn named(name: &str) -> Option<SeamKind> {
         let mut kinds = SeamKind::all().into_iter();
         kinds.find(|kind| kind.name() == name)
