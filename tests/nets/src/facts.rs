@@ -174,7 +174,7 @@ fn seam_lines(seed: u64, count: usize) -> Vec<String> {
 
 /// A seam test: its tables, the work table before and after it, and the
 /// reference's answer.
-fn seam_line(kind: &str, case: &SeamCase) -> String {
+pub fn seam_line(kind: &str, case: &SeamCase) -> String {
     let before = case.work_table(&mut Rng::new(0));
     let mut after = before.clone();
     let answer = case.outcome_in(&mut after);
