@@ -5,7 +5,7 @@ Nets and calls come from the seeded generator (`nets facts`). What the reference
 scratch repository outside this one; the definitions stand there without their proofs. The kit checks it, a chunk of nets at a time. The exit status is 1 if
 a definition gives something else than the reference, 2 if the kit could not tell.
 
-    tests/definitions.py                    all kinds: 200 accepted nets, 50 with side counts, some 90 named nets, every refusal alone and in pairs
+    tests/definitions.py                    all kinds: 200 accepted nets, 50 with side counts, some 90 named nets, every refusal alone and in pairs, seam tests
     tests/definitions.py --short            a chunk of each group of facts, as the test command runs it
     tests/definitions.py --mutate           wrong definitions in the scratch copy must be found out
 """
@@ -93,6 +93,7 @@ GROUPS = {
         "seam.Reading": "",
     },
 }
+GROUPS["SeamTest"] = {**GROUPS["Verdict"], "tables.Tables": "", "seam.Reading": "", "seamtest.SeamTest": "seamSide, seamTestedAs"}
 RULES = {"A": "withinSegment", "B": "endRule", "M": "singleRule", "C": "interiorEdge", "D": "fourInnerEdges", "E": "otherFace"}
 GROUPS["Letters"] = {**GROUPS["Round"], **GROUPS["Split"], "fractions.Fraction": "toWhole", "origins.Origins": "letterOf, madeBy, " + ", ".join(RULES.values())}
 GROUPS["Outcome"] = {
@@ -368,9 +369,26 @@ def obj_facts(case):
         yield "Obj", "lines", f"objText {case['rounds']} ({sequence(map(line_text, lines))})", naturals(text), cost
 
 
+def seam_test_facts(label, seam):
+    """What the seam test reports, and its work table as it returns."""
+    nets = (name if sides else f"(plain {name})" for name, sides in zip(seam_names(label), seam["sides"]))
+    first, second = (f"(seamSide {net} {tension} {start})" for net, tension, start in zip(nets, seam["tensions"], seam["starts"]))
+    stated = f"seamTestedAs ({verdict_text(seam['verdict'])}) {seam['edges']} ({naturals(seam['left'])})"
+    cost = 0.1 + 0.0001 * sum(len(faces) ** 2 for _, faces, _ in seam["nets"])
+    yield "SeamTest", "tested", f"seamTested {first} {second} ({naturals(seam['given'])})", stated, cost
+
+
+def seam_names(label):
+    """The names of the two nets of a seam test."""
+    return f"{label}-first", f"{label}-second"
+
+
 def all_facts(label, number, case, options):
     if "bytes" in case:
         yield from obj_facts(case)
+        return
+    if "seam" in case:
+        yield from seam_test_facts(label, case["seam"])
         return
     yield from verdict_facts(label, case)
     if options.outcome:
@@ -405,6 +423,8 @@ def written_case(number, case, unfolding, options):
         nets = [net_text(label, case["net"], case.get("sides", ()))]
         nets += [net_text(f"{label}-after{k}", net) for k, net in enumerate(case.get("steps", []), 1)]
         nets += [net_text(f"{label}-after{k}", net) for k, net in enumerate(case.get("split", []))]
+    if "seam" in case:
+        nets = [net_text(*side) for side in zip(seam_names(label), case["seam"]["nets"], case["seam"]["sides"])]
     return Case(label, case, nets, facts)
 
 
@@ -677,6 +697,10 @@ MUTATIONS = {
     ),
     "the old tension in a call": ("Outcome", "polygons-stored-tension-0", "outcome/specs/Outcome.antt", [("= steps (tension (a .tension)) (a .rounds)", "= steps (tension 4) (a .rounds)")]),
     "another end weight of the curve": ("Curve", "single", "curve/specs/Weights.antt", [("pos (w .near + w .far) *ℤ q", "pos (w .near) *ℤ q")]),
+    "the second net walked with its sides": ("SeamTest", "seam-match", "seamtest/specs/SeamTest.antt", [("(stepAt b againstSides i)", "(stepAt b withSides i)")]),
+    "marks of a seam not compared": ("SeamTest", "seam-mark", "seamtest/specs/SeamTest.antt", [("sameAxis p u q v 2 && same (marked m u) (marked n v)", "sameAxis p u q v 2")]),
+    "the last step of a seam left out": ("SeamTest", "seam-coordinate", "seamtest/specs/SeamTest.antt", [("(suc (edgesFrom a withSides)) (λ i. i)", "(edgesFrom a withSides) (λ i. i)")]),
+    "the work table of one check alone": ("SeamTest", "seam-match", "seamtest/specs/SeamTest.antt", [("(workAfter (aloneIn b (length w)) once)", "once")]),
     "a loop followed backwards": ("Reading", "single", "topology/specs/Boundary.antt", [("boundaryStep S l withSides h = along S l h", "boundaryStep S l withSides h = back S l h")]),
 }
 
@@ -777,6 +801,8 @@ def print_coverage(cases, options):
     print(f"{len(readings)} readings with their curves after 1 and 2 steps: " + ", ".join(f"{way} {count}" for way, count in sorted(ways.items())))
     texts = [case for case in cases if "bytes" in case]
     print(f"{len(texts)} OBJ texts, {sum('bad_line' in case for case in texts)} of them with a bad line")
+    seams = [case["seam"] for case in cases if "seam" in case]
+    print(f"{len(seams)} seam tests, {sum(not seam['verdict'] for seam in seams)} of them with a yes")
     letters = collections.Counter(chr(byte) for case in nets + splits for byte in case["letters"][-1])
     words = sum(len(case["words"]) for case in nets if len(case["net"][1]) // 4 <= WORD_FACES)
     print("letters after the last of these rounds: " + ", ".join(f"{letter} {letters[letter]}" for letter in sorted(letters)) + f"; {words} points that letters name")

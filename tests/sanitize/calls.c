@@ -3,40 +3,16 @@
        calls FILE          each call twice, with the tables for the results as dumped and uninitialised
        calls FILE short    each call once, with a work table one entry shorter than told; nothing is compared
    The form of FILE is in tests/differential/src/dump.rs. */
-#include <stdint.h>
-#include <stdio.h>
-#include <stdlib.h>
-#include <string.h>
-
-#include "../../package/include/gedrovit.h"
+#include "blocks.h"
 
 enum { VERTICES, FACES, SIDES, MARKS, OUT_VERTICES, OUT_FACES, OUT_MARKS, LETTERS, WORK, TABLES };
 static const char *const names[] = {"vertices", "faces", "sides", "marks", "out vertices", "out faces", "out marks", "letters", "work"};
 static const size_t entry[] = {4, 4, 1, 1, 4, 4, 1, 1, 4};
 
-typedef enum { AS_DUMPED, UNINITIALISED, SHORT_WORK } manner;
 typedef enum { CHECK, REFINE } function;
 
 typedef struct { uint64_t rounds, tension, length[TABLES], with_letters, reason, place, vertices, faces, tally_before, tally_after; } head;
 typedef struct { head head; void *before[TABLES], *after[TABLES]; } call;
-
-static void *block(size_t bytes)
-{
-    void *memory = malloc(bytes);
-    if (!memory) {
-        fprintf(stderr, "no memory\n");
-        exit(2);
-    }
-    return memory;
-}
-
-static void read_exactly(FILE *file, void *memory, size_t bytes)
-{
-    if (fread(memory, 1, bytes, file) != bytes) {
-        fprintf(stderr, "the file is cut off\n");
-        exit(2);
-    }
-}
 
 static size_t bytes_of(const head *h, int table) { return h->length[table] * entry[table]; }
 
@@ -168,20 +144,16 @@ static int all_agree(const call *c)
 
 int main(int count, char **arguments)
 {
-    FILE *file = count > 1 ? fopen(arguments[1], "rb") : NULL;
-    int is_short = count > 2 && strcmp(arguments[2], "short") == 0, failed = 0;
+    FILE *file = dumped(count, arguments);
+    int is_short = wants_short(count, arguments), failed = 0;
     unsigned long calls = 0;
     call c;
-    if (!file) {
-        fprintf(stderr, "usage: calls FILE [short]\n");
-        return 2;
-    }
     for (; !failed && read_call(file, &c); calls++) {
         failed = is_short ? !agrees(&c, SHORT_WORK, REFINE) : !all_agree(&c);
         free_all(c.before);
         free_all(c.after);
     }
     fclose(file);
-    printf("%lu calls %s\n", calls, failed ? "made, the last one differs" : is_short ? "made" : "agree, with tables as dumped and uninitialised");
+    tell(calls, "calls", failed, is_short);
     return failed;
 }

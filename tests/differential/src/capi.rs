@@ -10,8 +10,8 @@ use nets::case::Case;
 
 use crate::guarded::{Guarded, Side};
 
-pub use foreign::{Finding, Report, Sizes};
-use foreign::{gedrovit_check, gedrovit_refine, gedrovit_sizes_for};
+pub use foreign::{Finding, Report, SeamReport, Sizes};
+use foreign::{gedrovit_check, gedrovit_refine, gedrovit_share_seam, gedrovit_sizes_for};
 
 /// The declarations stand once, with the Rust crate of the package.
 #[allow(dead_code)]
@@ -100,13 +100,8 @@ impl Outputs {
             marks: Guarded::new(&found.marks, zones.of(5)),
             with_letters: found.with_letters,
             letters: Guarded::new(&found.letters, zones.of(9)),
-            work: Self::work(found, zones),
+            work: work_table(&found.workspace, zones),
         }
-    }
-
-    /// The work table alone, for the check.
-    pub fn work(found: &Tables, zones: Zones) -> Guarded<u32> {
-        Guarded::new(&found.workspace, zones.of(6))
     }
 
     /// What is not as expected.
@@ -150,6 +145,11 @@ pub struct Refined {
 /// The record of new points with this figure.
 pub fn record(tally: u64, zones: Zones) -> Guarded<u64> {
     Guarded::new(&[tally], zones.of(8))
+}
+
+/// The work table alone, for the check and the seam test.
+pub fn work_table(found: &[u32], zones: Zones) -> Guarded<u32> {
+    Guarded::new(found, zones.of(6))
 }
 
 /// The check, with output tables of these lengths.
@@ -222,6 +222,41 @@ pub fn sizes_for(rounds: u32, lengths: [usize; 3], sides: &Guarded<u8>) -> Sizes
             sides.pointer(),
             sides.length(),
             marks,
+        )
+    }
+}
+
+/// The seam test of two nets from these starts.
+pub fn share_seam(
+    [first, second]: [&Inputs; 2],
+    starts: [u32; 2],
+    work: &mut Guarded<u32>,
+) -> SeamReport {
+    // SAFETY: every pointer is lent with its length and lives through the call.
+    unsafe {
+        gedrovit_share_seam(
+            first.vertices.pointer(),
+            first.vertices.length(),
+            first.faces.pointer(),
+            first.faces.length(),
+            first.sides.pointer(),
+            first.sides.length(),
+            first.marks.pointer(),
+            first.marks.length(),
+            first.tension,
+            starts[0],
+            second.vertices.pointer(),
+            second.vertices.length(),
+            second.faces.pointer(),
+            second.faces.length(),
+            second.sides.pointer(),
+            second.sides.length(),
+            second.marks.pointer(),
+            second.marks.length(),
+            second.tension,
+            starts[1],
+            work.pointer(),
+            work.length(),
         )
     }
 }

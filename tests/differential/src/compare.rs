@@ -7,6 +7,7 @@ use reference::refusal::{Capacity, check_call};
 
 use crate::capi::{
     Finding, Inputs, Outputs, Refined, Report, Sizes, Zones, check, record, refine, sizes_for,
+    work_table,
 };
 use crate::guarded::Guarded;
 
@@ -88,7 +89,7 @@ impl Known {
     }
 
     fn compare_check(&self, inputs: &Inputs, zones: Zones) -> Result<(), String> {
-        let mut work = Outputs::work(&self.found, zones);
+        let mut work = work_table(&self.found.workspace, zones);
         let finding = check(inputs, &self.case.capacity, &mut work);
         agree("check", &finding, &self.finding())?;
         as_expected("check", inputs.differences(&self.case))?;

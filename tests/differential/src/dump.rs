@@ -4,14 +4,20 @@
 //! tables, whether letters are asked for, reason, place, both counts, the record
 //! before and after), the tables of the net, those for the results as found, and those
 //! for the results as left; all in the machine's order.
+//!
+//! A seam test is 16 such numbers (of either net the lengths of its four tables,
+//! tension and start; the length of the work table, reason, place and edges), the
+//! tables of both nets, the work table as found, and the same as left.
 
 use std::fs::File;
 use std::io::{self, BufWriter, Write};
 use std::path::Path;
 
+use nets::case::Case;
 use reference::call::Tables;
 
 use crate::compare::Known;
+use crate::seamtests::KnownTest;
 
 /// A file of calls in the making.
 pub struct Dump {
@@ -26,11 +32,7 @@ impl Dump {
 
     pub fn add(&mut self, known: &Known) -> io::Result<()> {
         let Known { case, report, .. } = known;
-        let lengths = [
-            case.vertices.len(),
-            case.faces.len(),
-            case.sides.len(),
-            case.marks.len(),
+        let room = [
             case.capacity.vertices,
             case.capacity.faces,
             case.capacity.marks,
@@ -38,7 +40,8 @@ impl Dump {
             case.capacity.workspace,
         ];
         self.numbers([case.rounds, case.tension].map(u64::from))?;
-        self.numbers(lengths.map(|length| length as u64))?;
+        self.numbers(net_lengths(case))?;
+        self.numbers(room.map(|length| length as u64))?;
         self.numbers([
             u64::from(case.capacity.with_letters),
             u64::from(report.reason),
@@ -48,12 +51,30 @@ impl Dump {
             case.tally,
             known.tally,
         ])?;
-        self.bytes(case.vertices.iter().map(|entry| entry.to_ne_bytes()))?;
-        self.bytes(case.faces.iter().map(|entry| entry.to_ne_bytes()))?;
-        self.file.write_all(&case.sides)?;
-        self.file.write_all(&case.marks)?;
+        self.net(case)?;
         self.tables(&known.found)?;
         self.tables(&known.left)
+    }
+
+    pub fn add_seam_test(&mut self, known: &KnownTest) -> io::Result<()> {
+        let KnownTest { case, report, .. } = known;
+        for (net, start) in case.nets.iter().zip(case.starts) {
+            self.numbers(net_lengths(net))?;
+            self.numbers([net.tension, start].map(u64::from))?;
+        }
+        let work = known.found.len() as u64;
+        self.numbers([work, u64::from(report.reason), report.place, report.edges])?;
+        case.nets.iter().try_for_each(|net| self.net(net))?;
+        self.words(&known.found)?;
+        self.words(&known.left)
+    }
+
+    /// The tables of a net.
+    fn net(&mut self, case: &Case) -> io::Result<()> {
+        self.bytes(case.vertices.iter().map(|entry| entry.to_ne_bytes()))?;
+        self.words(&case.faces)?;
+        self.file.write_all(&case.sides)?;
+        self.file.write_all(&case.marks)
     }
 
     pub fn finish(mut self) -> io::Result<()> {
@@ -62,10 +83,14 @@ impl Dump {
 
     fn tables(&mut self, tables: &Tables) -> io::Result<()> {
         self.bytes(tables.vertices.iter().map(|entry| entry.to_ne_bytes()))?;
-        self.bytes(tables.faces.iter().map(|entry| entry.to_ne_bytes()))?;
+        self.words(&tables.faces)?;
         self.file.write_all(&tables.marks)?;
         self.file.write_all(&tables.letters)?;
-        self.bytes(tables.workspace.iter().map(|entry| entry.to_ne_bytes()))
+        self.words(&tables.workspace)
+    }
+
+    fn words(&mut self, table: &[u32]) -> io::Result<()> {
+        self.bytes(table.iter().map(|entry| entry.to_ne_bytes()))
     }
 
     fn numbers<const N: usize>(&mut self, numbers: [u64; N]) -> io::Result<()> {
@@ -78,4 +103,15 @@ impl Dump {
         }
         Ok(())
     }
+}
+
+/// The lengths of the tables of a net.
+fn net_lengths(case: &Case) -> [u64; 4] {
+    let lengths = [
+        case.vertices.len(),
+        case.faces.len(),
+        case.sides.len(),
+        case.marks.len(),
+    ];
+    lengths.map(|length| length as u64)
 }

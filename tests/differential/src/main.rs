@@ -18,6 +18,7 @@ mod polygons;
 mod retrace;
 mod run;
 mod seams;
+mod seamtests;
 mod series;
 mod valences;
 
@@ -28,6 +29,7 @@ use compare::Known;
 use dump::Dump;
 use options::{Mode, Options, USAGE, What};
 use run::{Run, generated, rng};
+use seamtests::KnownTest;
 
 /// Calls with longer work tables are not dumped.
 const DUMPED_WORK: usize = 20_000;
@@ -55,6 +57,7 @@ fn answer(options: &Options, arguments: &[String]) -> Result<String, String> {
         Mode::Stray(trial) => guards::stray(*trial),
         Mode::ProveGuards => guards::prove(),
         Mode::Dump(path) => dump(options, path),
+        Mode::DumpSeamTests(path) => dump_seam_tests(options, path),
         Mode::Compare if !options.here => {
             println!("{}", guards::prove()?);
             guards::supervise(arguments)
@@ -82,4 +85,21 @@ fn dump(options: &Options, path: &Path) -> Result<String, String> {
     }
     dump.finish().map_err(|error| error.to_string())?;
     Ok(format!("{dumped} calls written"))
+}
+
+/// The same with the seam tests.
+fn dump_seam_tests(options: &Options, path: &Path) -> Result<String, String> {
+    let mut dump = Dump::new(path).map_err(|error| error.to_string())?;
+    let mut dumped = 0;
+    for number in 0..What::SeamTest.count(options.nets) {
+        let rng = &mut rng(options.seed, number);
+        let known = KnownTest::draw(number, rng)?;
+        if known.found.len() <= DUMPED_WORK {
+            dump.add_seam_test(&known)
+                .map_err(|error| error.to_string())?;
+            dumped += 1;
+        }
+    }
+    dump.finish().map_err(|error| error.to_string())?;
+    Ok(format!("{dumped} seam tests written"))
 }

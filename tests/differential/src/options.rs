@@ -11,10 +11,10 @@ use crate::valences;
 pub const USAGE: &str = "usage: differential [--nets N] [--seed S] [--here] [MODE]
 
 Compares N seeded nets (20000), one with side counts for every 3 of them,
-moved nets, series of calls over one record, pairs with seams, named nets with
-every number of rounds and at every tension, crowds of them, calls with a vertex
-in many faces, the stored calls, and calls with huge lengths. A second process
-does it, so that the call is known if that dies; with --here this one.
+moved nets, series of calls over one record, pairs with seams, seam tests, named
+nets with every number of rounds and at every tension, crowds of them, calls with
+a vertex in many faces, the stored calls, and calls with huge lengths. A second
+process does it, so that the call is known if that dies; with --here this one.
 MODE is one of
   --net I          compares only net I of the series
   --polygons I     compares only net I with side counts
@@ -24,13 +24,16 @@ MODE is one of
   --series I       compares only series I of calls over one record
   --pair I         compares only pair I
   --polygon-pair I compares only pair I with side counts in one net or both
+  --seam-test I    compares only seam test I
   --named I        compares only net I of the named ones
   --crowd I        compares only net I of those made of many named ones
   --valence I      compares only call I with a vertex in many faces
   --stored I       compares only stored call I
   --huge I         compares only call I with a huge length
   --prove-guards   only shows that stray accesses are seen
-  --dump FILE      compares nothing, but writes the calls into FILE";
+  --dump FILE      compares nothing, but writes the calls into FILE
+  --dump-seam-tests FILE
+                   the same with the seam tests";
 
 pub struct Options {
     pub nets: u64,
@@ -46,6 +49,7 @@ pub enum Mode {
     /// One of the accesses of `ProveGuards`.
     Stray(u64),
     Dump(PathBuf),
+    DumpSeamTests(PathBuf),
 }
 
 /// A sort of comparison.
@@ -58,6 +62,7 @@ pub enum What {
     Series,
     Pair,
     PolygonPair,
+    SeamTest,
     Named,
     Crowd,
     Valence,
@@ -66,7 +71,7 @@ pub enum What {
 }
 
 impl What {
-    pub const ALL: [Self; 12] = [
+    pub const ALL: [Self; 13] = [
         Self::Net,
         Self::Polygons,
         Self::Moved,
@@ -74,6 +79,7 @@ impl What {
         Self::Series,
         Self::Pair,
         Self::PolygonPair,
+        Self::SeamTest,
         Self::Named,
         Self::Crowd,
         Self::Valence,
@@ -90,6 +96,7 @@ impl What {
             What::Series => "series",
             What::Pair => "pair",
             What::PolygonPair => "polygon-pair",
+            What::SeamTest => "seam-test",
             What::Named => "named",
             What::Crowd => "crowd",
             What::Valence => "valence",
@@ -109,7 +116,7 @@ impl What {
         match self {
             What::Net => nets,
             What::Polygons => nets.div_ceil(3),
-            What::Moved | What::Named => nets.div_ceil(10),
+            What::Moved | What::SeamTest | What::Named => nets.div_ceil(10),
             What::MovedPolygons | What::Pair => nets.div_ceil(20),
             What::Series => nets.div_ceil(40),
             What::PolygonPair => nets.div_ceil(60),
@@ -140,6 +147,9 @@ impl Options {
                 "--prove-guards" => options.mode = Mode::ProveGuards,
                 "--stray" => options.mode = Mode::Stray(number()?),
                 "--dump" => options.mode = Mode::Dump(arguments.next()?.into()),
+                "--dump-seam-tests" => {
+                    options.mode = Mode::DumpSeamTests(arguments.next()?.into());
+                }
                 _ => options.mode = Mode::One(What::of(name)?, number()?),
             }
         }

@@ -18,6 +18,7 @@ use crate::options::What;
 use crate::polygons::PolygonKind;
 use crate::retrace::Retraced;
 use crate::seams::Seams;
+use crate::seamtests::SeamTests;
 use crate::series::Series;
 use crate::valences::valence_call;
 
@@ -71,6 +72,7 @@ pub struct Run {
     series: Series,
     seams: Seams,
     polygon_seams: Seams,
+    seam_tests: SeamTests,
     named: NamedNets,
     coverage: Coverage,
     retraced: Retraced,
@@ -87,6 +89,7 @@ impl Run {
             series: Series::new(),
             seams: Seams::without_sides(),
             polygon_seams: Seams::with_sides(),
+            seam_tests: SeamTests::new(),
             named: NamedNets::new(),
             coverage: Coverage::new(),
             retraced: Retraced::new(),
@@ -103,7 +106,7 @@ impl Run {
             [What::Crowd, What::Valence, What::Stored, What::Huge].map(|what| what.count(nets));
         let counts = format!(
             "{}\nwith side counts: {}\n{}\nwith side counts: {}\n{}\n\
-             {}\nwith side counts: {}\n{}\n\
+             {}\nwith side counts: {}\n{}\n{}\n\
              {crowds} nets of many named ones agree\n{}\n{}\n\
              {valences} calls with a vertex in many faces agree\n\
              {stored} stored calls agree\n{huge} calls with lengths beyond 32 bits agree",
@@ -114,6 +117,7 @@ impl Run {
             self.series,
             self.seams,
             self.polygon_seams,
+            self.seam_tests,
             self.named,
             self.coverage,
             self.retraced,
@@ -133,6 +137,7 @@ impl Run {
             && self.series.is_complete()
             && self.seams.is_complete()
             && self.polygon_seams.is_complete()
+            && self.seam_tests.is_complete()
             && self.named.is_complete()
             && self.coverage.is_complete()
             && self.retraced.is_complete()
@@ -156,6 +161,7 @@ impl Run {
             What::Series => self.series.compare(rng),
             What::Pair => self.seams.compare_pair(rng),
             What::PolygonPair => self.polygon_seams.compare_pair(rng),
+            What::SeamTest => self.seam_tests.compare(number, rng),
             What::Named => {
                 let (coverage, retraced) = (&mut self.coverage, &mut self.retraced);
                 self.named.compare(number, coverage, retraced, rng)

@@ -2,7 +2,7 @@
 
 use std::fmt::{self, Display, Formatter};
 
-use nets::case::ControlNet;
+use nets::case::{Case, ControlNet};
 use nets::letters::fit_letters;
 use nets::pairs::{SharedPair, shared_pair, shared_polygon_pair};
 use nets::rng::Rng;
@@ -89,7 +89,7 @@ impl Seams {
         for rounds in 0..=most[0].min(most[1]) {
             let mut after = Vec::new();
             for ((net, start), tension) in pair.nets.iter().zip(&starts).zip(pair.tensions) {
-                let refined = refined(net, tension, rounds, rng)?;
+                let refined = refined(net.accepted_case(tension, rounds), rng)?;
                 self.readings += compare_readings(start, tension, &refined, rounds)?;
                 after.push(refined);
             }
@@ -177,10 +177,9 @@ impl Display for Seams {
     }
 }
 
-/// The net that the call through C gives.
-fn refined(net: &ControlNet, tension: Tension, rounds: u32, rng: &mut Rng) -> Result<Net, String> {
-    let case = accepted_tally(net.accepted_case(tension, rounds), rng);
-    let case = fit_letters(case, rng);
+/// The net that an accepted call gives through C.
+pub fn refined(case: Case, rng: &mut Rng) -> Result<Net, String> {
+    let case = fit_letters(accepted_tally(case, rng), rng);
     let known = Known::new(case, rng)?;
     let answer = known
         .compare(rng)
@@ -214,7 +213,7 @@ fn compare_readings(
 }
 
 /// A shared segment that is not the same in both refined nets.
-fn parting(refined: &[Net], shared: &[(Reading, Reading)]) -> Option<(Reading, Reading)> {
+pub fn parting(refined: &[Net], shared: &[(Reading, Reading)]) -> Option<(Reading, Reading)> {
     let [one, other] = [&refined[0], &refined[1]].map(Boundary::new);
     let parts =
         |(a, b): &&(Reading, Reading)| one.read(*a).is_none() || one.read(*a) != other.read(*b);

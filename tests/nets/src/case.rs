@@ -108,7 +108,6 @@ impl Case {
 
     /// Tables for the results and the workspace, filled with random contents.
     pub fn tables(&self, rng: &mut Rng) -> Tables {
-        let low_word = |value: u64| u32::try_from(value & 0xFFFF_FFFF).expect("32 bits");
         let low_byte = |value: u64| value.to_le_bytes()[0];
         let coordinate = |value: u64| low_word(value).cast_signed();
         Tables {
@@ -117,7 +116,7 @@ impl Case {
             marks: filled(self.capacity.marks, low_byte, rng),
             with_letters: self.capacity.with_letters,
             letters: filled(self.capacity.letters, low_byte, rng),
-            workspace: filled(self.capacity.workspace, low_word, rng),
+            workspace: filled_words(self.capacity.workspace, rng),
         }
     }
 
@@ -140,6 +139,16 @@ impl Case {
     }
 }
 
+/// The low half of a number.
+fn low_word(value: u64) -> u32 {
+    u32::try_from(value & 0xFFFF_FFFF).expect("32 bits")
+}
+
+/// So many random numbers, as a work table may have them.
+pub(crate) fn filled_words(length: usize, rng: &mut Rng) -> Vec<u32> {
+    filled(length, low_word, rng)
+}
+
 fn filled<T>(length: usize, entry: impl Fn(u64) -> T, rng: &mut Rng) -> Vec<T> {
     (0..length).map(|_| entry(rng.next_u64())).collect()
 }
@@ -151,12 +160,32 @@ pub enum ControlNet {
     WithSides(PolygonNet),
 }
 
+impl From<Net> for ControlNet {
+    fn from(net: Net) -> Self {
+        ControlNet::Plain(net)
+    }
+}
+
+impl From<PolygonNet> for ControlNet {
+    fn from(net: PolygonNet) -> Self {
+        ControlNet::WithSides(net)
+    }
+}
+
 impl ControlNet {
     /// The net where refining begins.
     pub fn start(&self) -> Net {
         match self {
             ControlNet::Plain(net) => net.clone(),
             ControlNet::WithSides(net) => split(net),
+        }
+    }
+
+    /// The net as it is drawn, with lists of corners.
+    pub fn polygons(&self) -> PolygonNet {
+        match self {
+            ControlNet::Plain(net) => PolygonNet::from(net),
+            ControlNet::WithSides(net) => net.clone(),
         }
     }
 

@@ -33,6 +33,7 @@ use crate::obj::ObjKind;
 use crate::polygons::{PolygonShape, accepted_polygons};
 use crate::refused::{PLAIN_REASONS, POLYGON_REASONS, refused_call, refused_polygons};
 use crate::rng::Rng;
+use crate::seamtest::{SeamCase, SeamKind};
 use crate::shapes;
 use crate::stored::{from_text, stored_calls};
 use crate::tally::any_tally;
@@ -61,12 +62,16 @@ const MOST_ROUNDS: u32 = 100;
 const ALONE: usize = 4;
 /// Most bytes of an OBJ text that is told.
 const MOST_BYTES: usize = 240;
+/// Most corners and vertices of each net of a seam test.
+const SEAM_CORNERS: usize = 32;
+/// Seam tests that are drawn until one has small nets.
+const SEAM_TRIES: usize = 40;
 /// Steps of the curves that are told.
 const CURVE_STEPS: u32 = 2;
 
 /// All facts: `count` accepted nets; every refusal alone and in pairs; calls
 /// that are damaged, random or near the limits, a quarter of `count` each;
-/// calls with side counts; named nets.
+/// calls with side counts; named nets; OBJ texts; about 2 × `count` seam tests.
 pub fn lines(seed: u64, count: usize) -> Vec<String> {
     let rng = &mut Rng::new(seed);
     let mut lines: Vec<String> = accepted_nets(count, rng)
@@ -89,6 +94,7 @@ pub fn lines(seed: u64, count: usize) -> Vec<String> {
     lines.extend(polygon_lines(count, rng));
     lines.extend(named_lines(seed));
     lines.extend(obj_lines(seed));
+    lines.extend(seam_lines(seed, 2 * count));
     lines
 }
 
@@ -151,6 +157,46 @@ fn obj_line(kind: &str, text: &[u8]) -> String {
         Err(refusal) => fields.push(("bad_line", refusal.place.to_string())),
     }
     object(&fields)
+}
+
+/// Seam tests of small nets, of every kind that has them in turn.
+fn seam_lines(seed: u64, count: usize) -> Vec<String> {
+    let rng = &mut Rng::new(seed);
+    let is_small = |net: &Case| net.faces.len().max(net.marks.len()) <= SEAM_CORNERS;
+    let kinds = SeamKind::rotation().into_iter().cycle().take(count);
+    let small = |kind: SeamKind| {
+        let mut cases = (0..SEAM_TRIES).map(|_| kind.draw(rng));
+        let case = cases.find(|case| case.nets.iter().all(is_small))?;
+        Some(seam_line(&kind.name(), &case))
+    };
+    kinds.filter_map(small).collect()
+}
+
+/// A seam test: its tables, the work table before and after it, and the
+/// reference's answer.
+pub fn seam_line(kind: &str, case: &SeamCase) -> String {
+    let before = case.work_table(&mut Rng::new(0));
+    let mut after = before.clone();
+    let answer = case.outcome_in(&mut after);
+    let tensions = case.nets.each_ref().map(|net| net.tension);
+    let seam = object(&[
+        ("nets", list(case.nets.each_ref().map(tables_of))),
+        (
+            "sides",
+            list(case.nets.each_ref().map(|net| numbers(&net.sides))),
+        ),
+        ("tensions", numbers(&tensions)),
+        ("starts", numbers(&case.starts)),
+        ("given", numbers(&before)),
+        ("left", numbers(&after)),
+        ("verdict", numbers(&told(answer.map(drop)))),
+        ("edges", answer.unwrap_or(0).to_string()),
+    ]);
+    object(&[
+        ("kind", quoted(format!("seam-{kind}"))),
+        ("traits", list([])),
+        ("seam", seam),
+    ])
 }
 
 /// The facts of some named nets, in all dressings and at all tensions by turns.

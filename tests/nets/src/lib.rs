@@ -7,6 +7,7 @@
 //! - [`damaged`]: texts that lost their form, and damaged tables.
 //! - [`obj`]: OBJ texts, accepted, refused and damaged.
 //! - [`pairs`]: pairs of nets that share a boundary segment.
+//! - [`seamtest`]: seam tests of two nets, that match or are spoiled.
 //! - [`tally`]: what calls find in the record of new points.
 //! - [`tension`]: the tensions of calls.
 //! - [`letters`]: whether calls ask for letters, and the tables for them.
@@ -57,6 +58,7 @@ pub mod polygons;
 pub mod refused;
 pub mod remodel;
 pub mod rng;
+pub mod seamtest;
 pub mod shapes;
 pub mod solids;
 pub mod stored;

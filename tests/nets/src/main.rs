@@ -13,6 +13,9 @@
 //! - `nets calls make KIND SEED` prints one of them.
 //! - `nets calls answer FILE ..` answers stored calls, each into the same path
 //!   with the extension `out`.
+//! - `nets seams list` names the kinds of seam tests.
+//! - `nets seams make KIND SEED` prints one of them with its answer, as a line of
+//!   JSON.
 
 #![forbid(unsafe_code)]
 
@@ -24,13 +27,14 @@ use std::process::ExitCode;
 
 use nets::facts;
 use nets::kind::{CallKind, Kind, named_texts};
+use nets::seamtest::SeamKind;
 use nets::stored;
 use reference::text::print;
 
 const USAGE: &str = "usage: nets list | nets make KIND SEED | \
     nets batch --seed S --count N --dir D | nets named --seed S --dir D | \
     nets facts --seed S --count N | nets calls list | nets calls make KIND SEED | \
-    nets calls answer FILE ..";
+    nets calls answer FILE .. | nets seams list | nets seams make KIND SEED";
 
 fn main() -> ExitCode {
     let arguments: Vec<String> = std::env::args().skip(1).collect();
@@ -74,6 +78,7 @@ fn run(arguments: &[&str]) -> Result<(), Box<dyn Error>> {
             Ok(())
         }
         ["calls", ref others @ ..] => calls(others),
+        ["seams", ref others @ ..] => seams(others),
         _ => Err(USAGE.into()),
     }
 }
@@ -98,6 +103,23 @@ fn calls(arguments: &[&str]) -> Result<(), Box<dyn Error>> {
                     print(&case.outcome()),
                 )?;
             }
+        }
+        _ => return Err(USAGE.into()),
+    }
+    Ok(())
+}
+
+fn seams(arguments: &[&str]) -> Result<(), Box<dyn Error>> {
+    match *arguments {
+        ["list"] => {
+            for kind in SeamKind::all() {
+                println!("{}", kind.name());
+            }
+        }
+        ["make", kind, seed] => {
+            let kind = SeamKind::named(kind).ok_or("no such kind; see nets seams list")?;
+            let case = kind.make(seed.parse()?);
+            println!("{}", facts::seam_line(&kind.name(), &case));
         }
         _ => return Err(USAGE.into()),
     }

@@ -30,11 +30,11 @@ pub struct SharedPair {
 pub fn shared_pair(rng: &mut Rng) -> SharedPair {
     let form = rng.pick(&[Form::Open, Form::Open, Form::Round]);
     let points = segment(form, rng);
-    let [first, second] = [(); 2].map(|()| carrier(form, &points, rng));
+    let [first, second] = [(); 2].map(|()| carrier(form, &points, &WAYS, rng));
     SharedPair {
-        nets: [first.0, second.0].map(ControlNet::Plain),
+        readings: [first.reading, second.reading],
+        nets: [first.net, second.net].map(ControlNet::Plain),
         tensions: tensions(rng),
-        readings: [first.1, second.1],
     }
 }
 
@@ -43,22 +43,73 @@ pub fn shared_pair(rng: &mut Rng) -> SharedPair {
 pub fn shared_polygon_pair(rng: &mut Rng) -> SharedPair {
     let form = rng.pick(&[Form::Open, Form::Open, Form::Round]);
     let points = segment(form, rng);
-    let first = polygon_carrier(form, &points, rng);
-    let second = if rng.one_in(2) {
-        let (net, reading) = polygon_carrier(form, &points, rng);
-        (ControlNet::WithSides(net), reading)
+    let first = polygon_carrier(form, &points, &WAYS, rng);
+    let (second, reading) = if rng.one_in(2) {
+        let second = polygon_carrier(form, &points, &WAYS, rng);
+        (ControlNet::WithSides(second.net), second.reading)
     } else {
-        let start = split(&first.0);
-        let points = Boundary::new(&start).read(first.1).expect("a reading");
-        let (net, reading) = carrier(form, &points, rng);
-        (ControlNet::Plain(net), reading)
+        let start = split(&first.net);
+        let points = Boundary::new(&start).read(first.reading);
+        let second = carrier(form, &points.expect("a reading"), &WAYS, rng);
+        (ControlNet::Plain(second.net), second.reading)
     };
     SharedPair {
-        nets: [ControlNet::WithSides(first.0), second.0],
+        nets: [ControlNet::WithSides(first.net), second],
         tensions: tensions(rng),
-        readings: [first.1, second.1],
+        readings: [first.reading, reading],
     }
 }
+
+/// Two nets that have these points on their boundaries as an open segment, and
+/// its vertices in each: in the first the segment runs with the sides, in the
+/// second against them.
+#[derive(Clone, Debug)]
+pub struct MatchingPair {
+    pub nets: [ControlNet; 2],
+    pub segments: [Vec<u32>; 2],
+}
+
+impl MatchingPair {
+    /// Two random nets, each with side counts or without.
+    pub fn draw(points: &[Point], with_sides: [bool; 2], rng: &mut Rng) -> Self {
+        let ways = [Way::With, Way::Against];
+        let [first, second] = [0, 1].map(|at| {
+            if with_sides[at] {
+                let drawn = polygon_carrier(Form::Open, points, &[ways[at]], rng);
+                (ControlNet::WithSides(drawn.net), drawn.vertices)
+            } else {
+                let drawn = carrier(Form::Open, points, &[ways[at]], rng);
+                (ControlNet::Plain(drawn.net), drawn.vertices)
+            }
+        });
+        Self {
+            nets: [first.0, second.0],
+            segments: [first.1, second.1],
+        }
+    }
+
+    /// Two nets with the points once round the first of their loops, which has as
+    /// many vertices as the segment has edges.
+    pub fn round<F: Face>(nets: [Mesh<F>; 2], points: &[Point], rng: &mut Rng) -> Self
+    where
+        ControlNet: From<Mesh<F>>,
+    {
+        let mut ways = [Way::With, Way::Against].into_iter();
+        let [first, second] = nets.map(|net| {
+            let rim = boundary_loops(&net).swap_remove(0);
+            let way = ways.next().expect("two nets");
+            let drawn = carry(net, &rim, Form::Open, points, &[way], rng);
+            (ControlNet::from(drawn.net), drawn.vertices)
+        });
+        Self {
+            nets: [first.0, second.0],
+            segments: [first.1, second.1],
+        }
+    }
+}
+
+/// Ways in which a segment may run, by turns.
+const WAYS: [Way; 2] = [Way::Against, Way::With];
 
 /// Equal tensions, or one time in six any two.
 fn tensions(rng: &mut Rng) -> [Tension; 2] {
@@ -72,13 +123,10 @@ fn tensions(rng: &mut Rng) -> [Tension; 2] {
 
 /// Random points of a segment; open ones sometimes end where they begin, and
 /// some segments are the same both ways or several times round.
-fn segment(form: Form, rng: &mut Rng) -> Vec<Point> {
+pub fn segment(form: Form, rng: &mut Rng) -> Vec<Point> {
     let fewest = if form == Form::Open { 2 } else { 3 };
-    let length = rng.between(fewest, 9);
-    let reach = rng.pick(&[1, 100, 1_048_576]);
-    let mut points: Vec<Point> = (0..length)
-        .map(|_| [(); 3].map(|()| rng.between(-reach, reach)))
-        .collect();
+    let length = rng.between(fewest, 9).unsigned_abs();
+    let mut points = some_points(length as usize, rng);
     if form == Form::Open && rng.one_in(2) {
         let last = points.len() - 1;
         points[last] = points[0];
@@ -87,11 +135,18 @@ fn segment(form: Form, rng: &mut Rng) -> Vec<Point> {
     points
 }
 
+/// So many random points.
+pub fn some_points(count: usize, rng: &mut Rng) -> Vec<Point> {
+    let reach = rng.pick(&[1, 100, 1_048_576]);
+    let points = (0..count).map(|_| [(); 3].map(|()| rng.between(-reach, reach)));
+    points.collect()
+}
+
 /// Makes some lists of points equal to their reverse, and some periodic.
 fn repeat(points: &mut [Point], rng: &mut Rng) {
     let length = points.len();
     match rng.below(8) {
-        0 => (0..length / 2).for_each(|i| points[length - 1 - i] = points[i]),
+        0 => mirror(points),
         1 => {
             let period = length.div_ceil(2);
             (period..length).for_each(|i| points[i] = points[i - period]);
@@ -100,23 +155,38 @@ fn repeat(points: &mut [Point], rng: &mut Rng) {
     }
 }
 
+/// Makes a list of points equal to its reverse.
+pub fn mirror(points: &mut [Point]) {
+    let last = points.len() - 1;
+    (0..points.len() / 2).for_each(|i| points[last - i] = points[i]);
+}
+
 /// The edges of a segment, and whether it ends where it begins.
 fn extent(form: Form, points: &[Point]) -> (i32, bool) {
     let edges = i32::try_from(points.len()).expect("small") - i32::from(form == Form::Open);
     (edges, points[0] == points[points.len() - 1])
 }
 
-/// A random net with the segment on its boundary, and the reading there.
-fn carrier(form: Form, points: &[Point], rng: &mut Rng) -> (Net, Reading) {
+/// A net with a segment on its boundary: its vertices in order, of which a single
+/// mark is the first and the last, and the reading.
+struct Carrier<F> {
+    net: Mesh<F>,
+    vertices: Vec<u32>,
+    reading: Reading,
+}
+
+/// A random net with the segment on its boundary, where it runs in one of these
+/// ways.
+fn carrier(form: Form, points: &[Point], ways: &[Way], rng: &mut Rng) -> Carrier<[u32; 4]> {
     let (edges, is_closed) = extent(form, points);
     let generated = accepted(rng.pick(&Shape::ALL), Size::Small, rng);
     let (net, rim) = with_room(generated, form, edges, is_closed, rng)
         .unwrap_or_else(|| plain(form, edges, is_closed, rng));
-    carry(net, &rim, form, points, rng)
+    carry(net, &rim, form, points, ways, rng)
 }
 
 /// The same with side counts.
-fn polygon_carrier(form: Form, points: &[Point], rng: &mut Rng) -> (PolygonNet, Reading) {
+fn polygon_carrier(form: Form, points: &[Point], ways: &[Way], rng: &mut Rng) -> Carrier<Vec<u32>> {
     let (edges, is_closed) = extent(form, points);
     let generated = match rng.below(3) {
         0 => solids::separate(&[some_size(rng)]),
@@ -126,11 +196,11 @@ fn polygon_carrier(form: Form, points: &[Point], rng: &mut Rng) -> (PolygonNet, 
         let (net, rim) = plain(form, edges, is_closed, rng);
         (remodelled(&net, rng), rim)
     });
-    carry(net, &rim, form, points, rng)
+    carry(net, &rim, form, points, ways, rng)
 }
 
 /// A net with faces cut and merged; its boundary stays.
-fn remodelled(net: &Net, rng: &mut Rng) -> PolygonNet {
+pub fn remodelled(net: &Net, rng: &mut Rng) -> PolygonNet {
     let mut model = Remodel::new(PolygonNet::from(net));
     for _ in 0..rng.below(2 * net.faces.len() + 1) {
         model.cut(rng);
@@ -146,8 +216,9 @@ fn carry<F: Face>(
     rim: &[u32],
     form: Form,
     points: &[Point],
+    ways: &[Way],
     rng: &mut Rng,
-) -> (Mesh<F>, Reading) {
+) -> Carrier<F> {
     place(&mut net, Placing::Scattered, rng);
     mark(&mut net, rng);
     for (&vertex, &point) in rim.iter().zip(points) {
@@ -159,15 +230,19 @@ fn carry<F: Face>(
         net.marks[rim[0] as usize] = 1;
         net.marks[*last as usize] = 1;
     }
-    let way = if rng.one_in(2) {
+    let way = rng.pick(ways);
+    if way == Way::Against {
         flip(&mut net);
-        Way::Against
-    } else {
-        Way::With
-    };
+    }
     let (net, numbering) = renumber(&net, rng);
-    let start = numbering.vertices[rim[0] as usize];
-    (net, Reading { start, way, form })
+    let along = rim.iter().cycle().take(points.len());
+    let vertices: Vec<u32> = along.map(|&v| numbering.vertices[v as usize]).collect();
+    let start = vertices[0];
+    Carrier {
+        net,
+        vertices,
+        reading: Reading { start, way, form },
+    }
 }
 
 /// The net, if it has room for the segment on one of its loops, and the loop

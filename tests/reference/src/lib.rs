@@ -17,6 +17,7 @@ pub mod refusal;
 pub mod retrace;
 pub mod rules;
 pub mod seam;
+pub mod seamtest;
 pub mod step;
 pub mod text;
 pub mod topology;

@@ -15,7 +15,7 @@ fn every_ring_fan_loop_rule_and_refusal_is_met() {
     let rings = (3..=8).map(|n| format!("\"ring {n}\""));
     let fans = (1..=6).map(|n| format!("\"fan {n}\""));
     let neighbours = (0..=2).map(|n| format!("\"direction with {n} neighbours\""));
-    let refusals = (1..=12).chain([14, 16]);
+    let refusals = (1..=12).chain([14, 16, 17, 18]);
     let refusals = refusals.map(|n| format!("\"verdict\":[{n},"));
     let tensions = (0..=5).map(|t| format!("\"tension\":{t},"));
     let faces = (3..=8).map(|n| format!("\"face of {n} sides\""));

@@ -11,6 +11,7 @@ mod named_nets;
 mod obj_texts;
 mod polygon_nets;
 mod properties;
+mod seam_tests;
 mod stored_calls;
 mod stored_cases;
 mod tallies;

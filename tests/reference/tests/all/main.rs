@@ -7,6 +7,7 @@ mod obj_form;
 mod paper_cases;
 mod polygons;
 mod refusals;
+mod seam_test;
 mod seams;
 mod tally;
 mod text_form;
