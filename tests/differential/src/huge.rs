@@ -2,14 +2,20 @@
 //! behind the surplus: whoever looks at it ends the process.
 
 use nets::case::{Case, Expected};
+use nets::change::flip;
 use nets::letters::fit_letters;
 use nets::rng::Rng;
+use nets::seamtest::{SeamCase, SeamExpected};
 use nets::shapes;
 use nets::tension::{fit_tension, refused_tension};
-use reference::net::PolygonNet;
+use reference::call::Tables;
+use reference::net::{Net, PolygonNet};
 use reference::refusal::Capacity;
 
-use crate::capi::{Finding, Inputs, Outputs, Report, Zones, check, record, refine, sizes_for};
+use crate::capi::{
+    Finding, Inputs, Outputs, Report, SeamReport, Zones, check, record, refine, share_seam,
+    sizes_for,
+};
 use crate::compare::{Known, agree, as_expected, no_sizes, sizes};
 
 const BEYOND: usize = 1 << 32;
@@ -83,24 +89,30 @@ pub const COUNT: u64 = 2 * CLAIMS.len() as u64;
 pub fn compare(number: u64, rng: &mut Rng) -> Result<(), String> {
     let at = usize::try_from(number % COUNT).expect("below a length");
     let (name, reasons, claim) = CLAIMS[at / 2];
-    let square = shapes::grid(1, 1);
-    let case = if at.is_multiple_of(2) {
-        Case::new(&square, 1, Expected::Accepted)
-    } else {
-        Case::with_sides(&PolygonNet::from(&square), 1, Expected::Accepted)
-    };
-    let case = fit_letters(case, rng);
+    let with_sides = !at.is_multiple_of(2);
+    let case = fit_letters(call(&shapes::grid(1, 1), with_sides, 1), rng);
     let case = if rng.one_in(3) {
         refused_tension(case, rng)
     } else {
         fit_tension(case, rng)
     };
     let known = Known::new(case, rng)?;
-    match reasons[at % 2] {
-        Some(reason) => {
-            compare_claim(&known, reason, claim).map_err(|fault| format!("{name}: {fault}"))
-        }
-        None => Ok(()),
+    let Some(reason) = reasons[at % 2] else {
+        return Ok(());
+    };
+    let fault = |fault| format!("{name}: {fault}");
+    compare_claim(&known, reason, claim).map_err(fault)?;
+    (0..2)
+        .try_for_each(|which| compare_seam_claim(with_sides, which, reason, claim, rng))
+        .map_err(fault)
+}
+
+/// The call with this net, with a side count for each face or none.
+fn call(net: &Net, with_sides: bool, rounds: u32) -> Case {
+    if with_sides {
+        Case::with_sides(&PolygonNet::from(net), rounds, Expected::Accepted)
+    } else {
+        Case::new(net, rounds, Expected::Accepted)
     }
 }
 
@@ -156,4 +168,63 @@ fn compare_claim(known: &Known, reason: u32, claim: Claim) -> Result<(), String>
     as_expected("refine", record.difference("record", &[tally]))?;
     as_expected("refine", inputs.differences(&known.case))?;
     as_expected("refine", refined.differences(left))
+}
+
+/// A square with one mark against itself turned over, where the claim is made for
+/// one of the two. There are no outputs but the work table.
+fn compare_seam_claim(
+    with_sides: bool,
+    which: usize,
+    reason: u32,
+    claim: Claim,
+    rng: &mut Rng,
+) -> Result<(), String> {
+    let mut square = shapes::grid(1, 1);
+    square.marks[0] = 1;
+    let mut turned = square.clone();
+    flip(&mut turned);
+    let nets = [square, turned].map(|net| call(&net, with_sides, 0));
+    let case = SeamCase {
+        workspace: nets[0].capacity.workspace + 3,
+        nets,
+        starts: [0; 2],
+        expected: SeamExpected::Matches(4),
+    };
+    let found = case.work_table(rng);
+    let mut left = found.clone();
+    if !case.expected.agrees_with(case.outcome_in(&mut left)) {
+        return Err("the squares do not match".to_owned());
+    }
+    // the first check is made before the second net is looked at
+    let left = if reason > 0 && which == 0 {
+        &found
+    } else {
+        &left
+    };
+    let due = SeamReport {
+        reason,
+        place: 0,
+        edges: if reason == 0 { 4 } else { 0 },
+    };
+    let mut inputs = case.nets.each_ref().map(|net| Inputs::new(net, BEFORE));
+    let mut outputs = Outputs::new(&work_alone(&found), BEFORE);
+    claim(&mut inputs[which], &mut outputs);
+    let given = share_seam(inputs.each_ref(), case.starts, &mut outputs.work);
+    agree("share_seam", &given, &due)?;
+    for (inputs, net) in inputs.iter().zip(&case.nets) {
+        as_expected("share_seam", inputs.differences(net))?;
+    }
+    as_expected("share_seam", outputs.differences(&work_alone(left)))
+}
+
+/// A work table without outputs.
+fn work_alone(workspace: &[u32]) -> Tables {
+    Tables {
+        vertices: vec![],
+        faces: vec![],
+        marks: vec![],
+        with_letters: false,
+        letters: vec![],
+        workspace: workspace.to_vec(),
+    }
 }

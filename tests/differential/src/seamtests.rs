@@ -126,9 +126,11 @@ fn report(answer: Result<usize, Refusal>) -> SeamReport {
 
 /// Whether both nets can lie in the same memory.
 fn is_same(one: &Case, other: &Case) -> bool {
-    let tables = |case: &Case| (case.vertices.clone(), case.faces.clone());
-    let counts = |case: &Case| (case.sides.clone(), case.marks.clone(), case.tension);
-    tables(one) == tables(other) && counts(one) == counts(other)
+    one.vertices == other.vertices
+        && one.faces == other.faces
+        && one.sides == other.sides
+        && one.marks == other.marks
+        && one.tension == other.tension
 }
 
 /// The call that refines this accepted net.
