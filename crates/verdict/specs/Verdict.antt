@@ -1,5 +1,6 @@
 -- The verdict of the check on a call: refused with a number and a place, or accepted. The first refusal that holds is given, in this order: 1; 2 for the vertex
--- table; 14 with side counts, without them 2 for the face table; 2 for the marks; 3; 4; 16; 5 to 12. 15, which a refining call may get after them, is in `outcome`; 17 and 18, of the seam test, in `seamtest`. "Places are the lowest number concerned."
+-- table; 14 with side counts, without them 2 for the face table; 2 for the marks; 3; 4; 16; 5 to 12. 15, which a refining call may get after them, is in `outcome`;
+-- 17 and 18, of the seam test, in `seamtest`. "Places are the lowest number concerned."
 use mathlib.Core.Bool.{Bool, cond, not, _&&_, _||_}
 use mathlib.Core.List.{List, [], _∷_}
 use Prim.Native.Nat.{ℕ, _*_, _/_, _%_, _^_}
