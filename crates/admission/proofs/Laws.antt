@@ -29,13 +29,13 @@ pub passed : {v : Verdict} (f : ℕ) → v ≡ limitsOf f → f ≡ 0 → v ≡ 
 passed f e z = e ∙ rw (eq-eqb f 0 z) refl
 
 -- n corners against the faces where refining begins
-record Corners (s : List ℕ) (n : ℕ) : Type 0 where
-  four : n ≤ 4 * quadrilaterals s n
-  seven : 0 < length s → 7 * n ≤ 16 * quadrilaterals s n
+pub record Corners (s : List ℕ) (n : ℕ) : Type 0 where
+  pub four : n ≤ 4 * quadrilaterals s n
+  pub one : 0 < length s → n ≡ quadrilaterals s n
 
-corners-of : (s : List ℕ) (n : ℕ) → Sided s n → Corners s n
-corners-of [] n k = let e = k .fours refl in record { four = omega arith; seven = λ p. let z : ⊥ = omega arith in absurd z }
-corners-of (c ∷ s) n k = record { four = omega arith; seven = λ p. omega arith }
+pub corners-of : (s : List ℕ) (n : ℕ) → Sided s n → Corners s n
+corners-of [] n k = let e = k .fours refl in record { four = omega arith; one = λ p. let z : ⊥ = omega arith in absurd z }
+corners-of (c ∷ s) n k = record { four = omega arith; one = λ p. refl }
 
 module _ (k : ℕ) (m : ControlNet) (tension : ℕ) (room : Room) (w : List ℕ) where
   abbrev call : Call
@@ -68,7 +68,7 @@ module _ (k : ℕ) (m : ControlNet) (tension : ℕ) (room : Room) (w : List ℕ)
         let f = r .faces in
         let g = once in
         let c = corners in
-        record { few = omega (arith, c .four); sided = r .sided; room = λ p. omega (arith, c .seven p) }
+        record { few = omega (arith, c .four); sided = r .sided; room = λ p. omega (arith, c .one p) }
 
     -- w₁ is the work table with the shape, and u the one that the tests of the net leave
     module _ (w₁ : List ℕ) (built : ShapeBuilt (m .sides) (length (m .faces)) w w₁) (kept : length w₁ ≡ length w) where
@@ -90,7 +90,7 @@ module _ (k : ℕ) (m : ControlNet) (tension : ℕ) (room : Room) (w : List ℕ)
 
         -- past 16g nothing is built
         built-rest : Dec (0 < length (m .sides)) → drop (16 * g) w₁ ≡ drop (16 * g) w
-        built-rest (yes p) = let o = once in let z = final in let c = corners in drop-later (7 * length (m .faces)) (16 * g) w₁ w (omega (arith, c .seven p)) (built .outside .rest)
+        built-rest (yes p) = let o = once in let z = final in let c = corners in drop-later (7 * length (m .faces)) (16 * g) w₁ w (omega (arith, c .one p)) (built .outside .rest)
         built-rest (no p) = ap (drop (16 * g)) (built .none (omega arith))
 
         rest : drop (16 * g) u ≡ drop (16 * g) w

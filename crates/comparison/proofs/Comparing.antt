@@ -19,14 +19,10 @@ use Rattle.polygons.specs.Polygons.{shapeOf}
 use Rattle.nets.specs.Net.{marked}
 use Rattle.boundarywalk.specs.Walkable.{stepped, edgesTo}
 use Rattle.seamtest.specs.SeamTest.{same, sameAxis, sameVertex}
+use Rattle.seamtest.proofs.Agree.{same-is}
 use Rattle.comparison.specs.Walks.{Pair, Walks, firstAt, secondAt, apart, firstApart, Comparable}
 
 -- ---- vertices that are the same have the same mark
-same-is : (c d : Bool) → same c d ≡ true → c ≡ d
-same-is true d t = sym t
-same-is false true t = clash false t refl
-same-is false false t = refl
-
 same-marks : (p : List ℤ) (m : List ℕ) (u : ℕ) (q : List ℤ) (n : List ℕ) (v : ℕ) → sameVertex p m u q n v ≡ true → marked m u ≡ marked n v
 unfolding sameVertex
 same-marks p m u q n v t =

@@ -25,7 +25,7 @@ use Rattle.seamtest.specs.Matching.{Matching, YesExactly}
 use Rattle.seamtest.proofs.Side.{GoodStart, start-if, if-start, start-read, ends-there, unmarked-before, segment, edges-some, read-length, read-point}
 
 -- ---- two vertices with the same point and the same mark
-same-is : (c d : Bool) → same c d ≡ true → c ≡ d
+pub same-is : (c d : Bool) → same c d ≡ true → c ≡ d
 same-is true d t = sym t
 same-is false d t = sym (not-true d t)
 

@@ -1,7 +1,7 @@
 -- How the steps of the seam test fit together. Assumes nothing.
 use mathlib.Core.Path.{_≡_, refl, sym, ap, _∙_, subst}
 use mathlib.Core.Bool.{true, false}
-use mathlib.Core.List.{List, [], _∷_}
+use mathlib.Core.List.{List}
 use Prim.Native.Nat.{ℕ, suc, _+_, _-_, _*_, _≤_, _<_}
 use native.Mathlib.Decide.{decLt}
 use native.Mathlib.Omega.{arith}
@@ -11,11 +11,11 @@ use Rattle.bounds.specs.Bounds.{maxFaces}
 use Rattle.lists.proofs.Parts.{drop-later}
 use Rattle.topology.specs.HalfEdge.{from}
 use Rattle.topology.specs.Boundary.{boundaryFrom, againstSides}
-use Rattle.polygons.specs.Polygons.{shapeOf, Sided}
+use Rattle.polygons.specs.Polygons.{shapeOf}
 use Rattle.tables.specs.Tables.{Written}
 use Rattle.tables.proofs.Laws.{same-rest}
 use Rattle.nets.specs.Net.{marked}
-use Rattle.verdict.specs.Call.{quadrilaterals, lengthsOf, aloneRoom}
+use Rattle.verdict.specs.Call.{lengthsOf, aloneRoom}
 use Rattle.verdict.specs.Verdict.{accepted, refused, verdict}
 use Rattle.verdict.proofs.Accepted.{WithinLimits, accepted-limits, accepted-manifold}
 use Rattle.splitting.proofs.Room.{control-vertices-le}
@@ -30,17 +30,9 @@ use Rattle.adjacency.specs.Chains.{Tables}
 use Rattle.boundarywalk.specs.Walkable.{Walkable, ListRoom, stepped, edgesTo}
 use Rattle.comparison.specs.Walks.{Comparable, firstApart}
 use Rattle.comparison.proofs.Sides.{Starts, step-is, edges-is, sidesAt, comparable, first-apart-is}
+use Rattle.admission.proofs.Laws.{Corners, corners-of}
 use Rattle.sharing.specs.declared.Sharing.the-variants.{Shared, Refused}
 use Rattle.sharing.specs.Walks.{facesOf, BothPassed, Started, Answered, LinkRoom, Relinked}
-
--- corners against faces
-record Corners (s : List ℕ) (n : ℕ) : Type 0 where
-  four : n ≤ 4 * quadrilaterals s n
-  one : 0 < length s → n ≡ quadrilaterals s n
-
-corners-of : (s : List ℕ) (n : ℕ) → Sided s n → Corners s n
-corners-of [] n k = let e = k .fours refl in record { four = omega arith; one = λ p. let z : ⊥ = omega arith in absurd z }
-corners-of (c ∷ s) n k = record { four = omega arith; one = λ p. refl }
 
 -- ---- a side whose net is accepted
 module _ (a : SeamSide) (n : ℕ) (ok : verdict (aloneIn a n) ≡ accepted) where

@@ -3,7 +3,8 @@ use mathlib.Core.Path.{_≡_, refl, sym, _∙_}
 use mathlib.Core.List.{List}
 use Prim.Native.Nat.{ℕ}
 use native.Mathlib.Omega.{arith}
-use Rattle.seamtest.specs.SeamTest.{SeamSide, unlike}
+use Rattle.nets.specs.Net.{controlNet}
+use Rattle.seamtest.specs.SeamTest.{SeamSide, seamSide, unlike}
 use Rattle.comparison.proofs.Sides.{starts-at-mark}
 use borrow.Author.Needs.{needs}
 use Rattle.sharing.proofs.Laws.{not-alike, starts-second, walkable-second, walk-room, relink-room, walkable-first, compare-room, refused-step, shared-edges}
@@ -12,18 +13,10 @@ use Rattle.sharing.proofs.share_marked.Tie as tie
 
 -- both sides
 abbrev first : tie.Start → SeamSide
-first s = record {
-  net = record { vertices = s .args .vertices-a .now; faces = s .args .faces-a .now; sides = s .args .sides-a .now; marks = s .args .marks-a .now };
-  tension = s .args .tension-a;
-  start = s .args .start-a;
-}
+first s = seamSide (controlNet (s .args .vertices-a .now) (s .args .faces-a .now) (s .args .sides-a .now) (s .args .marks-a .now)) (s .args .tension-a) (s .args .start-a)
 
 abbrev second : tie.Start → SeamSide
-second s = record {
-  net = record { vertices = s .args .vertices-b .now; faces = s .args .faces-b .now; sides = s .args .sides-b .now; marks = s .args .marks-b .now };
-  tension = s .args .tension-b;
-  start = s .args .start-b;
-}
+second s = seamSide (controlNet (s .args .vertices-b .now) (s .args .faces-b .now) (s .args .sides-b .now) (s .args .marks-b .now)) (s .args .tension-b) (s .args .start-b)
 
 -- what the test of tensions and side counts says
 abbrev began : tie.After-unlike → tie.Start

@@ -1,6 +1,7 @@
 -- `share_passed` meets its contract. Assumes nothing.
 use mathlib.Core.Path.{_≡_, sym, _∙_}
-use Rattle.seamtest.specs.SeamTest.{SeamSide, badStart}
+use Rattle.nets.specs.Net.{controlNet}
+use Rattle.seamtest.specs.SeamTest.{SeamSide, seamSide, badStart}
 use borrow.Author.Needs.{needs}
 use Rattle.sharing.proofs.Laws.{bad-first, bad-second}
 use Rattle.sharing.proofs.share_passed.Statement.{statement}
@@ -8,18 +9,10 @@ use Rattle.sharing.proofs.share_passed.Tie as tie
 
 -- both sides
 abbrev first : tie.Start → SeamSide
-first s = record {
-  net = record { vertices = s .args .vertices-a .now; faces = s .args .faces-a .now; sides = s .args .sides-a .now; marks = s .args .marks-a .now };
-  tension = s .args .tension-a;
-  start = s .args .start-a;
-}
+first s = seamSide (controlNet (s .args .vertices-a .now) (s .args .faces-a .now) (s .args .sides-a .now) (s .args .marks-a .now)) (s .args .tension-a) (s .args .start-a)
 
 abbrev second : tie.Start → SeamSide
-second s = record {
-  net = record { vertices = s .args .vertices-b .now; faces = s .args .faces-b .now; sides = s .args .sides-b .now; marks = s .args .marks-b .now };
-  tension = s .args .tension-b;
-  start = s .args .start-b;
-}
+second s = seamSide (controlNet (s .args .vertices-b .now) (s .args .faces-b .now) (s .args .sides-b .now) (s .args .marks-b .now)) (s .args .tension-b) (s .args .start-b)
 
 -- what the tests of the starts say
 first-start : (x : tie.After-bad-start) → x .bad-start .result ≡ badStart (first (x .before .before .before .before .before .before .before .before))

@@ -6,7 +6,8 @@ use Prim.Native.Nat.{ℕ}
 use native.Mathlib.Omega.{arith}
 use lib.ListN.{length}
 use lib.Dec.{ltb}
-use Rattle.seamtest.specs.SeamTest.{SeamSide, aloneIn}
+use Rattle.nets.specs.Net.{controlNet}
+use Rattle.seamtest.specs.SeamTest.{SeamSide, seamSide, aloneIn}
 use Rattle.sharing.specs.Walks.{facesOf, BothPassed}
 use Rattle.admission.specs.declared.Admission.{Admission}
 use Rattle.admission.specs.Admission.{Admits}
@@ -17,18 +18,10 @@ use Rattle.sharing.proofs.share_second.Tie as tie
 
 -- both sides
 abbrev first : tie.Start → SeamSide
-first s = record {
-  net = record { vertices = s .args .vertices-a .now; faces = s .args .faces-a .now; sides = s .args .sides-a .now; marks = s .args .marks-a .now };
-  tension = s .args .tension-a;
-  start = s .args .start-a;
-}
+first s = seamSide (controlNet (s .args .vertices-a .now) (s .args .faces-a .now) (s .args .sides-a .now) (s .args .marks-a .now)) (s .args .tension-a) (s .args .start-a)
 
 abbrev second : tie.Start → SeamSide
-second s = record {
-  net = record { vertices = s .args .vertices-b .now; faces = s .args .faces-b .now; sides = s .args .sides-b .now; marks = s .args .marks-b .now };
-  tension = s .args .tension-b;
-  start = s .args .start-b;
-}
+second s = seamSide (controlNet (s .args .vertices-b .now) (s .args .faces-b .now) (s .args .sides-b .now) (s .args .marks-b .now)) (s .args .tension-b) (s .args .start-b)
 
 -- after the admission of the second net: what is left of the work table
 abbrev began : tie.After-admit-alone → tie.Start
