@@ -4,8 +4,8 @@
  * Every new coordinate is worked out exactly and rounded once, to the nearest whole number, halves
  * upward: 2.5 to 3, -2.5 to -2. Two nets of equal tension that share a boundary segment where
  * refining begins, after the split if there is one, share it afterwards, point for point, whatever the
- * rest of either net is; a call tests whether they do. A net that is moved by whole numbers gives its
- * refined net moved by the same, if the coordinates of both are in range.
+ * rest of either net is; a call tests whether two nets match so as they are drawn. A net that is moved
+ * by whole numbers gives its refined net moved by the same, if the coordinates of both are in range.
  *
  * C11 and C++17, x86-64 Linux (System V ABI). Link with libgedrovit.a; nothing but the C library is
  * needed beside it.
@@ -179,9 +179,9 @@
  *   - the tensions are equal, and both nets have side counts or neither has,
  *   - points and marks agree at every step from 0 to the next mark of the first net, both included.
  *
- * It comes with the number of edges of the segment as drawn, before any split, 1 or more. Whatever calls
- * then refine the two nets at these tensions: the nets share the segment where refining begins, and after
- * every step that both calls make, read from these starts and these ways. The numbers of vertices and
+ * It comes with the number of edges of the segment as drawn, before any split, 1 or more. Whatever
+ * accepted calls then refine the two nets at these tensions: the nets share the segment where refining
+ * begins, and after every step that both calls make, read from these starts and these ways. The numbers of vertices and
  * faces and the side counts themselves may differ. A closed segment has no marked vertex and cannot be
  * tested.
  *

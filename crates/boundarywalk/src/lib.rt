@@ -78,7 +78,8 @@ pub fn step_in(faces: &[u32], sides: &[u8], work: &[u32], h: usize, against: boo
     along_in(faces, sides, work, h)
 }
 
-// Walks from the boundary half-edge h to the next mark, writes the vertices met to the work table from the place `at` on, and gives their number.
+// Walks from the boundary half-edge h to the next mark, writes the vertices met after its start, the mark last, to the work table from the place `at` on, and gives their
+// number.
 pub fn walk_to_mark(
     faces: &[u32],
     sides: &[u8],

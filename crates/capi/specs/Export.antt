@@ -4,9 +4,9 @@ use Prim.Native.Nat.{ℕ}
 use lib.IntN.{ℤ}
 use Rattle.admission.specs.Answer.{Checked}
 use Rattle.outcome.specs.Outcome.{Outcome}
+use Rattle.seamtest.specs.SeamTest.{SeamTested}
 use Rattle.nets.specs.Buffers.{Buffers, buffers}
 use Rattle.reports.specs.declared.Finding.{Finding}
-use Rattle.seamtest.specs.SeamTest.{SeamTested}
 use Rattle.reports.specs.declared.Report.{Report}
 use Rattle.reports.specs.declared.SeamReport.{SeamReport}
 use Rattle.reports.specs.Report.{finding, report, seamReportBy}

@@ -72,6 +72,7 @@ pub fn first_apart(
         if !same_vertex(vertices, marks, u, vertices_b, marks_b, v) {
             return k;
         }
+        // the end of the first segment
         if marks[u] == 1 {
             return k + 1;
         }

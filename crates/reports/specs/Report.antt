@@ -30,7 +30,7 @@ sizes k nv nf s nm =
     let g = quadrilaterals s nf * 4 ^ k in
     sizesBy (limitsVerdict k s (lengths nv nf nm (needed g))) (needed g)
 
--- the seam test; reason 0: the segments match
+-- the seam test; reason 0: the segments match. Of a refusal the edges that `seamTested` has are 0
 abbrev pub seamReportBy : Verdict → (edges : ℕ) → SeamReport
 seamReportBy accepted e = record { reason = 0; place = 0; edges = e }
 seamReportBy (refused r p) e = record { reason = r; place = p; edges = e }

@@ -106,11 +106,13 @@ stated (x ∷ l) = x .stated ∷ stated l
 
 abbrev tests : List Row
 tests =
-    -- yes: strips of different depth, squares, squares from their other marks, at tension 0, with one mark each, and with side counts
+    -- yes: strips of different depth, the first net the larger, squares, squares from their other marks, at tension 0, of one edge, with one mark each, and with side counts
     row firstStrip deepStrip 66 accepted 2 64
+    ∷ row firstStrip secondSquare 34 accepted 2 32
     ∷ row firstSquare secondSquare 18 accepted 2 16
     ∷ row (fromVertex 2 firstSquare) (fromVertex 2 secondSquare) 18 accepted 2 16
     ∷ row (atTension 0 firstSquare) (atTension 0 secondSquare) 18 accepted 2 16
+    ∷ row (square (p ++ q ++ r ++ s) (1 ∷ 1 ∷ 0 ∷ 0 ∷ [])) (square (p ++ s ++ r ++ q) (1 ∷ 0 ∷ 0 ∷ 1 ∷ [])) 18 accepted 1 16
     ∷ row (square (p ++ q ++ r ++ s) (1 ∷ 0 ∷ 0 ∷ 0 ∷ [])) (square (p ++ s ++ r ++ q) (1 ∷ 0 ∷ 0 ∷ 0 ∷ [])) 18 accepted 4 16
     ∷ row triangle pentagon 82 accepted 2 80
     -- 18: a point differs, at the first step in x, inside in y, at the last in z
@@ -127,7 +129,9 @@ tests =
     ∷ row firstSquare (atTension 3 (square (p ++ s ++ r ++ s) ends)) 18 (refused 18 0) 0 16
     ∷ row triangle secondSquare 50 (refused 18 0) 0 48
     ∷ row firstSquare pentagon 82 (refused 18 0) 0 80
-    -- 17: an unmarked start, or none of the four vertices; before 18
+    -- 17: a net without vertices, an unmarked start, or none of the four vertices; before 18
+    ∷ row (side [] [] [] []) (side [] [] [] []) 2 (refused 17 1) 0 0
+    ∷ row firstSquare (side [] [] [] []) 18 (refused 17 2) 0 16
     ∷ row (fromVertex 1 firstSquare) secondSquare 18 (refused 17 1) 0 16
     ∷ row firstSquare (fromVertex 1 secondSquare) 18 (refused 17 2) 0 16
     ∷ row (fromVertex 1 firstSquare) (fromVertex 1 secondSquare) 18 (refused 17 1) 0 16
@@ -137,6 +141,7 @@ tests =
     -- the first net is refused: only its own work numbers are cleared, and none if the call is refused
     ∷ row (square (p ++ beyond ++ r ++ s) ends) secondStrip 34 (refused 5 1) 0 16
     ∷ row fewMarks secondStrip 34 (refused 2 0) 0 0
+    ∷ row (side (p ++ q ++ r) (0 ∷ 1 ∷ 2 ∷ []) (2 ∷ []) (1 ∷ 0 ∷ 1 ∷ [])) pentagon 82 (refused 14 0) 0 0
     ∷ row (atTension 5 firstSquare) secondSquare 18 (refused 16 0) 0 0
     ∷ row firstStrip secondSquare 31 (refused 4 0) 0 0
     -- the second net is refused: those of both are cleared, and those of the first if the call is refused; before 17

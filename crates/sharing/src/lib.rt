@@ -59,7 +59,8 @@ fn relink(faces: &[u32], sides: &[u8], work: &mut [u32])
 }
 
 // The test of two accepted nets with good starts. The vertices of the second segment, met against the boundary, are listed behind all tables of half-edges; then the first net's
-// mates and shape take the place of the second's, and its segment is walked and compared with the list.
+// mates and shape take the place of the second's, and its segment is walked and compared with the list. Neither net has more than f faces, of quadrilaterals where there are
+// side counts.
 fn share_marked(
     vertices_a: &[i32],
     faces_a: &[u32],
@@ -113,7 +114,7 @@ fn share_marked(
     Sharing::Shared(edges)
 }
 
-// The test of two accepted nets, with mates and shape of the second in the work table.
+// The test of two accepted nets of at most f faces, of quadrilaterals where there are side counts, with mates and shape of the second in the work table.
 fn share_passed(
     vertices_a: &[i32],
     faces_a: &[u32],

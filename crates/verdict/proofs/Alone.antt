@@ -6,9 +6,9 @@ use native.Mathlib.Omega.{arith}
 use lib.ListN.{length}
 use lib.Dec.{ltb}
 use borrow.Author.Tests.{le-ltb}
-use Rattle.bounds.specs.Bounds.{maxRounds, maxFaces}
+use Rattle.bounds.specs.Bounds.{maxRounds}
 use Rattle.nets.specs.Net.{ControlNet}
-use Rattle.verdict.specs.Call.{Room, room, call, alone, quadrilaterals}
+use Rattle.verdict.specs.Call.{Room, call, alone, quadrilaterals, aloneRoom}
 use Rattle.verdict.specs.Verdict.{Verdict, orElse, refusedIf, tablesVerdict, sizeVerdict, roomVerdict, limitsVerdict, netVerdict, verdict}
 use Rattle.verdict.proofs.Accepted.{else-same, sized-faces}
 
@@ -30,7 +30,7 @@ alone-any m t o r =
     let f : ℕ = quadrilaterals (m .sides) (length (m .faces)) in
     let v : ℕ = length (m .vertices) / 3 in
     let e : f * 4 ^ 0 ≡ f = omega arith in
-    let z : Room = room (12 * maxFaces) (4 * maxFaces) (4 * maxFaces) false 0 (o .work) in
+    let z : Room = aloneRoom (o .work) in
     ap (λ (c : Verdict). orElse (orElse c (refusedIf 16 (ltb 4 t))) (netVerdict m))
     (else-same (refusedIf 1 (ltb maxRounds 0)) (λ e₁.
     else-same (tablesVerdict (length (m .vertices)) (length (m .faces)) (m .sides) (length (m .marks))) (λ e₂.

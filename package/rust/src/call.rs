@@ -92,8 +92,8 @@ pub fn lengths(rounds: u32, net: NetView<'_>) -> Result<Lengths, Refusal> {
 ///
 /// # Errors
 ///
-/// Every reason but 17 and 18. The record, the vertices, faces, marks and letters stay as they are, and on reasons
-/// 1 to 4, 14 and 16 the work numbers too.
+/// Every reason but 17 and 18. The record, the vertices, faces, marks and letters stay as they are,
+/// and on reasons 1 to 4, 14 and 16 the work numbers too.
 pub fn refine(
     tally: &mut Tally,
     rounds: u32,

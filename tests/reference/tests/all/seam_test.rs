@@ -214,7 +214,7 @@ fn a_single_mark_reads_back_to_itself() {
     assert_eq!(tested(&first, &twice_round), Err((18, 4)));
 }
 
-/// "18 unless the stretch reads the same both ways".
+/// 18, unless the segment reads the same both ways.
 #[test]
 fn the_same_net_twice() {
     let flat = plain(&with_marks(grid(2, 1), &[0, 2]), 0);
