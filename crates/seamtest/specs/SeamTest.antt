@@ -39,6 +39,7 @@ edgesFrom a way = suc (first (λ (i : ℕ). marked (a .net .marks) (stepAt a way
 unfoldable pub badStart : SeamSide → Bool
 badStart a = not (ltb (a .start) (length (a .net .marks)) && marked (a .net .marks) (a .start))
 
+-- whether two truth values are equal
 abbrev pub same : Bool → Bool → Bool
 same true c = c
 same false c = not c
@@ -47,6 +48,7 @@ same false c = not c
 abbrev pub hasSides : SeamSide → Bool
 hasSides a = ltb 0 (length (a .net .sides))
 
+-- 18 with place 0: "the tensions differ or only one net has side counts"
 unfoldable pub unlike : SeamSide → SeamSide → Bool
 unlike a b = not (eqb (a .tension) (b .tension)) || not (same (hasSides a) (hasSides b))
 

@@ -138,6 +138,13 @@ written-rest i e f w w′ k x =
     ext-getD 0 (drop e w′) (drop e w) (omega (arith, length-drop e w, length-drop e w′))
     (λ j b. getD-drop e w′ j 0 ∙ x .behind (e + j) (omega arith) ∙ sym (getD-drop e w j 0))
 
+-- w₁ is w with the list of the second segment, of e edges, from its half-edge g on
+pub record SecondListed (b : SeamSide) (f : ℕ) (w : List ℕ) (g e : ℕ) (w₁ : List ℕ) : Type 0 where
+  pub half : g ≡ boundaryFrom (shapeOf (b .net .sides)) (b .net .faces) (b .start)
+  pub edges : e ≡ edgesTo (shapeOf (b .net .sides)) (b .net .faces) (b .net .marks) true g
+  pub kept : length w₁ ≡ length w
+  pub list : Written (12 * f) (12 * f + e) (λ (j : ℕ). from (b .net .faces) (stepped (shapeOf (b .net .sides)) (b .net .faces) true g (suc (j - 12 * f)))) w w₁
+
 module _ (a b : SeamSide) (f : ℕ) (w : List ℕ) (s : Started a b f w) where
   abbrev p : BothPassed a b f w
   p = s .passed
@@ -157,15 +164,12 @@ module _ (a b : SeamSide) (f : ℕ) (w : List ℕ) (s : Started a b f w) where
   pub walk-room : ListRoom (b .net .sides) (b .net .faces) w (12 * f)
   walk-room = list-room b (length w) (p .second) w f (p .secondFaces) (p .room) (p .few)
 
-  -- w₁ is the work table with the list of the second segment, from its half-edge g on
-  module _ (g : ℕ) (at-second : g ≡ boundaryFrom (shapeOf (b .net .sides)) (b .net .faces) (b .start)) (e : ℕ)
-      (walked : e ≡ edgesTo (shapeOf (b .net .sides)) (b .net .faces) (b .net .marks) true g) (w₁ : List ℕ) (k₁ : length w₁ ≡ length w)
-      (list : Written (12 * f) (12 * f + e) (λ (j : ℕ). from (b .net .faces) (stepped (shapeOf (b .net .sides)) (b .net .faces) true g (suc (j - 12 * f)))) w w₁) where
+  module _ (g e : ℕ) (w₁ : List ℕ) (l : SecondListed b f w g e w₁) where
     pub relink-room : LinkRoom (a .net .sides) (a .net .faces) w₁
-    relink-room = let r = p .room in link-room a (length w) (p .first) w₁ f (p .firstFaces) (omega arith)
+    relink-room = let r = p .room in let k = l .kept in link-room a (length w) (p .first) w₁ f (p .firstFaces) (omega arith)
 
     edges-second : e ≡ edgesFrom b againstSides
-    edges-second = walked ∙ edges-is b g (starts-second g at-second) true
+    edges-second = l .edges ∙ edges-is b g (starts-second g (l .half)) true
 
     few-edges : e ≤ 4 * f
     few-edges =
@@ -189,9 +193,9 @@ module _ (a b : SeamSide) (f : ℕ) (w : List ℕ) (s : Started a b f w) where
           let y = edges-second in
           let z : 12 * f + i - 12 * f ≡ i = omega arith in
           same-rest (12 * f) w₁ w₂ kept (12 * f + i) (omega arith)
-          ∙ list .inside (12 * f + i) (omega arith) (omega arith)
+          ∙ l .list .inside (12 * f + i) (omega arith) (omega arith)
           ∙ ap (λ (j : ℕ). from (b .net .faces) (stepped (shapeOf (b .net .sides)) (b .net .faces) true g (suc j))) z
-          ∙ step-is b g (starts-second g at-second) true (suc i)
+          ∙ step-is b g (starts-second g (l .half)) true (suc i)
 
       ends : marked (b .net .marks) (stepAt b againstSides (edgesFrom b againstSides)) ≡ true
       ends = ends-there b (length w) (p .second) (start-if b (s .second)) againstSides
@@ -202,14 +206,15 @@ module _ (a b : SeamSide) (f : ℕ) (w : List ℕ) (s : Started a b f w) where
           let y = edges-second in
           let m = p .few in
           let r = p .room in
+          let k = l .kept in
           subst (Comparable (sidesAt a b h w₂ (12 * f))) (sym y)
-          (comparable a b h (starts-first h at-first) w₂ (12 * f) listed ends g (starts-second g at-second) walkable-first (omega arith) (omega arith) (omega arith))
+          (comparable a b h (starts-first h at-first) w₂ (12 * f) listed ends g (starts-second g (l .half)) walkable-first (omega arith) (omega arith) (omega arith))
 
       rest : drop (16 * f) w₂ ≡ drop (16 * f) w
       rest =
           let x = few-edges in
           drop-later (12 * f) (16 * f) w₂ w₁ (omega arith) kept
-          ∙ drop-later (12 * f + e) (16 * f) w₁ w (omega arith) (written-rest (12 * f) (12 * f + e) _ w w₁ k₁ list)
+          ∙ drop-later (12 * f + e) (16 * f) w₁ w (omega arith) (written-rest (12 * f) (12 * f + e) _ w w₁ (l .kept) (l .list))
 
       module _ (like : unlike a b ≡ false) (k : ℕ) (found : k ≡ firstApart (sidesAt a b h w₂ (12 * f))) where
         none : NoneBeforeSteps a b (length w)
@@ -218,14 +223,14 @@ module _ (a b : SeamSide) (f : ℕ) (w : List ℕ) (s : Started a b f w) where
         step : k ≡ firstDiffering a b
         step = found ∙ first-apart-is a b h (starts-first h at-first) w₂ (12 * f) listed ends
 
-        pub refused-step : k ≤ e → Answered a b f w (Refused 18 k) w₂
+        refused-step : k ≤ e → Answered a b f w (Refused 18 k) w₂
         refused-step c =
             let x = step in
             let y = edges-second in
             let v = differs-refused a b (length w) none (omega arith) in
             record { verdict = ap (refused 18) x ∙ sym v; edges = sym (no-edges a b (length w) 18 (firstDiffering a b) v); rest = rest }
 
-        pub shared-edges : e < k → Answered a b f w (Shared e) w₂
+        shared-edges : e < k → Answered a b f w (Shared e) w₂
         shared-edges c =
             let x = step in
             let y = edges-second in
@@ -234,3 +239,7 @@ module _ (a b : SeamSide) (f : ℕ) (w : List ℕ) (s : Started a b f w) where
               edges = y ∙ sym (agrees-reported a b (length w) none (omega arith));
               rest = rest;
             }
+
+        -- the answer by the step that was found
+        pub answered-step : (k ≤ e → Answered a b f w (Refused 18 k) w₂) × (e < k → Answered a b f w (Shared e) w₂)
+        answered-step = (refused-step, shared-edges)

@@ -1,11 +1,13 @@
 -- `first_apart` meets its contract: the first walk ends no later than the second, whose last vertex is marked. Assumes nothing.
+use mathlib.Core.Path.{_≡_}
+use mathlib.Core.Bool.{true, false}
 use Prim.Native.Nat.{_+_, _-_, _<_}
 use native.Mathlib.Omega.{arith}
-use lib.ListN.{length, getD}
+use lib.ListN.{length}
 use borrow.Author.Tests.{eq-eqb, ne-eqb, not-true, not-false}
 use Rattle.topology.specs.HalfEdge.{from}
 use Rattle.nets.specs.Net.{marked}
-use Rattle.comparison.specs.Walks.{Walks, walks}
+use Rattle.comparison.specs.Walks.{Walks, walks, firstApart}
 use Rattle.comparison.proofs.Comparing.{Comparing, start-pair, start-apart, comparing-start, comparing-lt, comparing-ends, next-lt, next-pair, next-apart, next-end, comparing-next}
 use Rattle.comparison.proofs.first_apart.Statement.{statement}
 use Rattle.comparison.proofs.first_apart.Tie as tie
@@ -123,30 +125,30 @@ shared-slice-read-if3 c =
 add-result : tie.Need-add-result Inv-loop μ-loop
 add-result c = omega (arith, start (c .before .before .before .before .before .before .before .before) .pre .few)
 
-returns-3 : tie.Need-returns-3 Inv-loop μ-loop
-unfolding from marked
-returns-3 c =
-    let d = c .before .before .before .before .before .before in
+-- where the step does not differ: its mark decides
+step-on : (y : tie.Else2 Inv-loop μ-loop) → (let d = y .before .before .before .before in let s = start (d .before .before) in let q = d .before .before .loop in let g = d .along-in .result in
+    let m = marked (s .args .marks .now) (from (s .args .faces .now) g) in (m ≡ true → q .k + 1 + 1 ≡ firstApart (both s)) × (m ≡ false → Comparing (both s) (s .args .e) g (q .k + 1)))
+unfolding from
+step-on y =
+    let d = y .before .before .before .before in
     let s = start (d .before .before) in
     let q = d .before .before .loop in
-    let x = c .before .before .before .same-vertex2 in
-    let t = not-false (x .result) (c .before .before .if2 .left) in
-    let m = eq-eqb (getD (s .args .marks .now) (from (s .args .faces .now) (d .along-in .result)) 0) 1 (c .if3 .taken) in
-    next-end (both s) (s .args .e) (s .pre) (q .g) (q .k) (q .inv) (d .before .loop-test .taken) (d .along-in .result) (d .along-in .ensures) (x .result) (x .ensures) t m
+    let x = y .before .same-vertex2 in
+    let t = not-false (x .result) (y .if2 .left) in (
+      next-end (both s) (s .args .e) (s .pre) (q .g) (q .k) (q .inv) (d .before .loop-test .taken) (d .along-in .result) (d .along-in .ensures) (x .result) (x .ensures) t,
+      comparing-next (both s) (s .args .e) (s .pre) (q .g) (q .k) (q .inv) (d .before .loop-test .taken) (d .along-in .result) (d .along-in .ensures) (x .result) (x .ensures) t,
+    )
+
+returns-3 : tie.Need-returns-3 Inv-loop μ-loop
+unfolding from marked
+returns-3 c = step-on (c .before .before) .0 (eq-eqb _ 1 (c .if3 .taken))
 
 loop-less : tie.Need-loop-less Inv-loop μ-loop
 loop-less c = omega arith
 
 loop-again : tie.Need-loop-again Inv-loop μ-loop
 unfolding from marked
-loop-again c =
-    let d = c .before .before .before .before .before .before in
-    let s = start (d .before .before) in
-    let q = d .before .before .loop in
-    let x = c .before .before .before .same-vertex2 in
-    let t = not-false (x .result) (c .before .before .if2 .left) in
-    let m = ne-eqb (getD (s .args .marks .now) (from (s .args .faces .now) (d .along-in .result)) 0) 1 (c .if3 .left) in
-    comparing-next (both s) (s .args .e) (s .pre) (q .g) (q .k) (q .inv) (d .before .loop-test .taken) (d .along-in .result) (d .along-in .ensures) (x .result) (x .ensures) t m
+loop-again c = step-on (c .before .before) .1 (ne-eqb _ 1 (c .if3 .left))
 
 -- ---- the loop does not run out
 add-result-2 : tie.Need-add-result-2 Inv-loop μ-loop

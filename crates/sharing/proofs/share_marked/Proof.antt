@@ -1,13 +1,15 @@
 -- `share_marked` meets its contract: the second segment is listed, and the first one compared with the list. Assumes nothing.
 use mathlib.Core.Path.{_≡_, refl, sym, _∙_}
 use mathlib.Core.List.{List}
-use Prim.Native.Nat.{ℕ}
+use Prim.Native.Nat.{ℕ, _≤_, _<_}
 use native.Mathlib.Omega.{arith}
 use Rattle.nets.specs.Net.{controlNet}
 use Rattle.seamtest.specs.SeamTest.{SeamSide, seamSide, unlike}
 use Rattle.comparison.proofs.Sides.{starts-at-mark}
 use borrow.Author.Needs.{needs}
-use Rattle.sharing.proofs.Laws.{not-alike, starts-second, walkable-second, walk-room, relink-room, walkable-first, compare-room, refused-step, shared-edges}
+use Rattle.sharing.specs.declared.Sharing.the-variants.{Shared, Refused}
+use Rattle.sharing.specs.Walks.{Answered}
+use Rattle.sharing.proofs.Laws.{not-alike, starts-second, walkable-second, walk-room, relink-room, walkable-first, SecondListed, compare-room, answered-step}
 use Rattle.sharing.proofs.share_marked.Statement.{statement}
 use Rattle.sharing.proofs.share_marked.Tie as tie
 
@@ -40,6 +42,22 @@ walked z = z .before .before .before .before
 abbrev tables : tie.After-relink → List ℕ
 tables z = z .relink .last .1 .1 .0
 
+listed : (y : tie.After-walk-to-mark) → (let s = began (tested y) in SecondListed (second s) (s .args .f) (s .args .work .now) (y .before .before .boundary-from .result) (y .walk-to-mark .result) (list y))
+listed y = record { half = y .before .before .boundary-from .ensures; edges = y .walk-to-mark .ensures .0; kept = y .walk-to-mark .kept .1 .1 .1 .0; list = y .walk-to-mark .ensures .1 }
+
+-- after the comparison: the answer by the step that was found
+abbrev built : tie.After-first-apart → tie.After-relink
+built v = v .before .before .before .before .before .before
+
+answers : (v : tie.After-first-apart) → (let y = walked (built v) in let s = began (tested y) in let k = v .first-apart .result in let e = y .walk-to-mark .result in
+    (k ≤ e → Answered (first s) (second s) (s .args .f) (s .args .work .now) (Refused 18 k) (tables (built v))) × (e < k → Answered (first s) (second s) (s .args .f) (s .args .work .now) (Shared e) (tables (built v))))
+answers v =
+    let z = built v in
+    let y = walked z in
+    let s = began (tested y) in
+    answered-step (first s) (second s) (s .args .f) (s .args .work .now) (s .pre) _ _ (list y) (listed y) (tables z) (z .relink .kept .1 .1 .0) (z .relink .ensures) _ (v .before .before .boundary-from2 .ensures)
+    (sym (like (tested y)) ∙ y .before .before .before .before .if1 .left) _ (v .first-apart .ensures)
+
 unlike-requires : tie.Need-unlike-requires
 unlike-requires c κs = search needs
 
@@ -65,14 +83,14 @@ relink-requires : tie.Need-relink-requires
 relink-requires c κs =
     let y = c .before .before .before in
     let s = began (tested y) in
-    relink-room (first s) (second s) (s .args .f) (s .args .work .now) (s .pre) _ (y .before .before .boundary-from .ensures) _ (y .walk-to-mark .ensures .0) (list y) (y .walk-to-mark .kept .1 .1 .1 .0) (y .walk-to-mark .ensures .1)
+    relink-room (first s) (second s) (s .args .f) (s .args .work .now) (s .pre) _ _ (list y) (listed y)
 
 boundary-from-requires-2 : tie.Need-boundary-from-requires-2
 boundary-from-requires-2 c κs =
     let z = c .before .before .before in
     let y = walked z in
     let s = began (tested y) in
-    walkable-first (first s) (second s) (s .args .f) (s .args .work .now) (s .pre) _ (y .before .before .boundary-from .ensures) _ (y .walk-to-mark .ensures .0) (list y) (y .walk-to-mark .kept .1 .1 .1 .0) (y .walk-to-mark .ensures .1)
+    walkable-first (first s) (second s) (s .args .f) (s .args .work .now) (s .pre) _ _ (list y) (listed y)
     (tables z) (z .relink .kept .1 .1 .0) (z .relink .ensures) _ refl
 
 mul-first-apart : tie.Need-mul-first-apart
@@ -84,34 +102,20 @@ first-apart-requires c κs =
     let z = x .before .before .before .before in
     let y = walked z in
     let s = began (tested y) in
-    compare-room (first s) (second s) (s .args .f) (s .args .work .now) (s .pre) _ (y .before .before .boundary-from .ensures) _ (y .walk-to-mark .ensures .0) (list y) (y .walk-to-mark .kept .1 .1 .1 .0) (y .walk-to-mark .ensures .1)
+    compare-room (first s) (second s) (s .args .f) (s .args .work .now) (s .pre) _ _ (list y) (listed y)
     (tables z) (z .relink .kept .1 .1 .0) (z .relink .ensures) _ (x .boundary-from2 .ensures)
 
 same-length : tie.Need-same-length
 same-length c = search needs
 
 returns-2 : tie.Need-returns-2
-returns-2 c =
-    let v = c .before in
-    let x = v .before .before in
-    let z = x .before .before .before .before in
-    let y = walked z in
-    let s = began (tested y) in
-    refused-step (first s) (second s) (s .args .f) (s .args .work .now) (s .pre) _ (y .before .before .boundary-from .ensures) _ (y .walk-to-mark .ensures .0) (list y) (y .walk-to-mark .kept .1 .1 .1 .0) (y .walk-to-mark .ensures .1)
-    (tables z) (z .relink .kept .1 .1 .0) (z .relink .ensures) _ (x .boundary-from2 .ensures) (sym (like (tested y)) ∙ y .before .before .before .before .if1 .left) _ (v .first-apart .ensures) (c .if2 .taken)
+returns-2 c = answers (c .before) .0 (c .if2 .taken)
 
 same-length-2 : tie.Need-same-length-2
 same-length-2 c = search needs
 
 returns-3 : tie.Need-returns-3
-returns-3 c =
-    let v = c .before in
-    let x = v .before .before in
-    let z = x .before .before .before .before in
-    let y = walked z in
-    let s = began (tested y) in
-    shared-edges (first s) (second s) (s .args .f) (s .args .work .now) (s .pre) _ (y .before .before .boundary-from .ensures) _ (y .walk-to-mark .ensures .0) (list y) (y .walk-to-mark .kept .1 .1 .1 .0) (y .walk-to-mark .ensures .1)
-    (tables z) (z .relink .kept .1 .1 .0) (z .relink .ensures) _ (x .boundary-from2 .ensures) (sym (like (tested y)) ∙ y .before .before .before .before .if1 .left) _ (v .first-apart .ensures) (c .if2 .left)
+returns-3 c = answers (c .before) .1 (c .if2 .left)
 
 pub share-marked-spec : {M : Type 1} → statement M
 share-marked-spec =
