@@ -1,5 +1,7 @@
 // The chains of the half-edges that leave each vertex, and the mates, built in the caller's work table; what is found along the chains and by turning from
 // mate to mate.
+#![tactic(auto)]
+
 ghost use Rattle.std.specs.Prelude.{◌≡◌, ◌*◌, ◌≤◌, ◌<◌, length, drop, eqb};
 ghost use Rattle.search.specs.Search.{first};
 ghost use Rattle.topology.specs.HalfEdge.{mate};

@@ -1,4 +1,6 @@
 // Admitting the net of a call, or refusing it; and the check, which only says which.
+#![tactic(auto)]
+
 ghost use Rattle.std.specs.Prelude.{◌≡◌, length};
 ghost use Rattle.nets.specs.Net.{control_net};
 ghost use Rattle.verdict.specs.Call.{call, alone_room, alone};

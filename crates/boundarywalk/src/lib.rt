@@ -1,4 +1,6 @@
 // Walks along the boundary of a net with side counts or without, on the caller's tables of corners and mates. The number of half-edges stands for 'none'.
+#![tactic(auto)]
+
 ghost use Rattle.std.specs.Prelude.{◌≡◌, ℕ, suc, ◌+◌, ◌-◌, ◌<◌, length};
 ghost use Rattle.topology.specs.HalfEdge.{from};
 ghost use Rattle.topology.specs.Boundary.{boundary_from, along, back, boundary_step};

@@ -1,4 +1,5 @@
 // The limits of papers 01 and 02, as `specs/Bounds` names them. No function.
+#![tactic(auto)]
 
 // Refusal 1.
 pub const MAX_ROUNDS: u32 = 6;

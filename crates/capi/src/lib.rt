@@ -1,4 +1,6 @@
 // The functions for C.
+#![tactic(auto)]
+
 ghost use Rattle.std.specs.Prelude.{◌≡◌, length};
 ghost use Rattle.nets.specs.Net.{control_net};
 ghost use Rattle.verdict.specs.Call.{room, call};

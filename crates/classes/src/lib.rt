@@ -1,4 +1,6 @@
 // Which vertices are ordinary: the ring sizes of the vertices where refining begins, counted once, in 16 bits, and read in every round.
+#![tactic(auto)]
+
 ghost use Rattle.std.specs.Prelude.{◌≡◌, ◌+◌, ◌≤◌, ◌<◌, length};
 ghost use Rattle.tables.specs.Tables.{SameOutside};
 ghost use Rattle.halfedges.specs.Tables.{Connectivity};

@@ -1,4 +1,6 @@
 // Two boundary segments compared step by step: one walked in its net, the other given by the vertices that a walk met.
+#![tactic(auto)]
+
 ghost use Rattle.std.specs.Prelude.{◌≡◌, ◌+◌, ◌*◌, ◌<◌, length};
 ghost use Rattle.bounds.specs.Bounds.{max_vertices};
 ghost use Rattle.seamtest.specs.SeamTest.{same_axis, same_vertex};

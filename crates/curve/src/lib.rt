@@ -1,4 +1,6 @@
 // The four-point curve: definitions in specs/, laws in proofs/; and its rules as functions: the end rule and the single rule are the four-point rule with mirrored points.
+#![tactic(auto)]
+
 ghost use Rattle.std.specs.Prelude.{◌≡◌, ◌*◌, ◌≤◌, ◌<◌, ◌^◌, nat_abs};
 ghost use Rattle.curve.specs.Weights.{tension, interior, mirror};
 

@@ -1,4 +1,6 @@
 // Numbers as text: read from the front of a slice, and written into one.
+#![tactic(auto)]
+
 ghost use Rattle.std.specs.Prelude.{◌≡◌, ◌+◌, ◌≤◌, length, nat_abs, pos, neg_ℤ};
 ghost use Rattle.decimalform.specs.Decimal.{natural_text, integer_text, is_digit, read_digits, at_most, read_natural, read_integer, largest_number, largest_magnitude};
 ghost use Rattle.decimalform.specs.Stored.{Stored};

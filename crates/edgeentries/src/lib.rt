@@ -1,5 +1,7 @@
 // Edges in the work table of a round: behind the mates of the n half-edges the entry of each edge, its number and a flag, and from 2n on the exact points, six numbers each. A
 // coordinate is two 32-bit numbers, its lower half first.
+#![tactic(auto)]
+
 ghost use Rattle.std.specs.Prelude.{◌≡◌, ◌+◌, ◌*◌, ◌^◌, ◌≤◌, ◌<◌, ltb, leb, nat_abs, length, get_or};
 ghost use Rattle.edgeentries.specs.Packed.{biased, biased_at, packed_at, put, put_three};
 ghost use Rattle.edgeentries.specs.Entry.{wide_flag, boundary_flag, entry_of, edge_of, point_place, place_of, put_edge, copied};

@@ -1,4 +1,6 @@
 // Numbers the edges of a net from its mates, in the caller's work table.
+#![tactic(auto)]
+
 ghost use Rattle.std.specs.Prelude.{◌≡◌, ◌+◌, ◌<◌, set, take};
 ghost use Rattle.search.specs.Search.{count};
 ghost use Rattle.tables.specs.Tables.{filled};

@@ -1,4 +1,6 @@
 // An edge in the tables of a round: it is numbered as it is met, its exact point goes to the work table, its rounded point behind the old ones.
+#![tactic(auto)]
+
 ghost use Rattle.edgetable.specs.EdgeTable.{Turn, Turned};
 
 use coordinates::Exact;

@@ -1,4 +1,6 @@
 // Refusals 5 to 12 of a net, in their order.
+#![tactic(auto)]
+
 ghost use Rattle.std.specs.Prelude.{◌≡◌, length};
 ghost use Rattle.search.specs.Search.{first};
 ghost use Rattle.refusals.specs.Refusals.{bad_corner};

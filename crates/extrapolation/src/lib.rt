@@ -1,4 +1,6 @@
 // What is met in turning round a vertex, and the extrapolated point of a boundary vertex, on all axes.
+#![tactic(auto)]
+
 ghost use Rattle.std.specs.Prelude.{◌≡◌, ◌*◌, ◌≤◌, ◌<◌, pos, nat_abs, ◌-ℤ◌, ◌*ℤ◌, length};
 ghost use Rattle.rings.specs.Scales.{extrapolated_scale, coordinate_range};
 ghost use Rattle.topology.specs.Shape.{quads};

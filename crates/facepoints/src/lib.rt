@@ -1,4 +1,6 @@
 // The points of faces, from the mates, the entries of the edges and their exact points in the work table.
+#![tactic(auto)]
+
 ghost use Rattle.std.specs.Prelude.{◌≡◌, ◌+◌, ◌*◌, ◌≤◌, ◌<◌, length};
 ghost use Rattle.curve.specs.Weights.{tension};
 ghost use Rattle.coordinates.specs.Points.{put_point};

@@ -1,5 +1,7 @@
 // The edges of a family, in a net that a round made. Where the face that was split has mates on its four sides and ordinary corners, every edge of the family lies on a line of
 // vertices with fixed places: it takes no walk and no test of its own.
+#![tactic(auto)]
+
 ghost use Rattle.std.specs.Prelude.{◌≡◌, true, ◌+◌, ◌<◌, length};
 ghost use Rattle.halfedges.specs.Tables.{Connectivity};
 ghost use Rattle.exactedges.specs.Edge.{ClassedCorners};

@@ -1,5 +1,7 @@
 // The faces of a family, in a net that a round made: where the eight halves of the sides of the face that was split are plain, so are all eight edges of each of its faces,
 // and one direction is enough.
+#![tactic(auto)]
+
 ghost use Rattle.std.specs.Prelude.{◌≡◌, true, ◌+◌, ◌*◌, ◌/◌, ◌%◌, ◌≤◌, length};
 ghost use Rattle.curve.specs.Weights.{tension};
 ghost use Rattle.tables.specs.Tables.{Written};

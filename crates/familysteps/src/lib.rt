@@ -1,4 +1,6 @@
 // The edges of a plain family one after the other, by vertices that were read.
+#![tactic(auto)]
+
 ghost use Rattle.std.specs.Prelude.{◌+◌};
 ghost use Rattle.familylines.specs.Steps.{Going, Carries};
 ghost use Rattle.familysteps.specs.Family.{FamilyOf};

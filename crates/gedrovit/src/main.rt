@@ -1,4 +1,6 @@
 // The program: a text on standard input, the answer on standard output. A read or write that fails is told on standard error.
+#![tactic(auto)]
+
 ghost use Rattle.std.specs.Prelude.{◌≤◌, length};
 ghost use Rattle.programform.specs.Input.{input_room};
 ghost use Rattle.gedrovit.specs.Input.{bytes_of};

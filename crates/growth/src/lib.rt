@@ -1,4 +1,6 @@
 // How many vertices a net has after refinement steps, from its mates and its counts, and whether a tally can take the new ones.
+#![tactic(auto)]
+
 ghost use Rattle.std.specs.Prelude.{◌≡◌, ◌+◌, ◌≤◌, ltb, length};
 ghost use Rattle.bounds.specs.Bounds.{max_corners, max_half_edges, max_tally};
 ghost use Rattle.polygons.specs.Polygons.{shape_of};

@@ -1,5 +1,7 @@
 // Half-edges of four-sided faces: steps round a face, the vertices that a half-edge meets, its mate; read from the caller's tables of corners and mates.
 // The number of half-edges stands for 'none'.
+#![tactic(auto)]
+
 ghost use Rattle.std.specs.Prelude.{◌≡◌, ◌<◌, length};
 ghost use Rattle.bounds.specs.Bounds.{max_half_edges};
 ghost use Rattle.topology.specs.Shape.{quads};

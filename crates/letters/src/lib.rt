@@ -1,4 +1,6 @@
 // Letters of refined vertices: which rule made each, by corners, marks and mates alone. Most are those of inner edges and of faces away from the boundary.
+#![tactic(auto)]
+
 ghost use Rattle.std.specs.Prelude.{◌≡◌, true, ℕ, ◌+◌, ◌≤◌, ◌<◌, length, set};
 ghost use Rattle.tables.specs.Tables.{Written};
 ghost use Rattle.topology.specs.Shape.{quads};

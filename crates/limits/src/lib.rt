@@ -1,4 +1,6 @@
 // Refusals 1 to 4 and 14, from the side counts and the lengths of the other tables, and 16, from the tension.
+#![tactic(auto)]
+
 ghost use Rattle.std.specs.Prelude.{◌≤◌, ◌/◌, ◌*◌, ◌^◌, ◌≡◌, ◌&&◌, ltb};
 ghost use Rattle.bounds.specs.Bounds.{max_rounds, max_product};
 ghost use Rattle.polygons.specs.Polygons.{bad_count, bad_sides};

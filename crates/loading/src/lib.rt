@@ -1,4 +1,6 @@
 // Brings the net where refining begins to the caller's tables: a copy of the drawn net, or its split where there are side counts.
+#![tactic(auto)]
+
 ghost use Rattle.std.specs.Prelude.{◌<◌, length};
 ghost use Rattle.nets.specs.Net.{control_net};
 ghost use Rattle.nets.specs.Buffers.{buffers};

@@ -1,4 +1,6 @@
 // Refusals 10 to 12, found with mates built and vertices counted: faces round a vertex that form neither a ring nor a fan, valences, marks inside.
+#![tactic(auto)]
+
 ghost use Rattle.std.specs.Prelude.{◌≡◌, ◌<◌, length};
 ghost use Rattle.search.specs.Search.{first};
 ghost use Rattle.topology.specs.Vertex.{leaves};

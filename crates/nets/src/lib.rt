@@ -1,1 +1,2 @@
 // Nets as tables: definitions in specs/. No function.
+#![tactic(auto)]

@@ -1,4 +1,6 @@
 // A net read from a Wavefront OBJ text in two passes: the first decides refusal 13 and counts vertices and faces, the second stores them.
+#![tactic(auto)]
+
 ghost use Rattle.std.specs.Prelude.{◌≡◌, ◌+◌, ◌≤◌, ◌<◌, length, drop};
 ghost use Rattle.decimal.specs.Answers.{Gives, GivesNumber};
 ghost use Rattle.textform.specs.Limits.{longest_text};

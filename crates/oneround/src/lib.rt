@@ -1,4 +1,6 @@
 // One round in the caller's tables: the net at their front is refined in place.
+#![tactic(auto)]
+
 ghost use Rattle.std.specs.Prelude.{◌≡◌, true, ◌*◌, ◌≤◌, length, take};
 ghost use Rattle.oneround.specs.Round.{Current, Refines};
 ghost use Rattle.nets.specs.Buffers.{buffers};

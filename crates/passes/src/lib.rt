@@ -1,4 +1,6 @@
 // The passes of a round over all edges and over all faces: one by one in the first round, by families in later ones, where a round made the net.
+#![tactic(auto)]
+
 ghost use Rattle.std.specs.Prelude.{◌≡◌, true, ◌*◌, ◌/◌, ◌≤◌, length, take};
 ghost use Rattle.curve.specs.Weights.{tension};
 ghost use Rattle.topology.specs.Shape.{quads};

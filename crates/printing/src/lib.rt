@@ -1,4 +1,6 @@
 // The program's answers, written into a buffer.
+#![tactic(auto)]
+
 ghost use Rattle.std.specs.Prelude.{◌≡◌, true, ◌+◌, ◌*◌, ◌≤◌, ◌<◌, length, get_or};
 ghost use Rattle.decimalform.specs.Decimal.{natural_text, integer_text};
 ghost use Rattle.decimalform.specs.Stored.{Stored};

@@ -1,4 +1,6 @@
 // The program between its input and its output.
+#![tactic(auto)]
+
 ghost use Rattle.std.specs.Prelude.{◌≡◌, ◌≤◌, [], length};
 ghost use Rattle.nets.specs.Net.{net, plain};
 ghost use Rattle.verdict.specs.Call.{lengths_of};

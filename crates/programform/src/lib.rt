@@ -1,1 +1,2 @@
 // What the program prints for a text in specs/, laws in proofs/. No function.
+#![tactic(auto)]

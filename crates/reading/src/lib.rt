@@ -1,4 +1,6 @@
 // A net read from a text in two passes: the first decides refusal 13 and finds where the lines stand, the second stores them.
+#![tactic(auto)]
+
 ghost use Rattle.std.specs.Prelude.{◌≡◌, ◌*◌, ◌≤◌, ◌<◌, length};
 ghost use Rattle.std.proofs.lemmas.List.Edits.{sets};
 ghost use Rattle.decimal.specs.Answers.{Gives};

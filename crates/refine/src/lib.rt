@@ -1,4 +1,6 @@
 // The refining call.
+#![tactic(auto)]
+
 ghost use Rattle.std.specs.Prelude.{◌≡◌};
 ghost use Rattle.admission.specs.Admission.{AdmittedCall};
 ghost use Rattle.outcome.specs.Outcome.{request_on, call_of, outcome};

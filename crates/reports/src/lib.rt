@@ -1,4 +1,6 @@
 // What crosses the C boundary as numbers: findings, reports, lengths to provide, the version.
+#![tactic(auto)]
+
 ghost use Rattle.std.specs.Prelude.{◌≡◌};
 ghost use Rattle.examination.specs.Examine.{verdict_of};
 ghost use Rattle.refine.specs.Answer.{result_of};

@@ -1,4 +1,6 @@
 // The ring of a vertex and its virtual points: definitions in specs/, laws in proofs/; and the table of weights.
+#![tactic(auto)]
+
 ghost use Rattle.std.specs.Prelude.{◌≡◌, ◌≤◌, pos, nat_abs};
 ghost use Rattle.curve.specs.Weights.{tension};
 ghost use Rattle.rings.specs.Scales.{virtual_scale};

@@ -1,4 +1,6 @@
 // One round's topology on the caller's tables, in place: refined faces and refined marks.
+#![tactic(auto)]
+
 ghost use Rattle.std.specs.Prelude.{◌≡◌, ◌+◌, ◌*◌, ◌^◌, ◌≤◌, ◌<◌, length};
 ghost use Rattle.tables.specs.Tables.{filled, Written};
 ghost use Rattle.edgeentries.specs.Entry.{entry_of, edge_of};

@@ -1,4 +1,6 @@
 // The mates of one round's refined faces, in place on the work table.
+#![tactic(auto)]
+
 ghost use Rattle.std.specs.Prelude.{◌≡◌, true, ℕ, ◌+◌, ◌*◌, ◌/◌, ◌%◌, get_or, take};
 ghost use Rattle.topology.specs.Shape.{quads};
 ghost use Rattle.refinedfaces.specs.Mates.{refined_mate, refined_mates};

@@ -1,4 +1,6 @@
 // Rounds in the caller's tables: the net at their front is refined in place.
+#![tactic(auto)]
+
 ghost use Rattle.std.specs.Prelude.{◌*◌, ◌^◌};
 ghost use Rattle.nets.specs.Net.{front_net};
 ghost use Rattle.nets.specs.Buffers.{buffers};

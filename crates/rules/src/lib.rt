@@ -1,1 +1,2 @@
 // The point rules without a net: definitions in specs/, laws in proofs/.
+#![tactic(auto)]

@@ -1,4 +1,6 @@
 // The first place of refusals 5 to 8, found by scanning tables.
+#![tactic(auto)]
+
 ghost use Rattle.std.specs.Prelude.{◌+◌, ◌*◌, ◌%◌, ◌≤◌, ◌<◌, ◌≡◌, length, drop};
 ghost use Rattle.search.specs.Search.{first};
 ghost use Rattle.verdict.specs.Verdict.{bad_coordinate};

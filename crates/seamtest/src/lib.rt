@@ -1,1 +1,2 @@
 // The seam test of two nets: definitions in specs/, laws in proofs/. No function.
+#![tactic(auto)]

@@ -1,1 +1,2 @@
 // Search, counting and repetition over natural numbers: the definitions are in specs/, their laws are in proofs/. No function.
+#![tactic(auto)]

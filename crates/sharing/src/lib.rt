@@ -1,4 +1,6 @@
 // The seam test: two nets are checked, and a boundary segment of each is walked and compared.
+#![tactic(auto)]
+
 ghost use Rattle.std.specs.Prelude.{◌≡◌, cond, not, ◌&&◌, ◌||◌, eqb, ltb, length};
 ghost use Rattle.nets.specs.Net.{control_net, marked};
 ghost use Rattle.seamtest.specs.SeamTest.{seam_side, same, seam_tested};

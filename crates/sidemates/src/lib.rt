@@ -1,4 +1,6 @@
 // The mate of a refined side, from that of the half-edge that it is half of.
+#![tactic(auto)]
+
 ghost use Rattle.std.specs.Prelude.{◌≡◌, ◌+◌, ◌*◌, ◌%◌, ◌≤◌, ◌<◌};
 ghost use Rattle.bounds.specs.Bounds.{max_half_edges};
 ghost use Rattle.sidemates.specs.FirstMate.{first_mate};

@@ -1,5 +1,7 @@
 // Next, prev and face of each half-edge of a net with side counts, built in the caller's work table; read there, or by arithmetic where all faces have four
 // sides. Mates and turns in such a net. The number of half-edges stands for 'none'.
+#![tactic(auto)]
+
 ghost use Rattle.std.specs.Prelude.{◌≡◌, ◌+◌, ◌*◌, ◌≤◌, ◌<◌, length, get_or, take};
 ghost use Rattle.bounds.specs.Bounds.{max_half_edges};
 ghost use Rattle.topology.specs.HalfEdge.{mate};

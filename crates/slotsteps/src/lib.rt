@@ -1,4 +1,6 @@
 // One half-edge put into a slot, and one mate taken from a slot: the steps of the walk over the chains.
+#![tactic(auto)]
+
 ghost use Rattle.std.specs.Prelude.{◌≡◌, ◌+◌, ◌*◌, ◌≤◌, ◌<◌, length, get_or, drop};
 ghost use Rattle.bounds.specs.Bounds.{max_corners};
 ghost use Rattle.polygons.specs.Polygons.{shape_of};

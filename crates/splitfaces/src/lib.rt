@@ -1,4 +1,6 @@
 // The faces of the split, made from the drawn tables: "Sides and numbering follow the round in 01".
+#![tactic(auto)]
+
 ghost use Rattle.std.specs.Prelude.{◌≡◌, ◌*◌, ◌<◌, length};
 ghost use Rattle.polygons.specs.Polygons.{shape_of};
 ghost use Rattle.refinedfaces.specs.Refined.{corner, refined};

@@ -1,4 +1,6 @@
 // Midpoints of edges and means of corners, rounded, written to the table of points that they are made from.
+#![tactic(auto)]
+
 ghost use Rattle.std.specs.Prelude.{◌≡◌, ◌+◌, ◌*◌, ◌≤◌, ◌<◌, nat_abs, length};
 ghost use Rattle.bounds.specs.Bounds.{max_coordinate};
 ghost use Rattle.integers.specs.Sum.{sum};

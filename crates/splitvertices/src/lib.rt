@@ -1,4 +1,6 @@
 // The vertices of the split: behind the drawn ones a point for each edge, then one for each face.
+#![tactic(auto)]
+
 ghost use Rattle.std.specs.Prelude.{◌≡◌, ◌+◌, length};
 ghost use Rattle.topology.specs.HalfEdge.{edge_count};
 ghost use Rattle.polygons.specs.Polygons.{shape_of};

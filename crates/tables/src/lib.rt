@@ -1,4 +1,6 @@
 // Clearing, copying and filling the caller's tables.
+#![tactic(auto)]
+
 ghost use Rattle.std.specs.Prelude.{◌+◌, ◌≤◌, ◌≡◌, length};
 ghost use Rattle.tables.specs.Tables.{filled, cleared, put_four, ZerosFrom, SameOutside};
 

@@ -1,4 +1,6 @@
 // The lines of the text form, each read from the front of a slice. An answer has the values and the number of bytes that they took.
+#![tactic(auto)]
+
 ghost use Rattle.std.specs.Prelude.{◌≡◌, ◌≤◌, length, drop};
 ghost use Rattle.decimal.specs.Answers.{Gives, GivesNumber, GivesInteger};
 ghost use Rattle.textform.specs.Form.{starts_with, read_input, read_columns, coordinate, natural, read_counts, read_vertex, read_face};

@@ -1,4 +1,6 @@
 // Virtual points on the caller's tables, on all axes.
+#![tactic(auto)]
+
 ghost use Rattle.std.specs.Prelude.{◌≡◌, ℕ, ◌≤◌, ◌<◌, length};
 ghost use Rattle.integers.specs.Within.{Within};
 ghost use Rattle.curve.specs.Weights.{tension};

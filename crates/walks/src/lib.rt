@@ -1,4 +1,6 @@
 // Walks round the vertices of a net and along its boundary, on the caller's tables of corners and mates. The number of half-edges stands for 'none'.
+#![tactic(auto)]
+
 ghost use Rattle.std.specs.Prelude.{◌≡◌, ◌<◌, length};
 ghost use Rattle.topology.specs.Shape.{quads};
 ghost use Rattle.topology.specs.Boundary.{along, back};
