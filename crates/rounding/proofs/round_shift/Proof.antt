@@ -1,4 +1,4 @@
--- `rounding::round_shift` meets its contract: the sum stays in range, and the shift is `round-shr`. Assumes nothing.
+-- `rounding::round_shift` meets its contract: the sum stays in range, and the shift is `round_shr`. Assumes nothing.
 use mathlib.Core.Path.{◌≡◌, sym, ap, ◌∙◌, subst⁻¹}
 use Prim.Native.Nat.{ℕ, ◌+◌, ◌*◌, ◌<◌, ◌^◌}
 use native.Mathlib.Omega.{arith}
@@ -10,9 +10,9 @@ use mir.Val.{SFits, to_z}
 use mir.Facts.{to_z-of_z, to_z_pos}
 use mir.ValLaws.{sfits_le}
 use Rattle.integers.proofs.AbsoluteValue.{abs-add}
-use Rattle.integers.proofs.Range.{fits-abs}
+use Rattle.integers.proofs.Range.{fits_abs}
 use Rattle.rounding.specs.Rounding.{round}
-use Rattle.rounding.proofs.Laws.{round-shr}
+use Rattle.rounding.proofs.Laws.{round_shr}
 use Rattle.rounding.proofs.round_shift.Statement.{statement}
 use Rattle.rounding.proofs.round_shift.Tie as tie
 
@@ -25,8 +25,8 @@ sizes : (n : ℤ) (h k : ℕ) → 0 < h → 2 * h ≡ 2 ^ k → nat_abs n + h < 
 sizes n h k g e b =
     let a = abs-add n (pos h) in
     record {
-      sum = fits-abs w64 (n +ℤ pos h) (omega arith);
-      is = ap (shr_z (n +ℤ pos h)) (sym e) ∙ round-shr n h g ∙ ap (round n) e;
+      sum = fits_abs w64 (n +ℤ pos h) (omega arith);
+      is = ap (shr_z (n +ℤ pos h)) (sym e) ∙ round_shr n h g ∙ ap (round n) e;
     }
 
 at-start : (c : tie.Start) → Sizes c.args.n (to_z w64 c.args.half) c.args.k
