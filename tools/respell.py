@@ -99,7 +99,7 @@ class Names:
         self.camel, self.dashed = {}, {}
         used = {m[0] for t in antt.values() for m in TOKEN.finditer(code(t))}
         for n in sorted(set(self.home) | used):
-            if n in foreign or n in SAID or not (is_camel(n) or (n in self.home and "-" in n.strip("-"))):
+            if n in foreign or n in SAID or "◌" in n or not (is_camel(n) or (n in self.home and "-" in n.strip("-"))):
                 continue
             new = self.spelled(n)
             if new != n:

@@ -2,7 +2,7 @@
 use mathlib.Core.Path.{◌≡◌, refl}
 use lib.IntN.{pos, negsuc}
 use Rattle.rounding.specs.Rounding.{round}
-use Rattle.fractions.specs.Fraction.{whole, ◌+ᶠ◌, ◌_ᶠ◌, ◌×ᶠ◌, ◌/ᶠ◌, sumᶠ, to_whole}
+use Rattle.fractions.specs.Fraction.{whole, ◌+ᶠ◌, ◌-ᶠ◌, ◌×ᶠ◌, ◌/ᶠ◌, sumᶠ, to_whole}
 
 -- 1/2 + 1/3 is 5/6, and 1/2 - 4/3 is -5/6
 added : to_whole (6 ×ᶠ (whole (pos 1) /ᶠ 2 +ᶠ whole (pos 1) /ᶠ 3)) ≡ pos 5

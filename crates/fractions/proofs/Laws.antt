@@ -12,7 +12,7 @@ use Rattle.integers.proofs.Order.{up, dn, up_mul, dn_mul, eq_by}
 use Rattle.integers.proofs.Polynomial.{var, ◌⊞◌, ◌⊟◌, ◌⊠◌, same}
 use Rattle.rounding.specs.Rounding.{round}
 use Rattle.rounding.proofs.Laws.{round_value}
-use Rattle.fractions.specs.Fraction.{Fraction, whole, ◌+ᶠ◌, ◌_ᶠ◌, ◌×ᶠ◌, ◌/ᶠ◌, sumᶠ, to_whole, Equals, Same}
+use Rattle.fractions.specs.Fraction.{Fraction, whole, ◌+ᶠ◌, ◌-ᶠ◌, ◌×ᶠ◌, ◌/ᶠ◌, sumᶠ, to_whole, Equals, Same}
 use Rattle.fractions.proofs.Examples
 
 -- ---- rounding

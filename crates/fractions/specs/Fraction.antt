@@ -3,7 +3,7 @@ use Rattle.std.specs.Prelude.{◌≡◌, ℕ, zero, suc, ◌*◌, ◌<◌, ℤ, 
 use Rattle.rounding.specs.Rounding.{round}
 
 infixl 6 ◌+ᶠ◌
-infixl 6 ◌_ᶠ◌
+infixl 6 ◌-ᶠ◌
 infixl 7 ◌×ᶠ◌
 infixl 7 ◌/ᶠ◌
 -- num / den
@@ -17,7 +17,7 @@ whole a = record { num = a; den = 1 }
 abbrev pub ◌+ᶠ◌ : Fraction → Fraction → Fraction
 x +ᶠ y = record { num = x.num *ℤ pos y.den +ℤ y.num *ℤ pos x.den; den = x.den * y.den }
 
-abbrev pub ◌_ᶠ◌ : Fraction → Fraction → Fraction
+abbrev pub ◌-ᶠ◌ : Fraction → Fraction → Fraction
 x -ᶠ y = record { num = x.num *ℤ pos y.den -ℤ y.num *ℤ pos x.den; den = x.den * y.den }
 
 -- a natural times a fraction, and a fraction divided by a natural

@@ -1,7 +1,7 @@
 -- The ring of a vertex of valence n: its neighbours l and the opposite corners k of its faces, one coordinate of each; and the virtual point on edge j.
 use Rattle.std.specs.Prelude.{◌≡◌, ℕ, ◌+◌, ◌-◌, ◌*◌, ◌%◌}
 use Rattle.curve.specs.Weights.{Weights}
-use Rattle.fractions.specs.Fraction.{Fraction, ◌+ᶠ◌, ◌_ᶠ◌, ◌×ᶠ◌, ◌/ᶠ◌, sumᶠ}
+use Rattle.fractions.specs.Fraction.{Fraction, ◌+ᶠ◌, ◌-ᶠ◌, ◌×ᶠ◌, ◌/ᶠ◌, sumᶠ}
 
 -- "indices modulo n": a ring is a function on all numbers that comes round after n places. The index j - 1 is written j + (n - 1).
 pub record Periodic {A : Type 0} (n : ℕ) (f : ℕ → A) : Type 0 where

@@ -2,7 +2,7 @@
 -- the curve, with the same weights. Nothing is rounded here.
 use Rattle.std.specs.Prelude.{ℕ, ◌+◌, ◌-◌, ◌*◌}
 use Rattle.curve.specs.Weights.{Weights, scale}
-use Rattle.fractions.specs.Fraction.{Fraction, ◌+ᶠ◌, ◌_ᶠ◌, ◌×ᶠ◌, ◌/ᶠ◌, sumᶠ}
+use Rattle.fractions.specs.Fraction.{Fraction, ◌+ᶠ◌, ◌-ᶠ◌, ◌×ᶠ◌, ◌/ᶠ◌, sumᶠ}
 
 -- ---- boundary edges
 -- "for consecutive points p, q, r, s the point on qr is (9(q + r) - p - s)/16"
