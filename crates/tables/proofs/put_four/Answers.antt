@@ -1,0 +1,11 @@
+-- `put_four_lem` meets its contract. Assumes nothing.
+use mathlib.Core.Path.{refl}
+use native.Mathlib.Omega.{arith}
+use lib.ListN.{length-set}
+use borrow.Author.Rules.{rules}
+use Rattle.tables.specs.Tables.{put_four}
+use Rattle.tables.proofs.put_four.Goals as goal
+
+pub returns : goal.returns
+unfolding put_four
+returns c = refl
