@@ -9,8 +9,7 @@ use lib.ListN.{get_or}
 use Rattle.lists.specs.Tabulate.{tabulate}
 use Rattle.lists.proofs.Tabulate.{get_or-tabulate}
 use Rattle.rings.specs.RingWeights.{unit_weights, row}
-use Rattle.rings.proofs.unit_weights.Statement.{statement}
-use Rattle.rings.proofs.unit_weights.Tie as tie
+use Rattle.rings.proofs.unit_weights.Goals as goal
 
 -- the table of the code
 abbrev table : List (List ℤ)
@@ -27,20 +26,8 @@ computed : table ≡ tabulate 6 (λ (i : ℕ). row unit_weights (i + 3))
 unfolding tabulate
 computed = refl
 
-sub-result : tie.Need-overflow-sub-result
-sub-result c = search rules
-
-mul-result : tie.Need-overflow-mul-result
-mul-result c = search rules
-
-array-copy-out-result : tie.Need-array-copy-out-result
-array-copy-out-result c = search rules
-
-returns : tie.Need-returns
+pub returns : goal.returns
 returns c =
-    let n = c.before.args.n in
+    let n = c.args.n in
     let e : n - 3 + 3 ≡ n = omega arith in
     ap (λ (t : List (List ℤ)). get_or t (n - 3) []) computed ∙ get_or-tabulate 6 (λ (i : ℕ). row unit_weights (i + 3)) (n - 3) [] (omega arith) ∙ ap (row unit_weights) e
-
-pub unit-weights-spec : {M : Type 1} → statement M
-unit-weights-spec = tie.close (tie.spec sub-result mul-result array-copy-out-result returns)
