@@ -1,0 +1,5 @@
+-- The measure is the number.
+use Rattle.decimal.proofs.+put_natural.Given as goal
+
+abbrev pub decreases-put_natural : goal.decreases-put_natural
+decreases-put_natural l = l.n

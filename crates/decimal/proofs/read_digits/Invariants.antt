@@ -1,0 +1,17 @@
+-- `decimal::read_digits` meets its contract: each turn reads one more digit. Assumes nothing.
+use mathlib.Core.Path.{◌≡◌, sym, ◌∙◌}
+use Prim.Native.Nat.{◌+◌, ◌-◌, ◌≤◌}
+use native.Mathlib.Omega.{arith}
+use borrow.Author.Rules.{rules}
+use borrow.Author.Tests.{not-true, not-false}
+use lib.ListN.{length, drop}
+use Rattle.decimalform.specs.Decimal.{read_digits}
+use Rattle.decimalform.proofs.Reading.{digits_on, digits_stop, digits_end, digit_low}
+use Rattle.decimal.proofs.Reading.{digits_given, digits_refused}
+use Rattle.decimal.proofs.read_digits.Given as goal
+
+abbrev pub invariant-loop-i : goal.invariant-loop-i
+invariant-loop-i l = (l.i ≤ length l.text) × (l.value ≤ l.limit) × (read_digits 0 l.text ≡ read_digits l.value (drop l.i l.text))
+
+abbrev pub decreases-loop-i : goal.decreases-loop-i
+decreases-loop-i l = length l.text - l.i
