@@ -52,6 +52,3 @@ loop-i-preserved c =
     let g : c.weight.result ≡ weight_of (tension c.args.t) l.i (get_or u.result l.i (pos 0)) = simp to_z-of_z at c.weight.ensures in
     let i : SFits w64 c.weight.result = search rules in
     (omega arith, simp to_z-of_z (written c.args.n c.args.t l.i l.w _ (get_or u.result l.i (pos 0)) c.weight.result h l.invariant.1 (unit-at c.args.n l.i u.result h u.ensures) g))
-
-pub rings::unit_weights : goal.rings::unit_weights
-rings::unit_weights c = ?
