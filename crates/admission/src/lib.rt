@@ -13,7 +13,7 @@ use examination::Examination;
 use limits::{Lengths, Room};
 
 // A refusal's number and place, or the number of refined faces.
-#[derive(Drop)]
+#[derive(Clone, Copy)]
 pub enum Admission {
     Refused(u32, usize),
     Admitted(usize),

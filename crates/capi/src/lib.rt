@@ -18,13 +18,13 @@ use sharing::Sharing;
 
 // The caller's record: the new points of the accepted calls.
 #[repr(C)]
-#[derive(Drop)]
+#[derive(Clone, Copy)]
 pub struct Tally {
     pub points: u64,
 }
 
 // The report, and what the record of new points then holds.
-#[derive(Drop)]
+#[derive(Clone, Copy)]
 pub struct Charged {
     pub report: Report,
     pub points: u64,

@@ -10,7 +10,7 @@ ghost use Rattle.coordinates.specs.Points.{InTable, OnAxes, put_point};
 ghost use Rattle.coordinates.specs.Stencil.{FarIn, far_value, stencil_value, interior_value};
 
 // An exact point: its numerators over one denominator.
-#[derive(Drop)]
+#[derive(Clone, Copy)]
 pub struct Exact {
     pub x: i64,
     pub y: i64,
@@ -18,7 +18,7 @@ pub struct Exact {
 }
 
 // A point at the far end of a stencil: the one at an index, or none, where the near points are mirrored.
-#[derive(Drop)]
+#[derive(Clone, Copy)]
 pub enum Far {
     At(usize),
     Nowhere,

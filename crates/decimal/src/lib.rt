@@ -12,13 +12,13 @@ pub const LARGEST: u32 = 2147483647;
 const LARGEST_MAGNITUDE: u32 = 2147483648;
 
 // A number and how many bytes it took.
-#[derive(Drop)]
+#[derive(Clone, Copy)]
 pub enum Number {
     Value(u32, usize),
     Bad,
 }
 
-#[derive(Drop)]
+#[derive(Clone, Copy)]
 pub enum Integer {
     Value(i32, usize),
     Bad,

@@ -65,7 +65,7 @@ fn far_after(faces: &[u32], marks: &[u8], work: &[u32], h: usize) -> Far
 }
 
 // The exact point of an edge: its numerators, and the flag that tells their denominator.
-#[derive(Drop)]
+#[derive(Clone, Copy)]
 pub struct Edge {
     pub x: i64,
     pub y: i64,

@@ -10,7 +10,7 @@ ghost use Rattle.halfedges.specs.Tables.{Quadrilaterals};
 ghost use Rattle.edgerules.specs.Rule.{rule_of};
 
 // Which rule makes the point on an edge.
-#[derive(Drop)]
+#[derive(Clone, Copy)]
 pub enum EdgeRule {
     InsideSegment,
     StartOfSegment,

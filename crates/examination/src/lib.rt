@@ -12,7 +12,7 @@ ghost use Rattle.vertexcounts.specs.Counts.{Counted};
 ghost use Rattle.examination.specs.Examine.{verdict_of, CheckTables, Joined, Examined};
 
 // No refusal, or a refusal's number and place.
-#[derive(Drop)]
+#[derive(Clone, Copy)]
 pub enum Examination {
     Passed,
     Refused(u32, usize),

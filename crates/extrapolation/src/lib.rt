@@ -15,7 +15,7 @@ ghost use Rattle.extrapolation.specs.Exact.{extrapolated_on};
 const EXTRAPOLATED_SHARES: u16 = 60;
 
 // The faces met in turning from a half-edge: how many, the half-edge in the last, and the one after it, which is the first again or none.
-#[derive(Drop)]
+#[derive(Clone, Copy)]
 pub struct Met {
     pub count: u16,
     pub last: usize,

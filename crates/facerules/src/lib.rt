@@ -11,7 +11,7 @@ ghost use Rattle.facerules.specs.Faces.{EntryTable, FaceTable, beyond_of, far_of
 ghost use Rattle.facerules.specs.Reading.{Readable};
 
 // Which directions of a face have four inner edges.
-#[derive(Drop)]
+#[derive(Clone, Copy)]
 pub enum FaceRule {
     FirstAlone,
     SecondAlone,

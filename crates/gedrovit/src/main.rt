@@ -8,7 +8,7 @@ ghost use Rattle.gedrovit.specs.Input.{bytes_of};
 use libc::{STDIN_FILENO, STDOUT_FILENO};
 
 // What was read: so many bytes, or a read failed.
-#[derive(Drop)]
+#[derive(Clone, Copy)]
 enum Input {
     Bytes(usize),
     Failed,

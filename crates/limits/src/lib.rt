@@ -9,7 +9,7 @@ ghost use Rattle.verdict.specs.Call as call;
 ghost use Rattle.limits.specs.Answer.{limits_of, room_in, lengths_in, FinalFaces};
 
 // The lengths of the tables of a call but the side counts, and whether letters are asked for, in its order.
-#[derive(Drop)]
+#[derive(Clone, Copy)]
 pub struct Lengths {
     pub coordinates: usize,
     pub corners: usize,
@@ -23,7 +23,7 @@ pub struct Lengths {
 }
 
 // The lengths of the output tables and the work table, and whether letters are asked for.
-#[derive(Drop)]
+#[derive(Clone, Copy)]
 pub struct Room {
     pub vertices: usize,
     pub faces: usize,

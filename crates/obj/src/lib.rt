@@ -15,7 +15,7 @@ use reading::Input;
 use text::{FaceLine, VertexLine};
 
 // What a line after the first says.
-#[derive(Drop)]
+#[derive(Clone, Copy)]
 enum Item {
     Vertex { x: i32, y: i32, z: i32 },
     Face { a: u32, b: u32, c: u32, d: u32 },
@@ -23,21 +23,21 @@ enum Item {
 }
 
 // An item and how many bytes its line took.
-#[derive(Drop)]
+#[derive(Clone, Copy)]
 enum Line {
     Good(Item, usize),
     Bad,
 }
 
 // How many vertices and faces were met.
-#[derive(Drop)]
+#[derive(Clone, Copy)]
 struct Met {
     vertices: usize,
     faces: usize,
 }
 
 // The numbers of vertices and faces, or the number of the first bad line.
-#[derive(Drop)]
+#[derive(Clone, Copy)]
 enum Counted {
     All(usize, usize),
     Bad(usize),

@@ -24,14 +24,14 @@ pub const MARKS: usize = 1024;
 pub const WORK: usize = 4096;
 
 // Lines that have the form, and their bytes.
-#[derive(Drop)]
+#[derive(Clone, Copy)]
 struct Block {
     good: usize,
     used: usize,
 }
 
 // The first three lines, or the number of the first bad one.
-#[derive(Drop)]
+#[derive(Clone, Copy)]
 enum HeadLines {
     Head {
         vertices: u32,
@@ -45,13 +45,13 @@ enum HeadLines {
 }
 
 // Where the faces start, or the number of the first bad line.
-#[derive(Drop)]
+#[derive(Clone, Copy)]
 enum BodyLines {
     Body(usize),
     Bad(usize),
 }
 
-#[derive(Drop)]
+#[derive(Clone, Copy)]
 enum Checked {
     Form {
         vertices: u32,
@@ -66,7 +66,7 @@ enum Checked {
 }
 
 // A net, with its counts and whether letters are asked for, or the number of a refusal and its place.
-#[derive(Drop)]
+#[derive(Clone, Copy)]
 pub enum Input {
     Net {
         rounds: u32,

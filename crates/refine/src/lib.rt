@@ -9,14 +9,14 @@ ghost use Rattle.refine.specs.Answer.{answered};
 use admission::Admission;
 use limits::Room;
 
-#[derive(Drop)]
+#[derive(Clone, Copy)]
 pub enum Answer {
     Refined(usize, usize),
     Refused(u32, usize),
 }
 
 // The answer, and the tally after the call.
-#[derive(Drop)]
+#[derive(Clone, Copy)]
 pub struct Refinement {
     pub answer: Answer,
     pub points: u64,

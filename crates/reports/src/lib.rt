@@ -15,7 +15,7 @@ use sharing::Sharing;
 
 // The verdict of the check: reason 0, or the refusal's number and place.
 #[repr(C)]
-#[derive(Drop)]
+#[derive(Clone, Copy)]
 pub struct Finding {
     pub reason: u32,
     pub place: u64,
@@ -23,7 +23,7 @@ pub struct Finding {
 
 // The result of a refining call: reason 0 and the counts of the refined net, or the refusal's number and place.
 #[repr(C)]
-#[derive(Drop)]
+#[derive(Clone, Copy)]
 pub struct Report {
     pub reason: u32,
     pub place: u64,
@@ -33,7 +33,7 @@ pub struct Report {
 
 // The lengths that the output tables and the work table of a call must have at least, in elements; a letter table must be as long as the marks.
 #[repr(C)]
-#[derive(Drop)]
+#[derive(Clone, Copy)]
 pub struct Sizes {
     pub reason: u32,
     pub out_vertices: u64,
@@ -44,7 +44,7 @@ pub struct Sizes {
 
 // The result of the seam test: reason 0 and the number of edges, or the refusal's number and place.
 #[repr(C)]
-#[derive(Drop)]
+#[derive(Clone, Copy)]
 pub struct SeamReport {
     pub reason: u32,
     pub place: u64,

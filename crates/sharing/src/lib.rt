@@ -11,7 +11,7 @@ use admission::Admission;
 use examination::Examination;
 
 // The number of edges of a shared segment, or a refusal's number and place.
-#[derive(Drop)]
+#[derive(Clone, Copy)]
 pub enum Sharing {
     Shared(usize),
     Refused(u32, usize),

@@ -12,21 +12,21 @@ use decimal::{Integer, Number};
 pub const LONGEST: usize = 32768;
 
 // The first line, with the word `rule` or without it.
-#[derive(Drop)]
+#[derive(Clone, Copy)]
 pub enum InputLine {
     Input { rule: bool, used: usize },
     Bad,
 }
 
 // The names of the columns, with `corner` or without it.
-#[derive(Drop)]
+#[derive(Clone, Copy)]
 pub enum ColumnsLine {
     Marked(usize),
     Unmarked(usize),
     Bad,
 }
 
-#[derive(Drop)]
+#[derive(Clone, Copy)]
 pub enum CountsLine {
     Counts {
         vertices: u32,
@@ -37,7 +37,7 @@ pub enum CountsLine {
     Bad,
 }
 
-#[derive(Drop)]
+#[derive(Clone, Copy)]
 pub enum VertexLine {
     Vertex {
         x: i32,
@@ -49,7 +49,7 @@ pub enum VertexLine {
     Bad,
 }
 
-#[derive(Drop)]
+#[derive(Clone, Copy)]
 pub enum FaceLine {
     Face {
         a: u32,

@@ -7,7 +7,7 @@ ghost use Rattle.topology.specs.Boundary.{along, back};
 ghost use Rattle.walks.specs.Ready.{Ready, FanStart};
 
 // A boundary half-edge, or none, and a place in its fan.
-#[derive(Drop)]
+#[derive(Clone, Copy)]
 pub struct Start {
     pub side: usize,
     pub place: usize,
