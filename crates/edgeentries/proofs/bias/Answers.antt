@@ -1,0 +1,16 @@
+-- `bias` meets its contract: the sum is natural and in range. Assumes nothing.
+use mathlib.Core.Path.{refl}
+use lib.IntN.{pos, nat_abs, ◌+ℤ◌}
+use lib.Dec.{T}
+use lib.Signed.{non_neg}
+use mir.Syntax.{w64}
+use mir.Val.{SFits, Fits}
+use mir.Facts.{to_z-of_z, Fits-nat_abs}
+use borrow.Author.Rules.{rules}
+use Rattle.edgeentries.specs.Packed.{biased}
+use Rattle.edgeentries.proofs.Packed.{bias_fits, bias_natural}
+use Rattle.edgeentries.proofs.bias.Goals as goal
+
+pub returns : goal.returns
+unfolding biased
+returns c = let f : SFits w64 c.args.z = c.ranges.z in let k = bias_fits c.args.z c.requires in simp to_z-of_z refl

@@ -1,0 +1,16 @@
+-- `number_edges` meets its contract: the edges of the half-edges below h are numbered. Assumes nothing.
+use mathlib.Core.Path.{◌≡◌, refl, ap, ◌∙◌}
+use mathlib.Core.List.{List, ◌++◌}
+use Prim.Native.Nat.{ℕ, ◌+◌, ◌-◌, ◌≤◌}
+use native.Mathlib.Omega.{arith}
+use lib.ListN.{length, set, take, drop, length-set}
+use Rattle.search.specs.Search.{count}
+use Rattle.edgenumbers.specs.Edges.{met_by, edge_by, with_edges}
+use Rattle.edgenumbers.proofs.Edges.{numbering_none, numbering_next, numbering_all, numbering_mates, numbering_in, numbering_below, counted_all}
+use Rattle.edgenumbers.proofs.number_edges.Given as goal
+
+abbrev pub invariant-loop-h : goal.invariant-loop-h
+invariant-loop-h l = (l.h ≤ l.n) × (length l.work ≡ length l.initial.work) × (l.work ≡ take (l.n + l.h) (with_edges (take l.n l.initial.work)) ++ drop (l.n + l.h) l.initial.work) × (l.edges ≡ count (met_by (take l.n l.initial.work)) l.h)
+
+abbrev pub decreases-loop-h : goal.decreases-loop-h
+decreases-loop-h l = l.n - l.h

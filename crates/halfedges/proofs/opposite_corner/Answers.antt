@@ -1,0 +1,21 @@
+-- `opposite_corner` meets its contract. Assumes nothing.
+use mathlib.Core.Path.{ap, ◌∙◌}
+use lib.ListN.{length}
+use borrow.Author.Rules.{rules}
+use Rattle.topology.specs.Shape.{quads}
+use Rattle.topology.specs.HalfEdge.{from, to}
+use Rattle.topology.proofs.Shape.{quads_lawful}
+use Rattle.topology.specs.Quads.{opposite_corner, across}
+use Rattle.halfedges.proofs.opposite_corner.Goals as goal
+
+pub start_of-requires : goal.start_of-requires
+unfolding across
+start_of-requires c =
+    let k = quads_lawful (length c.args.faces.now) c.requires.0.fours in
+    let e = c.across_side.ensures in
+    let b = k.next_lt (quads.next c.args.h) (k.next_lt c.args.h c.requires.1) in
+    rw e b
+
+pub returns : goal.returns
+unfolding to opposite_corner across
+returns c = c.start_of.ensures ∙ ap (from c.args.faces.now) c.across_side.ensures

@@ -1,0 +1,16 @@
+-- `back_side` meets its contract: the walk ends at the last half-edge of the fan, which has at most six. Assumes nothing.
+use mathlib.Core.Path.{sym, ◌∙◌}
+use Prim.Native.Nat.{◌-◌, ◌<◌, ◌≤◌}
+use native.Mathlib.Omega.{arith}
+use lib.ListN.{length}
+use Rattle.topology.specs.Shape.{quads}
+use Rattle.topology.specs.Vertex.{turn}
+use Rattle.topology.proofs.Turn.{turn-le}
+use Rattle.walks.proofs.Winding.{Winding, winding_start, winding_step, winding_hit, winding_end}
+use Rattle.walks.proofs.back_side.Given as goal
+
+abbrev pub invariant-loop-i : goal.invariant-loop-i
+invariant-loop-i l = (l.i ≤ 6) × Winding quads l.faces l.h l.g l.i
+
+abbrev pub decreases-loop-i : goal.decreases-loop-i
+decreases-loop-i l = 6 - l.i
