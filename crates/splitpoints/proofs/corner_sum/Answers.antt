@@ -1,0 +1,48 @@
+-- `corner_sum` meets its contract: after k turns the coordinates of the first k corners are added. Assumes nothing.
+use mathlib.Core.Path.{◌≡◌, ap, ap₂, ◌∙◌}
+use Prim.Native.Nat.{ℕ, ◌+◌, ◌-◌, ◌≤◌}
+use native.Mathlib.Omega.{arith}
+use borrow.Author.Rules.{rules}
+use lib.IntN.{ℤ, ◌+ℤ◌}
+use mir.Syntax.{w64}
+use mir.Val.{SFits, to_z, of_z}
+use mir.Facts.{to_z-of_z}
+use Rattle.integers.specs.Sum.{sum}
+use Rattle.integers.proofs.Sum.{sum_none, sum_more}
+use Rattle.nets.specs.Net.{axis}
+use Rattle.splitpoints.specs.Points.{corner_on}
+use Rattle.splitpoints.proofs.Sizes.{sum_fits}
+use Rattle.splitpoints.proofs.corner_sum.Goals as goal
+
+pub loop-k-init : goal.loop-k-init
+loop-k-init c =
+    let term : ℕ → ℤ = corner_on c.args.points.now c.args.faces.now c.args.h c.args.a in
+    (omega arith, (sum_none term))
+
+pub overflow_add-total : goal.overflow_add-total
+unfolding corner_on
+overflow_add-total c =
+    let term : ℕ → ℤ = corner_on c.args.points.now c.args.faces.now c.args.h c.args.a in
+    let so_far : c.loop-k.total ≡ sum c.loop-k.k term = let f = fits c c.loop-k.k c.loop-k.invariant.0 in c.loop-k.invariant.1 in
+    let more : (let z = c.loop-k.total +ℤ c.coordinate-total.result in
+    (z ≡ sum (c.loop-k.k + 1) term) × SFits w64 z) = let e : c.coordinate-total.result ≡ term c.loop-k.k =
+    c.coordinate-total.ensures ∙ ap (λ (v : ℕ). axis c.args.points.now c.args.a v) c.start_of-v.ensures in
+    let g = ap₂ ◌+ℤ◌ so_far e ∙ sum_more c.loop-k.k term in
+    let b = c.loop-k-test.true in
+    (g, rw g (fits c (c.loop-k.k + 1) (omega arith))) in
+    let f : SFits w64 c.coordinate-total.result = search rules in let g = more.1 in simp to_z-of_z g
+
+pub loop-k-preserved : goal.loop-k-preserved
+unfolding corner_on
+loop-k-preserved c =
+    let term : ℕ → ℤ = corner_on c.args.points.now c.args.faces.now c.args.h c.args.a in
+    let so_far : c.loop-k.total ≡ sum c.loop-k.k term = let f = fits c c.loop-k.k c.loop-k.invariant.0 in c.loop-k.invariant.1 in
+    let more : (let z = c.loop-k.total +ℤ c.coordinate-total.result in
+    (z ≡ sum (c.loop-k.k + 1) term) × SFits w64 z) = let e : c.coordinate-total.result ≡ term c.loop-k.k =
+    c.coordinate-total.ensures ∙ ap (λ (v : ℕ). axis c.args.points.now c.args.a v) c.start_of-v.ensures in
+    let g = ap₂ ◌+ℤ◌ so_far e ∙ sum_more c.loop-k.k term in
+    let b = c.loop-k-test.true in
+    (g, rw g (fits c (c.loop-k.k + 1) (omega arith))) in
+    let f : SFits w64 c.coordinate-total.result = search rules in
+    let g = more.1 in
+    (omega arith, simp to_z-of_z (more.0))

@@ -1,0 +1,21 @@
+-- `corner_sum` meets its contract: after k turns the coordinates of the first k corners are added. Assumes nothing.
+use mathlib.Core.Path.{◌≡◌, ap, ap₂, ◌∙◌}
+use Prim.Native.Nat.{ℕ, ◌+◌, ◌-◌, ◌≤◌}
+use native.Mathlib.Omega.{arith}
+use borrow.Author.Rules.{rules}
+use lib.IntN.{ℤ, ◌+ℤ◌}
+use mir.Syntax.{w64}
+use mir.Val.{SFits, to_z, of_z}
+use mir.Facts.{to_z-of_z}
+use Rattle.integers.specs.Sum.{sum}
+use Rattle.integers.proofs.Sum.{sum_none, sum_more}
+use Rattle.nets.specs.Net.{axis}
+use Rattle.splitpoints.specs.Points.{corner_on}
+use Rattle.splitpoints.proofs.Sizes.{sum_fits}
+use Rattle.splitpoints.proofs.corner_sum.Given as goal
+
+abbrev pub invariant-loop-k : goal.invariant-loop-k
+invariant-loop-k l = (l.k ≤ l.c) × (l.total ≡ (sum l.k (corner_on l.points l.faces l.h l.a)))
+
+abbrev pub decreases-loop-k : goal.decreases-loop-k
+decreases-loop-k l = l.c - l.k
