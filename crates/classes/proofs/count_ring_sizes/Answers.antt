@@ -16,4 +16,4 @@ pub returns-clause-ring_sizes : goal.returns-clause-ring_sizes
 returns-clause-ring_sizes c =
     let outside : (SameOutside c.args.at (c.args.at + c.args.v) c.args.work.now c.loop-h.work) = outside_then _ _ _ _ _ _ _ (omega arith) (omega arith) c.loop-h.invariant.3 c.clear_from.ensures.same_outside in
     let h = c.loop-h in
-    let e : h.h ≡ length c.args.faces.now = omega arith in counted_all c.args.v c.args.at c.args.faces.now h.work-1 c.requires.net (subst (λ (i : ℕ). CountedBelow c.args.v c.args.at c.args.faces.now h.work-1 i) e h.invariant.2)
+    let e : h.h ≡ length c.args.faces.now = omega arith in counted_all c.args.v c.args.at c.args.faces.now h.work c.requires.net (subst (λ (i : ℕ). CountedBelow c.args.v c.args.at c.args.faces.now h.work i) e h.invariant.2)

@@ -12,25 +12,24 @@ use Rattle.classes.proofs.count_side.Goals as goal
 
 pub overflow_add-size : goal.overflow_add-size
 overflow_add-size c =
-    let small : c.size_at.result + c.share.result < 12 = let s = begun c in
-    let d = c.share.ensures in
+    let read : c.size_at.result ≡ get_or c.args.work.now (c.args.at + from c.args.faces.now c.args.h) 0 = let e = c.start_of.ensures in
+    c.size_at.ensures ∙ ap (λ (i : ℕ). size_at c.args.work.now (c.args.at + i)) e
+    ∙ size_here c.args.v c.args.at c.args.faces.now c.args.work.now c.args.h c.requires.h_in_bounds.0 c.requires.countable c.requires.h_in_bounds.1 in
+    let small : c.size_at.result + c.share.result < 12 = let d = c.share.ensures in
     omega (
       arith,
-      read c,
-      counted_few s.args.v s.args.at s.args.faces.now s.args.work.now s.args.h s.requires.h_in_bounds.0 s.requires.countable s.requires.h_in_bounds.1,
-      share_le s.args.faces.now s.args.h,
+      read,
+      counted_few c.args.v c.args.at c.args.faces.now c.args.work.now c.args.h c.requires.h_in_bounds.0 c.requires.countable c.requires.h_in_bounds.1,
+      share_le c.args.faces.now c.args.h,
     ) in
     let a = small in omega arith
 
 pub returns-clause-counted_below : goal.returns-clause-counted_below
 returns-clause-counted_below c =
-    let s = begun c in
+    let read : c.size_at.result ≡ get_or c.args.work.now (c.args.at + from c.args.faces.now c.args.h) 0 = let e = c.start_of.ensures in
+    c.size_at.ensures ∙ ap (λ (i : ℕ). size_at c.args.work.now (c.args.at + i)) e
+    ∙ size_here c.args.v c.args.at c.args.faces.now c.args.work.now c.args.h c.requires.h_in_bounds.0 c.requires.countable c.requires.h_in_bounds.1 in
     let e = c.start_of.ensures in
-    let q = read c in
+    let q = read in
     let d = c.share.ensures in
-    let b = s.requires.countable.net.oriented.below s.args.h s.requires.h_in_bounds.0 in
-    rw (e, q, d) (
-      counted_next s.args.v s.args.at s.args.faces.now s.args.work.now s.args.h s.requires.h_in_bounds.0 s.requires.countable s.requires.h_in_bounds.1,
-      outside_set _ _ _ _ _ _ (omega arith) (omega arith) (same_outside _ _ _),
-    )
--- ?? clause counted_below
+    let b = c.requires.countable.net.oriented.below c.args.h c.requires.h_in_bounds.0 in rw (e, q, d) (counted_next c.args.v c.args.at c.args.faces.now c.args.work.now c.args.h c.requires.h_in_bounds.0 c.requires.countable c.requires.h_in_bounds.1)
