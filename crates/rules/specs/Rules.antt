@@ -27,7 +27,7 @@ unfoldable pub extrapolated_corner : (P opposite : Fraction) → Fraction
 extrapolated_corner P opposite = 2 ×ᶠ P -ᶠ opposite
 
 -- ---- inner edges
--- "Inner edges PQ (two faces). The point is (9(P + Q) - v_p - v_q)/16": the four-point rule between the virtual points
+-- "Inner edges PQ (two faces). The point is (9(P + Q) - vP - vQ)/16": the four-point rule between the virtual points
 abbrev pub inner_edge : Weights → (P Q v_p v_q : Fraction) → Fraction
 inner_edge w P Q v_p v_q = interior_point w v_p P Q v_q
 
