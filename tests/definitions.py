@@ -412,7 +412,7 @@ def written_case(number, case, unfolding, options):
         if name.endswith("two_rounds"):
             text = f"{name} : {computed} ≡ {stated}\nunfolding steps\n{name} = ap (step {weights(case)}) {label}_round ∙ {label}_second\n"
         else:
-            text = f"{name} : {computed} ≡ {stated}\nunfolding {unfolding[group]}\n{name} = refl\n"
+            text = f"{name} : {computed} ≡ {stated}\nunfolding {unfolding.get(group, '')}\n{name} = refl\n"
         facts.append(Fact(group, name, text, stated, cost))
     nets = []
     if "net" in case:
@@ -439,10 +439,11 @@ def unfoldable_names(path):
     return names
 
 
-def headers(crates):
-    """For each group its `use` lines, and the names that its facts unfold."""
+def headers(crates, groups):
+    """For each of these groups its `use` lines, and the names that its facts unfold."""
     uses, unfolding = {}, {}
-    for group, modules in GROUPS.items():
+    for group in groups:
+        modules = GROUPS[group]
         lines, unfolded = [LIBRARY], []
         for module, others in modules.items():
             crate, file = module.split(".")
@@ -463,10 +464,10 @@ def dependencies(tree):
     return {name.split()[0]: under.split() for name, under in pairs}
 
 
-def make_scratch(tree, folder):
-    """Copies the definitions of the crates that facts name, and of the crates under them; returns the names of all."""
+def make_scratch(tree, folder, groups):
+    """Copies the definitions of the crates that facts of these groups name, and of the crates under them; returns the names of all."""
     under = dependencies(tree)
-    wanted = {module.split(".")[0] for modules in GROUPS.values() for module in modules} & set(under)
+    wanted = {module.split(".")[0] for group in groups for module in GROUPS[group]} & set(under)
     waiting = list(wanted)
     while waiting:
         more = set(under.get(waiting.pop(), ())) & set(under) - wanted
@@ -719,13 +720,16 @@ def run_mutations(cases, options):
     """Each wrong definition must be found out by the nets of its kind, the smallest first; returns how many are not."""
     missed = 0
     cases = sorted(cases, key=lambda case: len(case["net"][1]) if "net" in case else 0)
-    for name, (group, kind, *edit) in MUTATIONS.items():
-        print(f"== {name}", flush=True)
-        options.group = group
-        with tempfile.TemporaryDirectory() as folder:
-            if check_all(pathlib.Path(folder), [case for case in cases if case["kind"].startswith(kind)], options, edit) == 0:
-                print("NOT FOUND OUT")
-                missed += 1
+    with tempfile.TemporaryDirectory() as name:
+        checked = pathlib.Path(name)
+        check_definitions(checked, make_scratch(options.tree, checked, GROUPS))
+        for name, (group, kind, *edit) in MUTATIONS.items():
+            print(f"== {name}", flush=True)
+            options.group = group
+            with tempfile.TemporaryDirectory() as folder:
+                if check_all(pathlib.Path(folder), [case for case in cases if case["kind"].startswith(kind)], options, edit, checked) == 0:
+                    print("NOT FOUND OUT")
+                    missed += 1
     print(f"definitions: {len(MUTATIONS) - missed} of {len(MUTATIONS)} wrong definitions found out")
     return missed
 
@@ -749,8 +753,9 @@ def cases_from_generator(options):
 
 def write_scratch(folder, cases, options):
     """Writes the scratch repository; returns its crates of definitions, the headers of modules, and the chunks with their cases."""
-    crates = make_scratch(options.tree, folder)
-    uses, unfolding = headers(folder / "crates")
+    groups = [options.group] if options.group else list(GROUPS)
+    crates = make_scratch(options.tree, folder, groups)
+    uses, unfolding = headers(folder / "crates", groups)
     options.seam, options.outcome = "Seam" in uses, "Outcome" in uses
     written = [written_case(number, case, unfolding, options) for number, case in enumerate(cases, options.first)]
     if options.group:
@@ -764,14 +769,21 @@ def write_scratch(folder, cases, options):
     return crates, uses, chunks
 
 
-def check_all(folder, cases, options, edit=None):
-    """The number of disagreements; with a wrong definition put in, that of the first chunk that disagrees."""
-    crates, uses, chunks = write_scratch(folder, cases, options)
-    if edit:
-        mutate(folder, *edit)
+def check_definitions(folder, crates):
     ready = kit_check(folder, write_crate(folder, "definitions", crates))
     if ready.returncode != 0:
         sys.exit("definitions: the kit refuses the definitions alone\n" + (ready.stdout + ready.stderr)[-3000:])
+
+
+def check_all(folder, cases, options, edit=None, checked=None):
+    """The number of disagreements; with a wrong definition put in, that of the first chunk that disagrees. What the kit made of the definitions in `checked`
+    is taken over, so that it checks anew only what the edit reaches."""
+    crates, uses, chunks = write_scratch(folder, cases, options)
+    if edit:
+        for crate in crates:
+            shutil.copytree(checked / "crates" / crate / "out", folder / "crates" / crate / "out")
+        mutate(folder, *edit)
+    check_definitions(folder, crates)
     wrong = 0
     for name, chunk in chunks.items():
         found = check_chunk(folder, name, chunk, uses, crates)
