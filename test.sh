@@ -80,7 +80,7 @@ lane() {
     } &
 }
 
-# the archive is made before the lanes, which both need it, and only one of them calls ./refine
+# both lanes need the archive, and ./refine, which finds that `rt ci` has built the program
 run "no must-fail edit is bad" good_edits
 run "documents agree with the tree" python3 tests/documents.py
 run "archive for C" archive
