@@ -21,7 +21,7 @@ include_to = $(DESTDIR)$(PREFIX)/include
 lib_to = $(DESTDIR)$(libdir)
 headers := package/include/gedrovit.h package/include/gedrovit.hpp
 version := $(shell sed -n 's/^.define GEDROVIT_VERSION "\(.*\)"$$/\1/p' package/include/gedrovit.h)
-archive := target/staticlib/libcapi.a
+archive := crates/capi/out/libcapi.a
 # the archive's crate and all crates under it
 crates := $(shell awk -F: -f tools/crates_under.awk -v top=capi crates.txt)
 sources := crates.txt $(shell find $(foreach crate,$(crates),$(wildcard crates/$(crate)/src crates/$(crate)/specs crates/$(crate)/proofs)) -type f)
@@ -30,8 +30,8 @@ all: $(archive)
 
 $(archive): $(sources)
 	@command -v rt >/dev/null || { echo "make: the archive is built by the Rattle kit, whose command rt was not found; kit.txt has the kit's name and checksum" >&2; exit 1; }
-	@echo "building $@: the proofs are checked first, which takes some minutes" >&2
-	rt staticlib capi
+	@echo "building $@: the proofs are checked first, which takes long the first time" >&2
+	cd crates/capi && rt lib
 
 # The files find the headers from their own place, so that the installed tree can be moved.
 target/package/%: package/%.in always

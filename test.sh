@@ -1,6 +1,6 @@
 #!/usr/bin/env bash
-# The whole test: `rt ci` from nothing, then the tests outside Rattle on what it built. The last line is that of `rt ci` if all of them passed;
-# otherwise it counts the failures, and the exit status is not 0.
+# The whole test: `rt ci`, then the tests outside Rattle on what it built. The last line is that of `rt ci` if all of them passed; otherwise it counts the
+# failures, and the exit status is not 0. A must-fail edit that `rt ci` calls bad, which fails nothing there, fails here.
 set -u
 cd "$(dirname "$0")" || exit 1
 
@@ -10,16 +10,11 @@ if [ "$found" != "$pinned" ]; then
     echo "note: this tree was last proved with the kit '$pinned'; this machine has '$found'. A failure below may come from the difference."
 fi
 
-# `rt ci` waits for each batch of RT_JOBS checks, of up to 1 GB each: with more than there are cores, fewer cores idle at the end of a batch
-memory=$(awk '/^MemTotal:/ { print $2 }' /proc/meminfo)
-if [ -z "${RT_JOBS:-}" ] && [ "${memory:-0}" -ge 8000000 ]; then
-    export RT_JOBS=4
-fi
-
 scratch=$(mktemp -d)
 trap 'rm -rf "$scratch"' EXIT
 trap 'kill $(jobs -p) 2>/dev/null; exit 130' INT TERM
 log=$scratch/ci
+touch "$scratch/started"
 rt ci 2>&1 | tee "$log" | sed '$d'
 proved=${PIPESTATUS[0]}
 last=$(tail -n 1 "$log")
@@ -31,6 +26,8 @@ if [ -z "$passed" ]; then
     echo "0 passed, 1 failed"
     exit 1
 fi
+# ./refine takes the program that was built of the files as they stood when `rt ci` began
+[ "$proved" -ne 0 ] || { mkdir -p target && touch -r "$scratch/started" target/refine.built; }
 
 # run NAME COMMAND ..: one more test; the file `failures` has the names of those that fail
 failures=$scratch/failures
@@ -66,6 +63,15 @@ archive_lane() {
     run "the package for makers" bash tests/package.sh
 }
 
+# Where `rt ci` passes, its line 'rt: ok; ..; must-fail edits: N refused, N bad; ..' tells of edits that say nothing; without any, it has no 'N bad'.
+good_edits() {
+    [ "$proved" -ne 0 ] || { grep -q '^rt: ok; ' "$log" && ! grep -E '^rt: ok; .*, [1-9][0-9]* bad(;|$)' "$log"; }
+}
+
+archive() {
+    (cd crates/capi && rt lib)
+}
+
 # lane NAME: the tests of one lane in the background; what they print is shown whole when the last of them has ended
 lane() {
     {
@@ -74,9 +80,10 @@ lane() {
     } &
 }
 
-# two commands `rt` on one tree must not meet: the archive is made before the lanes, and only one of them calls ./refine
-run "documents agree with the tree" python3 tests/documents.py "$log"
-run "archive for C" rt staticlib capi
+# both lanes need the archive, and ./refine, which finds that `rt ci` has built the program
+run "no must-fail edit is bad" good_edits
+run "documents agree with the tree" python3 tests/documents.py
+run "archive for C" archive
 lane program_lane
 lane archive_lane
 wait

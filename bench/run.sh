@@ -1,14 +1,14 @@
 #!/usr/bin/env bash
 # The benchmark. Compares refining and the check with straightforward C++ result by result, then measures both, the seam test, and OpenSubdiv where it is
 # installed.
-#   bench/run.sh [ARCHIVE]    ARCHIVE is one that `rt staticlib capi` made; without it, it is made first
+#   bench/run.sh [ARCHIVE]    ARCHIVE is one that `rt lib` made in crates/capi; without it, it is made first
 set -euo pipefail
 load=$(cut -d' ' -f1 /proc/loadavg)
 archive=${1:+$(realpath "$1")}
 cd "$(dirname "$0")/.."
 if [ -z "$archive" ]; then
-    rt staticlib capi >/dev/null
-    archive=$PWD/target/staticlib/libcapi.a
+    (cd crates/capi && rt lib >/dev/null)
+    archive=$PWD/crates/capi/out/libcapi.a
 fi
 out=target/bench
 mkdir -p "$out"
@@ -46,7 +46,7 @@ build() {
 build_clang() {
     local kit clang
     kit=$(realpath "$(command -v rt)")
-    clang=${kit%/bin/rt}/on/$(uname -m)/toolchain/bin/clang
+    clang=${kit%/bin/rt}/toolchain/bin/clang
     [ -x "$clang" ] || return 1
     set -- "$clang" -x c++ -isystem "$(g++ -print-file-name=include)"
     # shellcheck disable=SC2086
@@ -109,7 +109,7 @@ done
 cat <<TEXT
 Gedrovit benchmark, $(date +%F)
 machine:   $machine
-archive:   by rt staticlib, for every x86-64 processor
+archive:   by rt lib, for every x86-64 processor
 C++:       $(g++ --version | head -n 1): $gcc_count for instructions, $gcc_time for times
            the kit's clang $clang_text
 agreement: all results are equal, count for count, in every build of C++:

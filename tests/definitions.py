@@ -12,7 +12,6 @@ a definition gives something else than the reference, 2 if the kit could not tel
 import argparse
 import collections
 import json
-import os
 import pathlib
 import re
 import resource
@@ -82,43 +81,40 @@ GROUPS = {
         "splitting.Splitting": "",
     },
     "Curve": {"rounding.Rounding": "", "curve.Weights": "tension", "curve.Curve": "Kind, Open, Closed, Point"},
-    "Moved": {"lists.Tabulate": "", "curve.Curve": "Point", "nets.Net": "Net, ControlNet", "nets.Moved": "moved, movedControl"},
-    "Reading": {**TOPOLOGY, "topology.Boundary": "withSides, againstSides", "lists.Tabulate": ""},
+    "Moved": {"lists.Tabulate": "", "curve.Curve": "Point", "nets.Net": "Net, ControlNet", "nets.Moved": "moved, moved_control"},
+    "Reading": {**TOPOLOGY, "topology.Boundary": "with_sides, against_sides", "lists.Tabulate": ""},
     "Seam": {
         **TOPOLOGY,
-        "topology.Boundary": "withSides, againstSides",
+        "topology.Boundary": "with_sides, against_sides",
         "lists.Tabulate": "",
         "nets.Net": "Net",
         "curve.Curve": "Point",
         "seam.Reading": "",
     },
 }
-GROUPS["SeamTest"] = {**GROUPS["Verdict"], "tables.Tables": "", "seam.Reading": "", "seamtest.SeamTest": "seamSide, seamTestedAs"}
-RULES = {"A": "withinSegment", "B": "endRule", "M": "singleRule", "C": "interiorEdge", "D": "fourInnerEdges", "E": "otherFace"}
-GROUPS["Letters"] = {**GROUPS["Round"], **GROUPS["Split"], "fractions.Fraction": "toWhole", "origins.Origins": "letterOf, madeBy, " + ", ".join(RULES.values())}
+GROUPS["SeamTest"] = {**GROUPS["Verdict"], "tables.Tables": "", "seam.Reading": "", "seamtest.SeamTest": "seam_side, seam_tested_as"}
+RULES = {"A": "within_segment", "B": "end_rule", "M": "single_rule", "C": "interior_edge", "D": "four_inner_edges", "E": "other_face"}
+GROUPS["Letters"] = {**GROUPS["Round"], **GROUPS["Split"], "fractions.Fraction": "to_whole", "origins.Origins": "letter_of, made_by, " + ", ".join(RULES.values())}
 GROUPS["Outcome"] = {
     **GROUPS["Round"],
     **GROUPS["Verdict"],
     **GROUPS["Split"],
-    "nets.Buffers": "letterTable",
+    "nets.Buffers": "letter_table",
     "origins.Origins": "",
     "tables.Tables": "",
     "outcome.Tally": "",
-    "outcome.Outcome": "refinedTo, refusedWith, request",
+    "outcome.Outcome": "refined_to, refused_with, request",
 }
 GROUPS["Obj"] = {
     "decimalform.Decimal": "",
     "textform.Bytes": "",
-    "textform.Form": "Vertex, Face, parsed, badLine",
+    "textform.Form": "Vertex, Face, parsed, bad_line",
     "textform.Text": "",
     "objform.Form": "",
-    "objform.Text": "none, slash, vertexLine, faceLine, commentLine",
+    "objform.Text": "none, slash, vertex_line, face_line, comment_line",
 }
-LIBRARY = """use mathlib.Core.Path.{_≡_, refl, ap, _∙_}
-use mathlib.Core.Bool.{Bool, true, false}
-use mathlib.Core.List.{List, [], _∷_}
-use Prim.Native.Nat.{ℕ, _+_}
-use lib.IntN.{ℤ, pos, negsuc}
+LIBRARY = """use Rattle.std.specs.Prelude.{◌≡◌, Bool, true, false, List, [], ◌∷◌, ℕ, ◌+◌, ℤ, pos, negsuc}
+use Rattle.std.proofs.Common.{refl, ap, ◌∙◌}
 """
 POINTS = """abbrev at : ℤ → ℤ → ℤ → Point
 at a b c = record { x = a; y = b; z = c }
@@ -199,12 +195,12 @@ def verdict_facts(label, case):
     if "net" not in case:
         lengths = " ".join(map(str, call["lengths"]))
         sides = case.get("sides", [])
-        yield "Verdict", "limits", f"limitsVerdict {call['rounds']} ({naturals(sides)}) (lengths {lengths} ({room}))", stated, 0.05 + 0.001 * len(sides)
+        yield "Verdict", "limits", f"limits_verdict {call['rounds']} ({naturals(sides)}) (lengths {lengths} ({room}))", stated, 0.05 + 0.001 * len(sides)
         return
     cost = 0.3 + 0.0004 * len(case["net"][1]) ** 2
     yield "Verdict", "call", f"verdict (call {call['rounds']} {drawn(label, case)} {call['tension']} ({room}))", stated, cost
     if call.get("net_verdict", call["verdict"]) != call["verdict"]:
-        yield "Verdict", "net", f"netVerdict {drawn(label, case)}", verdict_text(call["net_verdict"]), cost
+        yield "Verdict", "net", f"net_verdict {drawn(label, case)}", verdict_text(call["net_verdict"]), cost
 
 
 def outcome_facts(label, case):
@@ -213,10 +209,10 @@ def outcome_facts(label, case):
     if "given" not in call:
         return
     counts, refusal, (before, after), rounds = call["counts"], call["refusal"], call["tally"], call["rounds"]
-    result = f"refinedTo {counts[0]} {counts[1]}" if counts else f"refusedWith {refusal[0]} {refusal[1]}"
+    result = f"refined_to {counts[0]} {counts[1]}" if counts else f"refused_with {refusal[0]} {refusal[1]}"
     size = len(case["net"][1]) // (1 if "sides" in case else 4)
     cost = 0.3 + (0.1 * size**2 if rounds else 0)
-    letters = f"letterTable {truth(call['asked'])} ({naturals(call['given_letters'])})"
+    letters = f"letter_table {truth(call['asked'])} ({naturals(call['given_letters'])})"
     asked = f"request {before} {rounds} {drawn(label, case)} {call['tension']} (record {{ {given_text(call['given'])} }}) ({letters})"
     left = f"buffers = record {{ {given_text(call['left'])} }}; letters = {naturals(call['left_letters'])}"
     yield "Outcome", "outcome", f"outcome ({asked})", f"record {{ result = {result}; tally = {after}; {left} }}", cost
@@ -226,18 +222,18 @@ def letter_facts(label, case, seed):
     """The letters after each number of rounds: of all vertices as a table, or of the new ones by their rules; and on one axis the points that letters name."""
     size, nets = len(case["net"][1]) // 4, [case["net"], *case["steps"]]
     for rounds, letters in enumerate(case["letters"]):
-        net, name = nets[max(rounds - 1, 0)], f"{label}-after{rounds - 1}" if rounds > 1 else label
+        net, name = nets[max(rounds - 1, 0)], f"{label}_after{rounds - 1}" if rounds > 1 else label
         if rounds == 0 or size <= LETTER_FACES // rounds**2:
             yield "Letters", f"letters{rounds}", f"letters {weights(case)} (plain {label}) {rounds}", naturals(letters), 0.1 + 0.02 * rounds * size**2
         if rounds > 0:
             old = len(net[2])
-            rule = f"letterOf (madeBy (newRule ({name} .faces) ({name} .marks) ({old} + i)))"
+            rule = f"letter_of (made_by (new_rule {name}.faces {name}.marks ({old} + i)))"
             yield "Letters", f"rules{rounds}", f"tabulate {len(letters) - old} (λ (i : ℕ). {rule})", naturals(letters[old:]), 0.1 + 0.0005 * (len(net[1]) // 4) ** 2 * rounds
     if size <= WORD_FACES:
         axis = (seed + int(label[1:])) % 3
         for vertex, byte, *point in case["words"]:
-            named = f"ruleValue {weights(case)} ({label} .faces) ({label} .marks) (axis ({label} .vertices) {axis}) {vertex} {RULES[chr(byte)]}"
-            yield "Letters", f"word{vertex}-{chr(byte)}", f"toWhole ({named})", integer(point[axis]), 0.02 * size
+            named = f"rule_value {weights(case)} {label}.faces {label}.marks (axis {label}.vertices {axis}) {vertex} {RULES[chr(byte)]}"
+            yield "Letters", f"word{vertex}_{chr(byte)}", f"to_whole ({named})", integer(point[axis]), 0.02 * size
 
 
 def split_letter_facts(label, case):
@@ -253,7 +249,7 @@ def moved_facts(label, case):
     if "net" not in case:
         return
     (_, faces, marks), (shift, vertices), sides = case["net"], case["moved"], case.get("sides", ())
-    definition = "movedControl" if sides else "moved"
+    definition = "moved_control" if sides else "moved"
     yield "Moved", "moved", f"{definition} ({point(shift)}) {label}", net_record([vertices, faces, marks], sides), 0.05 + 0.00001 * len(vertices) ** 2
 
 
@@ -262,15 +258,15 @@ def round_facts(label, name, nets, w, seed, whole_faces):
     (_, faces, marks), (vertices_1, faces_1, marks_1) = nets
     size, count = len(faces) // 4, len(marks)
     if size <= whole_faces:
-        yield "Round", "round", f"step {w} {name}", f"{label}-after1", 0.2 + 0.1 * size**2
+        yield "Round", "round", f"step {w} {name}", f"{label}_after1", 0.2 + 0.1 * size**2
         return
     axis = (seed + int(label[1:])) % 3
-    coordinate = f"refinedCoordinate {w} {count} ({name} .faces) ({name} .marks) (axis ({name} .vertices) {axis})"
-    yield "Round", "faces", f"refined quads {count} ({name} .faces)", naturals(faces_1), 0.1
-    yield "Round", "marks", f"refinedMarks quads {count} ({name} .faces) ({name} .marks)", naturals(marks_1), 0.1
+    coordinate = f"refined_coordinate {w} {count} {name}.faces {name}.marks (axis {name}.vertices {axis})"
+    yield "Round", "faces", f"refined quads {count} {name}.faces", naturals(faces_1), 0.1
+    yield "Round", "marks", f"refined_marks quads {count} {name}.faces {name}.marks", naturals(marks_1), 0.1
     if size > LISTED_FACES:
         for vertex, value in enumerate(vertices_1[axis::3]):
-            yield "Round", f"axis{axis}-vertex{vertex}", f"{coordinate} {vertex}", integer(value), 0.015 * size
+            yield "Round", f"axis{axis}_vertex{vertex}", f"{coordinate} {vertex}", integer(value), 0.015 * size
         return
     yield "Round", f"axis{axis}", f"tabulate {len(marks_1)} (λ (i : ℕ). {coordinate} i)", integers(vertices_1[axis::3]), 0.2 + 0.045 * size**2
 
@@ -278,16 +274,16 @@ def round_facts(label, name, nets, w, seed, whole_faces):
 def split_facts(label, case, seed, whole_faces):
     """The net where refining begins, which zero rounds give, and the round after it."""
     corners = len(case["net"][1])
-    yield "Split", "split", f"startNet {label}", f"{label}-after0", 0.2 + 0.005 * corners**2
+    yield "Split", "split", f"start_net {label}", f"{label}_after0", 0.2 + 0.005 * corners**2
     if corners <= ROUND_CORNERS:
-        yield from round_facts(label, f"{label}-after0", case["split"], weights(case), seed, whole_faces)
+        yield from round_facts(label, f"{label}_after0", case["split"], weights(case), seed, whole_faces)
 
 
 def second_round_facts(label, case):
-    """The second round of the net after the first, which `two-rounds` puts together."""
+    """The second round of the net after the first, which `two_rounds` puts together."""
     size = len(case["steps"][0][1]) // 4
-    yield "Round", "second", f"step {weights(case)} {label}-after1", f"{label}-after2", 0.2 + 0.1 * size**2
-    yield "Round", "two-rounds", f"steps {weights(case)} 2 {label}", f"{label}-after2", 0.0
+    yield "Round", "second", f"step {weights(case)} {label}_after1", f"{label}_after2", 0.2 + 0.1 * size**2
+    yield "Round", "two_rounds", f"steps {weights(case)} 2 {label}", f"{label}_after2", 0.0
 
 
 def chosen_readings(readings, number):
@@ -302,27 +298,27 @@ def chosen_readings(readings, number):
 def curve_facts(place, reading, w):
     kind = "Open" if reading["open"] else "Closed"
     given = points(reading["points"])
-    for name, definition in (("rounded", "curve"), ("exact", "exactCurve")):
+    for name, definition in (("rounded", "curve"), ("exact", "exact_curve")):
         for steps, stated in enumerate(reading[name], 1):
-            yield "Curve", f"{name}{place}-{steps}", f"{definition} {w} {kind} {steps} ({given})", points(stated), 0.1
+            yield "Curve", f"{name}{place}_{steps}", f"{definition} {w} {kind} {steps} ({given})", points(stated), 0.1
 
 
 def reading_facts(label, place, reading, case, with_seam):
     """The vertices along the boundary before the first round and after each; with the crate `seam`, its list of points too."""
-    way, start = "withSides" if reading["with"] else "againstSides", reading["start"]
+    way, start = "with_sides" if reading["with"] else "against_sides", reading["start"]
     nets = [case["net"], *case["steps"]]
     for rounds, (net, vertices) in enumerate(zip(nets, reading["vertices"])):
-        name, count = f"{label}-after{rounds}" if rounds else label, len(vertices)
+        name, count = f"{label}_after{rounds}" if rounds else label, len(vertices)
         cost = 0.05 + 0.00001 * len(net[1]) ** 2
         faces = naturals(net[1])
-        along = f"(λ (i : ℕ). from ({faces}) (iterate (boundaryStep quads ({faces}) {way}) i (boundaryFrom quads ({faces}) {start})))"
-        yield "Reading", f"vertices{place}-{rounds}", f"tabulate {count} {along}", naturals(vertices), cost
+        along = f"(λ (i : ℕ). from ({faces}) (iterate (boundary_step quads ({faces}) {way}) i (boundary_from quads ({faces}) {start})))"
+        yield "Reading", f"vertices{place}_{rounds}", f"tabulate {count} {along}", naturals(vertices), cost
         if with_seam and len(net[1]) <= SEAM_CORNERS:
             read = [value for vertex in vertices for value in net[0][3 * vertex:3 * vertex + 3]]
             marks = ["true" if net[2][vertex] == 1 else "false" for vertex in vertices]
-            marked = f"(λ (i : ℕ). marked ({name} .marks) (vertexAt quads ({name} .faces) {way} {start} i))"
-            yield "Seam", f"points{place}-{rounds}", f"points quads {name} {way} {start} {count}", points(read), cost
-            yield "Seam", f"marks{place}-{rounds}", f"tabulate {count} {marked}", sequence(marks), cost
+            marked = f"(λ (i : ℕ). marked {name}.marks (vertex_at quads {name}.faces {way} {start} i))"
+            yield "Seam", f"points{place}_{rounds}", f"points quads {name} {way} {start} {count}", points(read), cost
+            yield "Seam", f"marks{place}_{rounds}", f"tabulate {count} {marked}", sequence(marks), cost
 
 
 def rows(values, width):
@@ -346,10 +342,10 @@ def corner_text(field):
 def line_text(line):
     """A line of an OBJ text that has the form, as a value."""
     if line.startswith(b"v "):
-        return f"vertexLine ({vertex_text(map(int, line[2:].split(b' ')))})"
+        return f"vertex_line ({vertex_text(map(int, line[2:].split(b' ')))})"
     if line.startswith(b"f "):
-        return "faceLine " + " ".join(map(corner_text, line[2:].split(b" ")))
-    return f"commentLine ({naturals(line[1:])})"
+        return "face_line " + " ".join(map(corner_text, line[2:].split(b" ")))
+    return f"comment_line ({naturals(line[1:])})"
 
 
 def obj_facts(case):
@@ -357,30 +353,30 @@ def obj_facts(case):
     text = bytes(case["bytes"])
     cost = 0.02 + 0.0004 * len(text)
     if "bad_line" in case:
-        yield "Obj", "bad", f"parseObj ({naturals(text)})", f"badLine {case['bad_line']}", cost
+        yield "Obj", "bad", f"parse_obj ({naturals(text)})", f"bad_line {case['bad_line']}", cost
         return
     vertices, faces = case["vertices"], case["faces"]
     counts = f"record {{ vertices = {len(vertices) // 3}; faces = {len(faces) // 4}; rounds = {case['rounds']} }}"
     read = f"vertices = {sequence(map(vertex_text, rows(vertices, 3)))}; faces = {sequence(map(face_text, rows(faces, 4)))}"
-    yield "Obj", "read", f"parseObj ({naturals(text)})", f"parsed (record {{ rule = false; counts = {counts}; {read} }}) []", cost
+    yield "Obj", "read", f"parse_obj ({naturals(text)})", f"parsed (record {{ rule = false; counts = {counts}; {read} }}) []", cost
     # the kit takes many steps to write a large number
     if not re.search(rb"\d{6}", text):
         lines = text.split(b"\n")[1:-1]
-        yield "Obj", "lines", f"objText {case['rounds']} ({sequence(map(line_text, lines))})", naturals(text), cost
+        yield "Obj", "lines", f"obj_text {case['rounds']} ({sequence(map(line_text, lines))})", naturals(text), cost
 
 
 def seam_test_facts(label, seam):
     """What the seam test reports, and its work table as it returns."""
     nets = (name if sides else f"(plain {name})" for name, sides in zip(seam_names(label), seam["sides"]))
-    first, second = (f"(seamSide {net} {tension} {start})" for net, tension, start in zip(nets, seam["tensions"], seam["starts"]))
-    stated = f"seamTestedAs ({verdict_text(seam['verdict'])}) {seam['edges']} ({naturals(seam['left'])})"
+    first, second = (f"(seam_side {net} {tension} {start})" for net, tension, start in zip(nets, seam["tensions"], seam["starts"]))
+    stated = f"seam_tested_as ({verdict_text(seam['verdict'])}) {seam['edges']} ({naturals(seam['left'])})"
     cost = 0.1 + 0.0001 * sum(len(faces) ** 2 for _, faces, _ in seam["nets"])
-    yield "SeamTest", "tested", f"seamTested {first} {second} ({naturals(seam['given'])})", stated, cost
+    yield "SeamTest", "tested", f"seam_tested {first} {second} ({naturals(seam['given'])})", stated, cost
 
 
 def seam_names(label):
     """The names of the two nets of a seam test."""
-    return f"{label}-first", f"{label}-second"
+    return f"{label}_first", f"{label}_second"
 
 
 def all_facts(label, number, case, options):
@@ -412,17 +408,17 @@ def written_case(number, case, unfolding, options):
     label = f"n{number:03}"
     facts = []
     for group, name, computed, stated, cost in all_facts(label, number, case, options):
-        name = f"{label}-{name}"
-        if name.endswith("two-rounds"):
-            text = f"{name} : {computed} ≡ {stated}\nunfolding steps\n{name} = ap (step {weights(case)}) {label}-round ∙ {label}-second\n"
+        name = f"{label}_{name}"
+        if name.endswith("two_rounds"):
+            text = f"{name} : {computed} ≡ {stated}\nunfolding steps\n{name} = ap (step {weights(case)}) {label}_round ∙ {label}_second\n"
         else:
-            text = f"{name} : {computed} ≡ {stated}\nunfolding {unfolding[group]}\n{name} = refl\n"
+            text = f"{name} : {computed} ≡ {stated}\nunfolding {unfolding.get(group, '')}\n{name} = refl\n"
         facts.append(Fact(group, name, text, stated, cost))
     nets = []
     if "net" in case:
         nets = [net_text(label, case["net"], case.get("sides", ()))]
-        nets += [net_text(f"{label}-after{k}", net) for k, net in enumerate(case.get("steps", []), 1)]
-        nets += [net_text(f"{label}-after{k}", net) for k, net in enumerate(case.get("split", []))]
+        nets += [net_text(f"{label}_after{k}", net) for k, net in enumerate(case.get("steps", []), 1)]
+        nets += [net_text(f"{label}_after{k}", net) for k, net in enumerate(case.get("split", []))]
     if "seam" in case:
         nets = [net_text(*side) for side in zip(seam_names(label), case["seam"]["nets"], case["seam"]["sides"])]
     return Case(label, case, nets, facts)
@@ -443,10 +439,11 @@ def unfoldable_names(path):
     return names
 
 
-def headers(crates):
-    """For each group its `use` lines, and the names that its facts unfold."""
+def headers(crates, groups):
+    """For each of these groups its `use` lines, and the names that its facts unfold."""
     uses, unfolding = {}, {}
-    for group, modules in GROUPS.items():
+    for group in groups:
+        modules = GROUPS[group]
         lines, unfolded = [LIBRARY], []
         for module, others in modules.items():
             crate, file = module.split(".")
@@ -454,7 +451,7 @@ def headers(crates):
             unfolded += names
             listed = ", ".join(names + ([others] if others else []))
             if listed:
-                lines.append(f"use Rattle·{crate}.specs.{file}.{{{listed}}}\n")
+                lines.append(f"use Rattle.{crate}.specs.{file}.{{{listed}}}\n")
         uses[group] = "".join(lines) + (POINTS if "Point" in modules.get("curve.Curve", "") else "")
         unfolding[group] = " ".join(unfolded)
     return uses, unfolding
@@ -464,13 +461,13 @@ def dependencies(tree):
     """The lines of crates.txt, as crate and crates under it."""
     lines = (tree / "crates.txt").read_text(encoding="utf-8").splitlines()
     pairs = (line.split(":") for line in lines if line.strip() and not line.startswith("#"))
-    return {name.strip(): under.split() for name, under in pairs}
+    return {name.split()[0]: under.split() for name, under in pairs}
 
 
-def make_scratch(tree, folder):
-    """Copies the definitions of the crates that facts name, and of the crates under them; returns the names of all."""
+def make_scratch(tree, folder, groups):
+    """Copies the definitions of the crates that facts of these groups name, and of the crates under them; returns the names of all."""
     under = dependencies(tree)
-    wanted = {module.split(".")[0] for modules in GROUPS.values() for module in modules} & set(under)
+    wanted = {module.split(".")[0] for group in groups for module in GROUPS[group]} & set(under)
     waiting = list(wanted)
     while waiting:
         more = set(under.get(waiting.pop(), ())) & set(under) - wanted
@@ -488,11 +485,18 @@ def make_scratch(tree, folder):
     return [name for name in under if name in wanted]
 
 
+def write_crate(folder, name, crates):
+    """A crate without code, over these crates; returns its name."""
+    (folder / "crates" / name / "src").mkdir(parents=True)
+    (folder / "crates" / name / "src" / "lib.rt").write_text("// Computed facts.\n", encoding="utf-8")
+    with open(folder / "crates.txt", "a", encoding="utf-8") as file:
+        file.write(f"{name}: {' '.join(crates)}\n")
+    return name
+
+
 def write_chunk(folder, name, cases, uses, crates):
-    target = folder / "crates" / name
-    (target / "src").mkdir(parents=True)
+    target = folder / "crates" / write_crate(folder, name, crates)
     (target / "proofs").mkdir()
-    (target / "src" / "lib.rt").write_text("// Computed facts.\n", encoding="utf-8")
     groups = [group for group in uses if any(fact.group == group for case in cases for fact in case.facts)]
     for group in groups:
         parts = [uses[group]]
@@ -503,8 +507,6 @@ def write_chunk(folder, name, cases, uses, crates):
                 parts += [text for kind, text in case.nets if kind in named] + facts
         (target / "proofs" / f"{group}.antt").write_text("\n".join(parts), encoding="utf-8")
     (target / "proofs" / "Lib.antt").write_text("".join(f"pub mod {group}\n" for group in groups), encoding="utf-8")
-    with open(folder / "crates.txt", "a", encoding="utf-8") as file:
-        file.write(f"{name}: {' '.join(crates)}\n")
 
 
 def chunks_of(cases):
@@ -542,14 +544,13 @@ def short_chunks(cases):
 
 # ---- the kit
 def kit_check(folder, name):
-    environment = {**os.environ, "RT_JOBS": "1", "RT_CUT": "4000"}
-    return subprocess.run(["rt", "check", *name], cwd=folder, env=environment, capture_output=True, text=True)
+    return subprocess.run(["rt", "check", "--jobs", "1"], cwd=folder / "crates" / name, stdin=subprocess.DEVNULL, capture_output=True, text=True)
 
 
 def disagreements(output):
     """Each fact that the kit refuses by itself, with what the kit says of the difference."""
     for name, message in re.findall(r"^\S+\.antt:\d+:\d+: error: `(\S+)`: (.*(?:\n  .*)*)", output, re.M):
-        if "was not admitted" in message or "stopped at the step limit" in message:
+        if "was not admitted" in message or "stopped at the step limit" in message or "ran out of" in message:
             continue
         values = re.search(r"the two types are `Path (?:\([^()]*\)|\S+) (\([^()]*\)|\S+) (\([^()]*\)|\S+)` \(expected\)", message)
         difference = re.search(r"computed as far as they go, (.*)", message)
@@ -562,7 +563,7 @@ def disagreements(output):
 def check_chunk(folder, name, cases, uses, crates):
     """The number of disagreements, which are printed; None if the kit could not tell."""
     before, start = resource.getrusage(resource.RUSAGE_CHILDREN), time.time()
-    result = kit_check(folder, [name])
+    result = kit_check(folder, name)
     after = resource.getrusage(resource.RUSAGE_CHILDREN)
     seconds = after.ru_utime + after.ru_stime - before.ru_utime - before.ru_stime
     facts = {fact.name: (case, fact) for case in cases for fact in case.facts}
@@ -587,19 +588,19 @@ def print_detail(folder, case, fact, uses, crates):
         return
     number = 1 if fact.name.endswith("second") else 0
     if "split" in case.told:
-        (net, after), label = case.told["split"], f"{case.label}-after0"
+        (net, after), label = case.told["split"], f"{case.label}_after0"
     else:
         net, after = [case.told["net"], *case.told["steps"]][number:number + 2]
-        label = f"{case.label}-after1" if number else case.label
+        label = f"{case.label}_after1" if number else case.label
     unfolding = re.search(r"^unfolding .*$", fact.text, re.M).group()
     facts = {}
     for vertex in range(len(net[2]), len(after[2])):
         for axis in range(3):
-            name, value = f"{case.label}-vertex{vertex}-axis{axis}", integer(after[0][3 * vertex + axis])
-            computed = f"refinedCoordinate {weights(case.told)} {len(net[2])} ({label} .faces) ({label} .marks) (axis ({label} .vertices) {axis}) {vertex}"
+            name, value = f"{case.label}_vertex{vertex}_axis{axis}", integer(after[0][3 * vertex + axis])
+            computed = f"refined_coordinate {weights(case.told)} {len(net[2])} {label}.faces {label}.marks (axis {label}.vertices {axis}) {vertex}"
             facts[name] = Fact("Round", name, f"{name} : {computed} ≡ {value}\n{unfolding}\n{name} = refl\n", value, 0)
     write_chunk(folder, "detail", [case._replace(facts=list(facts.values()))], uses, crates)
-    result = kit_check(folder, ["detail"])
+    result = kit_check(folder, "detail")
     for name, difference in list(disagreements(result.stdout + result.stderr))[:SHOWN]:
         print(f"    {name}, stated as {facts[name].stated}: {difference[:300]}")
 
@@ -608,18 +609,18 @@ def print_detail(folder, case, fact, uses, crates):
 def halves(above, below):
     """Rounding with 1 taken from the doubled numerator, which moves halves alone, above 0 or below it."""
     clauses = (f"round ({z}) d = floor (pos 2 *ℤ {z} +ℤ pos d -ℤ pos {less}) (2 * d)" for z, less in (("pos a", above), ("negsuc a", below)))
-    return [("_+ℤ_, _*ℤ_}", "_+ℤ_, _-ℤ_, _*ℤ_}"), ("round z d = floor (pos 2 *ℤ z +ℤ pos d) (2 * d)", "\n".join(clauses))]
+    return [("◌+ℤ◌, ◌*ℤ◌}", "◌+ℤ◌, ◌-ℤ◌, ◌*ℤ◌}"), ("round z d = floor (pos 2 *ℤ z +ℤ pos d) (2 * d)", "\n".join(clauses))]
 
 
 MUTATIONS = {
-    "1/5 for 1/9 in the virtual point": ("Round", "fan", "rings/specs/Ring.antt", [("+ᶠ k (j + 1)) /ᶠ w .near", "+ᶠ k (j + 1)) /ᶠ 5")]),
+    "1/5 for 1/9 in the virtual point": ("Round", "fan", "rings/specs/Ring.antt", [("+ᶠ k (j + 1)) /ᶠ w.near", "+ᶠ k (j + 1)) /ᶠ 5")]),
     "b* and c* exchanged": (
         "Round",
         "fan",
         "scheme/specs/Rings.antt",
         [
-            ("    cond (eqb i m) (extrapolatedAt", "    cond (eqb i (m + 1)) (extrapolatedAt"),
-            ("    (cond (eqb i (m + 1)) (extrapolatedAt", "    (cond (eqb i m) (extrapolatedAt"),
+            ("    cond (eqb i m) (extrapolated_at", "    cond (eqb i (m + 1)) (extrapolated_at"),
+            ("    (cond (eqb i (m + 1)) (extrapolated_at", "    (cond (eqb i m) (extrapolated_at"),
         ],
     ),
     "halves towards zero": ("Round", "halves", "rounding/specs/Rounding.antt", halves(1, 0)),
@@ -630,21 +631,21 @@ MUTATIONS = {
         "single",
         "scheme/specs/Points.antt",
         [
-            ("Fraction.{Fraction, whole}", "Fraction.{Fraction, whole, toWhole}"),
-            ("faceValue w l (edgePoint w l marks p) f", "faceValue w l (λ (h : ℕ). whole (toWhole (edgePoint w l marks p h))) f"),
+            ("Fraction.{Fraction, whole}", "Fraction.{Fraction, whole, to_whole}"),
+            ("face_value w l (edge_point w l marks p) f", "face_value w l (λ (h : ℕ). whole (to_whole (edge_point w l marks p h))) f"),
         ],
     ),
-    "the last edge of a segment taken as cyclic": ("Round", "single", "scheme/specs/Points.antt", [("endOfSegment insideSegment)", "insideSegment insideSegment)")]),
-    "never the second direction alone": ("Round", "annulus", "scheme/specs/Points.antt", [("secondAlone neitherInner)", "neitherInner neitherInner)")]),
-    "side i+1 for side i-1 in refined faces": ("Round", "single", "refinedfaces/specs/Refined.antt", [("edge S l (S .prev h)", "edge S l (S .next h)")]),
-    "a fan of 7 accepted": ("Verdict", "polygons-stored-fan-of-seven", "refusals/specs/Refusals.antt", [("(ltb maxFan (valence l p))", "(ltb 7 (valence l p))")]),
+    "the last edge of a segment taken as cyclic": ("Round", "single", "scheme/specs/Points.antt", [("end_of_segment inside_segment)", "inside_segment inside_segment)")]),
+    "never the second direction alone": ("Round", "annulus", "scheme/specs/Points.antt", [("second_alone neither_inner)", "neither_inner neither_inner)")]),
+    "side i+1 for side i-1 in refined faces": ("Round", "single", "refinedfaces/specs/Refined.antt", [("edge S l (S.prev h)", "edge S l (S.next h)")]),
+    "a fan of 7 accepted": ("Verdict", "polygons-stored-fan-of-seven", "refusals/specs/Refusals.antt", [("(ltb max_fan (valence l p))", "(ltb 7 (valence l p))")]),
     "refusal 12 before 11": (
         "Verdict",
         "refused-11",
         "verdict/specs/Verdict.antt",
         [
-            ("    (orElse (refusedAt 11 (badValence S l) v", "    (orElse (refusedAt 12 (markedRing S l marks) v"),
-            ("    (refusedAt 12 (markedRing S l marks) v (λ p. p)))", "    (refusedAt 11 (badValence S l) v (λ p. p)))"),
+            ("    (or_else (refused_at 11 (bad_valence S l) v", "    (or_else (refused_at 12 (marked_ring S l marks) v"),
+            ("    (refused_at 12 (marked_ring S l marks) v (λ p. p)))", "    (refused_at 11 (bad_valence S l) v (λ p. p)))"),
         ],
     ),
     "a face of nine sides accepted": ("Verdict", "polygons-stored-count-9", "polygons/specs/Polygons.antt", [("|| ltb 8 c", "|| ltb 9 c")]),
@@ -653,55 +654,55 @@ MUTATIONS = {
         "polygons-stored-bad-count-and-a-mark-more",
         "verdict/specs/Verdict.antt",
         [
-            ("    (orElse (cornersVerdict sides corners)", "    (orElse (refusedIf 2 (not (eqb marks (coordinates / 3))))"),
-            ("    (refusedIf 2 (not (eqb marks (coordinates / 3)))))", "    (cornersVerdict sides corners))"),
+            ("    (or_else (corners_verdict sides corners)", "    (or_else (refused_if 2 (not (eqb marks (coordinates / 3))))"),
+            ("    (refused_if 2 (not (eqb marks (coordinates / 3)))))", "    (corners_verdict sides corners))"),
         ],
     ),
     "drawn faces counted": ("Verdict", "polygons-refused-04", "verdict/specs/Call.antt", [("quadrilaterals (c ∷ s) corners = corners", "quadrilaterals (c ∷ s) corners = length (c ∷ s)")]),
     "the last side followed by the next face": ("Verdict", "polygons-lone", "polygons/specs/Polygons.antt", [("cond (ltb (j + 1) c) (j + 1) 0", "j + 1")]),
-    "corners summed over four": ("Split", "polygons-lone", "splitting/specs/Splitting.antt", [("/ᶠ S .sides h", "/ᶠ 4")]),
+    "corners summed over four": ("Split", "polygons-lone", "splitting/specs/Splitting.antt", [("/ᶠ S.sides h", "/ᶠ 4")]),
     "a side's first end twice": ("Split", "polygons-lone", "splitting/specs/Splitting.antt", [("(whole (p (to S l h)))", "(whole (p (from l h)))")]),
-    "quadrilaterals left whole": ("Split", "polygons-quads", "splitting/specs/Splitting.antt", [("startBy (c ∷ s) m = split m", "startBy (c ∷ s) m = controlTables m")]),
-    "the record passes its limit by one": ("Outcome", "polygons-stored-tally", "outcome/specs/Tally.antt", [("ltb maxTally ", "ltb (maxTally + 1) ")]),
-    "drawn vertices billed": ("Outcome", "polygons-stored-tally", "outcome/specs/Tally.antt", [("(startNet m)) - length (m .marks)", "(startNet m))")]),
-    "D only if both directions have four inner edges": ("Letters", "annulus", "origins/specs/Origins.antt", [("faceCase firstAlone = fourInnerEdges", "faceCase firstAlone = otherFace")]),
-    "an end edge called inside": ("Letters", "single", "origins/specs/Origins.antt", [("edgeCase endOfSegment = endRule", "edgeCase endOfSegment = withinSegment")]),
-    "points of the split called drawn": ("Letters", "polygons-lone", "origins/specs/Origins.antt", [("(ltb i v) controlVertex splitPoint", "(ltb i v) controlVertex controlVertex")]),
-    "D without four inner edges taken as the mean": ("Letters", "ring", "origins/specs/Origins.antt", [("fourInnerRule neitherInner = firstAlone", "fourInnerRule neitherInner = neitherInner")]),
-    "a letter table measured that is not asked for": ("Verdict", "polygons-stored-letters-not-asked", "verdict/specs/Verdict.antt", [("room .asked && ltb (room .letters)", "ltb (room .letters)")]),
-    "letters filled that are not asked for": ("Outcome", "polygons-stored-letters-not-asked", "outcome/specs/Outcome.antt", [("cond (l .asked) (filled s (l .table)) (l .table)", "filled s (l .table)")]),
+    "quadrilaterals left whole": ("Split", "polygons-quads", "splitting/specs/Splitting.antt", [("start_by (c ∷ s) m = split m", "start_by (c ∷ s) m = control_tables m")]),
+    "the record passes its limit by one": ("Outcome", "polygons-stored-tally", "outcome/specs/Tally.antt", [("ltb max_tally ", "ltb (max_tally + 1) ")]),
+    "drawn vertices billed": ("Outcome", "polygons-stored-tally", "outcome/specs/Tally.antt", [("(start_net m)) - length m.marks", "(start_net m))")]),
+    "D only if both directions have four inner edges": ("Letters", "annulus", "origins/specs/Origins.antt", [("face_case first_alone = four_inner_edges", "face_case first_alone = other_face")]),
+    "an end edge called inside": ("Letters", "single", "origins/specs/Origins.antt", [("edge_case end_of_segment = end_rule", "edge_case end_of_segment = within_segment")]),
+    "points of the split called drawn": ("Letters", "polygons-lone", "origins/specs/Origins.antt", [("(ltb i v) control_vertex split_point", "(ltb i v) control_vertex control_vertex")]),
+    "D without four inner edges taken as the mean": ("Letters", "ring", "origins/specs/Origins.antt", [("four_inner_rule neither_inner = first_alone", "four_inner_rule neither_inner = neither_inner")]),
+    "a letter table measured that is not asked for": ("Verdict", "polygons-stored-letters-not-asked", "verdict/specs/Verdict.antt", [("room.asked && ltb room.letters", "ltb room.letters")]),
+    "letters filled that are not asked for": ("Outcome", "polygons-stored-letters-not-asked", "outcome/specs/Outcome.antt", [("cond l.asked (filled s l.table) l.table", "filled s l.table")]),
     "31 + t for 32 + t": ("Round", "named-strip", "curve/specs/Weights.antt", [("near = 32 + t;", "near = 31 + t;")]),
     "t + 1 for t": ("Curve", "single", "curve/specs/Weights.antt", [("far = t }", "far = t + 1 }")]),
-    "1/9 at every tension": ("Round", "ring", "rings/specs/Ring.antt", [("+ᶠ w .far ×ᶠ (k (j + (n - 2))", "+ᶠ 1 ×ᶠ (k (j + (n - 2))"), ("+ᶠ k (j + 1)) /ᶠ w .near", "+ᶠ k (j + 1)) /ᶠ 9")]),
-    "4/(9n) at every tension": ("Round", "ring", "rings/specs/Ring.antt", [("(4 * w .far) ×ᶠ sumᶠ n k /ᶠ (w .near * n)", "4 ×ᶠ sumᶠ n k /ᶠ (9 * n)")]),
-    "a tension of 5 accepted": ("Verdict", "polygons-stored-tension-5", "verdict/specs/Verdict.antt", [("(ltb 4 (c .tension))", "(ltb 5 (c .tension))")]),
+    "1/9 at every tension": ("Round", "ring", "rings/specs/Ring.antt", [("+ᶠ w.far ×ᶠ (k (j + (n - 2))", "+ᶠ 1 ×ᶠ (k (j + (n - 2))"), ("+ᶠ k (j + 1)) /ᶠ w.near", "+ᶠ k (j + 1)) /ᶠ 9")]),
+    "4/(9n) at every tension": ("Round", "ring", "rings/specs/Ring.antt", [("(4 * w.far) ×ᶠ sumᶠ n k /ᶠ (w.near * n)", "4 ×ᶠ sumᶠ n k /ᶠ (9 * n)")]),
+    "a tension of 5 accepted": ("Verdict", "polygons-stored-tension-5", "verdict/specs/Verdict.antt", [("(ltb 4 c.tension)", "(ltb 5 c.tension)")]),
     "the tension tested before 4": (
         "Verdict",
         "polygons-stored-tension-5-and-short",
         "verdict/specs/Verdict.antt",
-        [("callVerdict c = orElse (limitsVerdict (c .rounds) (c .net .sides) (lengthsOf (c .net) (c .room))) (refusedIf 16 (ltb 4 (c .tension)))",
-          "callVerdict c = orElse (refusedIf 16 (ltb 4 (c .tension))) (limitsVerdict (c .rounds) (c .net .sides) (lengthsOf (c .net) (c .room)))")],
+        [("call_verdict c = or_else (limits_verdict c.rounds c.net.sides (lengths_of c.net c.room)) (refused_if 16 (ltb 4 c.tension))",
+          "call_verdict c = or_else (refused_if 16 (ltb 4 c.tension)) (limits_verdict c.rounds c.net.sides (lengths_of c.net c.room))")],
     ),
     "the tension tested after 5": (
         "Verdict",
         "polygons-stored-tension-5-and-a-coordinate-beyond",
         "verdict/specs/Verdict.antt",
-        [("verdict c = orElse (callVerdict c) (netVerdict (c .net))",
-          "verdict c = orElse (coordinatesVerdict (c .net .vertices)) (orElse (callVerdict c) (netVerdict (c .net)))")],
+        [("verdict c = or_else (call_verdict c) (net_verdict c.net)",
+          "verdict c = or_else (coordinates_verdict c.net.vertices) (or_else (call_verdict c) (net_verdict c.net))")],
     ),
     "the work table cleared on 16": (
         "Outcome",
         "polygons-stored-tension-5",
         "verdict/specs/Verdict.antt",
-        [("workAfter c w = afterCall (callVerdict c) w", "workAfter c w = afterCall (limitsVerdict (c .rounds) (c .net .sides) (lengthsOf (c .net) (c .room))) w")],
+        [("work_after c w = after_call (call_verdict c) w", "work_after c w = after_call (limits_verdict c.rounds c.net.sides (lengths_of c.net c.room)) w")],
     ),
-    "the old tension in a call": ("Outcome", "polygons-stored-tension-0", "outcome/specs/Outcome.antt", [("= steps (tension (a .tension)) (a .rounds)", "= steps (tension 4) (a .rounds)")]),
-    "another end weight of the curve": ("Curve", "single", "curve/specs/Weights.antt", [("pos (w .near + w .far) *ℤ q", "pos (w .near) *ℤ q")]),
-    "the second net walked with its sides": ("SeamTest", "seam-match", "seamtest/specs/SeamTest.antt", [("(stepAt b againstSides i)", "(stepAt b withSides i)")]),
-    "marks of a seam not compared": ("SeamTest", "seam-mark", "seamtest/specs/SeamTest.antt", [("sameAxis p u q v 2 && same (marked m u) (marked n v)", "sameAxis p u q v 2")]),
-    "the last step of a seam left out": ("SeamTest", "seam-coordinate", "seamtest/specs/SeamTest.antt", [("(suc (edgesFrom a withSides)) (λ i. i)", "(edgesFrom a withSides) (λ i. i)")]),
-    "the work table of one check alone": ("SeamTest", "seam-match", "seamtest/specs/SeamTest.antt", [("(workAfter (aloneIn b (length w)) once)", "once")]),
-    "a loop followed backwards": ("Reading", "single", "topology/specs/Boundary.antt", [("boundaryStep S l withSides h = along S l h", "boundaryStep S l withSides h = back S l h")]),
+    "the old tension in a call": ("Outcome", "polygons-stored-tension-0", "outcome/specs/Outcome.antt", [("= steps (tension a.tension) a.rounds", "= steps (tension 4) a.rounds")]),
+    "another end weight of the curve": ("Curve", "single", "curve/specs/Weights.antt", [("pos (w.near + w.far) *ℤ q", "pos w.near *ℤ q")]),
+    "the second net walked with its sides": ("SeamTest", "seam-match", "seamtest/specs/SeamTest.antt", [("(step_at b against_sides i)", "(step_at b with_sides i)")]),
+    "marks of a seam not compared": ("SeamTest", "seam-mark", "seamtest/specs/SeamTest.antt", [("same_axis p u q v 2 && same (marked m u) (marked n v)", "same_axis p u q v 2")]),
+    "the last step of a seam left out": ("SeamTest", "seam-coordinate", "seamtest/specs/SeamTest.antt", [("(suc (edges_from a with_sides)) (λ i. i)", "(edges_from a with_sides) (λ i. i)")]),
+    "the work table of one check alone": ("SeamTest", "seam-match", "seamtest/specs/SeamTest.antt", [("(work_after (alone_in b (length w)) once)", "once")]),
+    "a loop followed backwards": ("Reading", "single", "topology/specs/Boundary.antt", [("boundary_step S l with_sides h = along S l h", "boundary_step S l with_sides h = back S l h")]),
 }
 
 
@@ -719,13 +720,16 @@ def run_mutations(cases, options):
     """Each wrong definition must be found out by the nets of its kind, the smallest first; returns how many are not."""
     missed = 0
     cases = sorted(cases, key=lambda case: len(case["net"][1]) if "net" in case else 0)
-    for name, (group, kind, *edit) in MUTATIONS.items():
-        print(f"== {name}", flush=True)
-        options.group = group
-        with tempfile.TemporaryDirectory() as folder:
-            if check_all(pathlib.Path(folder), [case for case in cases if case["kind"].startswith(kind)], options, edit) == 0:
-                print("NOT FOUND OUT")
-                missed += 1
+    with tempfile.TemporaryDirectory() as name:
+        checked = pathlib.Path(name)
+        check_definitions(checked, make_scratch(options.tree, checked, GROUPS))
+        for name, (group, kind, *edit) in MUTATIONS.items():
+            print(f"== {name}", flush=True)
+            options.group = group
+            with tempfile.TemporaryDirectory() as folder:
+                if check_all(pathlib.Path(folder), [case for case in cases if case["kind"].startswith(kind)], options, edit, checked) == 0:
+                    print("NOT FOUND OUT")
+                    missed += 1
     print(f"definitions: {len(MUTATIONS) - missed} of {len(MUTATIONS)} wrong definitions found out")
     return missed
 
@@ -749,8 +753,9 @@ def cases_from_generator(options):
 
 def write_scratch(folder, cases, options):
     """Writes the scratch repository; returns its crates of definitions, the headers of modules, and the chunks with their cases."""
-    crates = make_scratch(options.tree, folder)
-    uses, unfolding = headers(folder / "crates")
+    groups = [options.group] if options.group else list(GROUPS)
+    crates = make_scratch(options.tree, folder, groups)
+    uses, unfolding = headers(folder / "crates", groups)
     options.seam, options.outcome = "Seam" in uses, "Outcome" in uses
     written = [written_case(number, case, unfolding, options) for number, case in enumerate(cases, options.first)]
     if options.group:
@@ -764,14 +769,21 @@ def write_scratch(folder, cases, options):
     return crates, uses, chunks
 
 
-def check_all(folder, cases, options, edit=None):
-    """The number of disagreements; with a wrong definition put in, that of the first chunk that disagrees."""
-    crates, uses, chunks = write_scratch(folder, cases, options)
-    if edit:
-        mutate(folder, *edit)
-    ready = kit_check(folder, crates)
+def check_definitions(folder, crates):
+    ready = kit_check(folder, write_crate(folder, "definitions", crates))
     if ready.returncode != 0:
         sys.exit("definitions: the kit refuses the definitions alone\n" + (ready.stdout + ready.stderr)[-3000:])
+
+
+def check_all(folder, cases, options, edit=None, checked=None):
+    """The number of disagreements; with a wrong definition put in, that of the first chunk that disagrees. What the kit made of the definitions in `checked`
+    is taken over, so that it checks anew only what the edit reaches."""
+    crates, uses, chunks = write_scratch(folder, cases, options)
+    if edit:
+        for crate in crates:
+            shutil.copytree(checked / "crates" / crate / "out", folder / "crates" / crate / "out")
+        mutate(folder, *edit)
+    check_definitions(folder, crates)
     wrong = 0
     for name, chunk in chunks.items():
         found = check_chunk(folder, name, chunk, uses, crates)

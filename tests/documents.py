@@ -1,10 +1,7 @@
 #!/usr/bin/env python3
-"""Holds the documents to the tree: what tools/guarantees.py and tools/walk.py make, every name in the promises, the sentences that are quoted, the version of the long run, the layers of
+"""Holds the documents to the tree: what tools/guarantees.py makes, every name in the promises, the sentences that are quoted, the version of the long run, the kit, the layers of
 docs/ARCHITECTURE.md, the lines of crates.txt; and nothing in specs/ or proofs/ is unused (tests/unused.py).
-
-usage: tests/documents.py [LOG]    LOG is what `rt ci` printed: the crates whose must-fail edits take longest are then told
 """
-import os
 import pathlib
 import re
 import subprocess
@@ -14,7 +11,6 @@ ROOT = pathlib.Path(__file__).resolve().parent.parent
 sys.path.append(str(ROOT / "tools"))
 import guarantees  # noqa: E402
 
-KIT = ["libc", "io", "os"]
 TABLES = [guarantees.CALLS, guarantees.TEXTS, guarantees.LAWS, guarantees.CODE]
 
 
@@ -27,7 +23,7 @@ def crate_lines():
     layers = []
     for block in read("crates.txt").split("\n\n")[1:]:
         title, *lines = block.strip().splitlines()
-        layers.append((title.removeprefix("# "), {name: under.split() for name, under in (line.split(":") for line in lines)}))
+        layers.append((title.removeprefix("# "), {head.split()[0]: under.split() for head, under in (line.split(":") for line in lines)}))
     return layers
 
 
@@ -36,7 +32,7 @@ def files_of(crate, endings):
 
 
 def tool_faults():
-    for command in (["tools/guarantees.py", "--check"], ["tools/walk.py", "--check"], ["tests/unused.py"]):
+    for command in (["tools/guarantees.py", "--check"], ["tests/unused.py"]):
         done = subprocess.run([sys.executable, str(ROOT / command[0]), *command[1:]], capture_output=True, text=True)
         if done.returncode != 0:
             yield (done.stdout + done.stderr).strip()
@@ -110,7 +106,7 @@ def first_page_faults():
     if [(number, name) for number, name, _, _ in rows] != promises:
         yield f"GUARANTEES: its first page has not the promises of README: {', '.join(name for _, name in promises)}"
     for number, _, theorem, file in rows:
-        if not (ROOT / file).exists() or not re.search(rf"^ *(?:pub )?{re.escape(theorem)} :", read(file), re.M):
+        if not (ROOT / file).exists() or not re.search(rf"^ *(?:pub )?{re.escape(theorem)} :|\bfn {re.escape(theorem)}\b", read(file), re.M):
             yield f"GUARANTEES: promise {number}: {file} has no {theorem}"
 
 
@@ -181,16 +177,15 @@ def layer_faults():
 
 
 def dependency_faults():
-    """Each crate is listed with the crates that its own files name, and none of them stands later."""
+    """Each crate is listed with the crates that its own files name, those of the kit too, and none of ours stands later."""
     under = {name: named for _, crates in crate_lines() for name, named in crates.items()}
     order = list(under)
     for place, name in enumerate(order):
         named = set()
         for path in files_of(name, (".antt", ".rt")):
             text = path.read_text(encoding="utf-8")
-            named.update(re.findall(r"Rattle·(\w+)", text))
-            if path.suffix == ".rt":
-                named.update(word for word in re.findall(r"\b(\w+)::", text) if word in order + KIT)
+            words = re.findall(r"\bRattle\.(\w+)", text) + (re.findall(r"(?<![\w:])(\w+)::", text) if path.suffix == ".rt" else [])
+            named.update(word for word in words if word in under or word in under[name])
         named.discard(name)
         if named != set(under[name]):
             yield f"crates.txt: {name} names {', '.join(sorted(named ^ set(under[name])))} or does not, other than listed"
@@ -198,29 +193,18 @@ def dependency_faults():
             yield f"crates.txt: {name} stands before {later}, which it names"
 
 
-def print_dearest(log):
-    """The five crates whose edits take longest: each edit checks its whole crate."""
-    seconds = {name: int(time) for name, time in re.findall(r"^rt: (\w+) proved \((\d+) s\)", log, re.M)}
-    dear = [(len(list(ROOT.glob(f"crates/{name}/must-fail/*.edit"))) * time, name, time) for name, time in seconds.items()]
-    for total, name, time in sorted(dear, reverse=True)[:5]:
-        if total:
-            print(f"dear edits: {name}, {total // time} edits of {time} s{over(name, total // time, time)}")
-
-
-def over(name, edits, time):
-    """Above 10 s alone; with more checks at once than cores, a check takes that much longer."""
-    alone = time / max(1, int(os.environ.get("RT_JOBS", "1")) / (os.cpu_count() or 1))
-    code = "".join(path.read_text(encoding="utf-8") for path in files_of(name, (".rt",)))
-    return ": more than three in a crate with functions" if edits > 3 and alone > 10 and re.search(r"\bfn \w", code) else ""
+def kit_faults():
+    """README names the kit that kit.txt does."""
+    kit = read("kit.txt").strip()
+    if f"`{kit}`" not in read("README.md"):
+        yield f"README does not name the kit `{kit}`"
 
 
 def main():
-    checks = (tool_faults, name_faults, row_faults, first_page_faults, quote_faults, edit_faults, version_faults, layer_faults, dependency_faults)
+    checks = (tool_faults, name_faults, row_faults, first_page_faults, quote_faults, edit_faults, version_faults, kit_faults, layer_faults, dependency_faults)
     faults = [fault for check in checks for fault in check()]
     for fault in faults:
         print(fault)
-    if sys.argv[1:]:
-        print_dearest(pathlib.Path(sys.argv[1]).read_text(encoding="utf-8", errors="replace"))
     sys.exit(1 if faults else 0)
 
 

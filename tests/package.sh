@@ -383,7 +383,7 @@ check "nets in vectors" vectors
 check "stack" stack
 check "Rust crate: another version's archive" rust_guard
 check "Rust crate: tests" rust GEDROVIT_LIB_DIR="$prefix/lib" cargo test --quiet
-check "Rust crate: archive of the repository" rust_links "$root/package/rust/../../target/staticlib"
+check "Rust crate: archive of the repository" rust_links "$root/package/rust/../../crates/capi/out"
 check "Rust crate: no archive" rust_refused
 check "Rust crate: the example" rust_example
 check "Rust crate: outside the repository" rust_outside

@@ -16,7 +16,7 @@ import tempfile
 import time
 
 ROOT = pathlib.Path(__file__).resolve().parent.parent
-PROGRAM = ROOT / 'target/bin/gedrovit'
+PROGRAM = ROOT / 'crates/gedrovit/out/gedrovit'
 CASES = ROOT / 'tests/nets/cases'
 CARGO = ['cargo', 'run', '--release', '--offline', '--quiet', '--manifest-path', str(ROOT / 'tests/Cargo.toml'), '-p']
 SAMPLE = (CASES / 'paper-sample.txt').read_bytes()

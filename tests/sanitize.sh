@@ -6,9 +6,9 @@
 #                          nets and seam tests, and the calls with a vertex in many faces; those with long work tables are left out
 set -eu
 cd "$(dirname "$0")/.."
-archive=target/staticlib/libcapi.a
+archive=crates/capi/out/libcapi.a
 if [ ! -f "$archive" ]; then
-    echo "there is no $archive; make it with: rt staticlib capi"
+    echo "there is no $archive; make it with: make"
     exit 1
 fi
 folder=$(mktemp -d)

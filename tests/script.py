@@ -21,20 +21,20 @@ ANSWER = NET.with_suffix('.out').read_bytes()
 LONG = ROOT / 'examples/panel.txt'
 faults = []
 
-# A kit that needs no time: it says what `rt check` would of its crates, and its program is `cat`. PAUSE are seconds before `search` is proved.
+# A kit that needs no time: it says what `rt run` would of its crates, and its program is `cat`. PAUSE are seconds before `search` is proved.
 KIT = '''#!/bin/sh
-mkdir -p target/stamp
+[ "$*" = run ] || exit 2
 for crate in ${CRATES:-lists search gedrovit}; do
     seq 300
-    mkdir -p target/rlib/$crate.rlib
+    mkdir -p ../$crate/out
     mktemp >/dev/null
     [ $crate != search ] || sleep ${PAUSE:-0}
     sleep 0.1
-    touch target/stamp/$crate
-    echo "rt: $crate proved (1 s)"
+    echo "logic=proved functions=1"
 done
-[ ! -e broken ] || { echo "rt: FAILED: gedrovit"; exit 1; }
-mkdir -p target/bin && printf '#!/bin/sh\\nexec cat\\n' >target/bin/gedrovit && chmod +x target/bin/gedrovit
+[ ! -e ../../broken ] || { echo "rattle build: nothing was built, since only a proved crate is built"; exit 1; }
+printf '#!/bin/sh\\nexec cat\\n' >out/gedrovit && chmod +x out/gedrovit
+exec out/gedrovit
 '''
 
 
@@ -176,12 +176,12 @@ def terminals():
 def copy(folder):
     """A tree with all that the script needs, and a kit of our own before the installed one."""
     tree, kit = folder / 'tree', folder / 'kit'
-    (tree / 'crates').mkdir(parents=True)
+    (tree / 'crates/gedrovit/src').mkdir(parents=True)
     (tree / 'tools').mkdir()
     kit.mkdir()
     shutil.copy(REFINE, tree)
     shutil.copy(ROOT / 'tools/crates_under.awk', tree / 'tools')
-    (tree / 'crates.txt').write_text('lists:\nsearch:\nother:\ngedrovit: lists search libc\n')
+    (tree / 'crates.txt').write_text('lists:\nsearch staticlib:\nother:\ngedrovit: lists search std\n')
     (kit / 'rt').write_text(KIT)
     (kit / 'rt').chmod(0o755)
     return tree, {**os.environ, 'PATH': f'{kit}:{os.environ["PATH"]}'}
@@ -192,7 +192,7 @@ def builds(folder):
     check('no kit', run('/bin/bash', tree / 'refine', NET, env={'PATH': str(tools(folder))}), 1,
           err="refine: building needs the Rattle kit, which proves and compiles the crates: no command 'rt'; kit.txt has the kit's name and checksum\n")
     (tree / 'broken').touch()
-    check('a failed build', run(tree / 'refine', NET, env=environment), 1, err='rt: FAILED: gedrovit\nrefine: the build failed; target/refine.log')
+    check('a failed build', run(tree / 'refine', NET, env=environment), 1, err='only a proved crate is built\nrefine: the build failed; target/refine.log')
     (tree / 'broken').unlink()
     status, shown = terminal(tree / 'refine', NET, env=environment)
     counts = re.findall(r'\rrefine: (\d) of 3 crates proved', shown)
@@ -234,11 +234,9 @@ def runs(command):
 
 
 def stopped_build(tree, environment):
-    """Ctrl-C while `search` is being proved: a line, no process and no file left; what was proved is kept."""
+    """Ctrl-C while `search` is being proved: a line, no process and no file left."""
     os.utime(tree / 'crates.txt')
-    for crate in 'search', 'gedrovit':
-        (tree / 'target/stamp' / crate).unlink()
-    before = {path for path in tree.rglob('*') if path.name != 'refine.log' and path.stem not in ('search', 'gedrovit')}
+    before = {path for path in tree.rglob('*') if path.name != 'refine.log'}
     temporary = tree.parent / 'temporary'
     temporary.mkdir()
     child, screen = pty.fork()
@@ -250,7 +248,7 @@ def stopped_build(tree, environment):
     os.write(screen, b'\x03')
     shown = rest_of(screen)
     status = os.waitstatus_to_exitcode(os.waitpid(child, 0)[1])
-    left = {path for path in tree.rglob('*') if path.stem != 'gedrovit'} | set(temporary.iterdir())
+    left = {*tree.rglob('*'), *temporary.iterdir()}
     if status != 130 or 'are proved are kept' not in shown or shown.count('\n') != 1:
         faults.append(f'Ctrl-C while building: status {status}, showed {shown!r}')
     if left != before or runs(b'sleep\x0037.125'):

@@ -28,7 +28,8 @@ def roots(files):
         if file.rattle:
             yield from file.reached(file.body.replace("::", " "))[0]
         for name, declaration in file.declarations.items():
-            proof = path.name == "Proof.antt" and name.endswith("-spec")
+            # what proofs/F/ of a function F says of its goals, its loops or the whole
+            proof = path.name in ("Answers.antt", "Invariants.antt", "Proof.antt") and antt.folder(path) == "proofs" and declaration.is_public
             example = path.name.startswith("Examples") and not declaration.kind and not declaration.computes
             if proof or example or (antt.crate(path), name) in named:
                 yield path, name

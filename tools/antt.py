@@ -9,6 +9,12 @@ WORDS = re.compile(rf"(?<![^\s(){{}}\[\],;«»!&*])({NAME})((?:\.{NAME})*)")
 IMPORT = re.compile(r"^[ \t]*(?:pub )?(?:ghost )?use ([^;\n{]*?)(?:(?:\.|::)\{([^}]*)\})?(?: as ([^\s;]+))?;?[ \t]*$", re.M)
 GIVEN = re.compile(r"(?:(?<=[{;] )|(?<=\blet )|^ *)[^\s(){}\[\],;.]+ = ", re.M)
 HEAD = re.compile(r"( *)((?:(?:abbrev|unfoldable|pub) )*)(?:(record|data) )?([^\s(){}\[\],;:=λ]+)(?= |$)")
+# what may stand between a name and the colon of its signature
+BINDERS = r"(?: (?:\{[^{}]*\}|\((?:[^()]|\([^()]*\))*\)))* :( |$)"
+# a lemma or a definition that an attribute of code names by its path
+CITED = re.compile(r"\bcrate::(specs|proofs)::((?:\w+::)*)([^\s:(){}\[\],;]+)")
+# where an operator takes an argument, as in ◌∷◌
+HOLE = "◌"
 BLOCK = re.compile(r"( *)(?:(?:abbrev|unfoldable|pub) )*(module|mutual)\b")
 
 
@@ -27,28 +33,29 @@ def bare(text, comment="--"):
 
 
 def words(text):
-    """The names in a text, and those that stand after the name of a module: (module, name). What is given a value, and a field after a blank and a dot, is neither."""
+    """The names in a text, and those that stand after a name and a dot: (module, name), or a value and its field. What is given a value is neither."""
     plain, dotted = set(), set()
     text = GIVEN.sub(" = ", re.sub(r'"[^"\n]*"', '""', text))
     for first, rest in WORDS.findall(text.replace("«", " ").replace("»", " ")):
         plain.add(first)
-        if first != "_" and (first[0] == "_" or first[-1] == "_"):
-            plain.update(part for part in first.split("_") if part)
+        if HOLE in first:
+            plain.update(part for part in first.split(HOLE) if part)
         if rest:
             dotted.add((first, rest[1:].split(".")[0]))
     return plain, dotted
 
 
 def stands(name, plain):
-    """Whether a name stands among the words of a text, or every part of a name as _∷_."""
-    return name in plain or ("_" in name.strip("_") or name[0] == "_" or name[-1] == "_") and name != "_" and all(part in plain for part in name.split("_") if part)
+    """Whether a name stands among the words of a text, or every part of a name as ◌∷◌."""
+    return name in plain or HOLE in name and all(part in plain for part in name.split(HOLE) if part)
 
 
 class Declaration:
     """A declaration: its own lines, and before them the headers of the blocks that it stands in."""
 
     def __init__(self, kind, words_before):
-        self.kind, self.computes, self.headers, self.own = kind, bool({"abbrev", "unfoldable"} & set(words_before.split())), [], []
+        before = set(words_before.split())
+        self.kind, self.computes, self.is_public, self.headers, self.own = kind, bool({"abbrev", "unfoldable"} & before), "pub" in before, [], []
 
     @property
     def lines(self):
@@ -101,7 +108,7 @@ class File:
                 current = None
                 continue
             head = HEAD.match(line)
-            if head and depth == level and (head[3] or re.match(r"(?: \{[^}]*\})* :( |$)", line[head.end() :])):
+            if head and depth == level and (head[3] or re.match(BINDERS, line[head.end() :])):
                 current = found.setdefault(head[4].strip("«»"), Declaration(head[3] or "", head[2]))
                 current.headers += [text for _, lines in blocks for text in lines]
             if current is not None:
@@ -127,13 +134,16 @@ class File:
             if here in plain:
                 used.add(here)
                 found.update((place(module), name) for first, name in dotted if first == here)
+        if self.rattle:
+            base = ROOT / "crates" / crate(self.path)
+            found.update((base / part / (modules.strip(":").replace("::", "/") + ".antt"), name) for part, modules, name in CITED.findall(self.text))
         return {(path, name) for path, name in found if path}, used
 
 
 @functools.cache
 def place(module):
     """The file of a module of this tree, or None."""
-    found = re.match(r"Rattle·(\w+?)(?:·(?:specs|proofs))?\.(specs|proofs)\.(.+)$", module)
+    found = re.match(r"Rattle\.(\w+)\.(specs|proofs)\.(.+)$", module)
     path = found and ROOT / "crates" / found[1] / found[2] / (found[3].replace(".", "/") + ".antt")
     return path if path and path.exists() else None
 

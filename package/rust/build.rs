@@ -89,5 +89,5 @@ fn installed() -> Option<PathBuf> {
 
 /// The folder that the repository builds the archive in.
 fn built() -> PathBuf {
-    Path::new(env!("CARGO_MANIFEST_DIR")).join("../../target/staticlib")
+    Path::new(env!("CARGO_MANIFEST_DIR")).join("../../crates/capi/out")
 }

@@ -52,21 +52,20 @@ def with_numbers(text):
 
 
 VERDICT, REFUSALS = with_numbers(read("crates/verdict/specs/Verdict.antt")), with_numbers(read("crates/refusals/specs/Refusals.antt"))
-hold("verdict", r"refusedIf 1 \(ltb N ", VERDICT, [(ROUNDS,)])
-if numbers(r"refusedIf 3 \(ltb N ", VERDICT) != [(V,), (F,), (G,)]:
+hold("verdict", r"refused_if 1 \(ltb N ", VERDICT, [(ROUNDS,)])
+if numbers(r"refused_if 3 \(ltb N ", VERDICT) != [(V,), (F,), (G,)]:
     faults.append("verdict: refusal 3 has other limits")
-hold("verdict", r"badCoordinate .* = ltb N ", VERDICT, [(COORDINATE,)])
-hold("refusals", r"badValence .* \(ltb N \(valence l p\)\) \(ltb \(valence l p\) N \|\| ltb N ", REFUSALS, [(FAN, RING_LEAST, RING)])
+hold("verdict", r"bad_coordinate .* = ltb N ", VERDICT, [(COORDINATE,)])
+hold("refusals", r"bad_valence .* \(ltb N \(valence l p\)\) \(ltb \(valence l p\) N \|\| ltb N ", REFUSALS, [(FAN, RING_LEAST, RING)])
 SPECS = with_numbers(ALL_SPECS)
-hold("side counts", r"(?m)^badCount .* = ltb \w+ N \|\| ltb N ", SPECS, [SIDES])
-hold("record of new points", r"refusedIf 15 \(ltb N ", SPECS, [(TALLY,)])
-hold("tension", r"refusedIf 16 \(ltb N ", VERDICT, [(TENSION,)])
+hold("side counts", r"(?m)^bad_count .* = ltb \w+ N \|\| ltb N ", SPECS, [SIDES])
+hold("record of new points", r"refused_if 15 \(ltb N ", SPECS, [(TALLY,)])
+hold("tension", r"refused_if 16 \(ltb N ", VERDICT, [(TENSION,)])
 hold("old points", r"\.tension ≡ N\b", read("crates/outcome/specs/OldPoints.antt"), [(DEFAULT_TENSION,)])
 hold("outcome", r"Within N ", with_numbers(read("crates/outcome/specs/Coordinates.antt")), [(REFINED,)])
-# in code they are constants: MAX_FACES is maxFaces and GEDROVIT_MAX_FACES
+# in code they are constants: MAX_FACES is max_faces and GEDROVIT_MAX_FACES
 for name, value in re.findall(r"(?m)^pub const (\w+): \w+ = (\d+);$", read("crates/bounds/src/lib.rt")):
-    first, *others = name.lower().split("_")
-    if NAMED.get(first + "".join(word.capitalize() for word in others)) != value or C.get(name, int(value)) != int(value):
+    if NAMED.get(name.lower()) != value or C.get(name, int(value)) != int(value):
         faults.append(f"bounds: {name} is {value} in code alone")
 FACTORS = numbers(r"\bN \* g", "".join(re.findall(r"(?m)^needed g = .*", SPECS)))
 if len(FACTORS) != 5:
@@ -74,9 +73,9 @@ if len(FACTORS) != 5:
 for name, factor in zip(("out_vertices", "out_faces", "out_marks", "letters", "work"), FACTORS):
     hold("header", rf"{name} +N G\b", header, [factor])
 PROGRAM = read("crates/textform/specs/Limits.antt")
-[(PROGRAM_G,)] = numbers(r"(?m)^programFaces = N$", PROGRAM)
-[(PROGRAM_V,)] = numbers(r"(?m)^programVertices = N$", PROGRAM)
-[(TEXT,)] = numbers(r"(?m)^longestText = N$", PROGRAM)
+[(PROGRAM_G,)] = numbers(r"(?m)^program_faces = N$", PROGRAM)
+[(PROGRAM_V,)] = numbers(r"(?m)^program_vertices = N$", PROGRAM)
+[(TEXT,)] = numbers(r"(?m)^longest_text = N$", PROGRAM)
 
 # ---- the version
 version = [C[f"VERSION_{part}"] for part in ("MAJOR", "MINOR", "PATCH")]
