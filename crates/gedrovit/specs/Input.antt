@@ -5,4 +5,4 @@ use Rattle.gedrovit.specs.declared.Input.TheVariants.{Bytes, Failed}
 
 abbrev pub bytes_of : Input → ℕ
 bytes_of (Bytes n) = n
-bytes_of Failed = 0
+bytes_of (Failed e) = 0

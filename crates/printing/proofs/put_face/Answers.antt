@@ -1,0 +1,9 @@
+-- `printing::put_face` meets its contract: four fields in a row. Assumes nothing.
+use Rattle.textform.specs.Text.{face_text}
+use Rattle.printingform.proofs.Writing.{in_row}
+use Rattle.printing.proofs.put_face.Goals as goal
+
+pub returns : goal.returns
+unfolding face_text
+returns c =
+    in_row (in_row (in_row c.put_u32-i.ensures c.put_u32-j.ensures) c.put_u32-k.ensures) c.put_u32.ensures
