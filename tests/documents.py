@@ -28,7 +28,7 @@ def crate_lines():
 
 
 def files_of(crate, endings):
-    return [path for path in sorted((ROOT / "crates" / crate).rglob("*")) if path.suffix in endings and "must-fail" not in path.parts]
+    return [path for path in sorted((ROOT / "crates" / crate).rglob("*")) if path.suffix in endings and not {"must-fail", "out"} & set(path.parts)]
 
 
 def tool_faults():

@@ -151,7 +151,7 @@ def place(module):
 @functools.cache
 def tree():
     """Every file of specs/, proofs/ and src/, by its path."""
-    paths = [path for ending in ("antt", "rt") for path in sorted(ROOT.glob(f"crates/*/**/*.{ending}")) if "must-fail" not in path.parts]
+    paths = [path for ending in ("antt", "rt") for path in sorted(ROOT.glob(f"crates/*/**/*.{ending}")) if not {"must-fail", "out"} & set(path.parts)]
     return {path: File(path) for path in paths if path.name != "Lib.antt"}
 
 
