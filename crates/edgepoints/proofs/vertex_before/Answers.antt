@@ -1,0 +1,14 @@
+-- `vertex_before` meets its contract. Assumes nothing.
+use mathlib.Core.Path.{ap, ◌∙◌}
+use borrow.Author.Rules.{rules}
+use Rattle.topology.specs.Shape.{quads}
+use Rattle.topology.specs.HalfEdge.{from}
+use Rattle.topology.proofs.Boundary.{back_on}
+use Rattle.edgepoints.proofs.vertex_before.Goals as goal
+
+pub start_of-requires : goal.start_of-requires
+start_of-requires c =
+    let r = c.requires.ready in
+    let e = c.back_side.ensures in
+    let b = (back_on quads r.vertices c.args.faces.now r.net c.args.h c.requires.on_boundary).lt in
+    rw e b
