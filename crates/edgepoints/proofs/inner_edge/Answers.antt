@@ -17,7 +17,7 @@ returns-then-ordinary_ends c =
     let inner : mate quads c.args.faces.now c.args.h < length c.args.faces.now = let e = c.requires.h_in_bounds.1 in let b = c.requires.h_in_bounds.2 in omega arith in
     let ends : (OrdinaryEnds c.args.faces.now c.args.h) = let o = c.ordinary_ends.ensures.both c.if-ordinary_ends.true in
     record { lt = c.requires.h_in_bounds.0; inner = inner; start = o.0; end = o.1 } in
-    let fits : SFits w64 c.plain_exact-e.result.x × SFits w64 c.plain_exact-e.result.y × SFits w64 c.plain_exact-e.result.z = let k = c.plain_exact-e.type-inv in (search (rules, k), search (rules, k), search (rules, k.1.1)) in
+    let fits : SFits w64 c.plain_exact-e.result.x × SFits w64 c.plain_exact-e.result.y × SFits w64 c.plain_exact-e.result.z = let k = c.plain_exact-e.type_inv in (search (rules, k), search (rules, k), search (rules, k.1.1)) in
     let r = c.plain_exact-e.result in
     let f₁ : SFits w64 r.x = fits.0 in
     let f₂ : SFits w64 r.y = fits.1 in

@@ -40,7 +40,7 @@ wide_on-requires-clause-a_bound c =
     let fits_first : SFits w64 c.end_virtual-u.result.x × SFits w64 c.end_virtual-u.result.y × SFits w64 c.end_virtual-u.result.z = (search rules, search rules, search rules) in
     let fits_second : SFits w64 c.end_virtual-w.result.x × SFits w64 c.end_virtual-w.result.y × SFits w64 c.end_virtual-w.result.z = (search rules, search rules, search rules) in
     let f : SFits w64 c.end_virtual-u.result.x = fits_first.0 in
-    let g : SFits w64 c.end_virtual-w.result.x = fits_second.0 in simp to_z-of_z ((omega arith, start_in, end_in, c.requires.points.0.bounded))
+    let g : SFits w64 c.end_virtual-w.result.x = fits_second.0 in (omega arith, start_in, end_in, c.requires.points.0.bounded)
 
 pub wide_on-requires-clause-u_bound : goal.wide_on-requires-clause-u_bound
 wide_on-requires-clause-u_bound c =
@@ -70,7 +70,7 @@ wide_on-requires-2-clause-a_bound c =
     let fits_first : SFits w64 c.end_virtual-u.result.x × SFits w64 c.end_virtual-u.result.y × SFits w64 c.end_virtual-u.result.z = (search rules, search rules, search rules) in
     let fits_second : SFits w64 c.end_virtual-w.result.x × SFits w64 c.end_virtual-w.result.y × SFits w64 c.end_virtual-w.result.z = (search rules, search rules, search rules) in
     let f : SFits w64 c.end_virtual-u.result.y = fits_first.1 in
-    let g : SFits w64 c.end_virtual-w.result.y = fits_second.1 in simp to_z-of_z ((omega arith, start_in, end_in, c.requires.points.0.bounded))
+    let g : SFits w64 c.end_virtual-w.result.y = fits_second.1 in (omega arith, start_in, end_in, c.requires.points.0.bounded)
 
 pub wide_on-requires-2-clause-u_bound : goal.wide_on-requires-2-clause-u_bound
 wide_on-requires-2-clause-u_bound c =
@@ -100,7 +100,7 @@ wide_on-requires-3-clause-a_bound c =
     let fits_first : SFits w64 c.end_virtual-u.result.x × SFits w64 c.end_virtual-u.result.y × SFits w64 c.end_virtual-u.result.z = (search rules, search rules, search rules) in
     let fits_second : SFits w64 c.end_virtual-w.result.x × SFits w64 c.end_virtual-w.result.y × SFits w64 c.end_virtual-w.result.z = (search rules, search rules, search rules) in
     let f : SFits w64 c.end_virtual-u.result.z = fits_first.2 in
-    let g : SFits w64 c.end_virtual-w.result.z = fits_second.2 in simp to_z-of_z ((omega arith, start_in, end_in, c.requires.points.0.bounded))
+    let g : SFits w64 c.end_virtual-w.result.z = fits_second.2 in (omega arith, start_in, end_in, c.requires.points.0.bounded)
 
 pub wide_on-requires-3-clause-u_bound : goal.wide_on-requires-3-clause-u_bound
 wide_on-requires-3-clause-u_bound c =
