@@ -1,0 +1,11 @@
+-- `back_in` meets its contract: the walk ends at the last half-edge of the fan, which has at most six. Assumes nothing.
+use Prim.Native.Nat.{◌-◌, ◌≤◌}
+use Rattle.polygons.specs.Polygons.{shape_of}
+use Rattle.walks.proofs.Winding.{Winding}
+use Rattle.boundarywalk.proofs.back_in.Given as goal
+
+abbrev pub invariant-loop-i : goal.invariant-loop-i
+invariant-loop-i l = (l.i ≤ 6) × Winding (shape_of l.sides) l.faces l.h l.g l.i
+
+abbrev pub decreases-loop-i : goal.decreases-loop-i
+decreases-loop-i l = 6 - l.i

@@ -1,0 +1,14 @@
+-- `marked_ring` meets its contract. Assumes nothing.
+use mathlib.Core.Path.{sym, ap, ◌∙◌}
+use mathlib.Core.Bool.{not}
+use Rattle.polygons.specs.Polygons.{shape_of}
+use Rattle.manifold.proofs.Refused.{marked_on, marked_off, closed}
+use Rattle.manifold.proofs.marked_ring.Goals as goal
+
+pub returns-then-marks-p-eq1 : goal.returns-then-marks-p-eq1
+returns-then-marks-p-eq1 c =
+    let l = c.args.faces.now in
+    ap not c.is_open.ensures ∙ closed (shape_of c.args.sides.now) l c.args.p ∙ sym (marked_on (shape_of c.args.sides.now) l c.args.p c.args.marks.now c.if-marks-p-eq1.true)
+
+pub returns : goal.returns
+returns c = sym (marked_off _ _ _ _ c.if-marks-p-eq1.false)

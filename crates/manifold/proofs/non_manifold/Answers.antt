@@ -1,0 +1,15 @@
+-- `non_manifold` meets its contract. Assumes nothing.
+use native.Mathlib.Omega.{arith}
+use Rattle.refusals.specs.Refusals.{non_manifold}
+use Rattle.polygons.specs.Polygons.{shape_of}
+use Rattle.adjacency.proofs.Queries.{start-lt, valence-le}
+use Rattle.manifold.proofs.non_manifold.Goals as goal
+
+pub meets_all-requires-clause-h_in_bounds : goal.meets_all-requires-clause-h_in_bounds
+meets_all-requires-clause-h_in_bounds c =
+    let l = c.args.faces.now in
+    let p = c.args.p in (omega (arith, c.start_in-h.ensures, start-lt (shape_of c.args.sides.now) l p c.requires.p_lt_nv.1), omega (arith, c.faces_at-d.ensures, valence-le l p))
+
+pub returns : goal.returns
+unfolding non_manifold
+returns c = rw (c.meets_all.ensures, c.start_in-h.ensures, c.faces_at-d.ensures)
