@@ -1,0 +1,54 @@
+-- `edge_side` meets its contract. Assumes nothing.
+use mathlib.Core.Path.{refl, sym, ap, ◌∙◌}
+use Prim.Native.Nat.{ℕ, ◌*◌, ◌<◌}
+use native.Mathlib.Omega.{arith}
+use borrow.Author.Rules.{rules}
+use lib.ListN.{length}
+use lib.Seq.{length-take-le}
+use mir.Syntax.{w64}
+use mir.Val.{SFits}
+use mir.Facts.{to_z-of_z}
+use Rattle.topology.specs.Shape.{quads}
+use Rattle.topology.specs.HalfEdge.{mate}
+use Rattle.edgeentries.specs.Entry.{copied}
+use Rattle.edgetable.specs.EdgeTable.{met, passed}
+use Rattle.edgetable.proofs.EdgeTable.{small_of, classed_of, flag_fits, exact_small}
+use Rattle.edgetable.proofs.edge_side.Goals as goal
+
+pub put_rounded-requires : goal.put_rounded-requires
+put_rounded-requires c =
+    let first : c.args.h < mate quads c.args.faces.now c.args.h = let e = c.mate_side-m.ensures in
+    let b = c.if-m-h.false in
+    let z = c.requires.other in
+    omega (arith, z) in
+    let r = c.edge_exact-e.result in
+    (c.requires.room first, small_of c.args.t _ _ r.flag _ r.x r.y r.z c.edge_exact-e.ensures.0 c.edge_exact-e.ensures.1, c.requires.low)
+
+pub store_edge-requires-clause-x_bound : goal.store_edge-requires-clause-x_bound
+store_edge-requires-clause-x_bound c =
+    let first : c.args.h < mate quads c.args.faces.now c.args.h = let e = c.mate_side-m.ensures in
+    let b = c.if-m-h.false in
+    let z = c.requires.other in
+    omega (arith, z) in
+    let fits : SFits w64 c.edge_exact-e.result.x × SFits w64 c.edge_exact-e.result.y × SFits w64 c.edge_exact-e.result.z = let k = c.edge_exact-e.type_inv in (search (rules, k), search (rules, k), search (rules, k.1.1)) in
+    let r = c.edge_exact-e.result in
+    let fx : SFits w64 r.x = fits.0 in
+    let fy : SFits w64 r.y = fits.1 in
+    let fz : SFits w64 r.z = fits.2 in
+    let k = c.requires.ready.table.sides.few in
+    let a = c.requires.below in
+    let b = c.requires.lt in
+    let d = c.requires.entries in simp to_z-of_z (exact_small c.args.t c.requires.low _ _ r.flag _ r.x r.y r.z c.edge_exact-e.ensures.0 c.edge_exact-e.ensures.1)
+
+pub returns : goal.returns
+returns c =
+    let first : c.args.h < mate quads c.args.faces.now c.args.h = let e = c.mate_side-m.ensures in
+    let b = c.if-m-h.false in
+    let z = c.requires.other in
+    omega (arith, z) in
+    let fits : SFits w64 c.edge_exact-e.result.x × SFits w64 c.edge_exact-e.result.y × SFits w64 c.edge_exact-e.result.z = let k = c.edge_exact-e.type_inv in (search (rules, k), search (rules, k), search (rules, k.1.1)) in
+    let r = c.edge_exact-e.result in
+    let fx : SFits w64 r.x = fits.0 in
+    let fy : SFits w64 r.y = fits.1 in
+    let fz : SFits w64 r.z = fits.2 in
+    met r.flag r.x r.y r.z first refl c.edge_exact-e.ensures.0 c.edge_exact-e.ensures.1 c.put_rounded.ensures (simp to_z-of_z at c.store_edge.ensures)
