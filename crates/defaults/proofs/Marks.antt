@@ -1,5 +1,5 @@
 -- The default marks are the paper's, and no refusal sees them. Assumes nothing.
-use mathlib.Core.Path.{◌≡◌, sym, ap, ◌∙◌}
+use mathlib.Core.Path.{◌≡◌, refl, sym, ap, ◌∙◌}
 use mathlib.Core.Bool.{Bool, true, false}
 use mathlib.Core.Logic.{◌⊎◌, inl, inr, ◌↔◌}
 use mathlib.Core.List.{List, []}
@@ -70,7 +70,7 @@ exactly v l ok p b = (
 
 -- ---- refusals
 at_accepted : (r : ℕ) (t : ℕ → Bool) (n : ℕ) (place : ℕ → ℕ) → ((k : ℕ) → k < n → t k ≡ false) → refused_at r t n place ≡ accepted
-at_accepted r t n place f = let e = first_none t n (λ k b c. clash (t k) c (f k b)) in sym (last_pass r t n place (first t n) _ (omega arith))
+at_accepted r t n place f = let e = first_none t n (λ k b c. clash (t k) c (f k b)) in sym (last_pass r t n place (first t n) refl (omega arith))
 
 -- marks that are 0 or 1, and 1 on boundary vertices only
 record BoundaryMarks (l marks : List ℕ) : Type 0 where
@@ -124,8 +124,8 @@ default_boundary v l = record {
 
 zero_boundary : (v : ℕ) (l : List ℕ) → BoundaryMarks l (replicate v 0)
 zero_boundary v l = record {
-  small = λ p b. let n = length-replicate {A = ℕ} v 0 in let e = get_or-replicate v p 0 0 (omega arith) in omega arith;
-  outside = λ ok p b e. let n = length-replicate {A = ℕ} v 0 in let f = get_or-replicate v p 0 0 (omega arith) in let z : ⊥ = omega arith in absurd z;
+  small = λ p b. let n = length-replicate {A = ℕ} v 0 in let e = get_or-replicate {A = ℕ} v p 0 0 (omega arith) in omega arith;
+  outside = λ ok p b e. let n = length-replicate {A = ℕ} v 0 in let f = get_or-replicate {A = ℕ} v p 0 0 (omega arith) in let z : ⊥ = omega arith in absurd z;
 }
 
 unseen : (v : ℕ) (l : List ℕ) → length l % 4 ≡ 0 → shape_verdict quads l (default_marks v l) ≡ shape_verdict quads l (replicate v 0)
