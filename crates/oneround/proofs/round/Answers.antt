@@ -1,0 +1,102 @@
+-- `rounds::round` meets its contract. Assumes nothing.
+use mathlib.Core.Path.{refl, sym, subst}
+use mathlib.Core.Bool.{false}
+use Prim.Native.Nat.{ℕ, ◌+◌, ◌*◌, ◌/◌, ◌≤◌}
+use native.Mathlib.Omega.{arith}
+use Rattle.search.proofs.Tests.{clash}
+use Rattle.nets.specs.Buffers.{Buffers, buffers}
+use Rattle.oneround.proofs.Laws.{corners, marked, count-le, ready, nameable, letters_made, face_ready, family_ready, net_ready, part_start, part_room, refines}
+use borrow.Author.Rules.{rules}
+use Rattle.oneround.proofs.round.Goals as goal
+
+pub edge_points-edges-requires-clause-round : goal.edge_points-edges-requires-clause-round
+edge_points-edges-requires-clause-round c = ready c.args.t c.args.v c.args.n c.args.at c.args.initial (buffers c.args.points.now c.args.faces.now c.args.marks.now c.args.work.now) c.requires.current
+
+pub name_points-requires : goal.name_points-requires
+name_points-requires c = λ a. (nameable c.args.t c.args.v c.args.n c.args.at c.args.initial (buffers c.args.points.now c.args.faces.now c.args.marks.now c.args.work.now) c.requires.current _ _ c.edge_points-edges.ensures.edges c.args.letters.now (c.requires.n_in_bounds a), c.edge_points-edges.ensures.value)
+
+pub overflow_add-count : goal.overflow_add-count
+overflow_add-count c = 
+    let k : c.args.v + c.edge_points-edges.result + c.args.n / 4 ≤ 4 * c.args.n = subst (λ (j : ℕ). c.args.v + j + c.args.n / 4 ≤ 4 * c.args.n) (sym c.edge_points-edges.ensures.value) (count-le c.args.t c.args.v c.args.n c.args.at c.args.initial (buffers c.args.points.now c.args.faces.now c.args.marks.now c.args.work.now) c.requires.current) in
+    let q = c.requires.current.small in
+    omega arith
+
+pub overflow_add-count-2 : goal.overflow_add-count-2
+overflow_add-count-2 c = 
+    let k : c.args.v + c.edge_points-edges.result + c.args.n / 4 ≤ 4 * c.args.n = subst (λ (j : ℕ). c.args.v + j + c.args.n / 4 ≤ 4 * c.args.n) (sym c.edge_points-edges.ensures.value) (count-le c.args.t c.args.v c.args.n c.args.at c.args.initial (buffers c.args.points.now c.args.faces.now c.args.marks.now c.args.work.now) c.requires.current) in
+    let q = c.requires.current.small in
+    omega arith
+
+pub extend_marks-requires : goal.extend_marks-requires
+extend_marks-requires c = 
+    let k : c.args.v + c.edge_points-edges.result + c.args.n / 4 ≤ 4 * c.args.n = subst (λ (j : ℕ). c.args.v + j + c.args.n / 4 ≤ 4 * c.args.n) (sym c.edge_points-edges.ensures.value) (count-le c.args.t c.args.v c.args.n c.args.at c.args.initial (buffers c.args.points.now c.args.faces.now c.args.marks.now c.args.work.now) c.requires.current) in
+    let q = c.requires.current.small in
+    let r = c.requires.current.room_marks in
+    (omega arith, omega arith)
+
+pub overflow_add-first : goal.overflow_add-first
+overflow_add-first c = 
+    let k : c.args.v + c.edge_points-edges.result + c.args.n / 4 ≤ 4 * c.args.n = subst (λ (j : ℕ). c.args.v + j + c.args.n / 4 ≤ 4 * c.args.n) (sym c.edge_points-edges.ensures.value) (count-le c.args.t c.args.v c.args.n c.args.at c.args.initial (buffers c.args.points.now c.args.faces.now c.args.marks.now c.args.work.now) c.requires.current) in
+    let q = c.requires.current.small in
+    omega arith
+
+pub overflow_mul-first : goal.overflow_mul-first
+overflow_mul-first c = 
+    let k : c.args.v + c.edge_points-edges.result + c.args.n / 4 ≤ 4 * c.args.n = subst (λ (j : ℕ). c.args.v + j + c.args.n / 4 ≤ 4 * c.args.n) (sym c.edge_points-edges.ensures.value) (count-le c.args.t c.args.v c.args.n c.args.at c.args.initial (buffers c.args.points.now c.args.faces.now c.args.marks.now c.args.work.now) c.requires.current) in
+    let q = c.requires.current.small in
+    omega arith
+
+pub offset_bounds-points-first : goal.offset_bounds-points-first
+offset_bounds-points-first c = 
+    let k : c.args.v + c.edge_points-edges.result + c.args.n / 4 ≤ 4 * c.args.n = subst (λ (j : ℕ). c.args.v + j + c.args.n / 4 ≤ 4 * c.args.n) (sym c.edge_points-edges.ensures.value) (count-le c.args.t c.args.v c.args.n c.args.at c.args.initial (buffers c.args.points.now c.args.faces.now c.args.marks.now c.args.work.now) c.requires.current) in
+    let q = c.requires.current.small in
+    omega arith
+
+pub slice_bounds-face_points-count : goal.slice_bounds-face_points-count
+slice_bounds-face_points-count c = part_start c.args.t c.args.v c.args.n c.args.at c.args.initial (buffers c.args.points.now c.args.faces.now c.args.marks.now c.args.work.now) c.requires.current _ _ c.edge_points-edges.ensures.edges _ c.edge_points-edges.ensures.value
+
+pub slice_bounds-face_points-start : goal.slice_bounds-face_points-start
+slice_bounds-face_points-start c = part_start c.args.t c.args.v c.args.n c.args.at c.args.initial (buffers c.args.points.now c.args.faces.now c.args.marks.now c.args.work.now) c.requires.current _ _ c.edge_points-edges.ensures.edges _ c.edge_points-edges.ensures.value
+
+pub face_points-requires-clause-face_table : goal.face_points-requires-clause-face_table
+face_points-requires-clause-face_table c = 
+    let d = c.edge_points-edges.ensures.edges in (
+      face_ready c.args.t c.args.v c.args.n c.args.at c.args.initial (buffers c.args.points.now c.args.faces.now c.args.marks.now c.args.work.now) c.requires.current _ _ d,
+      net_ready c.args.t c.args.v c.args.n c.args.at c.args.initial (buffers c.args.points.now c.args.faces.now c.args.marks.now c.args.work.now) c.requires.current _ _ d _ c.edge_points-edges.ensures.value,
+      part_room c.args.t c.args.v c.args.n c.args.at c.args.initial (buffers c.args.points.now c.args.faces.now c.args.marks.now c.args.work.now) c.requires.current _ _ d _ c.edge_points-edges.ensures.value,
+    )
+
+pub face_points-requires-clause-family_table : goal.face_points-requires-clause-family_table
+face_points-requires-clause-family_table c = λ y. family_ready c.args.t c.args.v c.args.n c.args.at c.args.initial (buffers c.args.points.now c.args.faces.now c.args.marks.now c.args.work.now) c.requires.current _ _ c.edge_points-edges.ensures.edges (c.requires.after_round c.if-later.true)
+
+pub returns-then-later-clause-refines : goal.returns-then-later-clause-refines
+returns-then-later-clause-refines c = refines c.args.t c.args.v c.args.n c.args.at c.args.initial (buffers c.args.points.now c.args.faces.now c.args.marks.now c.args.work.now) c.requires.current _ _ c.edge_points-edges.ensures.edges _ c.edge_points-edges.ensures.value _ _ _ c.face_points.ensures.out_after c.face_points.ensures.faces_after c.extend_marks.ensures
+
+pub returns-then-later-clause-written_if : goal.returns-then-later-clause-written_if
+returns-then-later-clause-written_if c = letters_made c.args.t c.args.v c.args.n c.args.at c.args.initial (buffers c.args.points.now c.args.faces.now c.args.marks.now c.args.work.now) c.requires.current _ _ c.edge_points-edges.ensures.edges _ c.edge_points-edges.ensures.value _ _ _ c.name_points.ensures
+
+pub offset_bounds-points-first-2 : goal.offset_bounds-points-first-2
+offset_bounds-points-first-2 c = 
+    let k : c.args.v + c.edge_points-edges.result + c.args.n / 4 ≤ 4 * c.args.n = subst (λ (j : ℕ). c.args.v + j + c.args.n / 4 ≤ 4 * c.args.n) (sym c.edge_points-edges.ensures.value) (count-le c.args.t c.args.v c.args.n c.args.at c.args.initial (buffers c.args.points.now c.args.faces.now c.args.marks.now c.args.work.now) c.requires.current) in
+    let q = c.requires.current.small in
+    omega arith
+
+pub slice_bounds-face_points-count-2 : goal.slice_bounds-face_points-count-2
+slice_bounds-face_points-count-2 c = part_start c.args.t c.args.v c.args.n c.args.at c.args.initial (buffers c.args.points.now c.args.faces.now c.args.marks.now c.args.work.now) c.requires.current _ _ c.edge_points-edges.ensures.edges _ c.edge_points-edges.ensures.value
+
+pub slice_bounds-face_points-start-2 : goal.slice_bounds-face_points-start-2
+slice_bounds-face_points-start-2 c = part_start c.args.t c.args.v c.args.n c.args.at c.args.initial (buffers c.args.points.now c.args.faces.now c.args.marks.now c.args.work.now) c.requires.current _ _ c.edge_points-edges.ensures.edges _ c.edge_points-edges.ensures.value
+
+pub face_points-requires-2-clause-face_table : goal.face_points-requires-2-clause-face_table
+face_points-requires-2-clause-face_table c = 
+    let d = c.edge_points-edges.ensures.edges in (
+      face_ready c.args.t c.args.v c.args.n c.args.at c.args.initial (buffers c.args.points.now c.args.faces.now c.args.marks.now c.args.work.now) c.requires.current _ _ d,
+      net_ready c.args.t c.args.v c.args.n c.args.at c.args.initial (buffers c.args.points.now c.args.faces.now c.args.marks.now c.args.work.now) c.requires.current _ _ d _ c.edge_points-edges.ensures.value,
+      part_room c.args.t c.args.v c.args.n c.args.at c.args.initial (buffers c.args.points.now c.args.faces.now c.args.marks.now c.args.work.now) c.requires.current _ _ d _ c.edge_points-edges.ensures.value,
+    )
+
+pub returns-clause-refines : goal.returns-clause-refines
+returns-clause-refines c = refines c.args.t c.args.v c.args.n c.args.at c.args.initial (buffers c.args.points.now c.args.faces.now c.args.marks.now c.args.work.now) c.requires.current _ _ c.edge_points-edges.ensures.edges _ c.edge_points-edges.ensures.value _ _ _ c.face_points-2.ensures.out_after c.face_points-2.ensures.faces_after c.extend_marks.ensures
+
+pub returns-clause-written_if : goal.returns-clause-written_if
+returns-clause-written_if c = letters_made c.args.t c.args.v c.args.n c.args.at c.args.initial (buffers c.args.points.now c.args.faces.now c.args.marks.now c.args.work.now) c.requires.current _ _ c.edge_points-edges.ensures.edges _ c.edge_points-edges.ensures.value _ _ _ c.name_points.ensures
