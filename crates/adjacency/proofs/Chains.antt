@@ -161,16 +161,6 @@ corners_below_if S v l e = record { below = λ g h. leb-false v (get_or l g 0) (
 pub record Cleared (l w : List ℕ) (v : ℕ) : Type 0 where
   pub none : (u : ℕ) → u < v → get_or w (length l + u) 0 ≡ length l
 
-pub cleared-start : (l w : List ℕ) → Cleared l w 0
-cleared-start l w = record { none = λ u h. let z : ⊥ = omega arith in absurd z }
-
-pub cleared_next : (l w : List ℕ) (v : ℕ) → length l + v < length w → Cleared l w v → Cleared l (set w (length l + v) (length l)) (v + 1)
-cleared_next l w v b c = record { none = λ u h. go u h (ℕ_discrete u v) }
-  where
-    go : (u : ℕ) → u < v + 1 → Dec (u ≡ v) → get_or (set w (length l + v) (length l)) (length l + u) 0 ≡ length l
-    go u h (yes e) = rw e (get_or-set_same w (length l + v) (length l) 0 b)
-    go u h (no n) = get_or-set_other w (length l + v) (length l + u) (length l) 0 (omega arith) ∙ c.none u (omega arith)
-
 pub cleared_all : (l w : List ℕ) (v : ℕ) → length l ≤ v → Cleared l w v → Chained l w (length l)
 cleared_all l w v b c = chained_none l w (λ u h. c.none u (omega arith))
 
@@ -209,16 +199,6 @@ module _ (q : ℕ → Bool) (l : List ℕ) (v g : ℕ) (k : Walk q l v g) where
 -- ---- the mates of the half-edges below h are written
 pub record MatedBelow (S : Shape) (l w : List ℕ) (h : ℕ) : Type 0 where
   pub mates : (g : ℕ) → g < h → get_or w g 0 ≡ mate S l g
-
-pub mated_start : (S : Shape) (l w : List ℕ) → MatedBelow S l w 0
-mated_start S l w = record { mates = λ g a. let z : ⊥ = omega arith in absurd z }
-
-pub mated_next : (S : Shape) (l w : List ℕ) (h x : ℕ) → h < length w → x ≡ mate S l h → MatedBelow S l w h → MatedBelow S l (set w h x) (h + 1)
-mated_next S l w h x b e m = record { mates = λ g a. go g a (ℕ_discrete g h) }
-  where
-    go : (g : ℕ) → g < h + 1 → Dec (g ≡ h) → get_or (set w h x) g 0 ≡ mate S l g
-    go g a (yes i) = rw i (get_or-set_same w h x 0 b ∙ e)
-    go g a (no n) = get_or-set_other w h g x 0 n ∙ m.mates g (omega arith)
 
 pub mated_all : (S : Shape) (l w : List ℕ) (h : ℕ) → length l ≤ h → MatedBelow S l w h → MateTableOf S l w
 mated_all S l w h b m = record { mates = λ g a. m.mates g (omega arith) }

@@ -2,7 +2,7 @@
 use mathlib.Core.Path.{◌≡◌, refl, sym, ap, ◌∙◌}
 use mathlib.Core.Bool.{Bool, true, false}
 use mathlib.Core.List.{List}
-use Prim.Native.Nat.{ℕ, suc, ◌+◌, ◌-◌, ◌*◌, ◌≤◌, ◌<◌}
+use Prim.Native.Nat.{ℕ, suc, ◌+◌, ◌-◌, ◌≤◌, ◌<◌}
 use native.Mathlib.Decide.{dec_lt}
 use native.Mathlib.Omega.{arith}
 use lib.ListN.{length, set, length-set}
@@ -16,30 +16,7 @@ use Rattle.polygons.specs.Polygons.{shape_of}
 use Rattle.nets.specs.Net.{marked}
 use Rattle.tables.specs.Tables.{Written}
 use Rattle.tables.proofs.Written.{written_none, written_on, written_one}
-use Rattle.halfedges.proofs.Tables.{mates_cong}
-use Rattle.sidetable.proofs.Table.{room-length}
 use Rattle.boundarywalk.specs.Walkable.{Walkable, way_of, stepped, edges_to, ListRoom, StartsAtMark}
-
-walkable_kept : (s l w w' : List ℕ) (at e : ℕ) (f : ℕ → ℕ) → Walkable s l w → ListRoom s l w at → length w' ≡ length w → Written at e f w w' → Walkable s l w'
-walkable_kept s l w w' at e f o r c t = record {
-  vertices = o.vertices;
-  net = o.net;
-  table = record {
-    shaped = record {
-      space = room-length s (length l) w w' c o.table.shaped.space;
-      table = λ z.
-          let d = o.table.shaped.table z in
-          let x = r.shape z in
-          record {
-            next = λ h b. t.before (4 * length l + h) (omega arith) ∙ d.next h b;
-            prev = λ h b. t.before (5 * length l + h) (omega arith) ∙ d.prev h b;
-            face = λ h b. t.before (6 * length l + h) (omega arith) ∙ d.face h b;
-          };
-    };
-    room = let x = o.table.room in omega arith;
-    mated = mates_cong l w w' (λ i b. t.before i (let x = r.behind in omega arith)) o.table.mated;
-  };
-}
 
 -- a table w₀ before the walk
 module _ (s l marks w₀ : List ℕ) (h : ℕ) (against : Bool) (at : ℕ) where
@@ -87,9 +64,6 @@ module _ (s l marks w₀ : List ℕ) (h : ℕ) (against : Bool) (at : ℕ) where
     module _ (w : List ℕ) (g k : ℕ) (u : Walking w g k) where
       pub walking_lt : g < length l
       walking_lt = rw u.here (place_on_lem k).lt
-
-      pub walking_walkable : Walkable s l w
-      walking_walkable = walkable_kept s l w₀ w at (at + k) vertex_for o.0 o.1.1 u.kept u.written
 
       next_place : (g' : ℕ) → g' ≡ boundary_step (shape_of s) l (way_of against) g → g' ≡ place (suc k)
       unfolding iterate

@@ -48,11 +48,6 @@ use Rattle.edgetable.specs.EdgeTable.{old_axis, refined_axis, edge_axis, Round, 
 
 -- ---- flags
 module _ (l : List ℕ) (h flag : ℕ) where
-  pub flag_fits : Flagged l h flag → flag ≤ boundary_flag
-  flag_fits (plain a b c e) = omega arith
-  flag_fits (wide a o e) = omega arith
-  flag_fits (boundary a e) = omega arith
-
   pub entry-edge : (e : ℕ) → e < wide_flag → Flagged l h flag → edge_of (e + flag) ≡ e
   entry-edge e b (plain c d f g) = omega arith
   entry-edge e b (wide c o g) = omega arith

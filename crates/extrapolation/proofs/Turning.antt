@@ -82,9 +82,6 @@ module _ (v : ℕ) (l : List ℕ) (ok : Manifold quads v l) (h : ℕ) (b : h < l
 
 -- ---- one turn
 module _ (l : List ℕ) (h g i : ℕ) (w : Turning l h g i) where
-  pub turning_inside : g < length l
-  turning_inside = let e = w.at in rw e (w.circuit.inside i w.lt)
-
   pub turning_few : i ≤ 7
   turning_few = let a = w.lt in let b = w.circuit.few in omega arith
 

@@ -15,7 +15,6 @@ use Rattle.refinedfaces.proofs.Mates as round
 use Rattle.schemelaws.specs.Ordinary.{Ordinary}
 use Rattle.refinedfaces.proofs.Families.{Halves, older, newer, halves, none_first, inside₁, inside₂}
 use Rattle.familylines.specs.Steps.{Line, FirstHalf, LastHalf}
-use Rattle.familysteps.specs.Family.{FamilyOf}
 use Rattle.familyedges.specs.PlainFamily.{FamilyTest, PlainFamily}
 use Rattle.familyedges.proofs.Lines.{first_line_lem, last_line, spoke_line, back_line}
 
@@ -135,13 +134,6 @@ module _ (v : ℕ) (l : List ℕ) (ok : Manifold quads v l) (fours : length l % 
           back₂ = inside₂ v l ok.oriented fours (4 * p + 3) (16 * p + 14) (16 * p + 9) (omega arith) (omega arith) (omega arith);
           back₃ = inside₁ v l ok.oriented fours (4 * p + 3) (16 * p + 13) (16 * p + 2) (omega arith) (omega arith) (omega arith);
         }
-
--- with the vertices that were read
-pub family_of : (l : List ℕ) (h f c₀ c₁ c₂ c₃ e₀ e₁ e₂ e₃ f₀ f₁ f₂ f₃ : ℕ) → PlainFamily l h → f ≡ from l (h + 2) → c₀ ≡ from l h → c₁ ≡ from l (h + 4) → c₂ ≡ from l (h + 8) → c₃ ≡ from l (h + 12)
-    → e₀ ≡ from l (h + 1) → e₁ ≡ from l (h + 5) → e₂ ≡ from l (h + 9) → e₃ ≡ from l (h + 13)
-    → f₀ ≡ from l (mate quads l h - 1) → f₁ ≡ from l (mate quads l (h + 4) - 1) → f₂ ≡ from l (mate quads l (h + 8) - 1) → f₃ ≡ from l (mate quads l (h + 12) - 1)
-    → FamilyOf l h f c₀ c₁ c₂ c₃ e₀ e₁ e₂ e₃ f₀ f₁ f₂ f₃
-family_of l h f c₀ c₁ c₂ c₃ e₀ e₁ e₂ e₃ f₀ f₁ f₂ f₃ x a b₀ b₁ b₂ b₃ d₀ d₁ d₂ d₃ g₀ g₁ g₂ g₃ = rw (a, b₀, b₁, b₂, b₃, d₀, d₁, d₂, d₃, g₀, g₁, g₂, g₃) x
 
 pub mates_some : (l : List ℕ) (h : ℕ) → PlainFamily l h → ((2 ≤ mate quads l h) × (mate quads l h < length l)) × ((2 ≤ mate quads l (h + 4)) × (mate quads l (h + 4) < length l))
     × ((2 ≤ mate quads l (h + 8)) × (mate quads l (h + 8) < length l)) × ((2 ≤ mate quads l (h + 12)) × (mate quads l (h + 12) < length l))

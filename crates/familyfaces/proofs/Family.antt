@@ -2,7 +2,7 @@
 use mathlib.Core.Path.{◌≡◌, refl, sym, ap, ◌∙◌, subst}
 use mathlib.Core.Logic.{◌⊎◌, inl, inr}
 use mathlib.Core.List.{List}
-use Prim.Native.Nat.{ℕ, zero, suc, ◌+◌, ◌*◌, ◌/◌, ◌%◌, ◌≤◌, ◌<◌}
+use Prim.Native.Nat.{ℕ, ◌+◌, ◌*◌, ◌/◌, ◌%◌, ◌≤◌, ◌<◌}
 use native.Mathlib.Omega.{arith}
 use lib.ListN.{length, get_or, take}
 use Rattle.topology.specs.Shape.{quads}
@@ -11,7 +11,7 @@ use Rattle.edgeentries.specs.Entry.{wide_flag, entry_of}
 use Rattle.refinedfaces.specs.Refined.{corner}
 use Rattle.tables.specs.Tables.{Written}
 use Rattle.tables.proofs.Written.{Refining, refining_to}
-use Rattle.roundfaces.specs.Faces.{refined_by, FaceIn, FacesIn}
+use Rattle.roundfaces.specs.Faces.{refined_by, FacesIn}
 use Rattle.roundfaces.proofs.Faces.{corners_then, corners_from}
 use Rattle.facerules.specs.Faces.{EntryTable, AllPlain, beyond_of}
 use Rattle.facerules.proofs.Reading.{across_lt}
@@ -93,45 +93,7 @@ module _ (n : ℕ) (w : List ℕ) (ok : EntryTable n w) (made : FamilyTable n w)
       one (f + 3) a₃ s₂ b₁ (4 * f + 12) (4 * f + 9) (4 * f + 11) (omega arith) (omega arith) (omega arith) ea₃ (omega arith) es₂ (omega arith) eb₁ (omega arith),
     )
 
--- the sum of the eight entries tells
-plain_sides : (n : ℕ) (w : List ℕ) (p a₀ b₃ a₁ b₀ a₂ b₁ a₃ b₂ : ℕ) → a₀ ≡ entry_of n w (16 * p) → b₃ ≡ entry_of n w (16 * p + 3) → a₁ ≡ entry_of n w (16 * p + 4) → b₀ ≡ entry_of n w (16 * p + 7)
-    → a₂ ≡ entry_of n w (16 * p + 8) → b₁ ≡ entry_of n w (16 * p + 11) → a₃ ≡ entry_of n w (16 * p + 12) → b₂ ≡ entry_of n w (16 * p + 15)
-    → a₀ + b₃ + a₁ + b₀ + (a₂ + b₁ + a₃ + b₂) < wide_flag → PlainSides n w p
-plain_sides n w p a₀ b₃ a₁ b₀ a₂ b₁ a₃ b₂ e₀ f₃ e₁ f₀ e₂ f₁ e₃ f₂ s = record { first = λ f a b. go f (f % 4) refl a b; last = λ f a b. at f (f % 4) refl a b }
-  where
-    go : (f i : ℕ) → f % 4 ≡ i → 4 * p ≤ f → f < 4 * p + 4 → entry_of n w (4 * f) < wide_flag
-    go f zero e a b = let q : 16 * p ≡ 4 * f = omega arith in subst (λ (g : ℕ). entry_of n w g < wide_flag) q (omega arith)
-    go f (suc zero) e a b = let q : 16 * p + 4 ≡ 4 * f = omega arith in subst (λ (g : ℕ). entry_of n w g < wide_flag) q (omega arith)
-    go f (suc (suc zero)) e a b = let q : 16 * p + 8 ≡ 4 * f = omega arith in subst (λ (g : ℕ). entry_of n w g < wide_flag) q (omega arith)
-    go f (suc (suc (suc zero))) e a b = let q : 16 * p + 12 ≡ 4 * f = omega arith in subst (λ (g : ℕ). entry_of n w g < wide_flag) q (omega arith)
-    go f (suc (suc (suc (suc i)))) e a b = let z : ⊥ = omega arith in absurd z
-
-    at : (f i : ℕ) → f % 4 ≡ i → 4 * p ≤ f → f < 4 * p + 4 → entry_of n w (4 * f + 3) < wide_flag
-    at f zero e a b = let q : 16 * p + 3 ≡ 4 * f + 3 = omega arith in subst (λ (g : ℕ). entry_of n w g < wide_flag) q (omega arith)
-    at f (suc zero) e a b = let q : 16 * p + 7 ≡ 4 * f + 3 = omega arith in subst (λ (g : ℕ). entry_of n w g < wide_flag) q (omega arith)
-    at f (suc (suc zero)) e a b = let q : 16 * p + 11 ≡ 4 * f + 3 = omega arith in subst (λ (g : ℕ). entry_of n w g < wide_flag) q (omega arith)
-    at f (suc (suc (suc zero))) e a b = let q : 16 * p + 15 ≡ 4 * f + 3 = omega arith in subst (λ (g : ℕ). entry_of n w g < wide_flag) q (omega arith)
-    at f (suc (suc (suc (suc i)))) e a b = let z : ⊥ = omega arith in absurd z
-
--- the same by the first face
-pub sides_of : (n : ℕ) (w : List ℕ) (f a₀ b₃ a₁ b₀ a₂ b₁ a₃ b₂ : ℕ) → f % 4 ≡ 0 → a₀ ≡ entry_of n w (4 * f) → b₃ ≡ entry_of n w (4 * f + 3) → a₁ ≡ entry_of n w (4 * f + 4) → b₀ ≡ entry_of n w (4 * f + 7)
-    → a₂ ≡ entry_of n w (4 * f + 8) → b₁ ≡ entry_of n w (4 * f + 11) → a₃ ≡ entry_of n w (4 * f + 12) → b₂ ≡ entry_of n w (4 * f + 15)
-    → a₀ + b₃ + a₁ + b₀ + (a₂ + b₁ + a₃ + b₂) < wide_flag → PlainSides n w (f / 4)
-sides_of n w f a₀ b₃ a₁ b₀ a₂ b₁ a₃ b₂ z e₀ f₃ e₁ f₀ e₂ f₁ e₃ f₂ s =
-    plain_sides n w (f / 4) a₀ b₃ a₁ b₀ a₂ b₁ a₃ b₂ (moved n w _ _ _ e₀ (omega arith)) (moved n w _ _ _ f₃ (omega arith)) (moved n w _ _ _ e₁ (omega arith)) (moved n w _ _ _ f₀ (omega arith))
-    (moved n w _ _ _ e₂ (omega arith)) (moved n w _ _ _ f₁ (omega arith)) (moved n w _ _ _ e₃ (omega arith)) (moved n w _ _ _ f₂ (omega arith)) s
-
 -- ---- corners
-pub face_other : (n v count f g : ℕ) (c c' w : List ℕ) → FaceIn n v count f c w → length c' ≡ length c → 4 * g + 4 ≤ n → FaceIn n v count g c' w
-face_other n v count f g c c' w ok e b = record {
-  sides = ok.sides;
-  lt = b;
-  vertices = ok.vertices;
-  edges = ok.edges;
-  room = let r = ok.room in omega arith;
-  numbers = ok.numbers;
-  below = ok.below;
-}
 
 pub family_corners : (n v count f : ℕ) (w c c₁ c₂ c₃ c₄ : List ℕ) → Written (16 * (f + 3)) (16 * (f + 3) + 16) (refined_by n v count c w) c c₁ → Written (16 * (f + 2)) (16 * (f + 2) + 16) (refined_by n v count c₁ w) c₁ c₂
     → Written (16 * (f + 1)) (16 * (f + 1) + 16) (refined_by n v count c₂ w) c₂ c₃ → Written (16 * f) (16 * f + 16) (refined_by n v count c₃ w) c₃ c₄ → Written (16 * f) (16 * f + 64) (refined_by n v count c w) c c₄

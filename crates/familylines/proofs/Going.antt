@@ -1,9 +1,7 @@
 -- The pass goes on.
-use mathlib.Core.Path.{◌≡◌, sym, ◌∙◌, subst}
-use mathlib.Core.Logic.{◌⊎◌, ⊎_elim}
+use mathlib.Core.Path.{◌≡◌, subst}
 use mathlib.Core.List.{List}
-use Prim.Native.Nat.{ℕ, ◌+◌, ◌≤◌, ◌<◌}
-use native.Mathlib.Omega.{arith}
+use Prim.Native.Nat.{ℕ, ◌+◌, ◌<◌}
 use lib.IntN.{ℤ}
 use lib.ListN.{length}
 use Rattle.topology.specs.Shape.{quads}
@@ -11,10 +9,6 @@ use Rattle.topology.specs.HalfEdge.{mate}
 use Rattle.edgetable.specs.EdgeTable.{Turn, Turned}
 use Rattle.familylines.specs.Steps.{Place, Going, Carries}
 use Rattle.edgetable.proofs.EdgeTable.{turn_in, turned_edges, turned_count}
-
--- a side whose mate does not lie before the family from f on is first met here
-pub first_met_lem : (f h m k : ℕ) → m ≡ k → f ≤ m → (k < f) ⊎ (h < k) → h < k
-first_met_lem f h m k e b side = ⊎_elim (λ x. let z : ⊥ = omega arith in absurd z) (λ x. x) side
 
 module _ (t : ℕ) (l marks : List ℕ) where
   pub turn_now : (p : List ℤ) (w : List ℕ) (h e : ℕ) → (g : Going t l marks p w h e) → h < length l → Turn t l marks p w g.at g.initial h e
@@ -54,11 +48,6 @@ module _ (t : ℕ) (l marks : List ℕ) where
 
   pub carries_next : (p p' p'' : List ℤ) (w w' w'' : List ℕ) (h e h' e' h'' e'' : ℕ) → Carries t l marks h e h' e' p w p' w' → Carries t l marks h' e' (h' + 1) e'' p' w' p'' w'' → h' + 1 ≡ h'' → Carries t l marks h e h'' e'' p w p'' w''
   carries_next p p' p'' w w' w'' h e h' e' h'' e'' a b q = subst (λ (x : ℕ). Carries t l marks h e x e'' p w p'' w'') q (carries_then p p' p'' w w' w'' h e h' e' (h' + 1) e'' a b)
-
-  pub carries_lengths : (p p' : List ℤ) (w w' : List ℕ) (h e h' e' : ℕ) → Going t l marks p w h e → Carries t l marks h e h' e' p w p' w' → (length p' ≡ length p) × (length w' ≡ length w)
-  carries_lengths p p' w w' h e h' e' g c =
-      let x = c.edges g.at g.initial g.p₀ g.w₀ g.round g.done g.counted in
-      (x.0.points.kept ∙ sym g.done.points.kept, x.0.kept ∙ sym g.done.kept)
 
   pub carries_none : (p : List ℤ) (w : List ℕ) (h e : ℕ) → Carries t l marks h e h e p w p w
   carries_none p w h e = record { edges = λ at initial p₀ w₀ round done c. (done, c) }

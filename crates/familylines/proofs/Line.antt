@@ -8,11 +8,11 @@ use Rattle.rounding.specs.Rounding.{round}
 use Rattle.curve.specs.Weights.{tension}
 use Rattle.nets.specs.Net.{axis}
 use Rattle.schemelaws.specs.Numerators.{edge_z}
-use Rattle.coordinates.specs.Points.{InTable, OnAxes}
+use Rattle.coordinates.specs.Points.{OnAxes}
 use Rattle.coordinates.specs.Stencil.{interior_value}
 use Rattle.edgeentries.specs.Entry.{unit_of}
 use Rattle.exactedges.specs.Edge.{Flagged, ExactPoint}
-use Rattle.exactedges.proofs.Plain.{on_axes_as, corner-room}
+use Rattle.exactedges.proofs.Plain.{on_axes_as}
 use Rattle.exactedges.proofs.Wide.{plain_point, inner_point}
 use Rattle.edgerounding.specs.Rounded.{rounded_by, Small}
 use Rattle.familylines.specs.Steps.{Place, Line}
@@ -22,9 +22,6 @@ use Rattle.edgetable.proofs.EdgeTable.{small_of}
 module _ (t : ℕ) (l marks : List ℕ) (points : List ℤ) (w : List ℕ) (h e o p q r : ℕ) (at : Place t l marks points w h e) (line : Line l h o p q r) where
   abbrev old : List ℤ
   old = take (3 * length marks) points
-
-  pub line_in : InTable old o × InTable old p × InTable old q × InTable old r × (t ≤ 4)
-  line_in = (corner-room l old at.points o line.in₀, corner-room l old at.points p line.in₁, corner-room l old at.points q line.in₂, corner-room l old at.points r line.in₃, at.low)
 
   module _ (x y z : ℤ) (on : OnAxes (λ (a : ℕ). interior_value (tension t) (axis old a) o p q r) x y z) where
     pub line_exact : Flagged l h 0 × ExactPoint (tension t) 0 (λ (a : ℕ). edge_z (tension t) l marks (axis old a) h) x y z

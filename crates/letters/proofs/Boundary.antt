@@ -26,9 +26,6 @@ use Rattle.letters.proofs.Letters.{across_face, across_twice, face_named, bounda
 
 -- ---- the entry of a half-edge
 module _ (l marks w s : List ℕ) (ok : Nameable l marks w s) (h : ℕ) (k : h < length l) where
-  pub off_boundary : entry_of (length l) w h < boundary_flag → OnBoundary quads l h → ⊥
-  off_boundary b o = let c = ok.boundary h k o.none in omega arith
-
   pub on_boundary : boundary_flag ≤ entry_of (length l) w h → OnBoundary quads l h
   on_boundary b = record { lt = k; none = go (dec_lt (mate quads l h) (length l)) }
     where
@@ -46,10 +43,6 @@ pub record Put (l marks : List ℕ) (h p : ℕ) (s s' : List ℕ) : Type 0 where
   pub right : get_or s' p 0 ≡ new_letter l marks p
 
 module _ (l marks : List ℕ) where
-  -- where no half-edge from a up to e lies on the boundary
-  pub put_none : (a e : ℕ) (s : List ℕ) → ((g : ℕ) → a ≤ g → g < e → OnBoundary quads l g → ⊥) → Corrected l marks a e s s
-  put_none a e s f = record { before = λ i k. refl; behind = λ i k. refl; kept = λ i r. r; touched = λ g i p q b t. absurd (f g p q b) }
-
   pub put_then : (a b e : ℕ) (s s₁ s₂ : List ℕ) → Corrected l marks a b s s₁ → Corrected l marks b e s₁ s₂ → Corrected l marks a e s s₂
   put_then a b e s s₁ s₂ x y = record {
     before = λ i k. y.before i k ∙ x.before i k;

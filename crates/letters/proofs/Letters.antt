@@ -1,9 +1,9 @@
 -- Laws of letters: which one an edge or a face has. Assumes nothing.
-use mathlib.Core.Path.{◌≡◌, refl, sym, ap, ◌∙◌, subst}
-use mathlib.Core.Bool.{Bool, true, false}
+use mathlib.Core.Path.{◌≡◌, sym, ap, ◌∙◌}
+use mathlib.Core.Bool.{Bool, true}
 use mathlib.Core.List.{List}
 use Prim.Native.Nat.{ℕ, ◌+◌, ◌-◌, ◌≤◌, ◌<◌, min}
-use native.Mathlib.Decide.{dec_lt, ℕ_discrete}
+use native.Mathlib.Decide.{dec_lt}
 use native.Mathlib.Omega.{arith}
 use borrow.Author.Tests.{lt-ltb, le-ltb}
 use lib.ListN.{length}
@@ -20,35 +20,11 @@ use Rattle.scheme.specs.Points.{edge_rule}
 use Rattle.origins.specs.Origins.{made_by, letter_of, edge_case, new_rule}
 use Rattle.origins.proofs.Named.{start_control, start-split_point}
 use Rattle.pointletters.specs.FaceLetter.{face_letter}
-use Rattle.letters.specs.Letters.{start_letter, new_letter, Nameable, WrittenIf}
-
-pub nameable_kept : (l marks w letters letters' : List ℕ) → length letters' ≡ length letters → Nameable l marks w letters → Nameable l marks w letters'
-nameable_kept l marks w letters letters' e ok = record {
-  net = ok.net;
-  table = ok.table;
-  entries = ok.entries;
-  numbered = ok.numbered;
-  inner = ok.inner;
-  boundary = ok.boundary;
-  room = let r = ok.room in omega arith;
-}
-
--- what holds of four numbers in turn
-pub four_in_turn : (P : ℕ → Type 0) (i : ℕ) → P i → P (i + 1) → P (i + 2) → P (i + 3) → (k : ℕ) → i ≤ k → k < i + 4 → P k
-four_in_turn P i p q r t k a b = go (ℕ_discrete k i) (ℕ_discrete k (i + 1)) (ℕ_discrete k (i + 2))
-  where
-    go : Dec (k ≡ i) → Dec (k ≡ i + 1) → Dec (k ≡ i + 2) → P k
-    go (yes e) y z = subst P (sym e) p
-    go (no x) (yes e) z = subst P (sym e) q
-    go (no x) (no y) (yes e) = subst P (sym e) r
-    go (no x) (no y) (no z) = let e : i + 3 ≡ k = omega arith in subst P e t
+use Rattle.letters.specs.Letters.{start_letter, new_letter, WrittenIf}
 
 -- ---- asked for, or not
 pub if_asked : (asked : Bool) (a e : ℕ) (f : ℕ → ℕ) (s s' : List ℕ) → asked ≡ true → Written a e f s s' → WrittenIf asked a e f s s'
 if_asked asked a e f s s' t x = record { all = λ _. x; none = λ n. let z : ◌≡◌ {A = ℕ} 0 1 = cc in absurd (omega arith) }
-
-pub if_not_asked : (asked : Bool) (a e : ℕ) (f : ℕ → ℕ) (s : List ℕ) → asked ≡ false → WrittenIf asked a e f s s
-if_not_asked asked a e f s n = record { all = λ t. let z : ◌≡◌ {A = ℕ} 0 1 = cc in absurd (omega arith); none = λ _. refl }
 
 -- ---- where refining begins
 pub start-named : (v start : ℕ) (w w₁ w₂ : List ℕ) → v ≤ start → Written 0 v (λ (i : ℕ). 86) w w₁ → Written v start (λ (i : ℕ). 83) w₁ w₂ → Written 0 start (start_letter v) w w₂

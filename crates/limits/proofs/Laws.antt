@@ -1,11 +1,9 @@
 -- How the tests of refusals 1 to 4 and 14 make one. Assumes nothing.
-use mathlib.Core.Path.{◌≡◌, refl, sym, ap, ◌∙◌, subst}
-use mathlib.Core.Bool.{true, false, ◌&&◌, ◌||◌}
-use mathlib.Core.List.{List, [], ◌∷◌}
+use mathlib.Core.Path.{◌≡◌, sym, ap, ◌∙◌, subst}
+use mathlib.Core.Bool.{◌&&◌, ◌||◌}
+use mathlib.Core.List.{List}
 use Prim.Native.Nat.{ℕ, ◌*◌, ◌/◌, ◌%◌, ◌^◌, ◌≤◌, ◌<◌}
-use lib.ListN.{length}
 use Rattle.bounds.specs.Bounds.{max_rounds, max_faces}
-use Rattle.polygons.specs.Polygons.{bad_sides}
 use native.Mathlib.Decide.{dec_lt}
 use native.Mathlib.Omega.{arith}
 use lib.Dec.{ltb}
@@ -25,21 +23,6 @@ unfolding room_verdict
 by_needed g room least e h = ap (λ (x : Room). refused_if 4 (shorter room x)) (sym e) ∙ h
 
 -- ---- 14 and the face part of 2
-pub fours_hit : (s : List ℕ) (n : ℕ) → length s ≡ 0 → (n % 4 ≡ 0 → ⊥) → corners_verdict s n ≡ limits_of 2
-fours_hit [] n z h = rw (ne_eqb (n % 4) 0 h)
-fours_hit (c ∷ s) n z h = let y : ⊥ = omega arith in absurd y
-
-pub fours_pass : (s : List ℕ) (n : ℕ) → length s ≡ 0 → n % 4 ≡ 0 → corners_verdict s n ≡ limits_of 0
-fours_pass [] n z h = rw (eq-eqb (n % 4) 0 h)
-fours_pass (c ∷ s) n z h = let y : ⊥ = omega arith in absurd y
-
-pub counts_hit : (s : List ℕ) (n : ℕ) → (length s ≡ 0 → ⊥) → bad_sides s n ≡ true → corners_verdict s n ≡ limits_of 14
-counts_hit [] n z h = absurd (z refl)
-counts_hit (c ∷ s) n z h = rw h
-
-pub counts_pass : (s : List ℕ) (n : ℕ) → (length s ≡ 0 → ⊥) → bad_sides s n ≡ false → corners_verdict s n ≡ limits_of 0
-counts_pass [] n z h = absurd (z refl)
-counts_pass (c ∷ s) n z h = rw h
 
 -- ---- the tables
 module _ (v n : ℕ) (s : List ℕ) (m : ℕ) where

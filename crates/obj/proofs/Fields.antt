@@ -16,7 +16,7 @@ use Rattle.decimal.specs.declared.Number.TheVariants as number
 use Rattle.decimal.proofs.Reading.{says_at}
 use Rattle.textform.specs.Bytes.{bytes}
 use Rattle.textform.specs.Form.{starts_with, ended_by, natural}
-use Rattle.textform.proofs.Lines.{ends_short, ends_other, ends_there, starts_length}
+use Rattle.textform.proofs.Lines.{ends_short, ends_other, ends_there}
 use Rattle.objform.specs.Form.{skip_to, skip_part, named, read_corner, read_rounds}
 use Rattle.obj.specs.Answers.{StartsAt}
 
@@ -47,15 +47,7 @@ skip_end l i e h = rw (drop_of_length-le l {i = i} h)
 
 -- ---- the part of a field after its number
 module _ (l : List ℕ) (at : ℕ) where
-  pub part_end : length l ≤ at → skip_part (drop at l) ≡ drop at l
-  part_end h = rw (drop_of_length-le l {i = at} h)
-
   module _ (h : at < length l) where
-    pub part_none : (get_or l at 0 ≡ 47 → ⊥) → skip_part (drop at l) ≡ drop at l
-    part_none n = rw (drop-cons l at 0 h, ne_eqb (get_or l at 0) 47 n)
-
-    pub part_slash : get_or l at 0 ≡ 47 → skip_part (drop at l) ≡ skip_to 32 (drop (at + 1) l)
-    part_slash s = rw (drop-cons l at 0 h, eq-eqb (get_or l at 0) 47 s, add-one at)
 
 -- ---- a field, where r is the answer for its number
 named-zero : (n : ℕ) (l : List ℕ) → n ≡ 0 → named (read_as n l) ≡ bad
@@ -100,10 +92,6 @@ module _ (l : List ℕ) where
   rounds_none e = record { reads = rw e; within = omega arith }
 
   module _ (e : starts_with (bytes "# rounds ") l ≡ true) where
-    pub rounds_within : 9 ≤ length l
-    unfolding bytes
-    rounds_within = starts_length (bytes "# rounds ") l e
-
     pub rounds_there : read_rounds l ≡ natural largest_number 10 (drop 9 l)
     unfolding read_rounds bytes
     rounds_there = rw e

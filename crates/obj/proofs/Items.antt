@@ -123,10 +123,6 @@ module _ (l : List ℕ) (e₁ : starts_with (bytes "v ") l ≡ false) (e : start
 
 -- ---- a comment, whose rest starts at n
 module _ (l : List ℕ) (e₁ : starts_with (bytes "v ") l ≡ false) (e₂ : starts_with (bytes "f ") l ≡ false) (e : starts_with (bytes "#") l ≡ true) where
-  pub comment_within : 1 ≤ length l
-  unfolding bytes
-  comment_within = starts_length (bytes "#") l e
-
   module _ {n : ℕ} (s : StartsAt (skip_to 10 (drop 1 l)) l 1 n) where
     by_rest : read_item l ≡ ended_by 10 (read_as comment (drop n l))
     unfolding read_comment

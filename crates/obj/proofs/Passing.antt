@@ -12,9 +12,9 @@ use Rattle.decimalform.proofs.Writing.{sets_after}
 use Rattle.textform.specs.Form.{Vertex, Face, Rows, rows, one_more}
 use Rattle.readingform.specs.Loaded.{coordinates_of, marks_of, corners_of}
 use Rattle.textform.proofs.Lines.{rows_length}
-use Rattle.reading.proofs.Lines.{rows_bad, rows_next, Passed, passed_none, passed_bad, passed_more}
+use Rattle.reading.proofs.Lines.{rows_bad, rows_next, Passed, passed_bad, passed_more}
 use Rattle.readingform.proofs.Lengths.{length_coordinates, length_marks, length_corners}
-use Rattle.reading.proofs.Storing.{three_stores, four_stores, Filling, filling_none, filling_more, filling_bad}
+use Rattle.reading.proofs.Storing.{three_stores, four_stores, Filling, filling_more, filling_bad}
 use Rattle.objform.proofs.Net.{item_none, vertices_one, faces_one, vertices_length, faces_length, vertices_most, faces_most}
 use Rattle.objform.specs.Form.{Item, read_item, vertices_in, faces_in, items}
 use Rattle.obj.specs.declared.Line.{Line}
@@ -95,11 +95,6 @@ pub record ItemsMet (l : List ℕ) (v f lines at : ℕ) : Type 0 where
   pub vertices : length (item_vertices l) ≡ v + length (vertices_in (left l lines at).values)
   pub faces : length (item_faces l) ≡ f + length (faces_in (left l lines at).values)
 
-met_none : (l : List ℕ) → ItemsMet l 0 0 0 0
-met_none l =
-    let e : length l - 0 ≡ length l = omega arith in
-    record { passed = passed_none read_item (length l) l; few = omega arith; vertices = rw e (omega arith); faces = rw e (omega arith) }
-
 module _ {l : List ℕ} {v f lines at : ℕ} (p : ItemsMet l v f lines at) where
   -- the next line is good, and has the item i
   module _ (i : Item) (n : ℕ) (e : read_item (drop at l) ≡ read_as i (drop n (drop at l))) (some : 0 < n) (h : at + n ≤ length l) where
@@ -165,9 +160,6 @@ pub record Counting (l : List ℕ) (v f line at : ℕ) : Type 0 where
   pub is : line ≡ 2 + lines
   pub met : ItemsMet l v f lines at
 
-pub counting_none : (l : List ℕ) → Counting l 0 0 2 0
-counting_none l = record { lines = 0; is = refl; met = met_none l }
-
 pub counting_more : {l : List ℕ} {v f line at : ℕ} → Counting l v f line at → (i : Item) (n : ℕ) → read_item (drop at l) ≡ read_as i (drop n (drop at l)) → 0 < n → at + n ≤ length l
     → {w g : ℕ} → MeetsItem i v f w g → Counting l w g (line + 1) (at + n)
 counting_more c i n e some h m = let k = c.is in record { lines = c.lines + 1; is = omega arith; met = met_more c.met i n e some h m }
@@ -188,15 +180,6 @@ pub record Storing (l : List ℕ) (t₀ t : List ℤ) (f₀ f m₀ m : List ℕ)
   pub vertices : Filling flat_vertices read_item (length l) l t₀ t (3 * v) lines at
   pub faces : Filling flat_faces read_item (length l) l f₀ f (4 * g) lines at
   pub marks : Filling flat_marks read_item (length l) l m₀ m v lines at
-
-pub storing_none : (l : List ℕ) (t : List ℤ) (f m : List ℕ) → Storing l t t f f m m 0 0 0
-storing_none l t f m = record {
-  lines = 0;
-  met = met_none l;
-  vertices = filling_none flat_vertices read_item (length l) l t;
-  faces = filling_none flat_faces read_item (length l) l f;
-  marks = filling_none flat_marks read_item (length l) l m;
-}
 
 -- one item's numbers are stored before those of others
 next_stored : {E : Type 0} (flat : List Item → List E) (i : Item) → ((is : List Item) → flat (i ∷ is) ≡ flat (i ∷ []) ++ flat is) → (t u : List E) (k j : ℕ)

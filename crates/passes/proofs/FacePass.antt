@@ -51,9 +51,6 @@ module _ (G : ℕ → ℕ → ℤ) (m : ℕ) (o : List ℤ) where
     pub points : (k : ℕ) → 3 * f ≤ k → k < 3 * m → get_or t k (pos 0) ≡ G (k % 3) (k / 3)
     pub rest : (k : ℕ) → 3 * m ≤ k → get_or t k (pos 0) ≡ get_or o k (pos 0)
 
-  pub writing_none : Writing o m
-  writing_none = record { le = omega arith; kept = refl; points = λ k h g. let z : ⊥ = omega arith in absurd z; rest = λ k h. refl }
-
   pub writing_next : (t t' : List ℤ) (f : ℕ) → 0 < f → 3 * m ≤ length o → Writing t f → t' ≡ put_point t (f - 1) (G 0 (f - 1)) (G 1 (f - 1)) (G 2 (f - 1)) → Writing t' (f - 1)
   writing_next t t' f p b x e = record {
     le = let c = x.le in omega arith;

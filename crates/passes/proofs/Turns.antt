@@ -3,16 +3,12 @@ use mathlib.Core.Path.{◌≡◌}
 use mathlib.Core.Bool.{Bool, true, false}
 use mathlib.Core.Logic.{◌⊎◌, inl, inr}
 use mathlib.Core.List.{List}
-use Prim.Native.Nat.{ℕ, ◌+◌, ◌-◌, ◌%◌, ◌≤◌, ◌<◌}
+use Prim.Native.Nat.{ℕ, ◌+◌, ◌%◌, ◌≤◌, ◌<◌}
 use native.Mathlib.Omega.{arith}
 use lib.ListN.{length}
 use Rattle.search.proofs.Tests.{clash}
 use Rattle.refinedfaces.specs.Families.{AfterRound}
 use Rattle.refinedfaces.proofs.Families.{later_length}
-
-pub cases : {A B C : Type 0} → A ⊎ B → (A → C) → (B → C) → C
-cases (inl a) f g = f a
-cases (inr b) f g = g b
 
 pub whole : (l : List ℕ) → AfterRound l → length l % 16 ≡ 0
 whole l m = let a = later_length l m in let b = m.fours in omega arith
@@ -21,8 +17,3 @@ whole l m = let a = later_length l m in let b = m.fours in omega arith
 pub edges_end : (later : Bool) (n h e : ℕ) → h < n → (later ≡ true → (h % 16 ≡ 0) × (n % 16 ≡ 0)) → ((later ≡ true) × (e ≡ h + 16)) ⊎ ((later ≡ false) × (e ≡ n)) → (h < e) × (later ≡ true → e % 16 ≡ 0) × (e ≤ n)
 edges_end later n h e g z (inl p) = let k = z p.0 in let a = k.0 in let b = k.1 in let q = p.1 in (omega arith, (λ t. omega arith), omega arith)
 edges_end later n h e g z (inr p) = let q = p.1 in (omega arith, (λ t. clash later t p.0), omega arith)
-
--- where a turn over faces ends
-pub faces_end : (later : Bool) (f e : ℕ) → 0 < f → (later ≡ true → f % 4 ≡ 0) → (e ≡ f - 4) ⊎ ((later ≡ false) × (e ≡ 0)) → (e < f) × (later ≡ true → e % 4 ≡ 0)
-faces_end later f e g z (inl p) = (omega arith, λ t. let k = z t in omega arith)
-faces_end later f e g z (inr p) = let q = p.1 in (omega arith, λ t. clash later t p.0)

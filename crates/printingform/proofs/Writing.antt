@@ -3,12 +3,12 @@ use mathlib.Core.Path.{◌≡◌, refl, sym, ap, ap₂, ◌∙◌}
 use mathlib.Core.Bool.{Bool, true, false}
 use mathlib.Core.List.{List, [], ◌∷◌, ◌++◌, append-nil, append_assoc}
 use Prim.Native.Nat.{ℕ, zero, suc, ◌+◌, ◌*◌, ◌≤◌, ◌<◌}
-use native.Mathlib.Nat.{add-zero, mul-suc, mul-le-mul_left}
+use native.Mathlib.Nat.{add-zero, mul-suc}
 use native.Mathlib.Numerals.{add-one}
 use native.Mathlib.Omega.{arith}
 use lib.IntN.{ℤ}
-use lib.ListN.{length, get_or, set, drop, length-append, drop_of_length-le}
-use lib.Seq.{sets, sets-eq, drop-cons}
+use lib.ListN.{length, get_or, set, drop, length-append}
+use lib.Seq.{sets-eq}
 use Rattle.lists.specs.Tabulate.{tabulate}
 use Rattle.lists.proofs.Tabulate.{length-tabulate}
 use Rattle.tables.specs.Tables.{filled}
@@ -17,8 +17,8 @@ use Rattle.decimalform.proofs.Writing.{stored_then}
 use Rattle.textform.specs.Limits.{program_vertices, program_faces}
 use Rattle.textform.specs.Bytes.{bytes}
 use Rattle.textform.specs.Form.{Vertex, corner_names}
-use Rattle.textform.specs.Text.{field, texts, pair_text, numbers_text, columns_text, end_text, lettered_text, face_text, answer_text}
-use Rattle.printingform.specs.Tables.{text_vertex_at, lettered_at, text_face_at, lettered_of, faces_of, tables_text, end_room, room_for, answer_room}
+use Rattle.textform.specs.Text.{field, texts, pair_text, numbers_text, columns_text, lettered_text, face_text, answer_text}
+use Rattle.printingform.specs.Tables.{text_vertex_at, lettered_at, text_face_at, lettered_of, faces_of, tables_text, room_for, answer_room}
 use Rattle.printingform.specs.Lines.{Printed, TextWritten}
 
 -- ---- one byte after a text
@@ -27,13 +27,6 @@ stored_field d o at r e s w = stored_then d o (set o r e) at r (r + 1) s (e ∷ 
 
 -- ---- bytes, one a turn: what is left of s goes from here on
 module _ (d : List ℕ) (at : ℕ) (s : List ℕ) where
-  pub copy_turn : (o : List ℕ) (i : ℕ) → i < length s → sets d at s ≡ sets o (at + i) (drop i s) → sets d at s ≡ sets (set o (at + i) (get_or s i 0)) (at + (i + 1)) (drop (i + 1) s)
-  copy_turn o i h e =
-      let q : at + (i + 1) ≡ suc (at + i) = omega arith in
-      e ∙ ap (sets o (at + i)) (drop-cons s i 0 h) ∙ rw (q, add-one i)
-
-  pub copy_end : (o : List ℕ) (i : ℕ) → length s ≤ i → sets d at s ≡ sets o (at + i) (drop i s) → o ≡ sets d at s
-  copy_end o i h e = sym (e ∙ ap (sets o (at + i)) (drop_of_length-le s {i = i} h))
 
 -- ---- fields in a row: texts printed one after another, within the sum of what each takes at most
 pub in_row : {d e o : List ℕ} {at r q : ℕ} {s t : List ℕ} {m n : ℕ} → Printed d e at r s m → Printed e o r q t n → Printed d o at q (s ++ t) (m + n)
@@ -50,14 +43,6 @@ printed_field s b m w h =
 
 -- ---- the end of a vertex line, with a letter or without
 module _ (rule : Bool) (d : List ℕ) (at letter : ℕ) where
-  pub end_letter : rule ≡ true → Printed d (set (set (set d at 32) (at + 1) letter) (at + 2) 10) at (at + 3) (end_text rule letter) (end_room rule)
-  end_letter e =
-      let a : at + 1 ≡ suc at = omega arith in
-      let b : at + 2 ≡ suc (suc at) = omega arith in
-      rw e (record { stored = record { bytes = rw (a, b); end = refl }; within = omega arith })
-
-  pub end_plain : rule ≡ false → Printed d (set d at 10) at (at + 1) (end_text rule letter) (end_room rule)
-  end_plain e = rw e (record { stored = record { bytes = refl; end = refl }; within = omega arith })
 
 -- ---- lines, one a turn
 texts_more : {A : Type 0} (text : A → List ℕ) (i : ℕ) (item : ℕ → A) → texts text (tabulate (suc i) item) ≡ texts text (tabulate i item) ++ text (item i)
@@ -73,10 +58,6 @@ module _ {A : Type 0} (text : A → List ℕ) (item : ℕ → A) (most : ℕ) wh
   pub lines_more : {d e o : List ℕ} {at r q : ℕ} (i : ℕ) → Printed d e at r (texts text (tabulate i item)) (most * i) → Printed e o r q (text (item i)) most
       → Printed d o at q (texts text (tabulate (i + 1) item)) (most * (i + 1))
   lines_more i v w = rw (add-one i, texts_more text i item, mul-suc most i) (in_row v w)
-
--- line i has room where `count` lines of at most w bytes have it
-pub line_room : (w count i at to n : ℕ) → at + w * count ≤ n → to ≤ at + w * i → i < count → to + w ≤ n
-line_room w count i at to n h k l = let m : w * suc i ≤ w * count = mul-le-mul_left w l in omega (arith, mul-suc w i)
 
 -- ---- the whole text, from the front on
 pub at_front : (d o : List ℕ) (r : ℕ) (s : List ℕ) (m most : ℕ) → Printed d o 0 r s m → m ≤ most → most ≤ length d → TextWritten d o r s most

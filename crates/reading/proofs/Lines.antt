@@ -45,9 +45,6 @@ module _ {A : Type 0} (read : List ℕ → Read A) where
     pub number : length (rows read count l).values ≡ good + length (rows read (count - good) (drop used l)).values
     pub rest : (rows read count l).rest ≡ (rows read (count - good) (drop used l)).rest
 
-  pub passed_none : (count : ℕ) (l : List ℕ) → Passed count l 0 0
-  passed_none count l = let e : count - 0 ≡ count = omega arith in record { few = omega arith; within = omega arith; number = rw e (omega arith); rest = rw e }
-
 module _ {A : Type 0} {read : List ℕ → Read A} {count : ℕ} {l : List ℕ} {good used : ℕ} (p : Passed read count l good used) where
   -- the lines end here
   stopped : rows read (count - good) (drop used l) ≡ no_rows (drop used l) → LinesCounted (record { good = good; used = used }) l (rows read count l)

@@ -18,9 +18,6 @@ pub record Filling {A E : Type 0} (flat : List A → List E) (read : List ℕ �
   pub kept : length t ≡ length t₀
   pub table : sets t₀ 0 (flat (rows read count l).values) ≡ sets t k (flat (rows read (count - i) (drop at l)).values)
 
-pub filling_none : {A E : Type 0} (flat : List A → List E) (read : List ℕ → Read A) (count : ℕ) (l : List ℕ) (t : List E) → Filling flat read count l t t 0 0 0
-filling_none flat read count l t = let e : count - 0 ≡ count = omega arith in record { kept = refl; table = rw e }
-
 module _ {A E : Type 0} {flat : List A → List E} {read : List ℕ → Read A} {count : ℕ} {l : List ℕ} {t₀ t : List E} {k i at : ℕ} (f : Filling flat read count l t₀ t k i at) where
   -- the next line is v, and its numbers are stored
   pub filling_more : (v : A) (n : ℕ) (u : List E) (j : ℕ) → i < count → read (drop at l) ≡ read_as v (drop n (drop at l)) → ((vs : List A) → sets t k (flat (v ∷ vs)) ≡ sets u j (flat vs))

@@ -1,5 +1,5 @@
 -- The refining call as a whole: the admission, refusal 15, the rounds. Assumes nothing.
-use mathlib.Core.Path.{◌≡◌, refl, sym, ap, ◌∙◌, subst}
+use mathlib.Core.Path.{◌≡◌, refl, sym, ap, ◌∙◌}
 use mathlib.Core.List.{List}
 use Prim.Native.Nat.{ℕ, ◌+◌, ◌-◌, ◌*◌, ◌/◌, ◌≤◌, ◌<◌}
 use native.Mathlib.Omega.{arith}
@@ -47,13 +47,7 @@ module _ (a : Request) where
   is_given u accepted = refl
   is_given u (refused r p) = refl
 
-  -- ---- admitted: the work table u that the admission leaves does not matter
   module _ (last : ℕ) (u : List ℕ) (x : AdmittedCall (call_of a) last u) (s : length u ≡ length a.buffers.work) where
-    pub admitted_work : AdmittedCall (call_of (with_work a u)) last u
-    admitted_work =
-        let o = a.buffers in
-        subst (λ (n : ℕ). AdmittedCall (call a.rounds a.net a.tension (room (length o.vertices) (length o.faces) (length o.marks) a.letters.asked (length a.letters.table) n)) last u) (sym s) x
-
     pub same_outcome : drop (16 * last) u ≡ drop (16 * last) a.buffers.work → outcome (with_work a u) ≡ outcome a
     unfolding outcome request_verdict
     same_outcome d =

@@ -7,9 +7,6 @@ use Rattle.curve.proofs.Tension.{scale_at}
 use Rattle.rings.specs.Scales.{virtual_scale, edge_scale, direction_scale, face_scale, virtual_range, edge_range, direction_range}
 
 module _ (t : ℕ) where
-  pub virtual-scale_at : virtual_scale (tension t) ≡ 50400 * (32 + t)
-  virtual-scale_at = omega arith
-
   pub edge-scale_at : edge_scale (tension t) ≡ 3225600 * (32 + t)
   edge-scale_at = let e = ap (λ (s : ℕ). s * virtual_scale (tension t)) (scale_at t) in omega arith
 

@@ -21,9 +21,7 @@ use Rattle.topology.specs.Vertex.{leaves, valence}
 use Rattle.topology.specs.Manifold.{Manifold}
 use Rattle.topology.proofs.Mates.{mate-le}
 use Rattle.topology.proofs.Boundary.{from_on, from_none, from_at, boundary_from-le, boundary_from_is, ring_range, fan_range}
-use Rattle.tables.specs.Tables.{ZerosFrom, SameOutside}
-use Rattle.tables.proofs.Laws.{same-front}
-use Rattle.halfedges.proofs.Tables.{mates_cong}
+use Rattle.tables.specs.Tables.{ZerosFrom}
 use Rattle.refinedfaces.specs.Refined.{refined_vertices, refined}
 use Rattle.schemelaws.specs.Ordinary.{Ordinary, ring_of_four, fan_of_two}
 use Rattle.schemelaws.proofs.Made.{made_ordinary, old_ordinary, ordinary_old}
@@ -206,15 +204,3 @@ module _ (v at : ℕ) (l w : List ℕ) (h : ℕ) (b : h < length l) where
             let k = share_here p e in
             ap (λ (i : ℕ). get_or (set w (at + from l h) x) i 0) (sym a) ∙ f ∙ omega arith
         go p d (no e) = get_or-set_other w (at + from l h) (at + p) x 0 (λ q. e (omega arith)) ∙ c.sizes p d ∙ sym (share_elsewhere p e)
-
--- the mates stay where nothing outside the ring sizes changes
-pub countable_next : (v at : ℕ) (l w : List ℕ) → Countable v at l w → (w' : List ℕ) → length w' ≡ length w → SameOutside at (at + v) w w' → Countable v at l w'
-countable_next v at l w ok w' k s =
-    let d = ok.table.room in
-    let r = ok.room in
-    record {
-      net = ok.net;
-      table = record { sides = ok.table.sides; room = omega arith; mated = mates_cong l w w' (λ i e. same-front at w w' s.front i (let q = ok.behind in omega arith)) ok.table.mated };
-      behind = ok.behind;
-      room = omega arith;
-    }

@@ -23,7 +23,7 @@ use Rattle.rings.proofs.Table.{row_l, row_k}
 use Rattle.nets.specs.Net.{axis}
 use Rattle.coordinates.specs.Points.{OnAxes}
 use Rattle.coordinates.proofs.Values.{axis_bound}
-use Rattle.ringsums.specs.Sums.{weight_range, sum_range, weighed, place_on, weighted_sum, ring_sum, fan_sum, fan_on}
+use Rattle.ringsums.specs.Sums.{weight_range, sum_range, weighed, place_on, weighted_sum}
 
 -- ---- places
 pub place_before : (n s : ℕ) → s < n → place_on n s ≡ s
@@ -88,19 +88,6 @@ sums_small w n e m t L K x y z f s b h k g =
     let e₁ = f.on₁ in
     let e₂ = f.on₂ in
     record { on₀ = rw e₀ (on 0); on₁ = rw e₁ (on 1); on₂ = rw e₂ (on 2) }
-
--- what the code makes of them, with the weights of the table
-pub ring_read : (weights : Weights) (w : List ℤ) (n : ℕ) (t : List ℤ) (L K : List ℕ) (x y z x' y' z' : ℤ) → w ≡ row weights n → OnAxes (λ (a : ℕ). weighted_sum w n 0 n (axis t a) L K) x y z
-    → x' ≡ ring_sum n x → y' ≡ ring_sum n y → z' ≡ ring_sum n z → OnAxes (λ (a : ℕ). ring_sum n (weighted_sum (row weights n) n 0 n (axis t a) L K)) x' y' z'
-ring_read weights w n t L K x y z x' y' z' e f ex ey ez =
-    let on : (a : ℕ) → weighted_sum w n 0 n (axis t a) L K ≡ weighted_sum (row weights n) n 0 n (axis t a) L K = λ a. ap (λ (u : List ℤ). weighted_sum u n 0 n (axis t a) L K) e in
-    record { on₀ = ex ∙ ap (ring_sum n) (f.on₀ ∙ on 0); on₁ = ey ∙ ap (ring_sum n) (f.on₁ ∙ on 1); on₂ = ez ∙ ap (ring_sum n) (f.on₂ ∙ on 2) }
-
-pub fan_read : (weights : Weights) (w : List ℤ) (m j c : ℕ) (p : ℕ → ℤ) (L K : List ℕ) (s A C B z : ℤ) → w ≡ row weights (m + 2) → s ≡ weighted_sum w (m + 2) (m + 2 - j) m p L K
-    → z ≡ fan_sum w (m + 2) (m - j) s (pos extrapolated_scale *ℤ p c) C A B → z ≡ fan_on weights p L K m j c A C B
-fan_read weights w m j c p L K s A C B z e es ez =
-    ez ∙ ap (λ (y : ℤ). fan_sum w (m + 2) (m - j) y (pos extrapolated_scale *ℤ p c) C A B) es
-    ∙ ap (λ (u : List ℤ). fan_sum u (m + 2) (m - j) (weighted_sum u (m + 2) (m + 2 - j) m p L K) (pos extrapolated_scale *ℤ p c) C A B) e
 
 -- ---- without weights
 -- the vertices of a list after the first

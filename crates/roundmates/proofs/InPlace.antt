@@ -1,5 +1,5 @@
 -- Laws of mates refined in place.
-use mathlib.Core.Path.{◌≡◌, refl, sym, ◌∙◌, subst}
+use mathlib.Core.Path.{◌≡◌, refl, sym, ◌∙◌}
 use mathlib.Core.List.{List}
 use Prim.Native.Nat.{ℕ, ◌+◌, ◌-◌, ◌*◌, ◌/◌, ◌%◌, ◌≤◌, ◌<◌}
 use native.Mathlib.Omega.{arith}
@@ -15,7 +15,7 @@ use Rattle.refinedfaces.specs.Mates.{refined_mate, refined_mates}
 use Rattle.tables.specs.Tables.{filled, put_four, Written}
 use Rattle.tables.proofs.Written.{written_as, written_face, Refining, refining_all}
 use Rattle.sidemates.specs.FirstMate.{first_mate}
-use Rattle.roundmates.specs.Mates.{SidesIn, MatesIn, FacingSides, LaterIn}
+use Rattle.roundmates.specs.Mates.{MatesIn}
 
 -- one face
 module _ (n f : ℕ) (w : List ℕ) where
@@ -52,15 +52,6 @@ unfolding refined_mate
 mate_by S n m m' h p q = below_four (λ j. refined_mate S n m h j ≡ refined_mate S n m' h j) (rw p) refl refl (rw q)
 
 module _ (n : ℕ) (w : List ℕ) (ok : MatesIn n w) where
-  -- the mates of face f - 1 are still the old ones
-  pub sides_in : (u : List ℕ) (f : ℕ) → 0 < f → Refining n (λ (k : ℕ). refined_mate quads n (λ (h : ℕ). get_or (take n w) h 0) (k / 4) (k % 4)) w u f → SidesIn n (f - 1) u
-  sides_in u f p x = let b = x.le in record {
-    sides = ok.sides;
-    lt = omega arith;
-    room = let r = ok.room in let k = x.kept in omega arith;
-    below = λ g a c. let y = x.written.before g (omega arith) in let z = ok.below g (omega arith) in omega arith;
-  }
-
   pub mates_as : (u u' : List ℕ) (f : ℕ) → 0 < f → Refining n (λ (k : ℕ). refined_mate quads n (λ (h : ℕ). get_or (take n w) h 0) (k / 4) (k % 4)) w u f
       → Written (16 * (f - 1)) (16 * (f - 1) + 16) (λ (k : ℕ). refined_mate quads n (λ (h : ℕ). get_or u h 0) (k / 4) (k % 4)) u u'
       → Written (16 * (f - 1)) (16 * (f - 1) + 16) (λ (k : ℕ). refined_mate quads n (λ (h : ℕ). get_or (take n w) h 0) (k / 4) (k % 4)) u u'
@@ -79,10 +70,6 @@ module _ (n : ℕ) (w : List ℕ) (ok : MatesIn n w) where
       rw m (refining_all n (λ (k : ℕ). refined_mate quads n (λ (h : ℕ). get_or (take n w) h 0) (k / 4) (k % 4)) w u f r z x)
 
 -- ---- in a net that a round made
--- the mates of face f - 1 are still the old ones
-pub sides_facing : (n : ℕ) (w : List ℕ) → LaterIn n w → (u : List ℕ) (f : ℕ) → 0 < f → Refining n (λ (k : ℕ). refined_mate quads n (λ (h : ℕ). get_or (take n w) h 0) (k / 4) (k % 4)) w u f
-    → FacingSides n (f - 1) u
-sides_facing n w ok u f p x = let b = x.le in record { facing = λ g a c. subst (Facing n g) (sym (x.written.before g (omega arith))) (ok.facing g (omega arith)) }
 
 -- sides 1 and 2
 pub first_inner : (n g m : ℕ) → Facing n g m → 0 < g % 4 → g % 4 < 3 → first_mate n m ≡ 4 * m + 7

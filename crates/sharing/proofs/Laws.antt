@@ -26,8 +26,7 @@ use Rattle.seamtest.proofs.Agree.{NoneBeforeSteps, first_differing, no_edges, di
 use Rattle.halfedges.specs.Tables.{MateTableOf}
 use Rattle.sidetable.specs.Table.{ShapeBuilt, Linked}
 use Rattle.sidetable.proofs.Table.{shaped_kept}
-use Rattle.adjacency.specs.Chains.{Tables}
-use Rattle.boundarywalk.specs.Walkable.{Walkable, ListRoom, stepped, edges_to}
+use Rattle.boundarywalk.specs.Walkable.{Walkable, stepped, edges_to}
 use Rattle.comparison.specs.Walks.{Comparable, first_apart}
 use Rattle.comparison.proofs.Sides.{Starts, step_is, edges_is, sides_at, comparable, first-apart_is}
 use Rattle.admission.proofs.Laws.{Corners, corners_of_lem}
@@ -79,12 +78,6 @@ module _ (a : SeamSide) (n : ℕ) (ok : verdict (alone_in a n) ≡ accepted) whe
           room = omega arith;
         }
 
-    pub list_room : f ≤ max_faces → ListRoom a.net.sides a.net.faces w (12 * f)
-    list_room m =
-        let c = corners in
-        let k = c.four in
-        record { behind = omega arith; shape = λ p. let e = c.one p in omega arith; room = omega arith; few = omega arith }
-
     -- shape, chains and mates stand before the list
     pub before_list : 3 * length a.net.faces ≤ 12 * f
     before_list = let k = corners.four in omega arith
@@ -94,9 +87,6 @@ module _ (a : SeamSide) (n : ℕ) (ok : verdict (alone_in a n) ≡ accepted) whe
 
 -- ---- shape, chains and mates built anew
 module _ (s l w : List ℕ) (ok : LinkRoom s l w) (w₁ : List ℕ) (k₁ : length w₁ ≡ length w) (built : ShapeBuilt s (length l) w w₁) where
-  pub link_tables : Tables s l w₁
-  link_tables = let r = ok.room in record { shaped = built.shaped; few = ok.few; corners = ok.corners; room = omega arith }
-
   pub relinked : (w₂ : List ℕ) → length w₂ ≡ length w₁ → MateTableOf (shape_of s) l w₂ → drop (3 * length l) w₂ ≡ drop (3 * length l) w₁ → Relinked s l w w₂
   relinked w₂ k₂ m d = record {
     linked = record {
@@ -160,9 +150,6 @@ module _ (a b : SeamSide) (f : ℕ) (w : List ℕ) (s : Started a b f w) where
 
   pub walkable_second : Walkable b.net.sides b.net.faces w
   walkable_second = walkable b (length w) p.second w p.linked
-
-  pub walk_room : ListRoom b.net.sides b.net.faces w (12 * f)
-  walk_room = list_room b (length w) p.second w f p.second_faces p.room p.few
 
   module _ (g e : ℕ) (w₁ : List ℕ) (l : SecondListed b f w g e w₁) where
     pub relink_room : LinkRoom a.net.sides a.net.faces w₁

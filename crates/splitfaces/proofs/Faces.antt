@@ -46,17 +46,6 @@ module _ (s l w : List ℕ) (v e : ℕ) (out : List ℕ) (ok : NumberedFaces s l
       let c = faces_le s (length l) (ok.shaped.space.sided.counts ok.some) in
       omega arith
 
-  pub numbered_kept : (out' : List ℕ) → length out' ≡ length out → NumberedFaces s l w v e out'
-  numbered_kept out' k = record {
-    some = ok.some;
-    shaped = ok.shaped;
-    numbered = ok.numbered;
-    counted = ok.counted;
-    vertices = ok.vertices;
-    behind = ok.behind;
-    room = let r = ok.room in omega arith;
-  }
-
   -- what stands in the tables at h, where g is the half-edge before it and f its face
   pub record Known (h g f : ℕ) : Type 0 where
     pub few : length l ≤ max_half_edges
@@ -133,9 +122,6 @@ pub record Splitting (S : Shape) (v : ℕ) (l o u : List ℕ) (h : ℕ) : Type 0
   pub rest : (k : ℕ) → 4 * h ≤ k → get_or u k 0 ≡ get_or o k 0
 
 module _ (S : Shape) (v : ℕ) (l o : List ℕ) where
-  pub splitting_none : Splitting S v l o o 0
-  splitting_none = record { le = omega arith; kept = refl; done = λ k b. let z : ⊥ = omega arith in absurd z; rest = λ k b. refl }
-
   pub splitting_next : (u u' : List ℕ) (h : ℕ) → h < length l → 4 * length l ≤ length o → Splitting S v l o u h
       → u' ≡ put_four u (4 * h) (corner S v l h 0) (corner S v l h 1) (corner S v l h 2) (corner S v l h 3) → Splitting S v l o u' (h + 1)
   splitting_next u u' h b r x e =

@@ -2,32 +2,16 @@
 use mathlib.Core.Path.{◌≡◌, refl, sym, ap, ◌∙◌, subst}
 use mathlib.Core.List.{List, ◌++◌}
 use Prim.Native.Nat.{ℕ, ◌+◌, ◌-◌, ◌≤◌, ◌<◌}
-use native.Mathlib.Decide.{ℕ_discrete}
 use native.Mathlib.Omega.{arith}
-use borrow.Author.Fill.{fill_more}
 use lib.ListN.{length, get_or, take, drop, set, replicate, length-append, length-drop, length-replicate, get_or-append}
-use lib.Seq.{get_or-take, get_or-drop, take_at, drop_at, drop-append-add, drop-drop, take-take, take-set-le, drop-set-lt, get_or-set_same, get_or-set_other}
+use lib.Seq.{get_or-take, get_or-drop, take_at, drop_at, drop-append-add, drop-drop, take-take, take-set-le, drop-set-lt}
 use Rattle.lists.proofs.Prefix.{copy_one}
-use Rattle.tables.specs.Tables.{filled, cleared, ZerosFrom, SameOutside}
+use Rattle.tables.specs.Tables.{filled, cleared, SameOutside}
 
 -- a turn of each loop
 pub copy_turn : {A : Type 0} (s d₀ : List A) {d : List A} (i : ℕ) (z : A) → d ≡ take i s ++ drop i d₀ → i < length s → i < length d₀
     → set d i (get_or s i z) ≡ take (i + 1) s ++ drop (i + 1) d₀
 copy_turn s d₀ i z e h k = rw e (copy_one s d₀ i z h k)
-
-pub clear_turn : (w₀ : List ℕ) {w : List ℕ} (i : ℕ) → w ≡ replicate i 0 ++ drop i w₀ → i < length w₀ → set w i 0 ≡ replicate (i + 1) 0 ++ drop (i + 1) w₀
-clear_turn w₀ i e k = rw e (fill_more i 0 w₀ k)
-
--- zeros from a place on
-pub zeros_none : (at : ℕ) (w : List ℕ) → ZerosFrom 0 at w
-zeros_none at w = record { zeros = λ i b. let z : ⊥ = omega arith in absurd z }
-
-pub zeros_next : (n at : ℕ) (w : List ℕ) → at + n < length w → ZerosFrom n at w → ZerosFrom (n + 1) at (set w (at + n) 0)
-zeros_next n at w b c = record { zeros = λ i d. go i d (ℕ_discrete i n) }
-  where
-    go : (i : ℕ) → i < n + 1 → Dec (i ≡ n) → get_or (set w (at + n) 0) (at + i) 0 ≡ 0
-    go i d (yes e) = rw e (get_or-set_same w (at + n) 0 0 b)
-    go i d (no e) = get_or-set_other w (at + n) (at + i) 0 0 (λ q. e (omega arith)) ∙ c.zeros i (omega arith)
 
 -- what lies past the cleared part is as found; so clearing again clears what was there before
 pub drop-cleared : (n : ℕ) (w : List ℕ) → drop n (cleared n w) ≡ drop n w

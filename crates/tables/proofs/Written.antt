@@ -133,9 +133,6 @@ pub record Refining (n : ℕ) (g : ℕ → ℕ) (w u : List ℕ) (f : ℕ) : Typ
   pub written : Written (16 * f) (4 * n) g w u
 
 module _ (n : ℕ) (g : ℕ → ℕ) (w : List ℕ) where
-  pub refining_none : n % 4 ≡ 0 → Refining n g w w (n / 4)
-  refining_none h = let e : 16 * (n / 4) ≡ 4 * n = omega arith in record { le = omega arith; kept = refl; written = rw e (written_none (4 * n) g w) }
-
   pub refining_next : (u u' : List ℕ) (f : ℕ) → 0 < f → Refining n g w u f → length u' ≡ length u → Written (16 * (f - 1)) (16 * (f - 1) + 16) g u u' → Refining n g w u' (f - 1)
   refining_next u u' f h x k y =
       let b = x.le in

@@ -16,17 +16,6 @@ use Rattle.textform.specs.Form.{starts_with, read_names, ended_by, natural, rows
 
 -- ---- a text that starts with s, one byte a turn
 module _ (s l : List ℕ) (i : ℕ) (h : i < length s) (k : i < length l) where
-  both : starts_with (drop i s) (drop i l) ≡ (eqb (get_or l i 0) (get_or s i 0) && starts_with (drop (i + 1) s) (drop (i + 1) l))
-  both = rw (drop-cons s i 0 h, drop-cons l i 0 k, add-one i)
-
-  pub starts_differ : (get_or l i 0 ≡ get_or s i 0 → ⊥) → starts_with (drop i s) (drop i l) ≡ false
-  starts_differ n = both ∙ rw (ne_eqb (get_or l i 0) (get_or s i 0) n)
-
-  pub starts_agree : get_or l i 0 ≡ get_or s i 0 → starts_with (drop i s) (drop i l) ≡ starts_with (drop (i + 1) s) (drop (i + 1) l)
-  starts_agree e = both ∙ rw (eq-eqb (get_or l i 0) (get_or s i 0) e)
-
-pub starts_all : (s l : List ℕ) (i : ℕ) → length s ≤ i → starts_with (drop i s) (drop i l) ≡ true
-starts_all s l i h = rw (drop_of_length-le s {i = i} h)
 
 pub starts_short : (s l : List ℕ) → length l < length s → starts_with s l ≡ false
 starts_short [] l h = absurd (omega arith)

@@ -1,12 +1,9 @@
 -- `count_ring_sizes` meets its contract: the half-edges below h are counted. Assumes nothing.
-use mathlib.Core.Path.{◌≡◌, refl, subst, ◌∙◌}
-use Prim.Native.Nat.{ℕ, ◌+◌, ◌-◌, ◌≤◌}
-use native.Mathlib.Omega.{arith}
+use mathlib.Core.Path.{◌≡◌}
+use Prim.Native.Nat.{◌+◌, ◌-◌, ◌≤◌}
 use lib.ListN.{length}
 use Rattle.tables.specs.Tables.{SameOutside}
-use Rattle.tables.proofs.Laws.{same_outside, outside_then}
 use Rattle.ringsizes.specs.Classes.{CountedBelow}
-use Rattle.ringsizes.proofs.Classes.{counted_none, countable_next, counted_all}
 use Rattle.classes.proofs.count_ring_sizes.Given as goal
 
 abbrev pub invariant-loop-h : goal.invariant-loop-h

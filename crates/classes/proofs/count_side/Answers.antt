@@ -2,12 +2,10 @@
 use mathlib.Core.Path.{◌≡◌, ap, ◌∙◌}
 use Prim.Native.Nat.{ℕ, ◌+◌, ◌<◌}
 use native.Mathlib.Omega.{arith}
-use lib.ListN.{length, get_or}
+use lib.ListN.{get_or}
 use Rattle.topology.specs.HalfEdge.{from}
-use Rattle.tables.proofs.Laws.{same_outside, outside_set}
 use Rattle.ringsizes.specs.Classes.{size_at}
-use Rattle.ringsizes.proofs.Classes.{share_le, place_lt, counted_few, size_here, counted_next}
-use borrow.Author.Rules.{rules}
+use Rattle.ringsizes.proofs.Classes.{share_le, counted_few, size_here, counted_next}
 use Rattle.classes.proofs.count_side.Goals as goal
 
 pub overflow_add-size : goal.overflow_add-size

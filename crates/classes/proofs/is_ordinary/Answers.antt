@@ -4,7 +4,6 @@ use Prim.Native.Nat.{ℕ}
 use lib.Dec.{eqb}
 use borrow.Author.Tests.{lt-ltb, le-ltb}
 use Rattle.ringsizes.specs.Classes.{ordinary_by}
-use borrow.Author.Rules.{rules}
 use Rattle.classes.proofs.is_ordinary.Goals as goal
 
 pub returns-then-p-initial : goal.returns-then-p-initial

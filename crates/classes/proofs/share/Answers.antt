@@ -5,7 +5,6 @@ use borrow.Author.Tests.{lt-ltb, le-ltb}
 use Rattle.topology.specs.Shape.{quads}
 use Rattle.topology.specs.HalfEdge.{mate}
 use Rattle.ringsizes.specs.Classes.{share_of}
-use borrow.Author.Rules.{rules}
 use Rattle.classes.proofs.share.Goals as goal
 
 pub returns-then-mate_side-faces : goal.returns-then-mate_side-faces

@@ -4,7 +4,6 @@ use borrow.Author.Rules.{rules}
 use mir.Syntax.{w64}
 use mir.Val.{SFits}
 use mir.Facts.{to_z-of_z}
-use Rattle.curve.proofs.Tension.{interior_read}
 use Rattle.coordinates.proofs.Values.{read_small}
 use Rattle.coordinates.proofs.interior_on.Goals as goal
 

@@ -1,5 +1,5 @@
 -- `decimal::put_natural` meets its contract. Assumes nothing.
-use Rattle.std.proofs.Common.{◌<◌, length, ap, arith}
+use Rattle.std.proofs.Common.{length, ap, arith}
 use Rattle.decimalform.proofs.Writing.{text_small, length_large, stored_small, stored_large}
 use Rattle.decimal.proofs.+put_natural.Goals as goal
 

@@ -1,11 +1,10 @@
 -- `decimal::put_integer` meets its contract. Assumes nothing.
-use mathlib.Core.Path.{◌≡◌, ap, ◌∙◌}
+use mathlib.Core.Path.{◌≡◌, ap}
 use native.Mathlib.Omega.{arith}
 use lib.IntN.{nat_abs}
 use lib.ListN.{length, length-set}
 use mir.Facts.{to_z-of_z}
 use Rattle.decimalform.proofs.Writing.{text_negative, text_positive, stored_negative, stored_positive}
-use borrow.Author.Rules.{rules}
 use Rattle.decimal.proofs.put_integer.Goals as goal
 
 pub bounds-out-at : goal.bounds-out-at

@@ -1,13 +1,8 @@
 -- `decimal::read_digits` meets its contract: each turn reads one more digit. Assumes nothing.
-use mathlib.Core.Path.{◌≡◌, sym, ◌∙◌}
-use Prim.Native.Nat.{◌+◌, ◌-◌, ◌≤◌}
-use native.Mathlib.Omega.{arith}
-use borrow.Author.Rules.{rules}
-use borrow.Author.Tests.{not-true, not-false}
+use mathlib.Core.Path.{◌≡◌}
+use Prim.Native.Nat.{◌-◌, ◌≤◌}
 use lib.ListN.{length, drop}
 use Rattle.decimalform.specs.Decimal.{read_digits}
-use Rattle.decimalform.proofs.Reading.{digits_on, digits_stop, digits_end, digit_low}
-use Rattle.decimal.proofs.Reading.{digits_given, digits_refused}
 use Rattle.decimal.proofs.read_digits.Given as goal
 
 abbrev pub invariant-loop-i : goal.invariant-loop-i

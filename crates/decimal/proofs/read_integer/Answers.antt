@@ -1,11 +1,10 @@
 -- `decimal::read_integer` meets its contract. Assumes nothing.
 use mathlib.Core.Path.{◌∙◌}
 use native.Mathlib.Nat.{pos_of_ne-zero}
-use native.Mathlib.Omega.{arith}
 use mir.Syntax.{w32}
 use mir.Val.{SFits}
 use mir.Facts.{to_z-of_z}
-use Rattle.decimal.proofs.Reading.{integer_none, AfterMinus, NoMinus, negative_bad, negative_zero, negative_within, negative_limit, negative_found, positive_bad, positive_limit, positive_found}
+use Rattle.decimal.proofs.Reading.{integer_none, AfterMinus, NoMinus, negative_bad, negative_zero, negative_limit, negative_found, positive_bad, positive_limit, positive_found}
 use borrow.Author.Rules.{rules}
 use Rattle.decimal.proofs.read_integer.Goals as goal
 

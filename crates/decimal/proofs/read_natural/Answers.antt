@@ -3,10 +3,8 @@ use mathlib.Core.Path.{sym, ◌∙◌}
 use Prim.Native.Nat.{◌<◌}
 use native.Mathlib.Omega.{arith}
 use lib.ListN.{length}
-use borrow.Author.Tests.{not-true, not-false}
 use Rattle.decimalform.proofs.Reading.{natural-digits}
 use Rattle.decimal.proofs.Reading.{natural_none, natural-zero, natural-other}
-use borrow.Author.Rules.{rules}
 use Rattle.decimal.proofs.read_natural.Goals as goal
 
 pub returns-then-text-eq0 : goal.returns-then-text-eq0

@@ -1,14 +1,10 @@
 -- `bias` meets its contract: the sum is natural and in range. Assumes nothing.
 use mathlib.Core.Path.{refl}
-use lib.IntN.{pos, nat_abs, ◌+ℤ◌}
-use lib.Dec.{T}
-use lib.Signed.{non_neg}
 use mir.Syntax.{w64}
-use mir.Val.{SFits, Fits}
-use mir.Facts.{to_z-of_z, Fits-nat_abs}
-use borrow.Author.Rules.{rules}
+use mir.Val.{SFits}
+use mir.Facts.{to_z-of_z}
 use Rattle.edgeentries.specs.Packed.{biased}
-use Rattle.edgeentries.proofs.Packed.{bias_fits, bias_natural}
+use Rattle.edgeentries.proofs.Packed.{bias_fits}
 use Rattle.edgeentries.proofs.bias.Goals as goal
 
 pub returns : goal.returns

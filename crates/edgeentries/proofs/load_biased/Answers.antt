@@ -6,7 +6,6 @@ use lib.IntN.{pos}
 use mir.Syntax.{w64}
 use mir.Val.{to_z}
 use mir.Facts.{to_z_pos}
-use borrow.Author.Rules.{rules}
 use Rattle.edgeentries.specs.Packed.{biased_at}
 use Rattle.edgeentries.proofs.load_biased.Goals as goal
 

@@ -1,12 +1,10 @@
 -- `number_edges` meets its contract: the edges of the half-edges below h are numbered. Assumes nothing.
-use mathlib.Core.Path.{◌≡◌, refl, ap, ◌∙◌}
-use mathlib.Core.List.{List, ◌++◌}
-use Prim.Native.Nat.{ℕ, ◌+◌, ◌-◌, ◌≤◌}
-use native.Mathlib.Omega.{arith}
-use lib.ListN.{length, set, take, drop, length-set}
+use mathlib.Core.Path.{◌≡◌}
+use mathlib.Core.List.{◌++◌}
+use Prim.Native.Nat.{◌+◌, ◌-◌, ◌≤◌}
+use lib.ListN.{length, take, drop}
 use Rattle.search.specs.Search.{count}
-use Rattle.edgenumbers.specs.Edges.{met_by, edge_by, with_edges}
-use Rattle.edgenumbers.proofs.Edges.{numbering_none, numbering_next, numbering_all, numbering_mates, numbering_in, numbering_below, counted_all}
+use Rattle.edgenumbers.specs.Edges.{met_by, with_edges}
 use Rattle.edgenumbers.proofs.number_edges.Given as goal
 
 abbrev pub invariant-loop-h : goal.invariant-loop-h

@@ -3,7 +3,6 @@ use mathlib.Core.Path.{ap, ◌∙◌}
 use Prim.Native.Nat.{ℕ, ◌+◌}
 use native.Mathlib.Omega.{arith}
 use lib.ListN.{set, take}
-use borrow.Author.Rules.{rules}
 use Rattle.search.proofs.Count.{count-le}
 use Rattle.edgenumbers.specs.Edges.{met_by}
 use Rattle.edgenumbers.proofs.Edges.{side_new, met_new, side_old, met_old}

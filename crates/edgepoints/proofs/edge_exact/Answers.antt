@@ -1,6 +1,6 @@
 -- `edge_exact` meets its contract: an inner edge, or a boundary edge between its far points. Assumes nothing.
 use mathlib.Core.Path.{refl}
-use Prim.Native.Nat.{◌≤◌, ◌<◌}
+use Prim.Native.Nat.{◌<◌}
 use native.Mathlib.Omega.{arith}
 use lib.ListN.{length}
 use Rattle.topology.specs.Shape.{quads}
@@ -9,8 +9,6 @@ use Rattle.topology.specs.Boundary.{OnBoundary}
 use Rattle.topology.proofs.Mates.{mate-le}
 use Rattle.nets.specs.Net.{marked}
 use Rattle.coordinates.specs.Points.{InTable}
-use Rattle.coordinates.specs.Stencil.{FarIn}
-use Rattle.exactedges.specs.Edge.{far_before, far_after}
 use Rattle.exactedges.proofs.Plain.{corner-room, far_by, after_corner, back-corner}
 use Rattle.exactedges.proofs.Wide.{inner_point, boundary_point_lem, far_rule}
 use Rattle.edgepoints.proofs.edge_exact.Goals as goal

@@ -1,7 +1,5 @@
 -- `ordinary_ends` meets its contract. Assumes nothing.
-use mathlib.Core.Path.{refl, sym, ap, ◌∙◌}
-use borrow.Author.Rules.{rules}
-use Rattle.search.proofs.Tests.{clash}
+use mathlib.Core.Path.{sym, ap, ◌∙◌}
 use Rattle.ringsizes.specs.Classes.{ordinary_by}
 use Rattle.exactedges.proofs.Wide.{classed_end, irregular_end}
 use Rattle.edgepoints.proofs.ordinary_ends.Goals as goal

@@ -1,5 +1,4 @@
 -- `plain_exact` meets its contract. Assumes nothing.
-use borrow.Author.Rules.{rules}
 use Rattle.nets.specs.Net.{axis}
 use Rattle.exactedges.proofs.Plain.{on_axes_as, end_corner, start-corner, before_corner, corner-room, plain_made}
 use Rattle.edgepoints.proofs.plain_exact.Goals as goal
@@ -10,12 +9,12 @@ interior_exact-requires-clause-in_table c =
     let net = c.requires.ready.net in
     let room = c.requires.points.0 in
     let b = c.requires.points.1.lt in (
-        corner-room _ _ room _ (before_corner v _ net _ _ c.if-a-n.true c.corner_before-o.ensures),
-        corner-room _ _ room _ (start-corner v _ net _ _ b c.start_of-p.ensures),
-        corner-room _ _ room _ (end_corner v _ net _ _ b c.end_of-q.ensures),
-        corner-room _ _ room _ (before_corner v _ net _ _ c.if-b-n.true c.corner_before-r.ensures),
-        c.requires.points.3,
-      )
+      corner-room _ _ room _ (before_corner v _ net _ _ c.if-a-n.true c.corner_before-o.ensures),
+      corner-room _ _ room _ (start-corner v _ net _ _ b c.start_of-p.ensures),
+      corner-room _ _ room _ (end_corner v _ net _ _ b c.end_of-q.ensures),
+      corner-room _ _ room _ (before_corner v _ net _ _ c.if-b-n.true c.corner_before-r.ensures),
+      c.requires.points.3,
+    )
 
 pub returns-then-b-n : goal.returns-then-b-n
 returns-then-b-n c =

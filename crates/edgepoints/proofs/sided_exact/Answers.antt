@@ -1,5 +1,4 @@
 -- `sided_exact` meets its contract. Assumes nothing.
-use borrow.Author.Rules.{rules}
 use Rattle.exactedges.proofs.Plain.{on_axes_as, end_corner, start-corner, corner-room, straight_in, ends_mate, sided_made}
 use Rattle.nets.specs.Net.{axis}
 use Rattle.edgepoints.proofs.sided_exact.Goals as goal
@@ -13,12 +12,12 @@ stencil_exact-requires-clause-far_in c =
     let net = c.requires.ready.net in
     let room = c.requires.points.0 in
     let b = c.requires.points.1.lt in (
-        straight_in _ _ room _ _ c.straight_far-o.ensures,
-        corner-room _ _ room _ (start-corner c.requires.ready.vertices _ net _ _ b c.start_of-p.ensures),
-        corner-room _ _ room _ (end_corner c.requires.ready.vertices _ net _ _ b c.end_of-q.ensures),
-        straight_in _ _ room _ _ c.straight_far-r.ensures,
-        c.requires.points.3,
-      )
+      straight_in _ _ room _ _ c.straight_far-o.ensures,
+      corner-room _ _ room _ (start-corner c.requires.ready.vertices _ net _ _ b c.start_of-p.ensures),
+      corner-room _ _ room _ (end_corner c.requires.ready.vertices _ net _ _ b c.end_of-q.ensures),
+      straight_in _ _ room _ _ c.straight_far-r.ensures,
+      c.requires.points.3,
+    )
 
 pub returns : goal.returns
 returns c =

@@ -1,5 +1,4 @@
 -- `straight_far` meets its contract. Assumes nothing.
-use borrow.Author.Rules.{rules}
 use Rattle.exactedges.proofs.Plain.{far_vertex, far_mirror}
 use Rattle.edgepoints.proofs.straight_far.Goals as goal
 

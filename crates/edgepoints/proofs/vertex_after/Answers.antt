@@ -1,8 +1,5 @@
 -- `vertex_after` meets its contract. Assumes nothing.
-use mathlib.Core.Path.{ap, ◌∙◌}
-use borrow.Author.Rules.{rules}
 use Rattle.topology.specs.Shape.{quads}
-use Rattle.topology.specs.HalfEdge.{to}
 use Rattle.topology.proofs.Boundary.{along_on}
 use Rattle.edgepoints.proofs.vertex_after.Goals as goal
 

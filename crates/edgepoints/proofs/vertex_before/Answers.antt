@@ -1,8 +1,5 @@
 -- `vertex_before` meets its contract. Assumes nothing.
-use mathlib.Core.Path.{ap, ◌∙◌}
-use borrow.Author.Rules.{rules}
 use Rattle.topology.specs.Shape.{quads}
-use Rattle.topology.specs.HalfEdge.{from}
 use Rattle.topology.proofs.Boundary.{back_on}
 use Rattle.edgepoints.proofs.vertex_before.Goals as goal
 

@@ -1,12 +1,9 @@
 -- `wide_on` meets its contract. Assumes nothing.
-use mathlib.Core.Path.{◌≡◌, ap₂, ◌∙◌}
 use native.Mathlib.Omega.{arith}
 use borrow.Author.Rules.{rules}
-use lib.IntN.{ℤ}
 use mir.Syntax.{w64}
 use mir.Val.{SFits}
 use mir.Facts.{to_z-of_z}
-use Rattle.curve.specs.Weights.{tension, interior}
 use Rattle.nets.specs.Net.{axis}
 use Rattle.coordinates.proofs.Values.{axis_bound}
 use Rattle.exactedges.proofs.Wide.{scaled_size}

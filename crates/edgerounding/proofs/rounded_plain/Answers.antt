@@ -1,5 +1,5 @@
 -- `rounded_plain` meets its contract: the rounded value is in the range of 32 bits. Assumes nothing.
-use mathlib.Core.Path.{◌≡◌, refl}
+use mathlib.Core.Path.{◌≡◌}
 use native.Mathlib.Omega.{arith}
 use borrow.Author.Rules.{rules}
 use mir.Syntax.{w32, w64}

@@ -1,13 +1,11 @@
 -- `rounded_wide` meets its contract: the rounded value is in the range of 32 bits. Assumes nothing.
 use mathlib.Core.Path.{◌≡◌, ap, ◌∙◌}
-use native.Mathlib.Omega.{arith}
 use borrow.Author.Rules.{rules}
 use mir.Syntax.{w32, w64}
 use mir.Val.{SFits}
 use mir.Facts.{to_z-of_z}
 use Rattle.rounding.specs.Rounding.{round}
 use Rattle.curve.specs.Weights.{tension}
-use Rattle.rings.proofs.Tension.{edge_range_at}
 use Rattle.rings.specs.Scales.{edge_scale}
 use Rattle.edgerounding.proofs.Rounded.{rounded_fits}
 use Rattle.edgerounding.proofs.rounded_wide.Goals as goal

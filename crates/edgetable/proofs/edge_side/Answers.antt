@@ -1,18 +1,15 @@
 -- `edge_side` meets its contract. Assumes nothing.
-use mathlib.Core.Path.{refl, sym, ap, ◌∙◌}
-use Prim.Native.Nat.{ℕ, ◌*◌, ◌<◌}
+use mathlib.Core.Path.{refl}
+use Prim.Native.Nat.{◌<◌}
 use native.Mathlib.Omega.{arith}
 use borrow.Author.Rules.{rules}
-use lib.ListN.{length}
-use lib.Seq.{length-take-le}
 use mir.Syntax.{w64}
 use mir.Val.{SFits}
 use mir.Facts.{to_z-of_z}
 use Rattle.topology.specs.Shape.{quads}
 use Rattle.topology.specs.HalfEdge.{mate}
-use Rattle.edgeentries.specs.Entry.{copied}
-use Rattle.edgetable.specs.EdgeTable.{met, passed}
-use Rattle.edgetable.proofs.EdgeTable.{small_of, classed_of, flag_fits, exact_small}
+use Rattle.edgetable.specs.EdgeTable.{met}
+use Rattle.edgetable.proofs.EdgeTable.{small_of, exact_small}
 use Rattle.edgetable.proofs.edge_side.Goals as goal
 
 pub put_rounded-requires : goal.put_rounded-requires

@@ -1,12 +1,10 @@
 -- `put_face` meets its contract. Assumes nothing.
-use native.Mathlib.Omega.{arith}
-use Prim.Native.Nat.{◌+◌, ◌*◌, ◌<◌}
+use Prim.Native.Nat.{◌+◌, ◌<◌}
 use mathlib.Core.Path.{sym, ◌∙◌}
 use borrow.Author.Tests.{ltb-true}
-use borrow.Author.Rules.{rules}
 use Rattle.edgeentries.specs.Entry.{wide_flag}
 use Rattle.facerules.specs.Faces.{AllPlain}
-use Rattle.facepoints.proofs.Plain.{all_plain, plain_mated, regular_edges, put_regular}
+use Rattle.facepoints.proofs.Plain.{all_plain, regular_edges, put_regular}
 use Rattle.facepoints.proofs.put_face.Goals as goal
 
 pub plain_face-requires-clause-plain_edge : goal.plain_face-requires-clause-plain_edge

@@ -1,5 +1,4 @@
 -- `beyond` meets its contract. Assumes nothing.
-use borrow.Author.Rules.{rules}
 use native.Mathlib.Omega.{arith}
 use mathlib.Core.Path.{ap, ◌∙◌}
 use Rattle.topology.specs.Quads.{across}

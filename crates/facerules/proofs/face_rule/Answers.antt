@@ -1,5 +1,4 @@
 -- `face_rule` meets its contract, by cases. Assumes nothing.
-use borrow.Author.Rules.{rules}
 use mathlib.Core.Path.{sym, ◌∙◌}
 use mathlib.Core.Bool.{true, false}
 use Rattle.facerules.proofs.Directions.{rule_is}

@@ -6,7 +6,6 @@ use mir.Syntax.{w64}
 use mir.Val.{SFits}
 use mir.Facts.{to_z-of_z}
 use Rattle.facerules.specs.Faces.{beyond_of}
-use Rattle.rings.proofs.Tension.{edge_range_le}
 use Rattle.facerules.proofs.Reading.{across_lt, readable, exact_of_lem}
 use Rattle.facerules.proofs.Directions.{far_mated, far_none}
 use Rattle.facerules.proofs.far_on.Goals as goal

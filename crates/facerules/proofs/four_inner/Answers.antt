@@ -1,5 +1,4 @@
 -- `four_inner` meets its contract. Assumes nothing.
-use borrow.Author.Rules.{rules}
 use native.Mathlib.Omega.{arith}
 use Rattle.facerules.proofs.Reading.{across_lt}
 use Rattle.facerules.proofs.Directions.{four_yes, four_no}

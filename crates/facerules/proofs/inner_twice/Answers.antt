@@ -4,7 +4,6 @@ use mathlib.Core.Path.{sym, ap, ◌∙◌}
 use mathlib.Core.Bool.{not}
 use Prim.Native.Nat.{ℕ}
 use lib.Dec.{ltb}
-use borrow.Author.Rules.{rules}
 use Rattle.edgeentries.specs.Entry.{boundary_flag}
 use Rattle.edgeentries.proofs.Entry.{inner-entry}
 use Rattle.facerules.proofs.Directions.{inner_mated, inner_none}

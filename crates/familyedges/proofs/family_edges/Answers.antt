@@ -1,16 +1,13 @@
 -- `family_edges` meets its contract. Assumes nothing.
-use mathlib.Core.Path.{◌≡◌, ap, ◌∙◌}
-use mathlib.Core.List.{List}
-use Prim.Native.Nat.{ℕ, ◌+◌, ◌-◌, ◌≤◌, ◌<◌}
+use Prim.Native.Nat.{ℕ, ◌+◌, ◌≤◌, ◌<◌}
 use native.Mathlib.Omega.{arith}
-use borrow.Author.Rules.{rules}
 use lib.ListN.{length}
 use Rattle.bounds.specs.Bounds.{max_half_edges}
 use Rattle.topology.specs.Shape.{quads}
-use Rattle.topology.specs.HalfEdge.{from, mate}
+use Rattle.topology.specs.HalfEdge.{mate}
 use Rattle.edgetable.specs.EdgeTable.{Turn}
 use Rattle.familylines.proofs.Going.{turn_now}
-use Rattle.familyedges.proofs.PlainFamily.{family_of, mates_some}
+use Rattle.familyedges.proofs.PlainFamily.{mates_some}
 use Rattle.familyedges.proofs.family_edges.Goals as goal
 
 pub mate_side-x0-requires-clause-connectivity : goal.mate_side-x0-requires-clause-connectivity

@@ -1,5 +1,4 @@
 -- `family_face` meets its contract. Assumes nothing.
-use borrow.Author.Rules.{rules}
 use Rattle.facepoints.proofs.Plain.{regular_edges, put_regular}
 use Rattle.familyfaces.proofs.family_face.Goals as goal
 

@@ -1,7 +1,5 @@
 -- `family_points` meets its contract. Assumes nothing.
 use mathlib.Core.Path.{refl}
-use native.Mathlib.Omega.{arith}
-use borrow.Author.Rules.{rules}
 use Rattle.familyfaces.specs.Family.{put_family}
 use Rattle.familyfaces.proofs.family_points.Goals as goal
 

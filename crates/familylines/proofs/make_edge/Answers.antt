@@ -1,10 +1,7 @@
 -- `make_edge` meets its contract. Assumes nothing.
-use mathlib.Core.Path.{refl, sym, ◌∙◌}
-use Prim.Native.Nat.{◌*◌}
+use mathlib.Core.Path.{refl, ◌∙◌}
 use native.Mathlib.Omega.{arith}
 use borrow.Author.Rules.{rules}
-use lib.ListN.{length}
-use lib.Seq.{length-take-le}
 use mir.Syntax.{w32, w64}
 use mir.Val.{SFits}
 use mir.Facts.{to_z-of_z}
@@ -13,7 +10,7 @@ use Rattle.edgetable.specs.EdgeTable.{met}
 use Rattle.edgetable.proofs.EdgeTable.{exact_small}
 use Rattle.familylines.specs.Steps.{Place}
 use Rattle.familylines.proofs.Going.{place_now, turned_carries}
-use Rattle.familylines.proofs.Line.{line_in, line_exact, small₀, small₁, small₂, rounded-zero}
+use Rattle.familylines.proofs.Line.{line_exact, small₀, small₁, small₂, rounded-zero}
 use Rattle.familylines.proofs.make_edge.Goals as goal
 
 pub rounded_plain-x-requires : goal.rounded_plain-x-requires

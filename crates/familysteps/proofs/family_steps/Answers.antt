@@ -7,7 +7,7 @@ use lib.IntN.{ℤ}
 use lib.ListN.{length}
 use Rattle.bounds.specs.Bounds.{max_half_edges}
 use Rattle.familylines.specs.Steps.{Carries}
-use Rattle.familylines.proofs.Going.{turn_now, going_on, carries_next, carries_lengths}
+use Rattle.familylines.proofs.Going.{turn_now, going_on, carries_next}
 use Rattle.familysteps.proofs.family_steps.Goals as goal
 
 pub make_edge-k1-requires : goal.make_edge-k1-requires

@@ -1,6 +1,5 @@
 -- `across_side` meets its contract. Assumes nothing.
 use native.Mathlib.Omega.{arith}
-use borrow.Author.Rules.{rules}
 use Rattle.topology.specs.Shape.{quads}
 use Rattle.topology.specs.Quads.{across}
 use Rattle.halfedges.proofs.across_side.Goals as goal

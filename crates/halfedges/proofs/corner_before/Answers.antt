@@ -1,8 +1,5 @@
 -- `corner_before` meets its contract. Assumes nothing.
-use mathlib.Core.Path.{ap, ◌∙◌}
 use lib.ListN.{length}
-use borrow.Author.Rules.{rules}
-use Rattle.topology.specs.HalfEdge.{from}
 use Rattle.topology.proofs.Shape.{quads_lawful}
 use Rattle.halfedges.proofs.corner_before.Goals as goal
 

@@ -1,6 +1,5 @@
 -- `next_side` meets its contract. Assumes nothing.
 use native.Mathlib.Omega.{arith}
-use borrow.Author.Rules.{rules}
 use Rattle.topology.specs.Shape.{quads}
 use Rattle.halfedges.proofs.next_side.Goals as goal
 

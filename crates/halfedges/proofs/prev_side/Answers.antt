@@ -1,6 +1,5 @@
 -- `prev_side` meets its contract. Assumes nothing.
 use native.Mathlib.Omega.{arith}
-use borrow.Author.Rules.{rules}
 use Rattle.topology.specs.Shape.{quads}
 use Rattle.halfedges.proofs.prev_side.Goals as goal
 

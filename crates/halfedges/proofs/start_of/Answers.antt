@@ -1,7 +1,5 @@
 -- `start_of` meets its contract. Assumes nothing.
 use mathlib.Core.Path.{refl}
-use native.Mathlib.Omega.{arith}
-use borrow.Author.Rules.{rules}
 use Rattle.topology.specs.HalfEdge.{from}
 use Rattle.halfedges.proofs.start_of.Goals as goal
 

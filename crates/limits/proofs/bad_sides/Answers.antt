@@ -1,10 +1,8 @@
 -- `bad_sides` meets its contract: the counts below f are good, and with what is left they make the number of corners. Assumes nothing.
-use Prim.Native.Nat.{◌+◌, ◌-◌, ◌≤◌}
-use mathlib.Core.Path.{◌≡◌, sym, ◌∙◌}
+use mathlib.Core.Path.{sym, ◌∙◌}
 use native.Mathlib.Omega.{arith}
-use lib.ListN.{length, take}
 use Rattle.polygons.specs.Polygons.{total}
-use Rattle.search.proofs.First.{Passed, passed_start, passed_next}
+use Rattle.search.proofs.First.{passed_start, passed_next}
 use Rattle.polygons.proofs.Counts.{bad_at, bad_count_lem, bad_more, bad_end, total_next}
 use Rattle.limits.proofs.bad_sides.Goals as goal
 

@@ -1,7 +1,6 @@
 -- `limits::limits` meets its contract: the tests in their order. Assumes nothing.
 use Rattle.limits.specs.Answer.{lengths_in}
 use Rattle.limits.proofs.Laws.{many_rounds, by_tables, by_size, by_room}
-use borrow.Author.Rules.{rules}
 use Rattle.limits.proofs.limits.Goals as goal
 
 pub returns-then-rounds-gt-MAX_ROUNDS : goal.returns-then-rounds-gt-MAX_ROUNDS

@@ -7,7 +7,6 @@ use Rattle.verdict.specs.Verdict.{refused_if, shorter}
 use borrow.Author.Tests.{lt-ltb, le-ltb}
 use Rattle.limits.specs.Answer.{room_in, lengths_in}
 use Rattle.limits.proofs.Laws.{outputs_long, by_needed}
-use borrow.Author.Rules.{rules}
 use Rattle.limits.proofs.test_room.Goals as goal
 
 pub returns-then-n-least : goal.returns-then-n-least

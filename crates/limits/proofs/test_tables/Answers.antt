@@ -1,5 +1,4 @@
 -- `limits::test_tables` meets its contract: each return rewrites with the tests that led there. Assumes nothing.
-use borrow.Author.Rules.{rules}
 use Rattle.limits.proofs.Laws.{coordinates_hit, corners_hit, marks_hit, tables_pass}
 use Rattle.limits.proofs.test_tables.Goals as goal
 

@@ -1,12 +1,9 @@
 -- `rounds::round` meets its contract. Assumes nothing.
-use mathlib.Core.Path.{refl, sym, subst}
-use mathlib.Core.Bool.{false}
+use mathlib.Core.Path.{sym, subst}
 use Prim.Native.Nat.{ℕ, ◌+◌, ◌*◌, ◌/◌, ◌≤◌}
 use native.Mathlib.Omega.{arith}
-use Rattle.search.proofs.Tests.{clash}
-use Rattle.nets.specs.Buffers.{Buffers, buffers}
-use Rattle.oneround.proofs.Laws.{corners, marked, count-le, ready, nameable, letters_made, face_ready, family_ready, net_ready, part_start, part_room, refines}
-use borrow.Author.Rules.{rules}
+use Rattle.nets.specs.Buffers.{buffers}
+use Rattle.oneround.proofs.Laws.{count-le, ready, nameable, letters_made, face_ready, family_ready, net_ready, part_start, part_room, refines}
 use Rattle.oneround.proofs.round.Goals as goal
 
 pub edge_points-edges-requires-clause-round : goal.edge_points-edges-requires-clause-round
@@ -16,38 +13,38 @@ pub name_points-requires : goal.name_points-requires
 name_points-requires c = λ a. (nameable c.args.t c.args.v c.args.n c.args.at c.args.initial (buffers c.args.points.now c.args.faces.now c.args.marks.now c.args.work.now) c.requires.current _ _ c.edge_points-edges.ensures.edges c.args.letters.now (c.requires.n_in_bounds a), c.edge_points-edges.ensures.value)
 
 pub overflow_add-count : goal.overflow_add-count
-overflow_add-count c = 
+overflow_add-count c =
     let k : c.args.v + c.edge_points-edges.result + c.args.n / 4 ≤ 4 * c.args.n = subst (λ (j : ℕ). c.args.v + j + c.args.n / 4 ≤ 4 * c.args.n) (sym c.edge_points-edges.ensures.value) (count-le c.args.t c.args.v c.args.n c.args.at c.args.initial (buffers c.args.points.now c.args.faces.now c.args.marks.now c.args.work.now) c.requires.current) in
     let q = c.requires.current.small in
     omega arith
 
 pub overflow_add-count-2 : goal.overflow_add-count-2
-overflow_add-count-2 c = 
+overflow_add-count-2 c =
     let k : c.args.v + c.edge_points-edges.result + c.args.n / 4 ≤ 4 * c.args.n = subst (λ (j : ℕ). c.args.v + j + c.args.n / 4 ≤ 4 * c.args.n) (sym c.edge_points-edges.ensures.value) (count-le c.args.t c.args.v c.args.n c.args.at c.args.initial (buffers c.args.points.now c.args.faces.now c.args.marks.now c.args.work.now) c.requires.current) in
     let q = c.requires.current.small in
     omega arith
 
 pub extend_marks-requires : goal.extend_marks-requires
-extend_marks-requires c = 
+extend_marks-requires c =
     let k : c.args.v + c.edge_points-edges.result + c.args.n / 4 ≤ 4 * c.args.n = subst (λ (j : ℕ). c.args.v + j + c.args.n / 4 ≤ 4 * c.args.n) (sym c.edge_points-edges.ensures.value) (count-le c.args.t c.args.v c.args.n c.args.at c.args.initial (buffers c.args.points.now c.args.faces.now c.args.marks.now c.args.work.now) c.requires.current) in
     let q = c.requires.current.small in
     let r = c.requires.current.room_marks in
     (omega arith, omega arith)
 
 pub overflow_add-first : goal.overflow_add-first
-overflow_add-first c = 
+overflow_add-first c =
     let k : c.args.v + c.edge_points-edges.result + c.args.n / 4 ≤ 4 * c.args.n = subst (λ (j : ℕ). c.args.v + j + c.args.n / 4 ≤ 4 * c.args.n) (sym c.edge_points-edges.ensures.value) (count-le c.args.t c.args.v c.args.n c.args.at c.args.initial (buffers c.args.points.now c.args.faces.now c.args.marks.now c.args.work.now) c.requires.current) in
     let q = c.requires.current.small in
     omega arith
 
 pub overflow_mul-first : goal.overflow_mul-first
-overflow_mul-first c = 
+overflow_mul-first c =
     let k : c.args.v + c.edge_points-edges.result + c.args.n / 4 ≤ 4 * c.args.n = subst (λ (j : ℕ). c.args.v + j + c.args.n / 4 ≤ 4 * c.args.n) (sym c.edge_points-edges.ensures.value) (count-le c.args.t c.args.v c.args.n c.args.at c.args.initial (buffers c.args.points.now c.args.faces.now c.args.marks.now c.args.work.now) c.requires.current) in
     let q = c.requires.current.small in
     omega arith
 
 pub offset_bounds-points-first : goal.offset_bounds-points-first
-offset_bounds-points-first c = 
+offset_bounds-points-first c =
     let k : c.args.v + c.edge_points-edges.result + c.args.n / 4 ≤ 4 * c.args.n = subst (λ (j : ℕ). c.args.v + j + c.args.n / 4 ≤ 4 * c.args.n) (sym c.edge_points-edges.ensures.value) (count-le c.args.t c.args.v c.args.n c.args.at c.args.initial (buffers c.args.points.now c.args.faces.now c.args.marks.now c.args.work.now) c.requires.current) in
     let q = c.requires.current.small in
     omega arith
@@ -59,7 +56,7 @@ pub slice_bounds-face_points-start : goal.slice_bounds-face_points-start
 slice_bounds-face_points-start c = part_start c.args.t c.args.v c.args.n c.args.at c.args.initial (buffers c.args.points.now c.args.faces.now c.args.marks.now c.args.work.now) c.requires.current _ _ c.edge_points-edges.ensures.edges _ c.edge_points-edges.ensures.value
 
 pub face_points-requires-clause-face_table : goal.face_points-requires-clause-face_table
-face_points-requires-clause-face_table c = 
+face_points-requires-clause-face_table c =
     let d = c.edge_points-edges.ensures.edges in (
       face_ready c.args.t c.args.v c.args.n c.args.at c.args.initial (buffers c.args.points.now c.args.faces.now c.args.marks.now c.args.work.now) c.requires.current _ _ d,
       net_ready c.args.t c.args.v c.args.n c.args.at c.args.initial (buffers c.args.points.now c.args.faces.now c.args.marks.now c.args.work.now) c.requires.current _ _ d _ c.edge_points-edges.ensures.value,
@@ -76,7 +73,7 @@ pub returns-then-later-clause-written_if : goal.returns-then-later-clause-writte
 returns-then-later-clause-written_if c = letters_made c.args.t c.args.v c.args.n c.args.at c.args.initial (buffers c.args.points.now c.args.faces.now c.args.marks.now c.args.work.now) c.requires.current _ _ c.edge_points-edges.ensures.edges _ c.edge_points-edges.ensures.value _ _ _ c.name_points.ensures
 
 pub offset_bounds-points-first-2 : goal.offset_bounds-points-first-2
-offset_bounds-points-first-2 c = 
+offset_bounds-points-first-2 c =
     let k : c.args.v + c.edge_points-edges.result + c.args.n / 4 ≤ 4 * c.args.n = subst (λ (j : ℕ). c.args.v + j + c.args.n / 4 ≤ 4 * c.args.n) (sym c.edge_points-edges.ensures.value) (count-le c.args.t c.args.v c.args.n c.args.at c.args.initial (buffers c.args.points.now c.args.faces.now c.args.marks.now c.args.work.now) c.requires.current) in
     let q = c.requires.current.small in
     omega arith
@@ -88,7 +85,7 @@ pub slice_bounds-face_points-start-2 : goal.slice_bounds-face_points-start-2
 slice_bounds-face_points-start-2 c = part_start c.args.t c.args.v c.args.n c.args.at c.args.initial (buffers c.args.points.now c.args.faces.now c.args.marks.now c.args.work.now) c.requires.current _ _ c.edge_points-edges.ensures.edges _ c.edge_points-edges.ensures.value
 
 pub face_points-requires-2-clause-face_table : goal.face_points-requires-2-clause-face_table
-face_points-requires-2-clause-face_table c = 
+face_points-requires-2-clause-face_table c =
     let d = c.edge_points-edges.ensures.edges in (
       face_ready c.args.t c.args.v c.args.n c.args.at c.args.initial (buffers c.args.points.now c.args.faces.now c.args.marks.now c.args.work.now) c.requires.current _ _ d,
       net_ready c.args.t c.args.v c.args.n c.args.at c.args.initial (buffers c.args.points.now c.args.faces.now c.args.marks.now c.args.work.now) c.requires.current _ _ d _ c.edge_points-edges.ensures.value,

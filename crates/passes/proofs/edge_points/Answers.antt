@@ -1,31 +1,28 @@
 -- `edge_points` meets its contract. Assumes nothing.
 use mathlib.Core.Path.{◌≡◌, refl, ap, ◌∙◌, subst}
-use mathlib.Core.Bool.{true}
 use mathlib.Core.Logic.{inl, inr}
-use Prim.Native.Nat.{ℕ, ◌-◌, ◌%◌, ◌≤◌, ◌<◌}
+use Prim.Native.Nat.{ℕ, ◌<◌}
 use native.Mathlib.Omega.{arith}
 use lib.ListN.{length}
 use Rattle.search.specs.Search.{count}
 use Rattle.topology.specs.Shape.{quads}
 use Rattle.topology.specs.HalfEdge.{first_met, edge_count}
 use Rattle.edgetable.specs.EdgeTable.{Edges}
-use Rattle.familylines.specs.Steps.{Carries}
 use Rattle.edgetable.proofs.EdgeTable.{edges_none, turn_in, classed_of}
 use Rattle.familylines.proofs.Going.{carries_none, carries_then, turned_carries}
 use Rattle.familyedges.proofs.PlainFamily.{plain_later}
-use Rattle.passes.proofs.Turns.{cases, whole, edges_end}
+use Rattle.passes.proofs.Turns.{whole, edges_end}
 use Rattle.passes.proofs.edge_points.Goals as goal
 use Rattle.passes.proofs.edge_points.Goals.{then-later+else-plain_family, else-later}
 
 pub loop-h-init : goal.loop-h-init
 unfolding count
-loop-h-init c =
-    (
-      omega arith,
-      (λ t. omega arith),
-      refl,
-      edges_none c.args.t c.args.faces.now c.args.marks.now c.args.points.now c.args.work.now c.args.at c.args.initial c.requires.round,
-    )
+loop-h-init c = (
+  omega arith,
+  (λ t. omega arith),
+  refl,
+  edges_none c.args.t c.args.faces.now c.args.marks.now c.args.points.now c.args.work.now c.args.at c.args.initial c.requires.round,
+)
 
 pub plain_family-requires : goal.plain_family-requires
 plain_family-requires c =

@@ -1,19 +1,13 @@
 -- `edge_points` meets its contract. Assumes nothing.
-use mathlib.Core.Path.{◌≡◌, refl, ap, ◌∙◌, subst}
+use mathlib.Core.Path.{◌≡◌}
 use mathlib.Core.Bool.{true}
-use mathlib.Core.Logic.{inl, inr}
-use Prim.Native.Nat.{ℕ, ◌-◌, ◌%◌, ◌≤◌, ◌<◌}
-use native.Mathlib.Omega.{arith}
+use Prim.Native.Nat.{◌-◌, ◌%◌, ◌≤◌, ◌<◌}
 use lib.ListN.{length}
 use Rattle.search.specs.Search.{count}
 use Rattle.topology.specs.Shape.{quads}
-use Rattle.topology.specs.HalfEdge.{first_met, edge_count}
+use Rattle.topology.specs.HalfEdge.{first_met}
 use Rattle.edgetable.specs.EdgeTable.{Edges}
 use Rattle.familylines.specs.Steps.{Carries}
-use Rattle.edgetable.proofs.EdgeTable.{edges_none, turn_in, classed_of}
-use Rattle.familylines.proofs.Going.{carries_none, carries_then, turned_carries}
-use Rattle.familyedges.proofs.PlainFamily.{plain_later}
-use Rattle.passes.proofs.Turns.{cases, whole, edges_end}
 use Rattle.passes.proofs.edge_points.Given as goal
 
 abbrev pub invariant-loop-h-2 : goal.invariant-loop-h-2

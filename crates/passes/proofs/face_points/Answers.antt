@@ -1,22 +1,13 @@
 -- `face_points` meets its contract. Assumes nothing.
 use mathlib.Core.Path.{◌≡◌}
-use mathlib.Core.Bool.{true}
-use mathlib.Core.Logic.{inl, inr}
-use mathlib.Core.List.{List}
 use native.Mathlib.Omega.{arith}
-use Prim.Native.Nat.{ℕ, ◌+◌, ◌-◌, ◌*◌, ◌/◌, ◌%◌, ◌≤◌, ◌<◌}
-use lib.IntN.{ℤ}
-use lib.ListN.{length, take}
-use Rattle.topology.specs.Shape.{quads}
-use Rattle.refinedfaces.specs.Refined.{corner}
-use Rattle.tables.proofs.Written.{Refining, refining_none, refining_next}
-use Rattle.roundfaces.specs.Faces.{FacesIn}
+use Prim.Native.Nat.{◌+◌, ◌-◌, ◌/◌, ◌<◌}
+use Rattle.tables.proofs.Written.{refining_next}
 use Rattle.roundfaces.proofs.Faces.{face_in, corners_as, corners_all}
 use Rattle.curve.specs.Weights.{tension}
 use Rattle.facerules.specs.Faces.{face_coordinate, face_coordinates}
-use Rattle.passes.proofs.FacePass.{Writing, writing_none, writing_next, writing_four, writing_all}
+use Rattle.passes.proofs.FacePass.{writing_next, writing_four, writing_all}
 use Rattle.familyfaces.proofs.Family.{family_refining}
-use Rattle.passes.proofs.Turns.{cases, faces_end}
 use Rattle.passes.proofs.face_points.Goals as goal
 
 pub refine_family-requires-clause-face_in : goal.refine_family-requires-clause-face_in

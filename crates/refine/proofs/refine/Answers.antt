@@ -5,8 +5,7 @@ use Prim.Native.Nat.{ℕ}
 use Rattle.admission.specs.declared.Admission.{Admission}
 use Rattle.admission.specs.Admission.{Admits}
 use Rattle.outcome.specs.Outcome.{Request, request_on, call_of}
-use Rattle.refine.proofs.Whole.{admitted_work, same_outcome, refused_outcome_lem}
-use borrow.Author.Rules.{rules}
+use Rattle.refine.proofs.Whole.{same_outcome, refused_outcome_lem}
 use Rattle.refine.proofs.refine.Goals as goal
 
 pub returns-in-Admitted : goal.returns-in-Admitted

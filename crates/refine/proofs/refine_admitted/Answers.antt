@@ -10,9 +10,8 @@ use Rattle.bounds.specs.Bounds.{max_refined_corners, max_tally}
 use Rattle.splitting.specs.Splitting.{start_net}
 use Rattle.refine.specs.Answer.{answered}
 use Rattle.refine.specs.declared.Answer.TheVariants.{Refined}
-use Rattle.refine.proofs.Laws.{room_work_lem, last_le, faces_few, loadable, corners_start, letters_fit, start_fits, prepared, letters_ran, ran}
+use Rattle.refine.proofs.Laws.{room_work_lem, last_le, loadable, corners_start, letters_fit, start_fits, prepared, letters_ran, ran}
 use Rattle.refine.proofs.Whole.{growable, new_points_lem, few_new, refused_15, refined-outcome}
-use borrow.Author.Rules.{rules}
 use borrow.Author.Tests.{ltb-true, ltb-false}
 use Rattle.refine.proofs.refine_admitted.Goals as goal
 

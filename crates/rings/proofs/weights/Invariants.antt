@@ -1,20 +1,11 @@
 -- `rings::weights` meets its contract. Assumes nothing.
-use mathlib.Core.Path.{◌≡◌, refl, sym, ap, ◌∙◌}
-use mathlib.Core.List.{List, ◌++◌}
-use Prim.Native.Nat.{ℕ, ◌+◌, ◌-◌, ◌≤◌, ◌<◌}
-use native.Mathlib.Omega.{arith}
-use borrow.Author.Rules.{rules}
-use lib.IntN.{ℤ, pos, nat_abs}
-use lib.ListN.{length, get_or, set, drop}
-use mir.Syntax.{w8, w64}
-use mir.Val.{SFits}
-use mir.Facts.{to_z-of_z}
+use mathlib.Core.Path.{◌≡◌}
+use mathlib.Core.List.{◌++◌}
+use Prim.Native.Nat.{◌-◌, ◌≤◌}
+use lib.ListN.{drop}
 use Rattle.lists.specs.Tabulate.{tabulate}
-use Rattle.lists.proofs.Tabulate.{get_or-tabulate, write_none, write_one}
-use Rattle.integers.proofs.Range.{fits_abs}
 use Rattle.curve.specs.Weights.{tension}
-use Rattle.rings.specs.RingWeights.{unit_weights, weight_of, entry, row}
-use Rattle.rings.proofs.Table.{entry_unit, unit_small}
+use Rattle.rings.specs.RingWeights.{entry}
 use Rattle.rings.proofs.weights.Given as goal
 
 -- the first i weights are made

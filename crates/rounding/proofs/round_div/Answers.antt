@@ -4,13 +4,12 @@ use mathlib.Core.List.{[], ◌∷◌}
 use Prim.Native.Nat.{ℕ, ◌+◌, ◌*◌, ◌/◌, ◌≤◌, ◌<◌, ◌^◌}
 use native.Mathlib.Nat.{div-add-mod, mul-le-mul_right}
 use native.Mathlib.Omega.{arith}
-use borrow.Author.Rules.{rules}
 use lib.Dec.{T}
 use lib.IntN.{ℤ, pos, nat_abs, ◌+ℤ◌, ◌-ℤ◌, ◌*ℤ◌}
 use lib.Signed.{non_neg, yes_non_neg, pos-nat_abs}
 use mir.Syntax.{w64}
-use mir.Val.{SFits, Fits, to_z}
-use mir.Facts.{to_z-of_z, to_z_pos, Fits-nat_abs}
+use mir.Val.{SFits, to_z}
+use mir.Facts.{to_z-of_z, to_z_pos}
 use Rattle.integers.proofs.AbsoluteValue.{abs-add, abs-sub}
 use Rattle.integers.proofs.Linear.{at, whole, ◌⊕◌}
 use Rattle.integers.proofs.Order.{le_by, of_abs}

@@ -1,19 +1,15 @@
 -- `rounds::rounds` meets its contract: before each round the mates and the classes are those of its net. Assumes nothing.
 use mathlib.Core.Path.{◌≡◌, refl, sym, ◌∙◌, subst}
-use Prim.Native.Nat.{ℕ, ◌+◌, ◌-◌, ◌*◌, ◌^◌, ◌≤◌, ◌<◌}
+use Prim.Native.Nat.{ℕ, ◌+◌, ◌*◌, ◌^◌, ◌<◌}
 use native.Mathlib.Omega.{arith}
 use borrow.Author.Tests.{ltb-true}
-use lib.ListN.{length, take}
+use lib.ListN.{take}
 use Rattle.letters.specs.Letters.{new_letter, WrittenIf}
-use Rattle.halfedges.specs.Tables.{MateTable}
-use Rattle.ringsizes.specs.Classes.{Classes}
-use Rattle.curve.specs.Weights.{tension}
-use Rattle.scheme.specs.Step.{steps}
 use Rattle.nets.specs.Net.{front_net}
 use Rattle.oneround.specs.Round.{Current, Refines}
 use Rattle.nets.specs.Buffers.{Buffers, buffers}
 use Rattle.rounds.specs.Rounds.{Prepared, After, LettersAfter}
-use Rattle.rounds.proofs.Steps.{again, sized, after_none, letters_none, letters_next, mated_none, classes_none, corners_room, corners_length, countable, prepared_classes, after_classes, kept_points, kept_faces, kept_marks, later_net, current, after_next, ready_mates, later_mates, after_mates, mated_next, classes_next}
+use Rattle.rounds.proofs.Steps.{again, sized, after_none, letters_none, letters_next, mated_none, classes_none, corners_room, corners_length, countable, prepared_classes, after_classes, later_net, current, after_next, ready_mates, later_mates, after_mates, mated_next, classes_next}
 use Rattle.rounds.proofs.rounds.Goals as goal
 
 pub returns-then-k-eq0-clause-after : goal.returns-then-k-eq0-clause-after
@@ -41,8 +37,7 @@ pub loop-i-init : goal.loop-i-init
 loop-i-init c =
     let tables : Buffers = buffers c.args.points.now c.args.faces.now c.args.marks.now c.count_ring_sizes.new.work in
     let given : Buffers = buffers c.args.points.now c.args.faces.now c.args.marks.now c.args.work.now in
-    let ready : (Prepared c.args.t c.args.k c.args.v c.args.n c.args.last tables) = prepared_classes c.args.t c.args.k c.args.v c.args.n c.args.last given c.requires.prepared _ c.count_ring_sizes.auto.work c.count_ring_sizes.ensures.same_outside in
-    (
+    let ready : (Prepared c.args.t c.args.k c.args.v c.args.n c.args.last tables) = prepared_classes c.args.t c.args.k c.args.v c.args.n c.args.last given c.requires.prepared _ c.count_ring_sizes.auto.work c.count_ring_sizes.ensures.same_outside in (
       omega arith,
       omega arith,
       after_none c.args.t c.args.k c.args.v c.args.n c.args.last tables ready,

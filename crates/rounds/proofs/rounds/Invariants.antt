@@ -1,19 +1,14 @@
 -- `rounds::rounds` meets its contract: before each round the mates and the classes are those of its net. Assumes nothing.
-use mathlib.Core.Path.{◌≡◌, refl, sym, ◌∙◌, subst}
-use Prim.Native.Nat.{ℕ, ◌+◌, ◌-◌, ◌*◌, ◌^◌, ◌≤◌, ◌<◌}
-use native.Mathlib.Omega.{arith}
-use borrow.Author.Tests.{ltb-true}
-use lib.ListN.{length, take}
-use Rattle.letters.specs.Letters.{new_letter, WrittenIf}
+use mathlib.Core.Path.{◌≡◌}
+use Prim.Native.Nat.{◌-◌, ◌*◌, ◌^◌, ◌≤◌}
+use lib.ListN.{length}
 use Rattle.halfedges.specs.Tables.{MateTable}
 use Rattle.ringsizes.specs.Classes.{Classes}
 use Rattle.curve.specs.Weights.{tension}
 use Rattle.scheme.specs.Step.{steps}
 use Rattle.nets.specs.Net.{front_net}
-use Rattle.oneround.specs.Round.{Current, Refines}
-use Rattle.nets.specs.Buffers.{Buffers, buffers}
-use Rattle.rounds.specs.Rounds.{Prepared, After, LettersAfter}
-use Rattle.rounds.proofs.Steps.{again, sized, after_none, letters_none, letters_next, mated_none, classes_none, corners_room, corners_length, countable, prepared_classes, after_classes, kept_points, kept_faces, kept_marks, later_net, current, after_next, ready_mates, later_mates, after_mates, mated_next, classes_next}
+use Rattle.nets.specs.Buffers.{buffers}
+use Rattle.rounds.specs.Rounds.{After, LettersAfter}
 use Rattle.rounds.proofs.rounds.Given as goal
 
 abbrev pub invariant-loop-i : goal.invariant-loop-i

@@ -1,6 +1,5 @@
 -- `outer_first` meets its contract. Assumes nothing.
 use native.Mathlib.Omega.{arith}
-use borrow.Author.Rules.{rules}
 use borrow.Author.Tests.{lt-ltb, le-ltb}
 use Rattle.topology.specs.Shape.{quads}
 use Rattle.sidemates.specs.FirstMate.{first_mate}

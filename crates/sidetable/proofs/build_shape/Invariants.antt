@@ -1,14 +1,10 @@
 -- `build_shape` meets its contract: the faces below f are written, and face f begins at a. Assumes nothing.
 use Prim.Native.Nat.{◌-◌, ◌*◌, ◌≤◌}
-use mathlib.Core.Path.{◌≡◌, refl, ◌∙◌}
-use native.Mathlib.Omega.{arith}
+use mathlib.Core.Path.{◌≡◌}
 use lib.ListN.{length, take}
 use Rattle.polygons.specs.Polygons.{polygons, total}
 use Rattle.tables.specs.Tables.{SameOutside}
-use Rattle.tables.proofs.Laws.{same_outside, outside_then}
 use Rattle.sidetable.specs.Table.{ShapeTable}
-use Rattle.polygons.proofs.Counts.{face_fits, total_next}
-use Rattle.sidetable.proofs.Table.{table_none, room-length, shaped_all}
 use Rattle.sidetable.proofs.build_shape.Given as goal
 
 abbrev pub invariant-loop-f : goal.invariant-loop-f

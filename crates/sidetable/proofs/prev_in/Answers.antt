@@ -1,11 +1,9 @@
 -- `prev_in` meets its contract. Assumes nothing.
 use mathlib.Core.Path.{sym, ap, ◌∙◌}
-use Prim.Native.Nat.{◌+◌, ◌*◌}
 use native.Mathlib.Omega.{arith}
 use Rattle.topology.specs.Shape.{Shape}
 use Rattle.polygons.proofs.Counts.{shape_none}
 use Rattle.sidetable.proofs.Table.{held}
-use borrow.Author.Rules.{rules}
 use Rattle.sidetable.proofs.prev_in.Goals as goal
 
 pub returns-then-sides-eq0 : goal.returns-then-sides-eq0

@@ -1,7 +1,6 @@
 -- `side_after_lem` meets its contract. Assumes nothing.
 use borrow.Author.Tests.{lt-ltb, le-ltb}
 use Rattle.polygons.specs.Polygons.{side_after}
-use borrow.Author.Rules.{rules}
 use Rattle.sidetable.proofs.side_after.Goals as goal
 
 pub returns-then-j-c : goal.returns-then-j-c

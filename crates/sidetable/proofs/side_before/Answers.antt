@@ -1,7 +1,6 @@
 -- `side_before_lem` meets its contract. Assumes nothing.
 use borrow.Author.Tests.{lt-ltb, le-ltb}
 use Rattle.polygons.specs.Polygons.{side_before}
-use borrow.Author.Rules.{rules}
 use Rattle.sidetable.proofs.side_before.Goals as goal
 
 pub returns-then-j-gt0 : goal.returns-then-j-gt0

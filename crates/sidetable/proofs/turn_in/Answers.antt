@@ -1,7 +1,6 @@
 -- `turn_in` meets its contract: it reads the mate of the side before h. Assumes nothing.
 use mathlib.Core.Path.{ap, ◌∙◌}
 use lib.ListN.{length}
-use borrow.Author.Rules.{rules}
 use Rattle.topology.specs.HalfEdge.{mate}
 use Rattle.topology.specs.Vertex.{turn}
 use Rattle.polygons.specs.Polygons.{shape_of}

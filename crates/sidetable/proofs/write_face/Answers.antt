@@ -1,12 +1,6 @@
 -- `write_face` meets its contract: the sides below j are written. Assumes nothing.
-use Prim.Native.Nat.{◌+◌, ◌-◌, ◌*◌, ◌≤◌}
-use mathlib.Core.Path.{◌≡◌, refl, ◌∙◌, subst}
+use mathlib.Core.Path.{◌∙◌}
 use native.Mathlib.Omega.{arith}
-use lib.ListN.{length, get_or}
-use Rattle.polygons.specs.Polygons.{polygons}
-use Rattle.tables.specs.Tables.{SameOutside}
-use Rattle.tables.proofs.Laws.{same_outside}
-use Rattle.sidetable.specs.Table.{ShapeTable}
 use Rattle.polygons.proofs.Faces.{after_lt, before_lt}
 use Rattle.polygons.proofs.Counts.{FaceFits, face_fits}
 use Rattle.sidetable.proofs.Table.{face_more, outside_written}

@@ -1,15 +1,10 @@
 -- `write_face` meets its contract: the sides below j are written. Assumes nothing.
 use Prim.Native.Nat.{◌+◌, ◌-◌, ◌*◌, ◌≤◌}
-use mathlib.Core.Path.{◌≡◌, refl, ◌∙◌, subst}
-use native.Mathlib.Omega.{arith}
-use lib.ListN.{length, get_or}
+use mathlib.Core.Path.{◌≡◌}
+use lib.ListN.{length}
 use Rattle.polygons.specs.Polygons.{polygons}
 use Rattle.tables.specs.Tables.{SameOutside}
-use Rattle.tables.proofs.Laws.{same_outside}
 use Rattle.sidetable.specs.Table.{ShapeTable}
-use Rattle.polygons.proofs.Faces.{after_lt, before_lt}
-use Rattle.polygons.proofs.Counts.{FaceFits, face_fits}
-use Rattle.sidetable.proofs.Table.{face_more, outside_written}
 use Rattle.sidetable.proofs.write_face.Given as goal
 
 abbrev pub invariant-loop-j : goal.invariant-loop-j

@@ -1,11 +1,7 @@
 -- `tables::clear` meets its contract: after i turns the first i numbers are zero. Assumes nothing.
-use mathlib.Core.Path.{◌≡◌, refl}
-use mathlib.Core.List.{◌++◌}
-use Prim.Native.Nat.{◌-◌, ◌≤◌}
+use mathlib.Core.Path.{◌≡◌}
 use native.Mathlib.Omega.{arith}
-use lib.ListN.{length, drop, replicate, length-set}
 use Rattle.tables.specs.Tables.{cleared}
-use Rattle.tables.proofs.Laws.{clear_turn}
 use Rattle.tables.proofs.clear.Goals as goal
 
 pub returns : goal.returns

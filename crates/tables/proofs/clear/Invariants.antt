@@ -1,11 +1,8 @@
 -- `tables::clear` meets its contract: after i turns the first i numbers are zero. Assumes nothing.
-use mathlib.Core.Path.{◌≡◌, refl}
+use mathlib.Core.Path.{◌≡◌}
 use mathlib.Core.List.{◌++◌}
 use Prim.Native.Nat.{◌-◌, ◌≤◌}
-use native.Mathlib.Omega.{arith}
-use lib.ListN.{length, drop, replicate, length-set}
-use Rattle.tables.specs.Tables.{cleared}
-use Rattle.tables.proofs.Laws.{clear_turn}
+use lib.ListN.{length, drop, replicate}
 use Rattle.tables.proofs.clear.Given as goal
 
 abbrev pub invariant-loop-i : goal.invariant-loop-i

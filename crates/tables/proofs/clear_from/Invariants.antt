@@ -1,10 +1,8 @@
 -- `clear_from` meets its contract: the first i numbers are zero. Assumes nothing.
-use mathlib.Core.Path.{◌≡◌, refl, subst}
-use Prim.Native.Nat.{ℕ, ◌+◌, ◌-◌, ◌≤◌}
-use native.Mathlib.Omega.{arith}
-use lib.ListN.{length, length-set}
+use mathlib.Core.Path.{◌≡◌}
+use Prim.Native.Nat.{◌+◌, ◌-◌, ◌≤◌}
+use lib.ListN.{length}
 use Rattle.tables.specs.Tables.{ZerosFrom, SameOutside}
-use Rattle.tables.proofs.Laws.{zeros_none, zeros_next, same_outside, outside_set}
 use Rattle.tables.proofs.clear_from.Given as goal
 
 abbrev pub invariant-loop-i : goal.invariant-loop-i

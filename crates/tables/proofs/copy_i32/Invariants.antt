@@ -1,17 +1,8 @@
 -- `tables::copy_i32` meets its contract: after i turns the first i numbers are copied. Assumes nothing.
-use mathlib.Core.Path.{◌≡◌, refl}
+use mathlib.Core.Path.{◌≡◌}
 use mathlib.Core.List.{◌++◌}
 use Prim.Native.Nat.{◌-◌, ◌≤◌}
-use native.Mathlib.Omega.{arith}
-use lib.ListN.{length, get_or, take, drop, length-set}
-use lib.IntN.{pos}
-use mir.Syntax.{w32}
-use mir.Val.{SFits}
-use mir.Facts.{to_z-of_z}
-use lib.Seq.{take-length}
-use Rattle.tables.specs.Tables.{filled}
-use Rattle.tables.proofs.Laws.{copy_turn}
-use borrow.Author.Rules.{rules}
+use lib.ListN.{length, take, drop}
 use Rattle.tables.proofs.copy_i32.Given as goal
 
 abbrev pub invariant-loop-i : goal.invariant-loop-i

@@ -1,12 +1,8 @@
 -- `tables::copy_u32` meets its contract: after i turns the first i numbers are copied. Assumes nothing.
-use mathlib.Core.Path.{◌≡◌, refl}
+use mathlib.Core.Path.{◌≡◌}
 use mathlib.Core.List.{◌++◌}
 use Prim.Native.Nat.{◌-◌, ◌≤◌}
-use native.Mathlib.Omega.{arith}
-use lib.ListN.{length, take, drop, length-set}
-use lib.Seq.{take-length}
-use Rattle.tables.specs.Tables.{filled}
-use Rattle.tables.proofs.Laws.{copy_turn}
+use lib.ListN.{length, take, drop}
 use Rattle.tables.proofs.copy_u32.Given as goal
 
 abbrev pub invariant-loop-i : goal.invariant-loop-i

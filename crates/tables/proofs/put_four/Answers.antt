@@ -1,8 +1,5 @@
 -- `put_four_lem` meets its contract. Assumes nothing.
 use mathlib.Core.Path.{refl}
-use native.Mathlib.Omega.{arith}
-use lib.ListN.{length-set}
-use borrow.Author.Rules.{rules}
 use Rattle.tables.specs.Tables.{put_four}
 use Rattle.tables.proofs.put_four.Goals as goal
 

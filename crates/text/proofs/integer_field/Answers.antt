@@ -3,14 +3,10 @@ use mir.Syntax.{w32}
 use mir.Val.{SFits}
 use mir.Facts.{to_z-of_z}
 use borrow.Author.Rules.{rules}
-use mathlib.Core.Path.{◌≡◌, sym, ◌∙◌}
+use mathlib.Core.Path.{sym, ◌∙◌}
 use native.Mathlib.Omega.{arith}
-use lib.ListN.{drop}
 use Rattle.decimalform.specs.Decimal.{read_integer}
-use Rattle.decimal.specs.Answers.{integer_of}
-use Rattle.decimal.specs.declared.Integer.{Integer}
-use Rattle.decimal.proofs.Reading.{took_at}
-use Rattle.textform.specs.Form.{coordinate, ended_by}
+use Rattle.textform.specs.Form.{coordinate}
 use Rattle.textform.proofs.Lines.{field_short, field-other, field_ends}
 use Rattle.text.proofs.Lines.{ended_at}
 use Rattle.text.proofs.integer_field.Goals as goal

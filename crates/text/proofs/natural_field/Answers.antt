@@ -1,15 +1,10 @@
 -- `text::natural_field` meets its contract. Assumes nothing.
-use mathlib.Core.Path.{◌≡◌, sym, ◌∙◌}
+use mathlib.Core.Path.{sym, ◌∙◌}
 use native.Mathlib.Omega.{arith}
-use lib.ListN.{drop}
 use Rattle.decimalform.specs.Decimal.{read_natural}
-use Rattle.decimal.specs.Answers.{number_of}
-use Rattle.decimal.specs.declared.Number.{Number}
-use Rattle.decimal.proofs.Reading.{took_at}
-use Rattle.textform.specs.Form.{natural, ended_by}
+use Rattle.textform.specs.Form.{natural}
 use Rattle.textform.proofs.Lines.{field_short, field-other, field_ends}
 use Rattle.text.proofs.Lines.{ended_at}
-use borrow.Author.Rules.{rules}
 use Rattle.text.proofs.natural_field.Goals as goal
 
 pub returns-in_default : goal.returns-in_default

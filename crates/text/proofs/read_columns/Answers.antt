@@ -4,7 +4,6 @@ use mathlib.Core.Bool.{false}
 use Rattle.textform.specs.Bytes.{bytes}
 use Rattle.textform.specs.Form.{starts_with, with_corner, without_corner, column_names}
 use Rattle.text.proofs.Lines.{first_names, second_names, no_names}
-use borrow.Author.Rules.{rules}
 use Rattle.text.proofs.read_columns.Goals as goal
 
 pub returns-then-starts_with : goal.returns-then-starts_with

@@ -3,7 +3,6 @@ use mathlib.Core.Path.{refl}
 use native.Mathlib.Omega.{arith}
 use Rattle.textform.specs.Form.{read_counts}
 use Rattle.decimal.proofs.Reading.{says, took}
-use borrow.Author.Rules.{rules}
 use Rattle.text.proofs.read_counts.Goals as goal
 
 pub returns-in_default : goal.returns-in_default

@@ -2,7 +2,6 @@
 use Rattle.textform.specs.Form.{index, read_face}
 use Rattle.decimal.proofs.Reading.{says, took}
 use Rattle.text.proofs.Faces.{no_corner, one_corner, two_corners, three_corners, four_corners}
-use borrow.Author.Rules.{rules}
 use Rattle.text.proofs.read_face.Goals as goal
 
 pub returns-in_default : goal.returns-in_default

@@ -1,10 +1,8 @@
 -- `text::starts_with` meets its contract. Assumes nothing.
-use mathlib.Core.Path.{◌≡◌, refl, sym, ◌∙◌}
+use mathlib.Core.Path.{◌≡◌}
 use Prim.Native.Nat.{◌-◌, ◌≤◌}
-use native.Mathlib.Omega.{arith}
 use lib.ListN.{length, drop}
 use Rattle.textform.specs.Form.{starts_with}
-use Rattle.textform.proofs.Lines.{starts_differ, starts_agree, starts_all, starts_short}
 use Rattle.text.proofs.starts_with.Given as goal
 
 abbrev pub invariant-loop-i : goal.invariant-loop-i

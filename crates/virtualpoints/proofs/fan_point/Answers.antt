@@ -1,8 +1,6 @@
 -- `fan_point` meets its contract. Assumes nothing.
 use mathlib.Core.Path.{◌≡◌, ◌∙◌}
-use Prim.Native.Nat.{◌-◌}
 use native.Mathlib.Omega.{arith}
-use borrow.Author.Rules.{rules}
 use Rattle.curve.specs.Weights.{tension}
 use Rattle.topology.specs.Shape.{quads}
 use Rattle.topology.specs.HalfEdge.{from}
@@ -132,10 +130,10 @@ fan_sum-requires-clause-extrapolated c =
     let k = fan_sizes v l r.net c.args.h c.requires.points.1 c.requires.points.2 c.requires.h_in_bounds in
     let n = count_is v l r.net c.args.h c.requires.points.1 c.requires.points.2 c.requires.h_in_bounds h m.count es (w.circuit.whole on_s) in
     let ec = c.start_of-c.ensures in (
-          extrapolated_small v l r.net h on_s t b x₁.result.x x₁.result.y x₁.result.z x₁.ensures,
-          extrapolated_small v l r.net c.prev_side-e.result on_e t b x₂.result.x x₂.result.y x₂.result.z x₂.ensures,
-          extrapolated_small v l r.net c.along_side-d.result on_d t b x₃.result.x x₃.result.y x₃.result.z x₃.ensures,
-        )
+      extrapolated_small v l r.net h on_s t b x₁.result.x x₁.result.y x₁.result.z x₁.ensures,
+      extrapolated_small v l r.net c.prev_side-e.result on_e t b x₂.result.x x₂.result.y x₂.result.z x₂.ensures,
+      extrapolated_small v l r.net c.along_side-d.result on_d t b x₃.result.x x₃.result.y x₃.result.z x₃.ensures,
+    )
 
 pub returns : goal.returns
 returns c =

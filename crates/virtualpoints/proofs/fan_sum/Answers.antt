@@ -1,7 +1,6 @@
 -- `fan_sum` meets its contract. Assumes nothing.
 use Prim.Native.Nat.{ℕ, ◌+◌, ◌-◌, ◌≤◌}
 use native.Mathlib.Omega.{arith}
-use borrow.Author.Rules.{rules}
 use lib.IntN.{ℤ, nat_abs}
 use mir.Syntax.{w64}
 use mir.Val.{SFits}
@@ -10,9 +9,8 @@ use Rattle.integers.specs.Within.{WithinFirst}
 use Rattle.integers.proofs.Range.{fits_abs}
 use Rattle.rings.specs.Scales.{extrapolated_range}
 use Rattle.rings.proofs.Table.{row_small}
-use Rattle.nets.specs.Net.{axis}
 use Rattle.ringsums.specs.Sums.{weight_range}
-use Rattle.ringsums.proofs.Sums.{SmallSums, sums_small, fan_read}
+use Rattle.ringsums.proofs.Sums.{SmallSums, sums_small}
 use Rattle.virtualpoints.proofs.fan_sum.Goals as goal
 
 -- an extrapolated coordinate

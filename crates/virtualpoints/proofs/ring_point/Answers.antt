@@ -1,14 +1,12 @@
 -- `ring_point` meets its contract. Assumes nothing.
 use native.Mathlib.Omega.{arith}
-use borrow.Author.Rules.{rules}
 use mir.Syntax.{w64}
-use mir.Val.{SFits}
 use mir.Facts.{to_z-of_z}
 use Rattle.integers.specs.Within.{WithinFirst}
 use Rattle.integers.proofs.Range.{fits_abs}
 use Rattle.rings.proofs.Table.{row_small}
 use Rattle.ringsums.specs.Sums.{weight_range}
-use Rattle.ringsums.proofs.Sums.{SmallSums, sums_small, ring_read}
+use Rattle.ringsums.proofs.Sums.{SmallSums, sums_small}
 use Rattle.virtualpoints.proofs.ring_point.Goals as goal
 
 pub weighted_sum-s-requires-clause-within : goal.weighted_sum-s-requires-clause-within

@@ -1,7 +1,6 @@
 -- `virtual_point` meets its contract: the walk that gathers the ring tells a full ring from an open fan. Assumes nothing.
 use mathlib.Core.Path.{◌≡◌}
 use native.Mathlib.Omega.{arith}
-use borrow.Author.Rules.{rules}
 use lib.ListN.{length}
 use Rattle.topology.specs.Shape.{quads}
 use Rattle.topology.specs.HalfEdge.{from}
@@ -34,9 +33,9 @@ ring_point-requires-clause-vertices_in c =
     let g = c.gather-g in
     let e = (g.ensures.circuit.ring inner).0 in
     let k = ring_here_range quads r.vertices l r.net c.args.h c.requires.h_in_bounds.0 inner in (
-        neighbours_in r.vertices l r.net c.args.h g.result.count g.result.last g.result.after _ _ g.ensures c.args.points.now c.requires.points,
-        corners_in r.vertices l r.net c.args.h g.result.count g.result.last g.result.after _ _ g.ensures c.args.points.now c.requires.points,
-      )
+      neighbours_in r.vertices l r.net c.args.h g.result.count g.result.last g.result.after _ _ g.ensures c.args.points.now c.requires.points,
+      corners_in r.vertices l r.net c.args.h g.result.count g.result.last g.result.after _ _ g.ensures c.args.points.now c.requires.points,
+    )
 
 pub returns-then-g-h : goal.returns-then-g-h
 returns-then-g-h c =

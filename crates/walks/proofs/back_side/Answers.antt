@@ -1,12 +1,12 @@
 -- `back_side` meets its contract: the walk ends at the last half-edge of the fan, which has at most six. Assumes nothing.
 use mathlib.Core.Path.{sym, ◌∙◌}
-use Prim.Native.Nat.{◌-◌, ◌<◌, ◌≤◌}
+use Prim.Native.Nat.{◌<◌}
 use native.Mathlib.Omega.{arith}
 use lib.ListN.{length}
 use Rattle.topology.specs.Shape.{quads}
 use Rattle.topology.specs.Vertex.{turn}
 use Rattle.topology.proofs.Turn.{turn-le}
-use Rattle.walks.proofs.Winding.{Winding, winding_start, winding_step, winding_hit, winding_end}
+use Rattle.walks.proofs.Winding.{winding_start, winding_step, winding_hit, winding_end}
 use Rattle.walks.proofs.back_side.Goals as goal
 
 pub loop-i-init : goal.loop-i-init

@@ -1,13 +1,13 @@
 -- `fan_start` meets its contract: the walk ends at the first half-edge of the fan, which has at most six. Assumes nothing.
 use mathlib.Core.Path.{◌≡◌, sym, ap, subst, ◌∙◌}
-use Prim.Native.Nat.{ℕ, ◌-◌, ◌<◌, ◌≤◌}
+use Prim.Native.Nat.{ℕ, ◌<◌}
 use native.Mathlib.Omega.{arith}
 use lib.ListN.{length}
 use Rattle.topology.specs.Shape.{quads}
 use Rattle.topology.specs.HalfEdge.{mate}
 use Rattle.topology.specs.Quads.{fan_place}
 use Rattle.topology.proofs.Mates.{mate-le}
-use Rattle.walks.proofs.Unwinding.{Unwinding, unwinding_start, unwinding_step, unwinding_hit, unwinding_place, unwinding_end}
+use Rattle.walks.proofs.Unwinding.{unwinding_start, unwinding_step, unwinding_hit, unwinding_place, unwinding_end}
 use Rattle.walks.proofs.fan_start.Goals as goal
 
 pub loop-i-init : goal.loop-i-init
