@@ -22,8 +22,6 @@ pub by_needed : (g : ℕ) (room least : Room) {v : Verdict} → least ≡ needed
 unfolding room_verdict
 by_needed g room least e h = ap (λ (x : Room). refused_if 4 (shorter room x)) (sym e) ∙ h
 
--- ---- 14 and the face part of 2
-
 -- ---- the tables
 module _ (v n : ℕ) (s : List ℕ) (m : ℕ) where
   pub coordinates_hit : (v % 3 ≡ 0 → ⊥) → tables_verdict v n s m ≡ limits_of 2

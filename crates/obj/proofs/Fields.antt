@@ -45,10 +45,6 @@ pub skip_end : (l : List ℕ) (i e : ℕ) → length l ≤ i → skip_to e (drop
 unfolding skip_to
 skip_end l i e h = rw (drop_of_length-le l {i = i} h)
 
--- ---- the part of a field after its number
-module _ (l : List ℕ) (at : ℕ) where
-  module _ (h : at < length l) where
-
 -- ---- a field, where r is the answer for its number
 named-zero : (n : ℕ) (l : List ℕ) → n ≡ 0 → named (read_as n l) ≡ bad
 named-zero zero l e = refl

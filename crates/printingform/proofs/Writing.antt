@@ -25,9 +25,6 @@ use Rattle.printingform.specs.Lines.{Printed, TextWritten}
 pub stored_field : (d o : List ℕ) (at r e : ℕ) (s : List ℕ) → Stored d o at r s → Stored d (set o r e) at (r + 1) (field s e)
 stored_field d o at r e s w = stored_then d o (set o r e) at r (r + 1) s (e ∷ []) w (record { bytes = refl; end = refl })
 
--- ---- bytes, one a turn: what is left of s goes from here on
-module _ (d : List ℕ) (at : ℕ) (s : List ℕ) where
-
 -- ---- fields in a row: texts printed one after another, within the sum of what each takes at most
 pub in_row : {d e o : List ℕ} {at r q : ℕ} {s t : List ℕ} {m n : ℕ} → Printed d e at r s m → Printed e o r q t n → Printed d o at q (s ++ t) (m + n)
 in_row {d} {e} {o} {at} {r} {q} {s} {t} v w =
@@ -40,9 +37,6 @@ pub printed_field : {d o : List ℕ} {at r : ℕ} (s : List ℕ) (b m : ℕ) →
 printed_field s b m w h =
     let e = w.end in
     record { stored = w; within = omega (arith, length-append s (b ∷ [])) }
-
--- ---- the end of a vertex line, with a letter or without
-module _ (rule : Bool) (d : List ℕ) (at letter : ℕ) where
 
 -- ---- lines, one a turn
 texts_more : {A : Type 0} (text : A → List ℕ) (i : ℕ) (item : ℕ → A) → texts text (tabulate (suc i) item) ≡ texts text (tabulate i item) ++ text (item i)

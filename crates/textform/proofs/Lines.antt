@@ -15,8 +15,6 @@ use Rattle.decimalform.proofs.Reading.{natural_at_most}
 use Rattle.textform.specs.Form.{starts_with, read_names, ended_by, natural, rows, rows_after}
 
 -- ---- a text that starts with s, one byte a turn
-module _ (s l : List ℕ) (i : ℕ) (h : i < length s) (k : i < length l) where
-
 pub starts_short : (s l : List ℕ) → length l < length s → starts_with s l ≡ false
 starts_short [] l h = absurd (omega arith)
 starts_short (c ∷ s) [] h = refl
