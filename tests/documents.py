@@ -52,6 +52,8 @@ def name_faults():
     """Every word between backticks in these tables, but for quoted sentences, and in that of the functions is a name in the tree."""
     known = set()
     for path in ROOT.glob("crates/**/*"):
+        if "out" in path.relative_to(ROOT).parts[2:]:
+            continue
         known.add(path.stem)
         if path.suffix in (".antt", ".rt"):
             known.update(re.findall(r"[^\s(){}.,;:λ«»]+", path.read_text(encoding="utf-8")))

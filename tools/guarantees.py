@@ -52,7 +52,7 @@ def cited(definitions):
 
 def spec_files():
     """Every file of specs/, in reading order: crates as crates.txt has them, in a crate what is imported before what imports it."""
-    listed = re.findall(r"^(\w+):", (antt.ROOT / "crates.txt").read_text(encoding="utf-8"), re.M)
+    listed = re.findall(r"^(\w+)[^:\n]*:", (antt.ROOT / "crates.txt").read_text(encoding="utf-8"), re.M)
     found = []
 
     def visit(path, crate):

@@ -1,7 +1,6 @@
 -- `reports::sizes_for` meets its contract. Assumes nothing.
 use Rattle.limits.specs.Answer.{room_in}
 use Rattle.reports.proofs.Lengths.{refused_sizes, given_sizes}
-use borrow.Author.Rules.{rules}
 use Rattle.reports.proofs.sizes_for.Goals as goal
 
 pub returns-then-reason-ne0 : goal.returns-then-reason-ne0
