@@ -103,7 +103,7 @@ returns-then-marks-faces-eq1-clause-written c =
     Arrived a.sides.now a.faces.now a.marks.now a.work.now a.h a.against a.at (set c.loop-k.work (a.at + c.loop-k.k) (from a.faces.now g)) g (c.loop-k.k + 1) = let a = c.args in
     let q = c.loop-k in
     walking_step a.sides.now a.faces.now a.marks.now a.work.now a.h a.against a.at (c.requires.walkable, (c.requires.starts_at_mark, c.requires.list_room)) q.work q.g q.k q.invariant c.loop-k-test.true c.step_in-g.result c.step_in-g.ensures in
-    let a = c.args in arrived.written
+    arrived.written
 
 pub loop-k-preserved : goal.loop-k-preserved
 unfolding from marked

@@ -20,7 +20,7 @@ number_side-edges-requires-clause-paired_in c =
     let h = c.loop-h.h in
     let u = c.loop-h.work in
     let inv = c.loop-h.invariant in
-    let e = numbering_mates n w c.requires h u inv.0 inv.2 in numbering_in n w c.requires h u inv.0 inv.2 inv.1
+    numbering_in n w c.requires h u inv.0 inv.2 inv.1
 
 pub number_side-edges-requires-clause-numbered_below : goal.number_side-edges-requires-clause-numbered_below
 number_side-edges-requires-clause-numbered_below c =
@@ -29,7 +29,7 @@ number_side-edges-requires-clause-numbered_below c =
     let h = c.loop-h.h in
     let u = c.loop-h.work in
     let inv = c.loop-h.invariant in
-    let e = numbering_mates n w c.requires h u inv.0 inv.2 in numbering_below n w c.requires h u inv.0 inv.2
+    numbering_below n w c.requires h u inv.0 inv.2
 
 pub number_side-edges-requires-clause-h_lt_n : goal.number_side-edges-requires-clause-h_lt_n
 number_side-edges-requires-clause-h_lt_n c =

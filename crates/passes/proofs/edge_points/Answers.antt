@@ -38,7 +38,6 @@ pub family_edges-edges-requires : goal.family_edges-edges-requires
 family_edges-edges-requires c =
     let q = c.loop-h in
     let t = c.if-later.true in
-    let v = whole c.args.faces.now (c.requires.after_round t) in
     let z = q.invariant.1 t in
     let lt = c.loop-h-test.true in (
       record { at = c.args.at; initial = c.args.initial; p₀ = c.args.points.now; w₀ = c.args.work.now; round = c.requires.round; done = q.invariant.3; counted = q.invariant.2 },

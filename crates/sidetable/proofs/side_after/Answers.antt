@@ -1,4 +1,4 @@
--- `side_after_lem` meets its contract. Assumes nothing.
+-- `side_after` meets its contract. Assumes nothing.
 use borrow.Author.Tests.{lt-ltb, le-ltb}
 use Rattle.polygons.specs.Polygons.{side_after}
 use Rattle.sidetable.proofs.side_after.Goals as goal

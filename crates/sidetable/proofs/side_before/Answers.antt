@@ -1,4 +1,4 @@
--- `side_before_lem` meets its contract. Assumes nothing.
+-- `side_before` meets its contract. Assumes nothing.
 use borrow.Author.Tests.{lt-ltb, le-ltb}
 use Rattle.polygons.specs.Polygons.{side_before}
 use Rattle.sidetable.proofs.side_before.Goals as goal

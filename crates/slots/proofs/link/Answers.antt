@@ -32,9 +32,7 @@ pub take_slots-requires-clause-slot_tables : goal.take_slots-requires-clause-slo
 take_slots-requires-clause-slot_tables c =
     let after : (SlotTables c.args.nv c.args.sides.now c.args.faces.now c.put_slots-bad.new.work) = let o = c.put_slots-bad.ensures.same_outside in
     tables_slots c.args.nv c.args.sides.now c.args.faces.now c.loop-a.work c.put_slots-bad.new.work c.put_slots-bad.auto.work o.front o.rest c.loop-a.invariant.2 in
-    let l = c.args.faces.now in
-    let S = shape_of c.args.sides.now in
-    let e = c.put_slots-bad.ensures in after
+    after
 
 pub loop-a-preserved : goal.loop-a-preserved
 loop-a-preserved c =

@@ -22,7 +22,7 @@ loop-g-init c =
 pub put_slot-least-requires-clause-slot_tables : goal.put_slot-least-requires-clause-slot_tables
 put_slot-least-requires-clause-slot_tables c =
     let tables : (SlotTables c.args.nv c.args.sides.now c.args.faces.now c.loop-g.work) = let inv = c.loop-g.invariant in tables_slots c.args.nv c.args.sides.now c.args.faces.now c.args.work.now c.loop-g.work inv.0 inv.3.front inv.3.rest c.requires.slot_tables in
-    let t = c.loop-g-test.true in tables
+    tables
 
 pub loop-g-smaller : goal.loop-g-smaller
 loop-g-smaller c =

@@ -20,10 +20,7 @@ loop-g-init c =
 pub take_slot-requires-clause-slot_tables : goal.take_slot-requires-clause-slot_tables
 take_slot-requires-clause-slot_tables c =
     let tables : (SlotTables c.args.nv c.args.sides.now c.args.faces.now c.loop-g.work) = let inv = c.loop-g.invariant in tables_mates c.args.nv c.args.sides.now c.args.faces.now c.args.work.now c.loop-g.work inv.0 inv.3 c.requires.slot_tables in
-    let l = c.args.faces.now in
-    let S = shape_of c.args.sides.now in
-    let inv = c.loop-g.invariant in
-    let t = c.loop-g-test.true in tables
+    tables
 
 pub take_slot-requires-clause-slots : goal.take_slot-requires-clause-slots
 take_slot-requires-clause-slots c =
@@ -31,7 +28,7 @@ take_slot-requires-clause-slots c =
     let l = c.args.faces.now in
     let S = shape_of c.args.sides.now in
     let inv = c.loop-g.invariant in
-    let t = c.loop-g-test.true in slots_drop S c.args.nv l c.args.work.now c.loop-g.work inv.3 c.requires.slots
+    slots_drop S c.args.nv l c.args.work.now c.loop-g.work inv.3 c.requires.slots
 
 pub take_slot-requires-clause-served : goal.take_slot-requires-clause-served
 take_slot-requires-clause-served c =
@@ -39,7 +36,7 @@ take_slot-requires-clause-served c =
     let l = c.args.faces.now in
     let S = shape_of c.args.sides.now in
     let inv = c.loop-g.invariant in
-    let t = c.loop-g-test.true in served_drop S l c.args.work.now c.loop-g.work c.args.a (length l) inv.3 c.requires.served
+    served_drop S l c.args.work.now c.loop-g.work c.args.a (length l) inv.3 c.requires.served
 
 pub loop-g-smaller : goal.loop-g-smaller
 loop-g-smaller c =

@@ -1,4 +1,4 @@
--- `put_four_lem` meets its contract. Assumes nothing.
+-- `tables::put_four` meets its contract. Assumes nothing.
 use mathlib.Core.Path.{refl}
 use Rattle.tables.specs.Tables.{put_four}
 use Rattle.tables.proofs.put_four.Goals as goal

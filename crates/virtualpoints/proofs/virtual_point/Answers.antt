@@ -30,9 +30,7 @@ ring_point-requires-clause-vertices_in c =
     gathered_ring r.vertices c.args.faces.now r.net c.args.h g.result.count g.result.last g.result.after _ _ g.ensures c.requires.h_in_bounds.0 c.if-g-h.true in
     let r = c.requires.ready in
     let l = c.args.faces.now in
-    let g = c.gather-g in
-    let e = (g.ensures.circuit.ring inner).0 in
-    let k = ring_here_range quads r.vertices l r.net c.args.h c.requires.h_in_bounds.0 inner in (
+    let g = c.gather-g in (
       neighbours_in r.vertices l r.net c.args.h g.result.count g.result.last g.result.after _ _ g.ensures c.args.points.now c.requires.points,
       corners_in r.vertices l r.net c.args.h g.result.count g.result.last g.result.after _ _ g.ensures c.args.points.now c.requires.points,
     )
