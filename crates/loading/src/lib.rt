@@ -24,8 +24,8 @@ fn split_tables(
         (buffers out_vertices.new out_faces.new out_marks.new work.new) result }
 {
     let v = marks.len();
-    tables::copy_i32(vertices, &mut *out_vertices);
-    tables::copy_u8(marks, &mut *out_marks);
+    tables::copy(vertices, &mut *out_vertices);
+    tables::copy(marks, &mut *out_marks);
     let edges = edgenumbers::number_edges(faces.len(), &mut *work);
     splitvertices::new_points(&mut *out_vertices, faces, sides, &*work, v);
     splitfaces::split_faces(faces, sides, &*work, &mut *out_faces, v, edges);
@@ -51,9 +51,9 @@ pub fn load(
         (buffers out_vertices.new out_faces.new out_marks.new work.new) result }
 {
     if sides.len() == 0 {
-        tables::copy_i32(vertices, &mut *out_vertices);
-        tables::copy_u32(faces, &mut *out_faces);
-        tables::copy_u8(marks, &mut *out_marks);
+        tables::copy(vertices, &mut *out_vertices);
+        tables::copy(faces, &mut *out_faces);
+        tables::copy(marks, &mut *out_marks);
         return marks.len();
     }
     let count = split_tables(

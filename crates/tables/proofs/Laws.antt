@@ -5,13 +5,7 @@ use Prim.Native.Nat.{ℕ, ◌+◌, ◌-◌, ◌≤◌, ◌<◌}
 use native.Mathlib.Omega.{arith}
 use lib.ListN.{length, get_or, take, drop, set, replicate, length-append, length-drop, length-replicate, get_or-append}
 use lib.Seq.{get_or-take, get_or-drop, take_at, drop_at, drop-append-add, drop-drop, take-take, take-set-le, drop-set-lt}
-use Rattle.lists.proofs.Prefix.{copy_one}
 use Rattle.tables.specs.Tables.{filled, cleared, SameOutside}
-
--- a turn of each loop
-pub copy_turn : {A : Type 0} (s d₀ : List A) {d : List A} (i : ℕ) (z : A) → d ≡ take i s ++ drop i d₀ → i < length s → i < length d₀
-    → set d i (get_or s i z) ≡ take (i + 1) s ++ drop (i + 1) d₀
-copy_turn s d₀ i z e h k = rw e (copy_one s d₀ i z h k)
 
 -- what lies past the cleared part is as found; so clearing again clears what was there before
 pub drop-cleared : (n : ℕ) (w : List ℕ) → drop n (cleared n w) ≡ drop n w

@@ -9,11 +9,7 @@ pub fn clear(work: &mut [u32], n: usize)
     requires { n ≤ length work.old }
     ensures { work.new ≡ cleared n work.old }
 {
-    let mut i = 0;
-    while i < n {
-        work[i] = 0;
-        i += 1;
-    }
+    work[..n].fill(0);
 }
 
 // Sets the n numbers from the place `at` on to zero.
@@ -22,47 +18,15 @@ pub fn clear_from(work: &mut [u32], at: usize, n: usize)
     ensures zeros_from { ZerosFrom n at work.new }
     ensures same_outside { SameOutside at (at + n) work.old work.new }
 {
-    let mut i = 0;
-    while i < n {
-        work[at + i] = 0;
-        i += 1;
-    }
+    work[at..at + n].fill(0);
 }
 
-// Copies a table of coordinates to the front of another.
-pub fn copy_i32(src: &[i32], dst: &mut [i32])
+// Copies a table to the front of another.
+pub fn copy<T: Copy>(src: &[T], dst: &mut [T])
     requires { length src.now ≤ length dst.old }
     ensures { dst.new ≡ filled src.now dst.old }
 {
-    let mut i = 0;
-    while i < src.len() {
-        dst[i] = src[i];
-        i += 1;
-    }
-}
-
-// Copies a table of vertex numbers to the front of another.
-pub fn copy_u32(src: &[u32], dst: &mut [u32])
-    requires { length src.now ≤ length dst.old }
-    ensures { dst.new ≡ filled src.now dst.old }
-{
-    let mut i = 0;
-    while i < src.len() {
-        dst[i] = src[i];
-        i += 1;
-    }
-}
-
-// Copies a table of marks to the front of another.
-pub fn copy_u8(src: &[u8], dst: &mut [u8])
-    requires { length src.now ≤ length dst.old }
-    ensures { dst.new ≡ filled src.now dst.old }
-{
-    let mut i = 0;
-    while i < src.len() {
-        dst[i] = src[i];
-        i += 1;
-    }
+    dst[..src.len()].copy_from_slice(src);
 }
 
 // Writes four numbers from the place `at` on, the last first.

@@ -9,20 +9,20 @@ use Rattle.nets.specs.Buffers.{Buffers, buffers}
 use Rattle.loading.proofs.Laws.{copy_vertices, copy_faces, copy_marks, loaded_copy, faces_long, tables_split, loaded-split}
 use Rattle.loading.proofs.load.Goals as goal
 
-pub copy_i32-requires : goal.copy_i32-requires
-copy_i32-requires c =
+pub copy-requires : goal.copy-requires
+copy-requires c =
     let control : ControlNet = control_net c.args.vertices.now c.args.faces.now c.args.sides.now c.args.marks.now in
     let tables : Buffers = buffers c.args.out_vertices.now c.args.out_faces.now c.args.out_marks.now c.args.work.now in
     copy_vertices control tables c.requires c.if-sides-eq0.true
 
-pub copy_u32-requires : goal.copy_u32-requires
-copy_u32-requires c =
+pub copy-requires-then-sides-eq0 : goal.copy-requires-then-sides-eq0
+copy-requires-then-sides-eq0 c =
     let control : ControlNet = control_net c.args.vertices.now c.args.faces.now c.args.sides.now c.args.marks.now in
     let tables : Buffers = buffers c.args.out_vertices.now c.args.out_faces.now c.args.out_marks.now c.args.work.now in
     copy_faces control tables c.requires c.if-sides-eq0.true
 
-pub copy_u8-requires : goal.copy_u8-requires
-copy_u8-requires c =
+pub copy-requires-then-sides-eq0-2 : goal.copy-requires-then-sides-eq0-2
+copy-requires-then-sides-eq0-2 c =
     let control : ControlNet = control_net c.args.vertices.now c.args.faces.now c.args.sides.now c.args.marks.now in
     let tables : Buffers = buffers c.args.out_vertices.now c.args.out_faces.now c.args.out_marks.now c.args.work.now in
     copy_marks control tables c.requires c.if-sides-eq0.true
@@ -31,7 +31,7 @@ pub returns-then-sides-eq0 : goal.returns-then-sides-eq0
 returns-then-sides-eq0 c =
     let control : ControlNet = control_net c.args.vertices.now c.args.faces.now c.args.sides.now c.args.marks.now in
     let tables : Buffers = buffers c.args.out_vertices.now c.args.out_faces.now c.args.out_marks.now c.args.work.now in
-    loaded_copy control tables c.requires c.if-sides-eq0.true _ c.copy_i32.ensures c.copy_u32.ensures c.copy_u8.ensures refl
+    loaded_copy control tables c.requires c.if-sides-eq0.true _ c.copy.ensures c.copy-then-sides-eq0.ensures c.copy-then-sides-eq0-2.ensures refl
 
 pub slice_bounds-link_faces-end : goal.slice_bounds-link_faces-end
 slice_bounds-link_faces-end c =

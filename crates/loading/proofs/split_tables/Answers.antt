@@ -5,14 +5,14 @@ use Rattle.nets.specs.Buffers.{Buffers, buffers}
 use Rattle.loading.proofs.Laws.{copied_vertices, copied_marks, paired, linked₁, rest₁, numbered_faces, splittable, vertices_split, count-split, count_room, marks_room, marks_split, faces_split}
 use Rattle.loading.proofs.split_tables.Goals as goal
 
-pub copy_i32-requires : goal.copy_i32-requires
-copy_i32-requires c =
+pub copy-requires : goal.copy-requires
+copy-requires c =
     let control : ControlNet = control_net c.args.vertices.now c.args.faces.now c.args.sides.now c.args.marks.now in
     let tables : Buffers = buffers c.args.out_vertices.now c.args.out_faces.now c.args.out_marks.now c.args.work.now in
     copied_vertices control tables c.requires.loadable c.requires.sides_nonzero
 
-pub copy_u8-requires : goal.copy_u8-requires
-copy_u8-requires c =
+pub copy-requires-2 : goal.copy-requires-2
+copy-requires-2 c =
     let control : ControlNet = control_net c.args.vertices.now c.args.faces.now c.args.sides.now c.args.marks.now in
     let tables : Buffers = buffers c.args.out_vertices.now c.args.out_faces.now c.args.out_marks.now c.args.work.now in
     copied_marks control tables c.requires.loadable c.requires.sides_nonzero
@@ -26,7 +26,7 @@ number_edges-edges-requires c =
 pub new_points-requires-clause-splittable : goal.new_points-requires-clause-splittable
 new_points-requires-clause-splittable c =
     let control : ControlNet = control_net c.args.vertices.now c.args.faces.now c.args.sides.now c.args.marks.now in
-    let tables : Buffers = buffers c.args.out_vertices.now c.args.out_faces.now c.args.out_marks.now c.args.work.now in splittable control tables c.requires.loadable c.requires.sides_nonzero _ c.copy_i32.ensures
+    let tables : Buffers = buffers c.args.out_vertices.now c.args.out_faces.now c.args.out_marks.now c.args.work.now in splittable control tables c.requires.loadable c.requires.sides_nonzero _ c.copy.ensures
 
 pub new_points-requires-clause-linked : goal.new_points-requires-clause-linked
 new_points-requires-clause-linked c =
@@ -59,7 +59,7 @@ pub extend_marks-requires : goal.extend_marks-requires
 extend_marks-requires c =
     let control : ControlNet = control_net c.args.vertices.now c.args.faces.now c.args.sides.now c.args.marks.now in
     let tables : Buffers = buffers c.args.out_vertices.now c.args.out_faces.now c.args.out_marks.now c.args.work.now in
-    (omega arith, marks_room control tables c.requires.loadable c.requires.sides_nonzero _ c.number_edges-edges.ensures.value _ c.copy_u8.ensures)
+    (omega arith, marks_room control tables c.requires.loadable c.requires.sides_nonzero _ c.number_edges-edges.ensures.value _ c.copy-2.ensures)
 
 pub returns : goal.returns
 returns c =
@@ -67,8 +67,8 @@ returns c =
     let tables : Buffers = buffers c.args.out_vertices.now c.args.out_faces.now c.args.out_marks.now c.args.work.now in
     record {
       count = count-split control tables c.requires.loadable c.requires.sides_nonzero _ c.number_edges-edges.ensures.value;
-      vertices = vertices_split control tables c.requires.loadable c.requires.sides_nonzero _ c.copy_i32.ensures _ c.new_points.ensures;
+      vertices = vertices_split control tables c.requires.loadable c.requires.sides_nonzero _ c.copy.ensures _ c.new_points.ensures;
       faces = faces_split control tables c.requires.loadable c.requires.sides_nonzero _ c.split_faces.ensures;
-      marks = marks_split control tables c.requires.loadable c.requires.sides_nonzero _ c.number_edges-edges.ensures.value _ c.copy_u8.ensures _ c.extend_marks.ensures;
+      marks = marks_split control tables c.requires.loadable c.requires.sides_nonzero _ c.number_edges-edges.ensures.value _ c.copy-2.ensures _ c.extend_marks.ensures;
       rest = rest₁ control tables c.requires.loadable c.requires.sides_nonzero _ c.number_edges-edges.ensures.work_after;
     }
