@@ -30,10 +30,8 @@ pub fn number_edges(n: usize, work: &mut [u32]) -> usize
     ensures work_after { work.new ≡ filled (with_edges (take n work.old)) work.old }
 {
     let mut edges = 0;
-    let mut h = 0;
-    while h < n {
+    for h in 0..n {
         edges = number_side(n, &mut *work, h, edges);
-        h += 1;
     }
     edges
 }
