@@ -90,3 +90,68 @@ pub fn turn_side(faces: &[u32], work: &[u32], h: usize) -> usize
 {
     mate_side(faces, work, prev_side(h))
 }
+
+// A net with four-sided faces: the corners of its half-edges, and a table with their mates in front.
+#[derive(Clone, Copy)]
+pub struct Mesh<'a> {
+    pub faces: &'a [u32],
+    pub work: &'a [u32],
+    pub ghost connectivity: { Connectivity faces.now work.now },
+}
+
+impl<'a> Mesh<'a> {
+    // The number of half-edges, which stands for 'none'.
+    pub fn half_edges(self) -> usize
+        ensures { result ≡ length self.entry.faces.now }
+    {
+        self.faces.len()
+    }
+
+    // The vertex that h leaves.
+    pub fn start_of(self, h: usize) -> usize
+        requires { h < length self.faces.now }
+        ensures { result ≡ from self.entry.faces.now h }
+    {
+        start_of(self.faces, h)
+    }
+
+    // The vertex that h enters.
+    pub fn end_of(self, h: usize) -> usize
+        requires { h < length self.faces.now }
+        ensures { result ≡ to quads self.entry.faces.now h }
+    {
+        self.start_of(next_side(h))
+    }
+
+    // The corner before the vertex of h in its face.
+    pub fn corner_before(self, h: usize) -> usize
+        requires { h < length self.faces.now }
+        ensures { result ≡ from self.entry.faces.now (quads.prev h) }
+    {
+        self.start_of(prev_side(h))
+    }
+
+    // The corner of the face of h opposite the vertex that h leaves.
+    pub fn opposite_corner(self, h: usize) -> usize
+        requires { h < length self.faces.now }
+        ensures { result ≡ opposite_corner self.entry.faces.now h }
+    {
+        self.start_of(across_side(h))
+    }
+
+    // The mate of h, or none.
+    pub fn mate(self, h: usize) -> usize
+        requires { h < length self.faces.now }
+        ensures { result ≡ mate quads self.entry.faces.now h }
+    {
+        self.work[h] as usize
+    }
+
+    // The half-edge that leaves the vertex of h in the face beyond the side before h, or none.
+    pub fn turn(self, h: usize) -> usize
+        requires { h < length self.faces.now }
+        ensures { result ≡ turn quads self.entry.faces.now h }
+    {
+        self.mate(prev_side(h))
+    }
+}
