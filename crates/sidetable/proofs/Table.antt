@@ -1,5 +1,5 @@
 -- The table of a shape, written half-edge by half-edge. Assumes nothing.
-use mathlib.Core.Path.{◌≡◌, sym, ap, ◌∙◌, subst}
+use mathlib.Core.Path.{◌≡◌, refl, sym, ap, ◌∙◌, subst}
 use mathlib.Core.List.{List, [], ◌∷◌}
 use Prim.Native.Nat.{ℕ, ◌+◌, ◌*◌, ◌≤◌, ◌<◌}
 use native.Mathlib.Decide.{ℕ_discrete}
@@ -8,7 +8,7 @@ use lib.ListN.{length, get_or, set, take, drop, length-set}
 use lib.Seq.{get_or-set_same, get_or-set_other}
 use Rattle.topology.specs.Shape.{Shape}
 use Rattle.polygons.specs.Polygons.{side_after, side_before, polygons, shape_of, total}
-use Rattle.polygons.proofs.Counts.{counts_if, total_all, FaceAt, FaceFits}
+use Rattle.polygons.proofs.Counts.{counts_if, total_all, FaceAt, FaceFits, face_fits}
 use Rattle.tables.specs.Tables.{SameOutside}
 use Rattle.tables.proofs.Laws.{outside_set, same_rest}
 use Rattle.sidetable.specs.Table.{side_written, ShapeTable, ShapeRoom, Shaped}
@@ -46,6 +46,20 @@ table_more S n h x y z w k r p q s t = record { next = λ g i. next g i (ℕ_dis
     face : (g : ℕ) → g < h + 1 → Dec (g ≡ h) → get_or (side_written n h x y z w) (6 * n + g) 0 ≡ S.face g
     face g i (yes e) = rw e (get_or-set_same w₂ (6 * n + h) z 0 (omega (arith, l₁, l₂)) ∙ s)
     face g i (no e) = other w₂ (6 * n + h) (6 * n + g) z (omega arith) ∙ other w₁ (5 * n + h) (6 * n + g) y (omega arith) ∙ other w (4 * n + h) (6 * n + g) x (omega arith) ∙ t.face g (omega arith)
+
+-- a face of few sides, which begins and ends among the half-edges
+module _ (s : List ℕ) (n : ℕ) (w : List ℕ) (r : ShapeRoom s n w) (f : ℕ) (k : f < length s) where
+  pub face_in_room : FaceFits s n f
+  face_in_room = face_fits s n f (r.sided.counts (omega arith)) k
+
+  pub face_sides : get_or s f 0 ≤ 8
+  face_sides = face_in_room.count.eight
+
+  pub face_number : 3 * f ≤ total (take f s)
+  face_number = face_in_room.number
+
+  pub face_ends : total (take f s) + get_or s f 0 ≤ n
+  face_ends = face_in_room.ends
 
 -- side j of face f, which begins at a
 pub face_more : (s : List ℕ) (n f a j x y : ℕ) (w w' : List ℕ) → FaceFits s n f → a ≡ total (take f s) → j < get_or s f 0 → 7 * n ≤ length w → x ≡ side_after (get_or s f 0) j → y ≡ side_before (get_or s f 0) j
@@ -97,3 +111,8 @@ pub held : (s : List ℕ) (n : ℕ) (w : List ℕ) (h : ℕ) → Shaped s n w �
 unfolding shape_of
 held [] n w h t k p = let z : ⊥ = omega arith in absurd z
 held (c ∷ s) n w h t k p = let r = t.table p in record { next = r.next h k; prev = r.prev h k; face = r.face h k }
+
+-- with side counts or without
+pub either_way : (s : List ℕ) (x y : ℕ) → (length s ≡ 0 → x ≡ y) → (0 < length s → x ≡ y) → x ≡ y
+either_way [] x y f g = f refl
+either_way (c ∷ s) x y f g = g (omega arith)

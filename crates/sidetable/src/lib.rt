@@ -11,25 +11,21 @@ ghost use Rattle.tables.specs.Tables.{SameOutside};
 ghost use Rattle.sidetable.specs.Table.{side_written, ShapeTable, ShapeRoom, Shaped, ShapeBuilt, Linked};
 
 // The side after side j of a face of c sides.
+#[tactic(auto, unfolding(polygons::specs::Polygons::side_after))]
 fn side_after(c: usize, j: usize) -> usize
     requires { j < 8 }
     ensures { result ≡ side_after c j }
 {
-    if j + 1 < c {
-        return j + 1;
-    }
-    0
+    if j + 1 < c { j + 1 } else { 0 }
 }
 
 // The side before side j of a face of c sides.
+#[tactic(auto, unfolding(polygons::specs::Polygons::side_before))]
 fn side_before(c: usize, j: usize) -> usize
     requires { 0 < c }
     ensures { result ≡ side_before c j }
 {
-    if 0 < j {
-        return j - 1;
-    }
-    c - 1
+    if 0 < j { j - 1 } else { c - 1 }
 }
 
 // Writes next, prev and face of the half-edge h.
@@ -43,6 +39,7 @@ fn write_side(n: usize, work: &mut [u32], h: usize, next: u32, prev: u32, face: 
 }
 
 // Writes the half-edges of face f, which begins at a; those of the faces before it are there.
+#[tactic(auto, using(crate::proofs::Table::face_sides, crate::proofs::Table::face_number, crate::proofs::Table::face_ends, polygons::proofs::Faces::after_lt, polygons::proofs::Faces::before_lt))]
 fn write_face(sides: &[u8], n: usize, work: &mut [u32], f: usize, a: usize)
     requires shape_room { ShapeRoom sides.now n work.old }
     requires f_in_bounds { (f < length sides.now) × (a ≡ total (take f sides.now)) }
@@ -51,12 +48,10 @@ fn write_face(sides: &[u8], n: usize, work: &mut [u32], f: usize, a: usize)
     ensures same_outside { SameOutside (4 * n) (7 * n) work.old work.new }
 {
     let c = sides[f] as usize;
-    let mut j = 0;
-    while j < c {
+    for j in 0..c {
         let next = (a + side_after(c, j)) as u32;
         let prev = (a + side_before(c, j)) as u32;
         write_side(n, &mut *work, a + j, next, prev, f as u32);
-        j += 1;
     }
 }
 
@@ -66,11 +61,23 @@ pub fn build_shape(sides: &[u8], n: usize, work: &mut [u32])
     ensures { ShapeBuilt sides.now n work.old work.new }
 {
     let mut a = 0;
-    let mut f = 0;
-    while f < sides.len() {
+    for (f, c) in sides.iter().enumerate() {
         write_face(sides, n, &mut *work, f, a);
-        a += sides[f] as usize;
-        f += 1;
+        a += *c as usize;
+    }
+}
+
+// What the table of steps holds at a place, or with four-sided faces alone what arithmetic gives.
+fn step<F: FnOnce() -> usize>(sides: &[u8], work: &[u32], place: usize, by_fours: F) -> usize
+    requires callable { F.IsAlwaysCallable by_fours }
+    requires place_in_bounds { 0 < length sides.now → place < length work.now }
+    ensures held { 0 < length sides.now → result ≡ get_or work.now place 0 }
+    ensures reckoned { length sides.now ≡ 0 → F.post by_fours result }
+{
+    if sides.is_empty() {
+        by_fours()
+    } else {
+        work[place] as usize
     }
 }
 
@@ -80,10 +87,7 @@ pub fn next_in(sides: &[u8], work: &[u32], n: usize, h: usize) -> usize
     requires h_lt_n { h < n }
     ensures { result ≡ (shape_of sides.now).next h }
 {
-    if sides.len() == 0 {
-        return halfedges::next_side(h);
-    }
-    work[4 * n + h] as usize
+    step(sides, work, 4 * n + h, || halfedges::next_side(h))
 }
 
 // The half-edge before h round its face.
@@ -92,10 +96,7 @@ pub fn prev_in(sides: &[u8], work: &[u32], n: usize, h: usize) -> usize
     requires h_lt_n { h < n }
     ensures { result ≡ (shape_of sides.now).prev h }
 {
-    if sides.len() == 0 {
-        return halfedges::prev_side(h);
-    }
-    work[5 * n + h] as usize
+    step(sides, work, 5 * n + h, || halfedges::prev_side(h))
 }
 
 // The face of h.
@@ -104,10 +105,7 @@ pub fn face_in(sides: &[u8], work: &[u32], n: usize, h: usize) -> usize
     requires h_lt_n { h < n }
     ensures { result ≡ (shape_of sides.now).face h }
 {
-    if sides.len() == 0 {
-        return halfedges::face_of(h);
-    }
-    work[6 * n + h] as usize
+    step(sides, work, 6 * n + h, || halfedges::face_of(h))
 }
 
 // The mate of h, or none.

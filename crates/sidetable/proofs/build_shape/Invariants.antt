@@ -1,5 +1,5 @@
 -- `build_shape` meets its contract: the faces below f are written, and face f begins at a. Assumes nothing.
-use Prim.Native.Nat.{◌-◌, ◌*◌, ◌≤◌}
+use Prim.Native.Nat.{◌*◌}
 use mathlib.Core.Path.{◌≡◌}
 use lib.ListN.{length, take}
 use Rattle.polygons.specs.Polygons.{polygons, total}
@@ -8,7 +8,4 @@ use Rattle.sidetable.specs.Table.{ShapeTable}
 use Rattle.sidetable.proofs.build_shape.Given as goal
 
 abbrev pub invariant-loop-f : goal.invariant-loop-f
-invariant-loop-f l = (l.f ≤ length l.sides) × (length l.work ≡ length l.initial.work) × (l.a ≡ total (take l.f l.sides)) × ShapeTable (polygons l.sides) l.n l.work l.a × SameOutside (4 * l.n) (7 * l.n) l.initial.work l.work × (length l.sides ≡ 0 → l.work ≡ l.initial.work)
-
-abbrev pub decreases-loop-f : goal.decreases-loop-f
-decreases-loop-f l = length l.sides - l.f
+invariant-loop-f l = (l.a ≡ total (take l.f l.sides)) × ShapeTable (polygons l.sides) l.n l.work l.a × SameOutside (4 * l.n) (7 * l.n) l.initial.work l.work × (length l.sides ≡ 0 → l.work ≡ l.initial.work)
