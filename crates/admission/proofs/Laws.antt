@@ -6,7 +6,6 @@ use native.Mathlib.Nat.{one-le-pow, mul-le-mul_left}
 use native.Mathlib.Omega.{arith}
 use native.Mathlib.Decide.{dec_lt}
 use lib.Dec.{lit≤}
-use borrow.Author.Tests.{eq-eqb, ne_eqb}
 use lib.ListN.{length, drop}
 use Rattle.bounds.specs.Bounds.{max_refined_faces}
 use Rattle.polygons.specs.Polygons.{shape_of, Sided}
@@ -15,18 +14,15 @@ use Rattle.tables.specs.Tables.{cleared}
 use Rattle.tables.proofs.Laws.{cleared_over}
 use Rattle.lists.proofs.Parts.{drop_later}
 use Rattle.verdict.specs.Call.{Room, lengths_of, Call, quadrilaterals, final_faces}
-use Rattle.verdict.specs.Verdict.{Verdict, accepted, refused, call_verdict, net_verdict, verdict, work_after}
+use Rattle.verdict.specs.Verdict.{accepted, refused, call_verdict, net_verdict, verdict, work_after}
 use Rattle.verdict.proofs.Accepted.{call_both, or_both, WithinLimits, within_if, accepted_limits}
-use Rattle.limits.specs.Answer.{limits_of, FinalFaces}
+use Rattle.limits.specs.Answer.{FinalFaces}
 use Rattle.halfedges.specs.Tables.{MateTableOf}
 use Rattle.sidetable.specs.Table.{ShapeRoom, ShapeBuilt}
 use Rattle.sidetable.proofs.Table.{shaped_kept}
 use Rattle.examination.specs.Examine.{CheckTables}
 use Rattle.admission.specs.Answer.{checked_as, checked}
 use Rattle.admission.specs.Admission.{RefusedCall, AdmittedCall}
-
-pub passed : {v : Verdict} (f : ℕ) → v ≡ limits_of f → f ≡ 0 → v ≡ accepted
-passed f e z = e ∙ rw (eq-eqb f 0 z) refl
 
 -- n corners against the faces where refining begins
 pub record Corners (s : List ℕ) (n : ℕ) : Type 0 where
@@ -42,9 +38,9 @@ module _ (k : ℕ) (m : ControlNet) (tension : ℕ) (room : Room) (w : List ℕ)
   call = record { rounds = k; net = m; tension = tension; room = room }
 
   -- refused by the limits
-  pub refused_limits : (f : ℕ) → call_verdict call ≡ limits_of f → (f ≡ 0 → ⊥) → RefusedCall call w f 0 w
+  pub refused_limits : (f : ℕ) → call_verdict call ≡ refused f 0 → RefusedCall call w f 0 w
   unfolding verdict
-  refused_limits f e n = let z : call_verdict call ≡ refused f 0 = e ∙ rw (ne_eqb f 0 n) refl in record { refuses = rw z refl; work = rw z refl }
+  refused_limits f e = record { refuses = rw e refl; work = rw e refl }
 
   -- past the limits
   module _ (past : call_verdict call ≡ accepted) where

@@ -43,17 +43,13 @@ pub fn admit(
             coordinates: vertices.len(),
             corners: faces.len(),
             marks: marks.len(),
-            out_vertices: room.vertices,
-            out_faces: room.faces,
-            out_marks: room.marks,
-            with_letters: room.with_letters,
-            letters: room.letters,
-            work: room.work,
+            room,
         },
         tension,
     );
-    if fault != 0 {
-        return Admission::Refused(fault, 0);
+    match fault {
+        Ok(()) => {}
+        Err(reason) => return Admission::Refused(reason.number(), 0),
     }
     let last = limits::final_faces(rounds, limits::quadrilaterals(sides, faces.len()));
     sidetable::build_shape(sides, faces.len(), &mut *work);

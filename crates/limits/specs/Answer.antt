@@ -1,20 +1,15 @@
--- What the numbers of the test of limits mean.
-use Rattle.std.specs.Prelude.{cond, ℕ, ◌*◌, ◌^◌, ◌≤◌, ◌≡◌, eqb}
+-- The tables' lengths of a call, and the number of refined faces where it is within its limits.
+use Rattle.std.specs.Prelude.{ℕ, ◌*◌, ◌^◌, ◌≤◌, ◌≡◌}
 use Rattle.bounds.specs.Bounds.{max_rounds, max_faces, max_product}
 use Rattle.verdict.specs.Call as call
-use Rattle.verdict.specs.Verdict.{Verdict, accepted, refused}
 use Rattle.limits.specs.declared.Lengths.{Lengths}
 use Rattle.limits.specs.declared.Room.{Room}
-
--- 0: no refusal; otherwise the refusal's number, with place 0
-abbrev pub limits_of : ℕ → Verdict
-limits_of r = cond (eqb r 0) accepted (refused r 0)
 
 abbrev pub room_in : Room → call.Room
 room_in r = call.room r.vertices r.faces r.marks r.with_letters r.letters r.work
 
 abbrev pub lengths_in : Lengths → call.Lengths
-lengths_in n = call.lengths n.coordinates n.corners n.marks (call.room n.out_vertices n.out_faces n.out_marks n.with_letters n.letters n.work)
+lengths_in n = call.lengths n.coordinates n.corners n.marks (room_in n.room)
 
 -- g is the number of refined faces, where rounds and faces are within their limits
 pub record FinalFaces (rounds faces g : ℕ) : Type 0 where

@@ -1,25 +1,23 @@
 // Refusals 1 to 4 and 14, from the side counts and the lengths of the other tables, and 16, from the tension.
 #![tactic(auto)]
 
-ghost use Rattle.std.specs.Prelude.{◌≤◌, ◌/◌, ◌*◌, ◌^◌, ◌≡◌, ◌&&◌, ltb};
-ghost use Rattle.bounds.specs.Bounds.{max_rounds, max_product};
+ghost use Rattle.std.specs.Prelude.{◌≤◌, ◌/◌, ◌*◌, ◌≡◌, ltb};
+ghost use Rattle.bounds.specs.Bounds.{max_product};
 ghost use Rattle.polygons.specs.Polygons.{bad_count, bad_sides};
-ghost use Rattle.verdict.specs.Verdict.{corners_verdict, tables_verdict, size_verdict, room_verdict, limits_verdict, or_else, refused_if};
+ghost use Rattle.verdict.specs.Verdict.{shorter, corners_verdict, tables_verdict, size_verdict, room_verdict, limits_verdict, or_else, refused_if};
 ghost use Rattle.verdict.specs.Call as call;
-ghost use Rattle.limits.specs.Answer.{limits_of, room_in, lengths_in, FinalFaces};
+ghost use Rattle.reasons.specs.Reasons.{number, reason_of};
+ghost use Rattle.limits.specs.Answer.{room_in, lengths_in, FinalFaces};
 
-// The lengths of the tables of a call but the side counts, and whether letters are asked for, in its order.
+use reasons::Reason;
+
+// The lengths of the tables of a call but the side counts.
 #[derive(Clone, Copy)]
 pub struct Lengths {
     pub coordinates: usize,
     pub corners: usize,
     pub marks: usize,
-    pub out_vertices: usize,
-    pub out_faces: usize,
-    pub out_marks: usize,
-    pub with_letters: bool,
-    pub letters: usize,
-    pub work: usize,
+    pub room: Room,
 }
 
 // The lengths of the output tables and the work table, and whether letters are asked for.
@@ -33,43 +31,26 @@ pub struct Room {
     pub work: usize,
 }
 
-// 4 to the power k.
-fn pow4(k: u32) -> usize
-    requires { k ≤ max_rounds }
-    ensures { (result ≡ 4 ^ k) × (result ≤ 4096) }
-{
-    match k {
-        0 => 1,
-        1 => 4,
-        2 => 16,
-        3 => 64,
-        4 => 256,
-        5 => 1024,
-        _ => 4096,
-    }
-}
-
 // The number of four-sided faces where refining begins: with side counts each side of a face gives one.
 pub fn quadrilaterals(sides: &[u8], corners: usize) -> usize
     ensures { result ≡ call.quadrilaterals sides.now corners }
 {
-    if sides.len() == 0 {
-        return corners / 4;
+    if sides.is_empty() {
+        corners / 4
+    } else {
+        corners
     }
-    corners
 }
 
 // The number of refined faces, where rounds and faces are within their limits; else 0.
 pub fn final_faces(rounds: u32, faces: usize) -> usize
     ensures { FinalFaces rounds faces result }
 {
-    if rounds > bounds::MAX_ROUNDS {
-        return 0;
+    if rounds > bounds::MAX_ROUNDS || faces > bounds::MAX_FACES {
+        0
+    } else {
+        faces * 4usize.pow(rounds)
     }
-    if faces > bounds::MAX_FACES {
-        return 0;
-    }
-    faces * pow4(rounds)
 }
 
 // The least lengths for g refined faces, for a call that asks for letters.
@@ -87,14 +68,19 @@ pub fn needed(g: usize) -> Room
     }
 }
 
+// The refusal for a reason where a test holds.
+fn refuse_if(holds: bool, reason: Reason) -> Result<(), Reason>
+    ensures { refused_if (number reason) holds ≡ reason_of result }
+{
+    if holds { Err(reason) } else { Ok(()) }
+}
+
 // Whether c is outside 3 to 8.
+#[tactic(auto, unfolding(polygons::specs::Polygons::bad_count))]
 fn bad_count(c: usize) -> bool
     ensures { result ≡ bad_count c }
 {
-    if c < 3 {
-        return true;
-    }
-    c > 8
+    c < 3 || c > 8
 }
 
 // Whether a side count is outside 3 to 8, or their sum is not the number of corners. It stops as soon as the sum passes that number.
@@ -102,131 +88,84 @@ fn bad_sides(sides: &[u8], corners: usize) -> bool
     ensures { result ≡ bad_sides sides.now corners }
 {
     let mut left = corners;
-    let mut f = 0;
-    while f < sides.len() {
-        let c = sides[f] as usize;
-        if bad_count(c) {
-            return true;
-        }
-        if left < c {
+    for side in sides {
+        let c = *side as usize;
+        if bad_count(c) || left < c {
             return true;
         }
         left -= c;
-        f += 1;
     }
     left != 0
 }
 
-// Refusal 14 of side counts; without them refusal 2 of the face table; or 0.
-fn test_corners(sides: &[u8], corners: usize) -> u32
-    ensures { corners_verdict sides.now corners ≡ limits_of result }
+// Refusal 14 of side counts; without them refusal 2 of the face table.
+fn test_corners(sides: &[u8], corners: usize) -> Result<(), Reason>
+    ensures { corners_verdict sides.now corners ≡ reason_of result }
 {
-    if sides.len() == 0 {
-        if corners % 4 != 0 {
-            return 2;
-        }
-        return 0;
+    if sides.is_empty() {
+        refuse_if(corners % 4 != 0, Reason::InvalidLengths)
+    } else {
+        refuse_if(bad_sides(sides, corners), Reason::InvalidSideCounts)
     }
-    if bad_sides(sides, corners) {
-        return 14;
-    }
-    0
 }
 
-// Refusal 2 or 14, or 0.
-fn test_tables(sides: &[u8], n: Lengths) -> u32
-    ensures { tables_verdict n.coordinates n.corners sides.now n.marks ≡ limits_of result }
+// Refusal 2 or 14.
+#[tactic(auto, unfolding(verdict::specs::Verdict::tables_verdict))]
+fn test_tables(sides: &[u8], n: Lengths) -> Result<(), Reason>
+    ensures { tables_verdict n.coordinates n.corners sides.now n.marks ≡ reason_of result }
 {
-    if n.coordinates % 3 != 0 {
-        return 2;
-    }
-    let corners = test_corners(sides, n.corners);
-    if corners != 0 {
-        return corners;
-    }
-    if n.marks != n.coordinates / 3 {
-        return 2;
-    }
-    0
+    refuse_if(n.coordinates % 3 != 0, Reason::InvalidLengths)?;
+    test_corners(sides, n.corners)?;
+    refuse_if(n.marks != n.coordinates / 3, Reason::InvalidLengths)
 }
 
-// Refusal 3 for v vertices, f faces and g refined faces, or 0.
-fn test_size(v: usize, f: usize, g: usize) -> u32
-    ensures { size_verdict v f g ≡ limits_of result }
+// Refusal 3 for v vertices, f faces and g refined faces.
+#[tactic(auto, unfolding(verdict::specs::Verdict::size_verdict))]
+fn test_size(v: usize, f: usize, g: usize) -> Result<(), Reason>
+    ensures { size_verdict v f g ≡ reason_of result }
 {
-    if v > bounds::MAX_VERTICES {
-        return 3;
-    }
-    if f > bounds::MAX_FACES {
-        return 3;
-    }
-    if g > bounds::MAX_REFINED_FACES {
-        return 3;
-    }
-    0
+    refuse_if(v > bounds::MAX_VERTICES, Reason::NetTooLarge)?;
+    refuse_if(f > bounds::MAX_FACES, Reason::NetTooLarge)?;
+    refuse_if(g > bounds::MAX_REFINED_FACES, Reason::NetTooLarge)
 }
 
-// Whether letters are asked for, and their table is shorter than the least.
-fn letters_short(n: Lengths, least: usize) -> bool
-    ensures { result ≡ (n.with_letters && ltb n.letters least) }
+// Whether a table is shorter than the least, the letter table where letters are asked for.
+fn shorter(room: Room, least: Room) -> bool
+    ensures { result ≡ shorter (room_in room) (room_in least) }
 {
-    n.with_letters && n.letters < least
+    room.vertices < least.vertices
+        || room.faces < least.faces
+        || room.marks < least.marks
+        || (room.with_letters && room.letters < least.letters)
+        || room.work < least.work
 }
 
-// Refusal 4 for g refined faces, or 0.
-fn test_room(g: usize, n: Lengths) -> u32
+// Refusal 4 for g refined faces.
+#[tactic(auto, unfolding(verdict::specs::Verdict::room_verdict))]
+fn test_room(g: usize, room: Room) -> Result<(), Reason>
     requires { g ≤ max_product }
-    ensures { room_verdict g (lengths_in n).room ≡ limits_of result }
+    ensures { room_verdict g (room_in room) ≡ reason_of result }
 {
-    let least = needed(g);
-    if n.out_vertices < least.vertices {
-        return 4;
-    }
-    if n.out_faces < least.faces {
-        return 4;
-    }
-    if n.out_marks < least.marks {
-        return 4;
-    }
-    if letters_short(n, least.letters) {
-        return 4;
-    }
-    if n.work < least.work {
-        return 4;
-    }
-    0
+    refuse_if(shorter(room, needed(g)), Reason::TableTooShort)
 }
 
-// The first of refusals 1 to 4 and 14 that holds, or 0.
-pub fn limits(rounds: u32, sides: &[u8], n: Lengths) -> u32
-    ensures { limits_verdict rounds sides.now (lengths_in n) ≡ limits_of result }
+// The first of refusals 1 to 4 and 14 that holds.
+#[tactic(auto, unfolding(verdict::specs::Verdict::limits_verdict))]
+pub fn limits(rounds: u32, sides: &[u8], n: Lengths) -> Result<(), Reason>
+    ensures { limits_verdict rounds sides.now (lengths_in n) ≡ reason_of result }
 {
-    if rounds > bounds::MAX_ROUNDS {
-        return 1;
-    }
-    let tables = test_tables(sides, n);
-    if tables != 0 {
-        return tables;
-    }
+    refuse_if(rounds > bounds::MAX_ROUNDS, Reason::TooManyRounds)?;
+    test_tables(sides, n)?;
     let f = quadrilaterals(sides, n.corners);
     let g = final_faces(rounds, f);
-    let size = test_size(n.coordinates / 3, f, g);
-    if size != 0 {
-        return size;
-    }
-    test_room(g, n)
+    test_size(n.coordinates / 3, f, g)?;
+    test_room(g, n.room)
 }
 
-// The first of refusals 1 to 4, 14 and 16 that holds, or 0.
-pub fn call_fault(rounds: u32, sides: &[u8], n: Lengths, tension: u32) -> u32
-    ensures { or_else (limits_verdict rounds sides.now (lengths_in n)) (refused_if 16 (ltb 4 tension)) ≡ limits_of result }
+// The first of refusals 1 to 4, 14 and 16 that holds.
+pub fn call_fault(rounds: u32, sides: &[u8], n: Lengths, tension: u32) -> Result<(), Reason>
+    ensures { or_else (limits_verdict rounds sides.now (lengths_in n)) (refused_if 16 (ltb 4 tension)) ≡ reason_of result }
 {
-    let limit = limits(rounds, sides, n);
-    if limit != 0 {
-        return limit;
-    }
-    if tension > 4 {
-        return 16;
-    }
-    0
+    limits(rounds, sides, n)?;
+    refuse_if(tension > 4, Reason::TensionOutOfRange)
 }

@@ -10,7 +10,6 @@ use Rattle.lists.proofs.Tabulate.{length-tabulate, get_or-tabulate, tabulate_con
 use Rattle.curve.specs.Curve.{Point}
 use Rattle.nets.specs.Net.{axis}
 use Rattle.nets.specs.Moved.{on_axis, moved_vertices}
-use Rattle.nets.proofs.Examples
 
 module _ (s : Point) where
   pub moved_length : (vs : List ℤ) → length (moved_vertices s vs) ≡ length vs

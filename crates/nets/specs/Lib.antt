@@ -1,3 +1,4 @@
 pub mod Net
 pub mod Buffers
 pub mod Moved
+pub mod Drawn
