@@ -1,12 +1,13 @@
 -- Laws of letters that are put right along the boundary. Assumes nothing.
 use mathlib.Core.Path.{◌≡◌, refl, sym, ap, ◌∙◌, subst}
-use mathlib.Core.Bool.{true}
+use mathlib.Core.Bool.{Bool, true}
 use mathlib.Core.List.{List}
 use Prim.Native.Nat.{ℕ, ◌+◌, ◌-◌, ◌*◌, ◌≤◌, ◌<◌}
 use native.Mathlib.Decide.{dec_lt, ℕ_discrete}
 use native.Mathlib.Omega.{arith}
-use borrow.Author.Tests.{lt-ltb}
-use lib.ListN.{length, get_or, set}
+use lib.Dec.{leb}
+use borrow.Author.Tests.{lt-ltb, leb-true}
+use lib.ListN.{length, get_or, set, length-set}
 use lib.Seq.{get_or-set_same, get_or-set_other}
 use Rattle.topology.specs.Shape.{quads}
 use Rattle.topology.specs.HalfEdge.{mate, edge_count, edge}
@@ -26,15 +27,19 @@ use Rattle.letters.proofs.Letters.{across_face, across_twice, face_named, bounda
 
 -- ---- the entry of a half-edge
 module _ (l marks w s : List ℕ) (ok : Nameable l marks w s) (h : ℕ) (k : h < length l) where
-  pub on_boundary : boundary_flag ≤ entry_of (length l) w h → OnBoundary quads l h
+  on_boundary : boundary_flag ≤ entry_of (length l) w h → OnBoundary quads l h
   on_boundary b = record { lt = k; none = go (dec_lt (mate quads l h) (length l)) }
     where
       go : Dec (mate quads l h < length l) → mate quads l h ≡ length l
       go (yes m) = let c = ok.inner h k m in let z : ⊥ = omega arith in absurd z
       go (no m) = omega (arith, mate-le quads l h)
 
-  pub edge_place : length marks + edge_of (entry_of (length l) w h) ≡ length marks + edge quads l h
-  edge_place = ap (λ (e : ℕ). length marks + e) (ok.numbered h k)
+  -- as its entry e tells by a test b
+  pub tested_boundary : (e : ℕ) (b : Bool) → e ≡ entry_of (length l) w h → b ≡ leb boundary_flag e → b ≡ true → OnBoundary quads l h
+  tested_boundary e b p q t = let f = leb-true boundary_flag e (sym q ∙ t) in on_boundary (omega arith)
+
+  pub edge_place : (e p : ℕ) → e ≡ entry_of (length l) w h → p ≡ edge_of e → length marks + p ≡ length marks + edge quads l h
+  edge_place e p q r = ap (λ (i : ℕ). length marks + i) (r ∙ ap edge_of q ∙ ok.numbered h k)
 
 -- ---- tables put right
 -- only letters that are right have changed, and that at p is right
@@ -54,16 +59,6 @@ module _ (l marks : List ℕ) where
       go : (g i : ℕ) → a ≤ g → g < e → OnBoundary quads l g → Touches l marks g i → Dec (g < b) → get_or s₂ i 0 ≡ new_letter l marks i
       go g i p q o t (yes k) = y.kept i (x.touched g i p k o t)
       go g i p q o t (no k) = y.touched g i (omega arith) q o t
-
-  pub put_four_lem : (h : ℕ) (s s₁ s₂ s₃ s₄ : List ℕ) → Corrected l marks h (h + 1) s s₁ → Corrected l marks (h + 1) (h + 1 + 1) s₁ s₂ → Corrected l marks (h + 2) (h + 2 + 1) s₂ s₃
-      → Corrected l marks (h + 3) (h + 3 + 1) s₃ s₄ → Corrected l marks h (h + 4) s s₄
-  put_four_lem h s s₁ s₂ s₃ s₄ x y z u =
-      let a : h + 1 + 1 ≡ h + 2 = omega arith in
-      let b : h + 2 + 1 ≡ h + 3 = omega arith in
-      let c : h + 3 + 1 ≡ h + 4 = omega arith in
-      put_then h (h + 3) (h + 4) s s₃ s₄
-      (put_then h (h + 2) (h + 3) s s₂ s₃ (put_then h (h + 1) (h + 2) s s₁ s₂ x (subst (λ (e : ℕ). Corrected l marks (h + 1) e s₁ s₂) a y)) (subst (λ (e : ℕ). Corrected l marks (h + 2) e s₂ s₃) b z))
-      (subst (λ (e : ℕ). Corrected l marks (h + 3) e s₃ s₄) c u)
 
   -- one letter
   put_one : (h p x : ℕ) (s : List ℕ) → length marks ≤ p → p < refined_vertices quads (length marks) l → p < length s → x ≡ new_letter l marks p → Put l marks h p s (set s p x)
@@ -116,24 +111,38 @@ module _ (l marks : List ℕ) where
         rw z (subst (λ (i : ℕ). Put l marks h i s₁ (set s₁ (first + f) (face_letter l f))) p
         (put_one h (first + f) (face_letter l f) s₁ (omega arith) (omega arith) (omega arith) (sym (ap (λ (i : ℕ). new_letter l marks (i + f)) e ∙ face_named l marks f))))
 
-  module _ (h : ℕ) (s s₁ s₂ : List ℕ) (x : Put l marks h (length marks + edge quads l h) s s₁) (y : Put l marks h (face_place h) s₁ s₂) where
-    near : Corrected l marks h h s s₂
-    near = put_then h h h s s₁ s₂ x.changed y.changed
+  -- the letters of the edge and of the face of h are right
+  pub record Near (h : ℕ) (s s' : List ℕ) : Type 0 where
+    pub changed : Corrected l marks h h s s'
+    pub edge : get_or s' (length marks + edge quads l h) 0 ≡ new_letter l marks (length marks + edge quads l h)
+    pub face : get_or s' (face_place h) 0 ≡ new_letter l marks (face_place h)
 
+  pub near : (w s : List ℕ) → Nameable l marks w s → (h p x first f : ℕ) (s₂ : List ℕ) → OnBoundary quads l h → p ≡ length marks + edge quads l h → x ≡ letter_of (made_by (edge_case (edge_rule l marks h)))
+      → first ≡ length marks + edge_count quads l → f ≡ quads.face h → s₂ ≡ set (set s p x) (first + f) (face_letter l f) → Near h s s₂
+  near w s ok h p x first f s₂ o ep ex e q z =
+      let u = put-edge w s ok h p x o ep ex in
+      let v = put_face w s ok h first h f (set s p x) s₂ e o.lt q (length-set s p x) z in
+      record {
+        changed = put_then h h h s (set s p x) s₂ u.changed v.changed;
+        edge = v.changed.kept _ u.right;
+        face = v.right;
+      }
+
+  module _ (h : ℕ) (s s₂ : List ℕ) (x : Near h s s₂) where
     pub side-alone : length l ≤ mate quads l (across h) → Corrected l marks h (h + 1) s s₂
-    side-alone m = put-side h s s₂ near go
+    side-alone m = put-side h s s₂ x.changed go
       where
         go : (i : ℕ) → Touches l marks h i → get_or s₂ i 0 ≡ new_letter l marks i
-        go i (on_edge e) = rw e (y.changed.kept _ x.right)
-        go i (in_face e) = rw e y.right
+        go i (on_edge e) = rw e x.edge
+        go i (in_face e) = rw e x.face
         go i (in_far_face b e) = let z : ⊥ = omega arith in absurd z
 
     pub side_and_far : (g : ℕ) (s₃ : List ℕ) → g ≡ mate quads l (across h) → Put l marks h (face_place g) s₂ s₃ → Corrected l marks h (h + 1) s s₃
-    side_and_far g s₃ eg z = put-side h s s₃ (put_then h h h s s₂ s₃ near z.changed) go
+    side_and_far g s₃ eg z = put-side h s s₃ (put_then h h h s s₂ s₃ x.changed z.changed) go
       where
         go : (i : ℕ) → Touches l marks h i → get_or s₃ i 0 ≡ new_letter l marks i
-        go i (on_edge e) = rw e (z.changed.kept _ (y.changed.kept _ x.right))
-        go i (in_face e) = rw e (z.changed.kept _ y.right)
+        go i (on_edge e) = rw e (z.changed.kept _ x.edge)
+        go i (in_face e) = rw e (z.changed.kept _ x.face)
         go i (in_far_face b e) = rw (e, ← eg) z.right
 
 -- ---- all letters right: those that no boundary half-edge touches were right before

@@ -2,7 +2,6 @@
 #![tactic(auto)]
 
 ghost use Rattle.std.specs.Prelude.{◌≡◌, true, ℕ, ◌+◌, ◌≤◌, ◌<◌, length, set};
-ghost use Rattle.tables.specs.Tables.{Written};
 ghost use Rattle.topology.specs.Shape.{quads};
 ghost use Rattle.topology.specs.HalfEdge.{edge_count};
 ghost use Rattle.refinedfaces.specs.Refined.{refined_vertices};
@@ -11,26 +10,14 @@ ghost use Rattle.edgeentries.specs.Entry.{boundary_flag, entry_of};
 ghost use Rattle.pointletters.specs.FaceLetter.{face_letter};
 ghost use Rattle.letters.specs.Letters.{start_letter, new_letter, Corrected, Nameable, WrittenIf};
 
-// Writes one letter from the place `first` up to `end`.
-fn fill(letters: &mut [u8], first: usize, end: usize, letter: u8)
-    requires { (first ≤ end) × (end ≤ length letters.old) }
-    ensures { Written first end (λ (i : ℕ). letter) letters.old letters.new }
-{
-    let mut i = first;
-    while i < end {
-        letters[i] = letter;
-        i += 1;
-    }
-}
-
 // Writes the letters of the vertices where refining begins, where they are asked for: the first are drawn, and the others made by the split.
 pub fn name_start(with_letters: bool, letters: &mut [u8], control: usize, start: usize)
     requires { with_letters ≡ true → (control ≤ start) × (start ≤ length letters.old) }
     ensures { WrittenIf with_letters 0 start (start_letter control) letters.old letters.new }
 {
     if with_letters {
-        fill(&mut *letters, 0, control, b'V');
-        fill(&mut *letters, control, start, b'S');
+        letters[..control].fill(b'V');
+        letters[control..start].fill(b'S');
     }
 }
 
@@ -67,16 +54,7 @@ fn inner_sides(work: &[u32], n: usize, h: usize) -> bool
     requires { n + h + 4 ≤ length work.now }
     ensures { result ≡ true → (k : ℕ) → h ≤ k → k < h + 4 → entry_of n work.now k < boundary_flag }
 {
-    if edgeentries::is_boundary(edgeentries::entry_at(work, n, h)) {
-        return false;
-    }
-    if edgeentries::is_boundary(edgeentries::entry_at(work, n, h + 1)) {
-        return false;
-    }
-    if edgeentries::is_boundary(edgeentries::entry_at(work, n, h + 2)) {
-        return false;
-    }
-    !edgeentries::is_boundary(edgeentries::entry_at(work, n, h + 3))
+    (h..h + 4).all(|k| !edgeentries::is_boundary(edgeentries::entry_at(work, n, k)))
 }
 
 // Puts right what the four sides from h on touch; most faces have none on the boundary.
@@ -88,10 +66,9 @@ fn name_sides(letters: &mut [u8], faces: &[u32], marks: &[u8], work: &[u32], fir
     if inner_sides(work, faces.len(), h) {
         return;
     }
-    name_side(&mut *letters, faces, marks, work, first, h);
-    name_side(&mut *letters, faces, marks, work, first, h + 1);
-    name_side(&mut *letters, faces, marks, work, first, h + 2);
-    name_side(&mut *letters, faces, marks, work, first, h + 3);
+    for k in h..h + 4 {
+        name_side(&mut *letters, faces, marks, work, first, k);
+    }
 }
 
 // Puts right what the boundary touches, where `first` is the place of the first face.
@@ -100,10 +77,8 @@ fn name_boundary(letters: &mut [u8], faces: &[u32], marks: &[u8], work: &[u32], 
     requires first_value { first ≡ length marks.now + edge_count quads faces.now }
     ensures { Corrected faces.now marks.now 0 (length faces.now) letters.old letters.new }
 {
-    let mut h = 0;
-    while h < faces.len() {
-        name_sides(&mut *letters, faces, marks, work, first, h);
-        h += 4;
+    for f in 0..faces.len() / 4 {
+        name_sides(&mut *letters, faces, marks, work, first, 4 * f);
     }
 }
 
@@ -122,8 +97,8 @@ pub fn name_points(
     if with_letters {
         let first = marks.len() + edges;
         let end = first + faces.len() / 4;
-        fill(&mut *letters, marks.len(), first, b'C');
-        fill(&mut *letters, first, end, b'D');
+        letters[marks.len()..first].fill(b'C');
+        letters[first..end].fill(b'D');
         name_boundary(&mut *letters, faces, marks, work, first);
     }
 }

@@ -42,10 +42,6 @@ module _ (l : List ℕ) (made : AfterRound l) where
   later_length = ap length made.is ∙ length-refined quads made.vertices made.before
 
 -- what the next round makes of it: the mate of side 0 of the refined face g, which is no side 0 itself and has the mate m
-pub next_other : (n g m : ℕ) → Facing n g m → m < n → 0 < g % 4 → 4 * quads.next m + 3 ≡ 4 * m + 7
-unfolding quads
-next_other n g m ok b c = let e = ok.opposite b in omega arith
-
 -- ---- a family
 -- the mates x and y of the two halves of a side of face p: both in earlier families, or both in later ones or none
 pub data Halves (p x y : ℕ) : Type 0 where

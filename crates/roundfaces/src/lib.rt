@@ -42,9 +42,5 @@ pub fn extend_marks(marks: &mut [u8], v: usize, count: usize)
     requires { (v ≤ count) × (count ≤ length marks.old) }
     ensures { marks.new ≡ filled (extended v count marks.old) marks.old }
 {
-    let mut p = v;
-    while p < count {
-        marks[p] = 0;
-        p += 1;
-    }
+    marks[v..count].fill(0);
 }

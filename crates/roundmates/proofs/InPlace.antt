@@ -5,12 +5,9 @@ use Prim.Native.Nat.{ℕ, ◌+◌, ◌-◌, ◌*◌, ◌/◌, ◌%◌, ◌≤◌
 use native.Mathlib.Omega.{arith}
 use lib.ListN.{length, get_or, take}
 use lib.Seq.{length-take-le, get_or-take}
-use borrow.Author.Tests.{lt-ltb}
 use Rattle.search.proofs.Quarters.{below_four}
 use Rattle.topology.specs.Shape.{Shape, quads}
 use Rattle.topology.proofs.Shape.{four_sides}
-use Rattle.refinedfaces.specs.Families.{Facing}
-use Rattle.refinedfaces.proofs.Families.{next_other}
 use Rattle.refinedfaces.specs.Mates.{refined_mate, refined_mates}
 use Rattle.tables.specs.Tables.{filled, put_four, Written}
 use Rattle.tables.proofs.Written.{written_as, written_face, Refining, refining_all}
@@ -68,10 +65,3 @@ module _ (n : ℕ) (w : List ℕ) (ok : MatesIn n w) where
       let r = ok.room in
       let m = length-take-le n w (omega arith) in
       rw m (refining_all n (λ (k : ℕ). refined_mate quads n (λ (h : ℕ). get_or (take n w) h 0) (k / 4) (k % 4)) w u f r z x)
-
--- ---- in a net that a round made
-
--- sides 1 and 2
-pub first_inner : (n g m : ℕ) → Facing n g m → 0 < g % 4 → g % 4 < 3 → first_mate n m ≡ 4 * m + 7
-unfolding first_mate
-first_inner n g m ok a b = let i = ok.inner a b in let t = lt-ltb m n i in rw t (next_other n g m ok i a)

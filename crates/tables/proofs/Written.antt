@@ -4,8 +4,11 @@ use mathlib.Core.List.{List}
 use Prim.Native.Nat.{ℕ, ◌+◌, ◌-◌, ◌*◌, ◌/◌, ◌%◌, ◌≤◌, ◌<◌}
 use native.Mathlib.Decide.{dec_lt}
 use native.Mathlib.Omega.{arith}
-use lib.ListN.{length, get_or, set, length-set}
+use lib.ListN.{length, get_or, set, take, drop, replicate, length-set}
 use lib.Seq.{get_or-set_same, get_or-set_other}
+use borrow.Rule.Slice.PartMut.{put_mid}
+use Rattle.std.proofs.Common.{rules}
+use Rattle.std.proofs.lemmas.List.{places}
 use Rattle.lists.specs.Tabulate.{tabulate}
 use Rattle.lists.proofs.Tabulate.{length-tabulate, get_or-tabulate}
 use Rattle.lists.proofs.Parts.{joined}
@@ -55,6 +58,14 @@ written_one i f w x h e = record {
   inside = λ k l g. let p : k ≡ i = omega arith in rw p (get_or-set_same w i x 0 h ∙ e);
   behind = λ k l. get_or-set_other w i k x 0 (omega arith);
 }
+
+-- after `w[a..e].fill(x)`, where k is e - a
+pub written_fill : (a e k x : ℕ) (w ys : List ℕ) → a + k ≡ e → e ≤ length w → ys ≡ replicate (length (take k (drop a w))) x → Written a e (λ (i : ℕ). x) w (put_mid a k w ys)
+written_fill a e k x w ys h b p = rw p (record {
+  before = λ i l. search (rules, places);
+  inside = λ i l g. search (rules, places);
+  behind = λ i l. search (rules, places);
+})
 
 pub length_four : (w : List ℕ) (i a b c d : ℕ) → length (put_four w i a b c d) ≡ length w
 unfolding put_four

@@ -7,6 +7,8 @@ use lib.ListN.{length}
 use Rattle.topology.specs.Shape.{quads}
 use Rattle.topology.specs.HalfEdge.{edge_count}
 use Rattle.refinedfaces.specs.Refined.{refined_vertices}
+use Rattle.std.proofs.Common.{rules}
+use Rattle.tables.proofs.Written.{written_fill}
 use Rattle.letters.specs.Letters.{Nameable}
 use Rattle.letters.proofs.Letters.{if_asked}
 use Rattle.letters.proofs.Boundary.{points-named}
@@ -25,15 +27,17 @@ places faces marks work letters edges p e =
     let r = p.room in
     record { nameable = p; first = omega arith; end = omega arith; room = omega arith }
 
-pub fill-requires-then-with_letters : goal.fill-requires-then-with_letters
-fill-requires-then-with_letters c =
+pub slice_bounds-fill-end-then-with_letters : goal.slice_bounds-fill-end-then-with_letters
+slice_bounds-fill-end-then-with_letters c =
     let p = c.requires c.if-with_letters.true in
     let r = (places _ _ _ _ _ p.0 p.1).room in
-    (omega arith, omega (arith, c.fill.auto.letters))
+    search rules
 
 pub returns-then-with_letters : goal.returns-then-with_letters
 returns-then-with_letters c =
     let h = c.requires c.if-with_letters.true in
     let p = places _ _ _ _ _ h.0 h.1 in
     if_asked c.args.with_letters _ _ _ _ _ c.if-with_letters.true
-    (points-named _ _ p.nameable.net c.fill-then-with_letters.new.letters _ c.name_boundary.ensures _ _ _ c.fill.new.letters p.first p.end c.fill.ensures c.fill-then-with_letters.ensures)
+    (points-named _ _ p.nameable.net _ _ c.name_boundary.ensures _ _ _ _ p.first p.end
+    (written_fill _ _ _ 67 _ _ (search rules) (search rules) (c.fill.ensures.after (search rules)))
+    (written_fill _ _ _ 68 _ _ (search rules) (search rules) (c.fill-then-with_letters.ensures.after (search rules))))

@@ -7,7 +7,4 @@ use Rattle.tables.proofs.Written.{Refining}
 use Rattle.roundmates.proofs.refine_mates.Given as goal
 
 abbrev pub invariant-loop-f : goal.invariant-loop-f
-invariant-loop-f l = Refining l.n (λ (k : ℕ). refined_mate quads l.n (λ (h : ℕ). get_or (take l.n l.initial.work) h 0) (k / 4) (k % 4)) l.initial.work l.work l.f
-
-abbrev pub decreases-loop-f : goal.decreases-loop-f
-decreases-loop-f l = l.f
+invariant-loop-f g l = Refining l.n (λ (k : ℕ). refined_mate quads l.n (λ (h : ℕ). get_or (take l.n l.initial.work) h 0) (k / 4) (k % 4)) l.initial.work l.work l.f
