@@ -117,7 +117,7 @@ module _ (l w : List ℕ) (j : ℕ) (ok : CornersBelow (length l) l) (r : 3 * le
   }
 
 -- all heads are none
-chained_none : (l w : List ℕ) → ((v : ℕ) → v < length l → get_or w (length l + v) 0 ≡ length l) → Chained l w (length l)
+pub chained_none : (l w : List ℕ) → ((v : ℕ) → v < length l → get_or w (length l + v) 0 ≡ length l) → Chained l w (length l)
 chained_none l w f = record {
   heads = λ v h. f v h ∙ sym (chain_end l v);
   nexts = λ g a b. let z : ⊥ = omega arith in absurd z;
@@ -147,6 +147,12 @@ tables_kept s l w w' m h e d t = record {
 pub tables_lawful : (s l w : List ℕ) → Tables s l w → Lawful (shape_of s) (length l)
 tables_lawful s l w t = shape_lawful s (length l) t.shaped.space.sided
 
+pub next_within : (s l w : List ℕ) (g : ℕ) → Tables s l w → g < length l → (shape_of s).next g < length l
+next_within s l w g t b = (tables_lawful s l w t).next_lt g b
+
+pub prev_within : (s l w : List ℕ) (g : ℕ) → Tables s l w → g < length l → (shape_of s).prev g < length l
+prev_within s l w g t b = (tables_lawful s l w t).prev_lt g b
+
 -- ---- corners in range
 
 pub corners_below_le : (u v : ℕ) (l : List ℕ) → u ≤ v → CornersBelow u l → CornersBelow v l
@@ -156,13 +162,6 @@ corners_below_le u v l h r = record { below = λ g a. omega (arith, r.below g a)
 pub corners_below_if : (S : Shape) (v : ℕ) (l : List ℕ) → first (bad_corner S v l) (length l) ≡ length l → CornersBelow v l
 unfolding bad_corner from
 corners_below_if S v l e = record { below = λ g h. leb-false v (get_or l g 0) (or_left (leb v (get_or l g 0)) _ (first_before (bad_corner S v l) (length l) g (omega arith))) }
-
--- ---- the heads below v are none
-pub record Cleared (l w : List ℕ) (v : ℕ) : Type 0 where
-  pub none : (u : ℕ) → u < v → get_or w (length l + u) 0 ≡ length l
-
-pub cleared_all : (l w : List ℕ) (v : ℕ) → length l ≤ v → Cleared l w v → Chained l w (length l)
-cleared_all l w v b c = chained_none l w (λ u h. c.none u (omega arith))
 
 -- ---- a walk along the chain of v, in search of a half-edge that passes q
 

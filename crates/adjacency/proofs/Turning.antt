@@ -2,6 +2,7 @@
 use mathlib.Core.Path.{◌≡◌, refl, sym, ap, ◌∙◌}
 use mathlib.Core.Bool.{true, false}
 use mathlib.Core.List.{List}
+use mathlib.Core.Logic.{◌⊎◌, inl, inr}
 use Prim.Native.Nat.{ℕ, suc, ◌+◌, ◌≤◌, ◌<◌}
 use native.Mathlib.Numerals.{add-one}
 use native.Mathlib.Omega.{arith}
@@ -35,15 +36,11 @@ module _ (S : Shape) (l : List ℕ) (h k g r : ℕ) (t : Turned S l h k g) (e : 
   unfolding faces_met
   met b s = add-one k ∙ ap suc (passed_hit (stops S l h) (length l) k t.passed b s)
 
-  -- no face
-  pub met_none : k < length l → r ≡ length l → k + 1 ≡ faces_met S l h
+  -- no face, or back at h
+  pub met_end : k < length l → (r ≡ length l) ⊎ ((r ≡ length l → ⊥) × (r ≡ h)) → k + 1 ≡ faces_met S l h
   unfolding stops
-  met_none b n = let z = eq-eqb (turns S l (suc k) h) (length l) (sym next_turns ∙ n) in met b (rw z)
-
-  -- back at h
-  pub met_back : k < length l → r ≡ h → k + 1 ≡ faces_met S l h
-  unfolding stops
-  met_back b n = met b (or_on (eqb (turns S l (suc k) h) (length l)) _ (eq-eqb (turns S l (suc k) h) h (sym next_turns ∙ n)))
+  met_end b (inl n) = let z = eq-eqb (turns S l (suc k) h) (length l) (sym next_turns ∙ n) in met b (rw z)
+  met_end b (inr n) = met b (or_on (eqb (turns S l (suc k) h) (length l)) _ (eq-eqb (turns S l (suc k) h) h (sym next_turns ∙ n.1)))
 
   pub turned_next : (r ≡ length l → ⊥) → (r ≡ h → ⊥) → Turned S l h (k + 1) r
   unfolding stops

@@ -2,7 +2,7 @@
 // mate to mate.
 #![tactic(auto)]
 
-ghost use Rattle.std.specs.Prelude.{◌≡◌, ◌*◌, ◌≤◌, ◌<◌, length, drop, eqb};
+ghost use Rattle.std.specs.Prelude.{◌≡◌, ◌*◌, ◌≤◌, ◌<◌, length, get_or, drop, eqb};
 ghost use Rattle.search.specs.Search.{first};
 ghost use Rattle.topology.specs.HalfEdge.{mate};
 ghost use Rattle.topology.specs.Vertex.{faces_met};
@@ -20,11 +20,7 @@ fn clear_chains(faces: &[u32], sides: &[u8], work: &mut [u32])
     ensures same_outside { SameOutside (length faces.now) (2 * length faces.now) work.old work.new }
 {
     let n = faces.len();
-    let mut v = 0;
-    while v < n {
-        work[n + v] = n as u32;
-        v += 1;
-    }
+    work[n..2 * n].fill(n as u32);
 }
 
 // Builds the chains: each half-edge, from the last to the first, goes to the front of the chain of its vertex.
@@ -35,26 +31,34 @@ pub fn build_chains(faces: &[u32], sides: &[u8], work: &mut [u32])
 {
     clear_chains(faces, sides, &mut *work);
     let n = faces.len();
-    let mut h = n;
-    while h > 0 {
-        h -= 1;
+    for h in (0..n).rev() {
         let a = faces[h] as usize;
         work[2 * n + h] = work[n + a];
         work[n + a] = h as u32;
     }
 }
 
+// The vertex that the half-edge g enters.
+#[tactic(auto, using(crate::proofs::Chains::next_within))]
+pub fn entered(faces: &[u32], sides: &[u8], work: &[u32], g: usize) -> usize
+    requires tables { Tables sides.now faces.now work.now }
+    requires g_in_bounds { g < length faces.now }
+    ensures { result ≡ get_or faces.now ((shape_of sides.now).next g) 0 }
+{
+    faces[sidetable::next_in(sides, work, faces.len(), g)] as usize
+}
+
 // The first half-edge from the vertex a to the vertex b, or the number of half-edges.
-fn find_side(faces: &[u32], sides: &[u8], work: &[u32], a: u32, b: u32) -> usize
+fn find_side(faces: &[u32], sides: &[u8], work: &[u32], a: usize, b: usize) -> usize
     requires tables { Tables sides.now faces.now work.now }
     requires chained { Chained faces.now work.now 0 }
     requires a_in_bounds { a < length faces.now }
     ensures { result ≡ first (side (shape_of sides.now) faces.now a b) (length faces.now) }
 {
     let n = faces.len();
-    let mut g = work[n + a as usize] as usize;
+    let mut g = work[n + a] as usize;
     while g < n {
-        if faces[sidetable::next_in(sides, work, n, g)] == b {
+        if entered(faces, sides, work, g) == b {
             return g;
         }
         g = work[2 * n + g] as usize;
@@ -69,8 +73,8 @@ fn find_mate(faces: &[u32], sides: &[u8], work: &[u32], h: usize) -> usize
     requires h_in_bounds { h < length faces.now }
     ensures { result ≡ mate (shape_of sides.now) faces.now h }
 {
-    let b = faces[sidetable::next_in(sides, work, faces.len(), h)];
-    find_side(faces, sides, work, b, faces[h])
+    let a = entered(faces, sides, work, h);
+    find_side(faces, sides, work, a, faces[h] as usize)
 }
 
 // Writes the mate of each half-edge; the chains must be there and stay.
@@ -81,10 +85,8 @@ pub fn build_mates(faces: &[u32], sides: &[u8], work: &mut [u32])
     ensures work_unchanged { drop (length faces.now) work.new ≡ drop (length faces.now) work.old }
 {
     let n = faces.len();
-    let mut h = 0;
-    while h < n {
+    for h in 0..n {
         work[h] = find_mate(faces, sides, &*work, h) as u32;
-        h += 1;
     }
 }
 
@@ -124,15 +126,10 @@ pub fn meets_all(faces: &[u32], sides: &[u8], work: &[u32], h: usize, d: u16) ->
 {
     let n = faces.len();
     let mut g = h;
-    let mut k: u16 = 0;
-    while k < d {
+    for k in 0..d {
         g = sidetable::turn_in(faces, sides, work, g);
-        k += 1;
-        if g == n {
-            return k == d;
-        }
-        if g == h {
-            return k == d;
+        if g == n || g == h {
+            return k + 1 == d;
         }
     }
     false

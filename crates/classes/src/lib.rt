@@ -15,15 +15,17 @@ fn size_at(work: &[u32], i: usize) -> u16
 }
 
 // What half-edge h counts for the vertex that it leaves: 1, and 2 more on the boundary.
+#[tactic(auto, unfolding(ringsizes::specs::Classes::share_of))]
 fn share(faces: &[u32], work: &[u32], h: usize) -> u16
     requires connectivity { Connectivity faces.now work.now }
     requires h_in_bounds { h < length faces.now }
     ensures { result ≡ share_of faces.now h }
 {
     if halfedges::mate_side(faces, work, h) < faces.len() {
-        return 1;
+        1
+    } else {
+        3
     }
-    3
 }
 
 // Counts half-edge h for the vertex that it leaves.
@@ -45,20 +47,16 @@ pub fn count_ring_sizes(faces: &[u32], work: &mut [u32], at: usize, v: usize)
     ensures same_outside { SameOutside at (at + v) work.old work.new }
 {
     tables::clear_from(&mut *work, at, v);
-    let mut h = 0;
-    while h < faces.len() {
+    for h in 0..faces.len() {
         count_side(faces, &mut *work, at, v, h);
-        h += 1;
     }
 }
 
 // Whether the table says that vertex p is ordinary.
+#[tactic(auto, unfolding(ringsizes::specs::Classes::ordinary_by))]
 pub fn is_ordinary(work: &[u32], at: usize, initial: usize, p: usize) -> bool
     requires { at + initial ≤ length work.now }
     ensures { result ≡ ordinary_by work.now at initial p }
 {
-    if p < initial {
-        return size_at(work, at + p) == 4;
-    }
-    true
+    initial <= p || size_at(work, at + p) == 4
 }

@@ -13,10 +13,8 @@ fn edge_count(mates: &[u32]) -> usize
     ensures { result ≡ edge_count_by mates.now }
 {
     let mut edges: u32 = 0;
-    let mut h = 0;
-    while h < mates.len() {
-        edges += ((h as u32) < mates[h]) as u32;
-        h += 1;
+    for (h, mate) in mates.iter().enumerate() {
+        edges += u32::from((h as u32) < *mate);
     }
     edges as usize
 }
@@ -31,14 +29,12 @@ fn vertices_after(v: usize, edges: usize, faces: usize, corners: usize, steps: u
     let mut e = edges;
     let mut f = faces;
     let mut n = corners;
-    let mut k = 0;
-    while k < steps {
+    for _k in 0..steps {
         let refined = 4 * n;
         vertices = vertices + e + f;
         e = 2 * e + n;
         f = n;
         n = refined;
-        k += 1;
     }
     vertices
 }

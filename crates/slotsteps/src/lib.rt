@@ -9,25 +9,14 @@ ghost use Rattle.topology.specs.HalfEdge.{mate};
 ghost use Rattle.adjacency.specs.Chains.{side, Tables};
 ghost use Rattle.slotsteps.specs.Slots.{slot_of, SlotTables, Slots, Served, Putting, Taking, Lesser};
 
-// The vertex that the half-edge g enters.
-fn entered(faces: &[u32], sides: &[u8], work: &[u32], g: usize) -> usize
-    requires tables { Tables sides.now faces.now work.now }
-    requires g_in_bounds { g < length faces.now }
-    ensures { result ≡ get_or faces.now ((shape_of sides.now).next g) 0 }
-{
-    faces[sidetable::next_in(sides, work, faces.len(), g)] as usize
-}
-
 // Whether the half-edge g runs from the vertex a to the vertex b.
+#[tactic(auto, unfolding(adjacency::specs::Chains::side, topology::specs::HalfEdge::from, topology::specs::HalfEdge::to))]
 fn runs(faces: &[u32], sides: &[u8], work: &[u32], g: usize, a: usize, b: usize) -> bool
     requires tables { Tables sides.now faces.now work.now }
     requires g_in_bounds { g < length faces.now }
     ensures { result ≡ side (shape_of sides.now) faces.now a b g }
 {
-    if faces[g] as usize == a {
-        return entered(faces, sides, work, g) == b;
-    }
-    false
+    faces[g] as usize == a && adjacency::entered(faces, sides, work, g) == b
 }
 
 // What stands in the slot of the vertex b.
@@ -42,12 +31,7 @@ fn slot_of(faces: &[u32], work: &[u32], b: usize) -> usize
 fn lesser(s: usize, g: usize, bad: usize) -> usize
     ensures { Lesser s g bad result }
 {
-    if s < g {
-        if g < bad {
-            return g;
-        }
-    }
-    bad
+    if s < g { bad.min(g) } else { bad }
 }
 
 // Puts the half-edge g, which leaves the vertex a, into the slot of the vertex that it enters, unless an earlier one from a is there.
@@ -66,7 +50,7 @@ pub fn put_slot(
     ensures putting_2 { Putting (shape_of sides.now) nv faces.now work.new a (g + 1) result }
     ensures same_outside { SameOutside (3 * length faces.now) (4 * length faces.now) work.old work.new }
 {
-    let b = entered(faces, sides, &*work, g);
+    let b = adjacency::entered(faces, sides, &*work, g);
     let s = slot_of(faces, &*work, b);
     if runs(faces, sides, &*work, s, a, b) {
         return lesser(s, g, bad);
@@ -92,6 +76,7 @@ fn served_mate(faces: &[u32], sides: &[u8], nv: usize, work: &[u32], a: usize, p
 }
 
 // Writes the mate of the half-edge before g, which leaves the vertex a.
+#[tactic(auto, using(adjacency::proofs::Chains::prev_within))]
 pub fn take_slot(faces: &[u32], sides: &[u8], nv: usize, work: &mut [u32], a: usize, g: usize)
     requires slot_tables { SlotTables nv sides.now faces.now work.old }
     requires slots { Slots (shape_of sides.now) nv faces.now work.old }

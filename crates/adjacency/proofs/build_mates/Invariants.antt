@@ -1,5 +1,4 @@
 -- `build_mates` meets its contract: the mates of the half-edges below h are written. Assumes nothing.
-use Prim.Native.Nat.{◌-◌, ◌≤◌}
 use mathlib.Core.Path.{◌≡◌}
 use lib.ListN.{length, drop}
 use Rattle.polygons.specs.Polygons.{shape_of}
@@ -7,7 +6,4 @@ use Rattle.adjacency.proofs.Chains.{MatedBelow}
 use Rattle.adjacency.proofs.build_mates.Given as goal
 
 abbrev pub invariant-loop-h : goal.invariant-loop-h
-invariant-loop-h l = (l.h ≤ length l.faces) × (length l.work ≡ length l.initial.work) × MatedBelow (shape_of l.sides) l.faces l.work l.h × (drop (length l.faces) l.work ≡ drop (length l.faces) l.initial.work)
-
-abbrev pub decreases-loop-h : goal.decreases-loop-h
-decreases-loop-h l = length l.faces - l.h
+invariant-loop-h l = MatedBelow (shape_of l.sides) l.faces l.work l.h × (drop (length l.faces) l.work ≡ drop (length l.faces) l.initial.work)

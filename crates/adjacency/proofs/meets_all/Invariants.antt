@@ -1,11 +1,7 @@
 -- `meets_all` meets its contract: k turns from h lead to g, and turning has not stopped before. Assumes nothing.
-use Prim.Native.Nat.{◌-◌, ◌≤◌}
 use Rattle.polygons.specs.Polygons.{shape_of}
 use Rattle.adjacency.proofs.Turning.{Turned}
 use Rattle.adjacency.proofs.meets_all.Given as goal
 
 abbrev pub invariant-loop-k : goal.invariant-loop-k
-invariant-loop-k l = (l.k ≤ l.d) × Turned (shape_of l.sides) l.faces l.h l.k l.g
-
-abbrev pub decreases-loop-k : goal.decreases-loop-k
-decreases-loop-k l = l.d - l.k
+invariant-loop-k l = Turned (shape_of l.sides) l.faces l.h l.k l.g

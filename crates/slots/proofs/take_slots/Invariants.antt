@@ -8,7 +8,7 @@ use Rattle.slotsteps.specs.Slots.{Taking}
 use Rattle.slots.proofs.take_slots.Given as goal
 
 abbrev pub invariant-loop-g : goal.invariant-loop-g
-invariant-loop-g l = (length l.work ≡ length l.initial.work) × OnChain l.faces l.a l.g × Taking (shape_of l.sides) l.faces l.work l.a l.g × (drop (length l.faces) l.work ≡ drop (length l.faces) l.initial.work)
+invariant-loop-g l = OnChain l.faces l.a l.g × Taking (shape_of l.sides) l.faces l.work l.a l.g × (drop (length l.faces) l.work ≡ drop (length l.faces) l.initial.work)
 
 abbrev pub decreases-loop-g : goal.decreases-loop-g
 decreases-loop-g l = length l.faces - l.g

@@ -1,6 +1,5 @@
 -- `count_faces` meets its contract: the half-edges from h on are counted. Assumes nothing.
 use Prim.Native.Nat.{◌*◌}
-use mathlib.Core.Path.{◌≡◌, refl, ◌∙◌}
 use native.Mathlib.Omega.{arith}
 use lib.ListN.{length}
 use Rattle.polygons.specs.Polygons.{shape_of}
@@ -20,8 +19,6 @@ loop-h-init c =
     let l = c.args.faces.now in
     let w = c.clear_from.new.work in
     let t = tables in (
-      omega arith,
-      refl,
       countable c.args.nv c.args.sides.now l w t (mates_kept c.args.nv c.args.sides.now l c.args.work.now w c.clear_from.auto.work outside c.requires.mate_table_of),
       counted_none (shape_of c.args.sides.now) l c.args.nv w c.requires.slot_tables.fewer c.clear_from.ensures.zeros_from t.chains,
       same_outside _ _ _,
@@ -32,18 +29,14 @@ loop-h-preserved c =
     let l = c.args.faces.now in
     let inv = c.loop-h.invariant in
     let w = c.count_side.new.work in
-    let k = c.count_side.auto.work in
     let o = c.count_side.ensures.same_outside in (
-      omega arith,
-      k ∙ inv.1,
-      countable_kept c.args.nv c.args.sides.now l c.loop-h.work w k o inv.2,
+      countable_kept c.args.nv c.args.sides.now l c.loop-h.work w c.count_side.auto.work o inv.0,
       c.count_side.ensures.counted_from,
-      outside_then _ _ _ _ _ _ _ (omega arith) (omega arith) o inv.4,
+      outside_then _ _ _ _ _ _ _ (omega arith) (omega arith) o inv.2,
     )
 
 pub returns-clause-same_outside : goal.returns-clause-same_outside
 returns-clause-same_outside c =
     let slots_outside : (let n = length c.args.faces.now in SameOutside (3 * n) (4 * n) c.args.work.now c.clear_from.new.work) = outside_wider _ _ _ _ _ _ (omega arith) (omega (arith, c.requires.slot_tables.fewer)) c.clear_from.ensures.same_outside in
     let outside : (let n = length c.args.faces.now in SameOutside n (4 * n) c.args.work.now c.clear_from.new.work) = outside_wider _ _ _ _ _ _ (omega arith) (omega arith) slots_outside in
-    let inv = c.loop-h.invariant in
-    let z : c.loop-h.h ≡ 0 = omega arith in outside_then _ _ _ _ _ _ _ (omega arith) (omega arith) inv.4 outside
+    outside_then _ _ _ _ _ _ _ (omega arith) (omega arith) c.loop-h.invariant.2 outside
