@@ -116,7 +116,6 @@ module _ (w : List ℕ) (i a b c d : ℕ) where
 
 -- ---- the loop: of the faces of the split those below h are written over the front of o
 pub record Splitting (S : Shape) (v : ℕ) (l o u : List ℕ) (h : ℕ) : Type 0 where
-  pub le : h ≤ length l
   pub kept : length u ≡ length o
   pub done : (k : ℕ) → k < 4 * h → get_or u k 0 ≡ corner S v l (k / 4) (k % 4)
   pub rest : (k : ℕ) → 4 * h ≤ k → get_or u k 0 ≡ get_or o k 0
@@ -127,7 +126,6 @@ module _ (S : Shape) (v : ℕ) (l o : List ℕ) where
   splitting_next u u' h b r x e =
       let q = x.kept in
       record {
-        le = omega arith;
         kept = ap length e ∙ length_four u (4 * h) (corner S v l h 0) (corner S v l h 1) (corner S v l h 2) (corner S v l h 3) ∙ x.kept;
         done = λ k c. at (λ (y : List ℕ). get_or y k 0) e ∙ go k c (dec_lt k (4 * h));
         rest = λ k c. at (λ (y : List ℕ). get_or y k 0) e ∙ other k (λ j i z. omega arith) ∙ x.rest k (omega arith);

@@ -45,10 +45,7 @@ pub fn split_faces(
     requires { NumberedFaces sides.now faces.now work.now v edges out.old }
     ensures { out.new ≡ filled (refined (shape_of sides.now) v faces.now) out.old }
 {
-    let n = faces.len();
-    let mut h = 0;
-    while h < n {
+    for h in 0..faces.len() {
         split_face(faces, sides, work, &mut *out, v, edges, h);
-        h += 1;
     }
 }

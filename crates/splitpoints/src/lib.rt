@@ -33,9 +33,7 @@ pub fn put_midpoint(points: &mut [i32], i: usize, p: usize, q: usize)
     ensures { points.new ≡ put_point points.old i (midpoint_on points.old p q 0)
         (midpoint_on points.old p q 1) (midpoint_on points.old p q 2) }
 {
-    let x = midpoint(&*points, p, q, 0);
-    let y = midpoint(&*points, p, q, 1);
-    let z = midpoint(&*points, p, q, 2);
+    let [x, y, z]: [i32; 3] = std::array::from_fn(|a| midpoint(&*points, p, q, a));
     coordinates::put_point(&mut *points, i, x, y, z);
 }
 
@@ -45,11 +43,9 @@ fn corner_sum(points: &[i32], faces: &[u32], h: usize, c: usize, a: usize) -> i6
     ensures { result ≡ sum c (corner_on points.now faces.now h a) }
 {
     let mut total: i64 = 0;
-    let mut k = 0;
-    while k < c {
+    for k in 0..c {
         let v = halfedges::start_of(faces, h + k);
-        total = total + coordinates::coordinate(points, v, a);
-        k += 1;
+        total += coordinates::coordinate(points, v, a);
     }
     total
 }
@@ -70,8 +66,6 @@ pub fn put_mean(points: &mut [i32], faces: &[u32], i: usize, h: usize, c: usize)
     ensures { points.new ≡ put_point points.old i (mean_on points.old faces.now h c 0)
         (mean_on points.old faces.now h c 1) (mean_on points.old faces.now h c 2) }
 {
-    let x = mean(&*points, faces, h, c, 0);
-    let y = mean(&*points, faces, h, c, 1);
-    let z = mean(&*points, faces, h, c, 2);
+    let [x, y, z]: [i32; 3] = std::array::from_fn(|a| mean(&*points, faces, h, c, a));
     coordinates::put_point(&mut *points, i, x, y, z);
 }

@@ -39,12 +39,9 @@ fn edge_points(points: &mut [i32], faces: &[u32], sides: &[u8], work: &[u32], v:
     ensures value { result ≡ edge_count (shape_of sides.now) faces.now }
     ensures made { Made sides.now faces.now v points.old points.new (v + result) }
 {
-    let n = faces.len();
     let mut edges = 0;
-    let mut h = 0;
-    while h < n {
+    for h in 0..faces.len() {
         edges = edge_side(&mut *points, faces, sides, work, v, h, edges);
-        h += 1;
     }
     edges
 }
@@ -58,12 +55,10 @@ fn face_points(points: &mut [i32], faces: &[u32], sides: &[u8], v: usize, edges:
 {
     let first = v + edges;
     let mut a = 0;
-    let mut f = 0;
-    while f < sides.len() {
-        let c = sides[f] as usize;
+    for (f, count) in sides.iter().enumerate() {
+        let c = *count as usize;
         splitpoints::put_mean(&mut *points, faces, first + f, a, c);
         a += c;
-        f += 1;
     }
 }
 

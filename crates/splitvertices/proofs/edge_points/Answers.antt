@@ -2,7 +2,6 @@
 use mathlib.Core.Path.{◌≡◌, refl, ap, ◌∙◌, subst}
 use Prim.Native.Nat.{◌+◌}
 use native.Mathlib.Omega.{arith}
-use lib.ListN.{length}
 use Rattle.search.specs.Search.{count}
 use Rattle.topology.specs.HalfEdge.{first_met, edge_count}
 use Rattle.polygons.specs.Polygons.{shape_of}
@@ -16,25 +15,22 @@ loop-h-init c =
     let l = c.args.faces.now in
     let p = c.args.points.now in
     let z : c.args.v ≡ c.args.v + 0 = omega arith in
-    (omega arith, refl, subst (Made c.args.sides.now l c.args.v p p) z (made_none c.args.sides.now l c.args.v p c.requires.splittable))
+    (refl, subst (Made c.args.sides.now l c.args.v p p) z (made_none c.args.sides.now l c.args.v p c.requires.splittable))
 
 pub edge_side-edges-requires : goal.edge_side-edges-requires
 edge_side-edges-requires c =
     turn_in c.args.sides.now c.args.faces.now c.args.v c.args.points.now c.requires.splittable c.args.work.now c.requires.linked
-    c.loop-h.points c.loop-h.edges c.loop-h.h c.loop-h.invariant.2 c.loop-h-test.true c.loop-h.invariant.1
+    c.loop-h.points c.loop-h.edges c.loop-h.h c.loop-h.invariant.1 c.loop-h-test.true c.loop-h.invariant.0
 
 pub loop-h-preserved : goal.loop-h-preserved
 loop-h-preserved c =
     let i = c.loop-h.invariant in (
-      omega arith,
       turned_count c.args.sides.now c.args.faces.now c.args.v c.args.points.now c.requires.splittable c.args.work.now c.requires.linked
-          c.loop-h.points c.loop-h.edges c.loop-h.h i.2 c.loop-h-test.true i.1 _ _ c.edge_side-edges.ensures,
+          c.loop-h.points c.loop-h.edges c.loop-h.h i.1 c.loop-h-test.true i.0 _ _ c.edge_side-edges.ensures,
       turned_made c.args.sides.now c.args.faces.now c.args.v c.args.points.now c.requires.splittable c.args.work.now c.requires.linked
-          c.loop-h.points c.loop-h.edges c.loop-h.h i.2 c.loop-h-test.true i.1 _ _ c.edge_side-edges.ensures,
+          c.loop-h.points c.loop-h.edges c.loop-h.h i.1 c.loop-h-test.true i.0 _ _ c.edge_side-edges.ensures,
     )
 
 pub returns-clause-value : goal.returns-clause-value
 unfolding edge_count
-returns-clause-value c =
-    let i = c.loop-h.invariant in
-    let e : c.loop-h.h ≡ length c.args.faces.now = (let a = i.0 in let b = c.loop-h-test.false in omega arith) in i.1 ∙ ap (count (first_met (shape_of c.args.sides.now) c.args.faces.now)) e
+returns-clause-value c = c.loop-h.invariant.0 ∙ ap (count (first_met (shape_of c.args.sides.now) c.args.faces.now)) (omega arith)

@@ -1,7 +1,6 @@
 -- `edge_points` meets its contract: the midpoints of the edges met before h are made. Assumes nothing.
 use mathlib.Core.Path.{◌≡◌}
-use Prim.Native.Nat.{◌+◌, ◌-◌, ◌≤◌}
-use lib.ListN.{length}
+use Prim.Native.Nat.{◌+◌}
 use Rattle.search.specs.Search.{count}
 use Rattle.topology.specs.HalfEdge.{first_met}
 use Rattle.polygons.specs.Polygons.{shape_of}
@@ -10,7 +9,4 @@ use Rattle.splitvertices.proofs.edge_points.Given as goal
 
 abbrev pub invariant-loop-h : goal.invariant-loop-h
 invariant-loop-h l =
-    (l.h ≤ length l.faces) × (l.edges ≡ count (first_met (shape_of l.sides) l.faces) l.h) × Made l.sides l.faces l.v l.initial.points l.points (l.v + l.edges)
-
-abbrev pub decreases-loop-h : goal.decreases-loop-h
-decreases-loop-h l = length l.faces - l.h
+    (l.edges ≡ count (first_met (shape_of l.sides) l.faces) l.h) × Made l.sides l.faces l.v l.initial.points l.points (l.v + l.edges)
