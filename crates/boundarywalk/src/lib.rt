@@ -14,16 +14,12 @@ pub fn boundary_from(faces: &[u32], sides: &[u8], work: &[u32], p: usize) -> usi
     ensures { result ≡ boundary_from (shape_of sides.now) faces.now p }
 {
     let n = faces.len();
-    let mut h = 0;
-    while h < n {
-        if sidetable::mate_in(faces, sides, work, h) == n {
-            if faces[h] as usize == p {
-                return h;
-            }
+    for h in 0..n {
+        if sidetable::mate_in(faces, sides, work, h) == n && faces[h] as usize == p {
+            return h;
         }
-        h += 1;
     }
-    h
+    n
 }
 
 // The boundary half-edge after h the way the sides run, or none.
@@ -34,14 +30,12 @@ pub fn along_in(faces: &[u32], sides: &[u8], work: &[u32], h: usize) -> usize
 {
     let n = faces.len();
     let mut g = sidetable::next_in(sides, work, n, h);
-    let mut i: u16 = 0;
-    while i < 6 {
+    for _turns in 0..6usize {
         let m = sidetable::mate_in(faces, sides, work, g);
         if m == n {
             return g;
         }
         g = sidetable::next_in(sides, work, n, m);
-        i += 1;
     }
     n
 }
@@ -54,14 +48,12 @@ pub fn back_in(faces: &[u32], sides: &[u8], work: &[u32], h: usize) -> usize
 {
     let n = faces.len();
     let mut g = h;
-    let mut i: u16 = 0;
-    while i < 6 {
+    for _turns in 0..6usize {
         let m = sidetable::turn_in(faces, sides, work, g);
         if m == n {
             return sidetable::prev_in(sides, work, n, g);
         }
         g = m;
-        i += 1;
     }
     n
 }
@@ -97,14 +89,12 @@ pub fn walk_to_mark(
 {
     let n = faces.len();
     let mut g = h;
-    let mut k: usize = 0;
-    while k < n {
+    for k in 0..n {
         g = step_in(faces, sides, &*work, g, against);
         work[at + k] = faces[g];
-        k += 1;
         if marks[faces[g] as usize] == 1 {
-            return k;
+            return k + 1;
         }
     }
-    k
+    n
 }

@@ -21,14 +21,12 @@ pub fn fan_start(faces: &[u32], work: &[u32], h: usize) -> Start
 {
     let n = faces.len();
     let mut g = h;
-    let mut i: usize = 0;
-    while i < 6 {
+    for i in 0..6 {
         let m = halfedges::mate_side(faces, work, g);
         if m == n {
             return Start { side: g, place: i };
         }
         g = halfedges::next_side(m);
-        i += 1;
     }
     Start { side: n, place: 0 }
 }
@@ -39,8 +37,7 @@ pub fn along_side(faces: &[u32], work: &[u32], h: usize) -> usize
     requires h_in_bounds { h < length faces.now }
     ensures { result ≡ along quads faces.now h }
 {
-    let s = fan_start(faces, work, halfedges::next_side(h));
-    s.side
+    fan_start(faces, work, halfedges::next_side(h)).side
 }
 
 // The boundary half-edge that enters the vertex of h, or none, found by turning from h.
@@ -51,14 +48,12 @@ pub fn back_side(faces: &[u32], work: &[u32], h: usize) -> usize
 {
     let n = faces.len();
     let mut g = h;
-    let mut i: u16 = 0;
-    while i < 6 {
+    for _turns in 0..6usize {
         let m = halfedges::turn_side(faces, work, g);
         if m == n {
             return halfedges::prev_side(g);
         }
         g = m;
-        i += 1;
     }
     n
 }

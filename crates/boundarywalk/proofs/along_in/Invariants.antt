@@ -4,8 +4,5 @@ use Rattle.polygons.specs.Polygons.{shape_of}
 use Rattle.walks.proofs.Unwinding.{Unwinding}
 use Rattle.boundarywalk.proofs.along_in.Given as goal
 
-abbrev pub invariant-loop-i : goal.invariant-loop-i
-invariant-loop-i l = (l.i ≤ 6) × Unwinding (shape_of l.sides) l.faces ((shape_of l.sides).next l.h) l.g l.i
-
-abbrev pub decreases-loop-i : goal.decreases-loop-i
-decreases-loop-i l = 6 - l.i
+abbrev pub invariant-loop-turns : goal.invariant-loop-turns
+invariant-loop-turns l = Unwinding (shape_of l.sides) l.faces ((shape_of l.sides).next l.h) l.g l._turns

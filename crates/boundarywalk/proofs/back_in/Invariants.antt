@@ -4,8 +4,5 @@ use Rattle.polygons.specs.Polygons.{shape_of}
 use Rattle.walks.proofs.Winding.{Winding}
 use Rattle.boundarywalk.proofs.back_in.Given as goal
 
-abbrev pub invariant-loop-i : goal.invariant-loop-i
-invariant-loop-i l = (l.i ≤ 6) × Winding (shape_of l.sides) l.faces l.h l.g l.i
-
-abbrev pub decreases-loop-i : goal.decreases-loop-i
-decreases-loop-i l = 6 - l.i
+abbrev pub invariant-loop-turns : goal.invariant-loop-turns
+invariant-loop-turns l = Winding (shape_of l.sides) l.faces l.h l.g l._turns

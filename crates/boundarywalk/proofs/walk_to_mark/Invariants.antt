@@ -6,6 +6,3 @@ use Rattle.boundarywalk.proofs.walk_to_mark.Given as goal
 
 abbrev pub invariant-loop-k : goal.invariant-loop-k
 invariant-loop-k l = Walking l.sides l.faces l.marks l.initial.work l.h l.against l.at l.work l.g l.k
-
-abbrev pub decreases-loop-k : goal.decreases-loop-k
-decreases-loop-k l = length l.faces - l.k

@@ -9,4 +9,4 @@ use Rattle.walks.proofs.along_side.Goals as goal
 pub returns : goal.returns
 unfolding along to
 returns c =
-    c.fan_start-s.ensures.side ∙ ap (λ (g : ℕ). boundary_from quads c.args.faces.now (from c.args.faces.now g)) c.next_side.ensures
+    c.fan_start.ensures.side ∙ ap (λ (g : ℕ). boundary_from quads c.args.faces.now (from c.args.faces.now g)) c.next_side.ensures

@@ -11,7 +11,7 @@ use Rattle.walks.proofs.Unwinding.{unwinding_start, unwinding_step, unwinding_hi
 use Rattle.walks.proofs.fan_start.Goals as goal
 
 pub loop-i-init : goal.loop-i-init
-loop-i-init c = let r = c.requires.ready in (omega arith, unwinding_start quads r.vertices c.args.faces.now r.net c.args.h c.requires.h_in_bounds)
+loop-i-init c = let r = c.requires.ready in (unwinding_start quads r.vertices c.args.faces.now r.net c.args.h c.requires.h_in_bounds)
 
 pub returns-then-m-n : goal.returns-then-m-n
 unfolding fan_place
@@ -19,8 +19,8 @@ returns-then-m-n c =
     let r = c.requires.ready in
     let e = sym c.mate_side-m.ensures ∙ c.if-m-n.true in
     record {
-      side = unwinding_hit quads r.vertices c.args.faces.now r.net c.args.h c.requires.h_in_bounds c.loop-i.g c.loop-i.i c.loop-i.invariant.1 e;
-      place = unwinding_place quads r.vertices c.args.faces.now r.net c.args.h c.requires.h_in_bounds c.loop-i.g c.loop-i.i c.loop-i.invariant.1 e;
+      side = unwinding_hit quads r.vertices c.args.faces.now r.net c.args.h c.requires.h_in_bounds c.loop-i.g c.loop-i.i c.loop-i.invariant e;
+      place = unwinding_place quads r.vertices c.args.faces.now r.net c.args.h c.requires.h_in_bounds c.loop-i.g c.loop-i.i c.loop-i.invariant e;
     }
 
 pub next_side-g-requires : goal.next_side-g-requires
@@ -39,10 +39,10 @@ loop-i-preserved c =
     let m = c.mate_side-m.ensures in
     let e : c.next_side-g.result ≡ quads.next (mate quads c.args.faces.now c.loop-i.g) = c.next_side-g.ensures ∙ ap quads.next m in
     let b : mate quads c.args.faces.now c.loop-i.g < length c.args.faces.now = subst (λ (x : ℕ). x < length c.args.faces.now) m mated in
-    (omega arith, rw e (unwinding_step quads r.vertices c.args.faces.now r.net c.args.h c.requires.h_in_bounds c.loop-i.g c.loop-i.i c.loop-i.invariant.1 b))
+    (rw e (unwinding_step quads r.vertices c.args.faces.now r.net c.args.h c.requires.h_in_bounds c.loop-i.g c.loop-i.i c.loop-i.invariant b))
 
 pub returns : goal.returns
 returns c =
     let r = c.requires.ready in
-    let e = unwinding_end quads r.vertices c.args.faces.now r.net c.args.h c.requires.h_in_bounds c.loop-i.g c.loop-i.i c.loop-i.invariant.1 (omega arith) in
+    let e = unwinding_end quads r.vertices c.args.faces.now r.net c.args.h c.requires.h_in_bounds c.loop-i.g c.loop-i.i c.loop-i.invariant (omega arith) in
     record { side = e; place = λ o. absurd (omega arith) }

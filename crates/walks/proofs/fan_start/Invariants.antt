@@ -5,7 +5,4 @@ use Rattle.walks.proofs.Unwinding.{Unwinding}
 use Rattle.walks.proofs.fan_start.Given as goal
 
 abbrev pub invariant-loop-i : goal.invariant-loop-i
-invariant-loop-i l = (l.i ≤ 6) × Unwinding quads l.faces l.h l.g l.i
-
-abbrev pub decreases-loop-i : goal.decreases-loop-i
-decreases-loop-i l = 6 - l.i
+invariant-loop-i l = Unwinding quads l.faces l.h l.g l.i
