@@ -1,5 +1,4 @@
 -- `along_in` meets its contract: the walk ends at the first half-edge of the fan, which has at most six. Assumes nothing.
-use Prim.Native.Nat.{◌-◌, ◌≤◌}
 use Rattle.polygons.specs.Polygons.{shape_of}
 use Rattle.walks.proofs.Unwinding.{Unwinding}
 use Rattle.boundarywalk.proofs.along_in.Given as goal

@@ -1,5 +1,4 @@
 -- `back_in` meets its contract: the walk ends at the last half-edge of the fan, which has at most six. Assumes nothing.
-use Prim.Native.Nat.{◌-◌, ◌≤◌}
 use Rattle.polygons.specs.Polygons.{shape_of}
 use Rattle.walks.proofs.Winding.{Winding}
 use Rattle.boundarywalk.proofs.back_in.Given as goal

@@ -1,5 +1,5 @@
 -- `boundary_from` meets its contract: no boundary half-edge below h leaves the vertex. Assumes nothing.
-use mathlib.Core.Path.{◌≡◌, sym, ap, ◌∙◌}
+use mathlib.Core.Path.{◌≡◌, sym, ◌∙◌}
 use native.Mathlib.Omega.{arith}
 use lib.ListN.{length}
 use Rattle.search.proofs.Tests.{refuted}

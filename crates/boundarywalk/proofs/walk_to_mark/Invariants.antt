@@ -1,6 +1,4 @@
 -- `walk_to_mark` meets its contract: the next mark comes within as many steps as there are half-edges. Assumes nothing.
-use Prim.Native.Nat.{◌-◌}
-use lib.ListN.{length}
 use Rattle.boundarywalk.proofs.Walking.{Walking}
 use Rattle.boundarywalk.proofs.walk_to_mark.Given as goal
 

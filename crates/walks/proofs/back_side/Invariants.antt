@@ -1,5 +1,4 @@
 -- `back_side` meets its contract: the walk ends at the last half-edge of the fan, which has at most six. Assumes nothing.
-use Prim.Native.Nat.{◌-◌, ◌≤◌}
 use Rattle.topology.specs.Shape.{quads}
 use Rattle.walks.proofs.Winding.{Winding}
 use Rattle.walks.proofs.back_side.Given as goal

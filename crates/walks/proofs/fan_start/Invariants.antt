@@ -1,5 +1,4 @@
 -- `fan_start` meets its contract: the walk ends at the first half-edge of the fan, which has at most six. Assumes nothing.
-use Prim.Native.Nat.{◌-◌, ◌≤◌}
 use Rattle.topology.specs.Shape.{quads}
 use Rattle.walks.proofs.Unwinding.{Unwinding}
 use Rattle.walks.proofs.fan_start.Given as goal
