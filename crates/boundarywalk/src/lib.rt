@@ -3,71 +3,70 @@
 
 ghost use Rattle.std.specs.Prelude.{◌≡◌, ℕ, suc, ◌+◌, ◌-◌, ◌<◌, length};
 ghost use Rattle.topology.specs.HalfEdge.{from};
-ghost use Rattle.topology.specs.Boundary.{boundary_from, along, back, boundary_step};
+ghost use Rattle.topology.specs.Boundary.{boundary_from, boundary_step};
 ghost use Rattle.tables.specs.Tables.{Written};
 ghost use Rattle.polygons.specs.Polygons.{shape_of};
+ghost use Rattle.sidetable.specs.Table.{Linked};
 ghost use Rattle.boundarywalk.specs.Walkable.{Walkable, way_of, stepped, edges_to, ListRoom, StartsAtMark};
 
+use walks::HalfEdges;
+
+// The corners and the side counts of a net, and the work table that has its mates and its shape.
+#[derive(Clone, Copy)]
+pub struct Drawn<'a> {
+    pub faces: &'a [u32],
+    pub sides: &'a [u8],
+    pub work: &'a [u32],
+}
+
+impl<'a> HalfEdges for Drawn<'a> {
+    ghost shape = { λ s. shape_of s.sides.now };
+
+    ghost corners = { λ s. s.faces.now };
+
+    ghost told = { λ s. Linked s.sides.now s.faces.now s.work.now };
+
+    fn count(&self) -> usize {
+        self.faces.len()
+    }
+
+    fn next(&self, h: usize) -> usize {
+        sidetable::next_in(self.sides, self.work, self.faces.len(), h)
+    }
+
+    fn prev(&self, h: usize) -> usize {
+        sidetable::prev_in(self.sides, self.work, self.faces.len(), h)
+    }
+
+    fn mate(&self, h: usize) -> usize {
+        sidetable::mate_in(self.faces, self.sides, self.work, h)
+    }
+}
+
 // The boundary half-edge that leaves the vertex p, or none.
-pub fn boundary_from(faces: &[u32], sides: &[u8], work: &[u32], p: usize) -> usize
-    requires { Walkable sides.now faces.now work.now }
-    ensures { result ≡ boundary_from (shape_of sides.now) faces.now p }
+pub fn boundary_from(net: Drawn<'_>, p: usize) -> usize
+    requires { Walkable net.sides.now net.faces.now net.work.now }
+    ensures { result ≡ boundary_from (shape_of net.entry.sides.now) net.entry.faces.now p }
 {
-    let n = faces.len();
+    let n = net.faces.len();
     for h in 0..n {
-        if sidetable::mate_in(faces, sides, work, h) == n && faces[h] as usize == p {
+        if net.mate(h) == n && net.faces[h] as usize == p {
             return h;
         }
     }
     n
 }
 
-// The boundary half-edge after h the way the sides run, or none.
-pub fn along_in(faces: &[u32], sides: &[u8], work: &[u32], h: usize) -> usize
-    requires walkable { Walkable sides.now faces.now work.now }
-    requires h_in_bounds { h < length faces.now }
-    ensures { result ≡ along (shape_of sides.now) faces.now h }
-{
-    let n = faces.len();
-    let mut g = sidetable::next_in(sides, work, n, h);
-    for _turns in 0..6usize {
-        let m = sidetable::mate_in(faces, sides, work, g);
-        if m == n {
-            return g;
-        }
-        g = sidetable::next_in(sides, work, n, m);
-    }
-    n
-}
-
-// The boundary half-edge that enters the vertex of h, or none, found by turning from h.
-pub fn back_in(faces: &[u32], sides: &[u8], work: &[u32], h: usize) -> usize
-    requires walkable { Walkable sides.now faces.now work.now }
-    requires h_in_bounds { h < length faces.now }
-    ensures { result ≡ back (shape_of sides.now) faces.now h }
-{
-    let n = faces.len();
-    let mut g = h;
-    for _turns in 0..6usize {
-        let m = sidetable::turn_in(faces, sides, work, g);
-        if m == n {
-            return sidetable::prev_in(sides, work, n, g);
-        }
-        g = m;
-    }
-    n
-}
-
 // One step along the boundary, or against it.
-pub fn step_in(faces: &[u32], sides: &[u8], work: &[u32], h: usize, against: bool) -> usize
-    requires walkable { Walkable sides.now faces.now work.now }
-    requires h_in_bounds { h < length faces.now }
-    ensures { result ≡ boundary_step (shape_of sides.now) faces.now (way_of against) h }
+pub fn step_in(net: Drawn<'_>, h: usize, against: bool) -> usize
+    requires walkable { Walkable net.sides.now net.faces.now net.work.now }
+    requires h_in_bounds { h < length net.faces.now }
+    ensures { result ≡ boundary_step (shape_of net.entry.sides.now) net.entry.faces.now (way_of against) h }
 {
     if against {
-        return back_in(faces, sides, work, h);
+        return walks::back(&net, h);
     }
-    along_in(faces, sides, work, h)
+    walks::along(&net, h)
 }
 
 // Walks from the boundary half-edge h to the next mark, writes the vertices met after its start, the mark last, to the work table from the place `at` on, and gives their
@@ -90,7 +89,15 @@ pub fn walk_to_mark(
     let n = faces.len();
     let mut g = h;
     for k in 0..n {
-        g = step_in(faces, sides, &*work, g, against);
+        g = step_in(
+            Drawn {
+                faces,
+                sides,
+                work: &*work,
+            },
+            g,
+            against,
+        );
         work[at + k] = faces[g];
         if marks[faces[g] as usize] == 1 {
             return k + 1;

@@ -6,6 +6,8 @@ ghost use Rattle.bounds.specs.Bounds.{max_vertices};
 ghost use Rattle.seamtest.specs.SeamTest.{same_axis, same_vertex};
 ghost use Rattle.comparison.specs.Walks.{Pair, walks, first_apart, Comparable};
 
+use boundarywalk::Drawn;
+
 // Whether vertex u of one table and vertex v of another agree on an axis.
 fn same_axis(a: &[i32], u: usize, b: &[i32], v: usize, axis: usize) -> bool
     requires { (u < max_vertices) × (v < max_vertices) × (axis < 3) × (3 * u + axis < length a.now) × (3 * v + axis < length b.now) }
@@ -19,19 +21,10 @@ fn same_vertex(a: &[i32], marks_a: &[u8], u: usize, b: &[i32], marks_b: &[u8], v
     requires { Pair a.now marks_a.now u b.now marks_b.now v }
     ensures { result ≡ same_vertex a.now marks_a.now u b.now marks_b.now v }
 {
-    if !same_axis(a, u, b, v, 0) {
-        return false;
-    }
-    if !same_axis(a, u, b, v, 1) {
-        return false;
-    }
-    if !same_axis(a, u, b, v, 2) {
-        return false;
-    }
-    if marks_a[u] == 1 {
-        return marks_b[v] == 1;
-    }
-    marks_b[v] != 1
+    same_axis(a, u, b, v, 0)
+        && same_axis(a, u, b, v, 1)
+        && same_axis(a, u, b, v, 2)
+        && (marks_a[u] == 1) == (marks_b[v] == 1)
 }
 
 // The first step at which two walks differ, or one more than the edges of both: the first starts with the half-edge `half`, the second at the vertex `start_b`, and
@@ -63,19 +56,17 @@ pub fn first_apart(
         return 0;
     }
     let mut g = half;
-    let mut k: usize = 0;
-    while k < e {
-        g = boundarywalk::along_in(faces, sides, work, g);
+    for k in 0..e {
+        g = walks::along(&Drawn { faces, sides, work }, g);
         let u = faces[g] as usize;
         let v = work[at + k] as usize;
-        k += 1;
         if !same_vertex(vertices, marks, u, vertices_b, marks_b, v) {
-            return k;
+            return k + 1;
         }
         // the end of the first segment
         if marks[u] == 1 {
-            return k + 1;
+            return k + 2;
         }
     }
-    k + 1
+    e + 1
 }

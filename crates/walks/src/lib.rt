@@ -1,10 +1,67 @@
-// Walks round the vertices of a net and along its boundary, on the caller's tables of corners and mates. The number of half-edges stands for 'none'.
+// Walks round the vertices of a net and along its boundary, over any tables that tell mates and steps round faces. The number of half-edges stands for 'none'.
 #![tactic(auto)]
 
-ghost use Rattle.std.specs.Prelude.{◌≡◌, ◌<◌, length};
-ghost use Rattle.topology.specs.Shape.{quads};
+ghost use Rattle.std.specs.Prelude.{◌≡◌, List, ℕ, ◌<◌, length};
+ghost use Rattle.topology.specs.Shape.{Shape, quads};
+ghost use Rattle.topology.specs.HalfEdge.{mate};
 ghost use Rattle.topology.specs.Boundary.{along, back};
-ghost use Rattle.walks.specs.Ready.{Ready, FanStart};
+ghost use Rattle.halfedges.specs.Tables.{Connectivity};
+ghost use Rattle.walks.specs.Ready.{Ready, Closed, FanStart, StartOfFan};
+
+// The half-edges of a net: its corners and its shape, and tables that tell mates and the steps round a face.
+pub trait HalfEdges {
+    ghost shape: { Self → Shape };
+
+    ghost corners: { Self → List ℕ };
+
+    ghost told: { Self → Type 0 };
+
+    fn count(&self) -> usize
+        ensures { result ≡ length (corners self.now) };
+
+    fn next(&self, h: usize) -> usize
+        requires { told self.now × (h < length (corners self.now)) }
+        ensures { result ≡ (shape self.now).next h };
+
+    fn prev(&self, h: usize) -> usize
+        requires { told self.now × (h < length (corners self.now)) }
+        ensures { result ≡ (shape self.now).prev h };
+
+    fn mate(&self, h: usize) -> usize
+        requires { told self.now × (h < length (corners self.now)) }
+        ensures { result ≡ mate (shape self.now) (corners self.now) h };
+}
+
+// Those of a net with four-sided faces.
+#[derive(Clone, Copy)]
+pub struct Quads<'a> {
+    pub faces: &'a [u32],
+    pub work: &'a [u32],
+}
+
+impl<'a> HalfEdges for Quads<'a> {
+    ghost shape = { λ _. quads };
+
+    ghost corners = { λ s. s.faces.now };
+
+    ghost told = { λ s. Connectivity s.faces.now s.work.now };
+
+    fn count(&self) -> usize {
+        self.faces.len()
+    }
+
+    fn next(&self, h: usize) -> usize {
+        halfedges::next_side(h)
+    }
+
+    fn prev(&self, h: usize) -> usize {
+        halfedges::prev_side(h)
+    }
+
+    fn mate(&self, h: usize) -> usize {
+        halfedges::mate_side(self.faces, self.work, h)
+    }
+}
 
 // A boundary half-edge, or none, and a place in its fan.
 #[derive(Clone, Copy)]
@@ -14,46 +71,74 @@ pub struct Start {
 }
 
 // The boundary half-edge that leaves the vertex of h, found by turning back from h, and the place of h in its fan. A fan has at most six faces.
-pub fn fan_start(faces: &[u32], work: &[u32], h: usize) -> Start
-    requires ready { Ready faces.now work.now }
-    requires h_in_bounds { h < length faces.now }
-    ensures { FanStart faces.now h result.side result.place }
+pub fn start_of_fan<N: HalfEdges>(net: &N, h: usize) -> Start
+    requires closed { Closed (N.shape net.now) (N.corners net.now) }
+    requires told { N.told net.now }
+    requires h_in_bounds { h < length (N.corners net.now) }
+    ensures { StartOfFan (N.shape net.now) (N.corners net.now) h result.side result.place }
 {
-    let n = faces.len();
+    let n = net.count();
     let mut g = h;
     for i in 0..6 {
-        let m = halfedges::mate_side(faces, work, g);
+        let m = net.mate(g);
         if m == n {
             return Start { side: g, place: i };
         }
-        g = halfedges::next_side(m);
+        g = net.next(m);
     }
     Start { side: n, place: 0 }
 }
 
 // The boundary half-edge after h the way the sides run, or none.
+pub fn along<N: HalfEdges>(net: &N, h: usize) -> usize
+    requires closed { Closed (N.shape net.now) (N.corners net.now) }
+    requires told { N.told net.now }
+    requires h_in_bounds { h < length (N.corners net.now) }
+    ensures { result ≡ along (N.shape net.now) (N.corners net.now) h }
+{
+    start_of_fan(net, net.next(h)).side
+}
+
+// The boundary half-edge that enters the vertex of h, or none, found by turning from h.
+pub fn back<N: HalfEdges>(net: &N, h: usize) -> usize
+    requires closed { Closed (N.shape net.now) (N.corners net.now) }
+    requires told { N.told net.now }
+    requires h_in_bounds { h < length (N.corners net.now) }
+    ensures { result ≡ back (N.shape net.now) (N.corners net.now) h }
+{
+    let n = net.count();
+    let mut g = h;
+    for _turns in 0..6usize {
+        let last = net.prev(g);
+        g = net.mate(last);
+        if g == n {
+            return last;
+        }
+    }
+    n
+}
+
+// The three in a net with four-sided faces.
+pub fn fan_start(faces: &[u32], work: &[u32], h: usize) -> Start
+    requires ready { Ready faces.now work.now }
+    requires h_in_bounds { h < length faces.now }
+    ensures { FanStart faces.now h result.side result.place }
+{
+    start_of_fan(&Quads { faces, work }, h)
+}
+
 pub fn along_side(faces: &[u32], work: &[u32], h: usize) -> usize
     requires ready { Ready faces.now work.now }
     requires h_in_bounds { h < length faces.now }
     ensures { result ≡ along quads faces.now h }
 {
-    fan_start(faces, work, halfedges::next_side(h)).side
+    along(&Quads { faces, work }, h)
 }
 
-// The boundary half-edge that enters the vertex of h, or none, found by turning from h.
 pub fn back_side(faces: &[u32], work: &[u32], h: usize) -> usize
     requires ready { Ready faces.now work.now }
     requires h_in_bounds { h < length faces.now }
     ensures { result ≡ back quads faces.now h }
 {
-    let n = faces.len();
-    let mut g = h;
-    for _turns in 0..6usize {
-        let m = halfedges::turn_side(faces, work, g);
-        if m == n {
-            return halfedges::prev_side(g);
-        }
-        g = m;
-    }
-    n
+    back(&Quads { faces, work }, h)
 }

@@ -5,4 +5,4 @@ use Rattle.polygons.specs.Polygons.{shape_of}
 use Rattle.boundarywalk.proofs.boundary_from.Given as goal
 
 abbrev pub invariant-loop-h : goal.invariant-loop-h
-invariant-loop-h l = Passed (is_boundary_from (shape_of l.sides) l.faces l.p) l.h
+invariant-loop-h l = Passed (is_boundary_from (shape_of l.net.sides.now) l.net.faces.now l.p) l.h

@@ -1,5 +1,5 @@
 -- `first_apart` meets its contract: the first walk ends no later than the second, whose last vertex is marked. Assumes nothing.
-use mathlib.Core.Path.{◌≡◌}
+use mathlib.Core.Path.{◌≡◌, sym, ◌∙◌}
 use mathlib.Core.Bool.{true, false}
 use Prim.Native.Nat.{◌+◌, ◌<◌}
 use native.Mathlib.Omega.{arith}
@@ -35,8 +35,8 @@ loop-k-init c =
     comparing_start both c.args.e c.requires d.result d.ensures (c.if-not-same_vertex.false)
 
 -- ---- one step on
-pub along_in-g-requires-clause-h_in_bounds : goal.along_in-g-requires-clause-h_in_bounds
-along_in-g-requires-clause-h_in_bounds c =
+pub along-g-requires-clause-h_in_bounds : goal.along-g-requires-clause-h_in_bounds
+along-g-requires-clause-h_in_bounds c =
     let both : Walks = let a = c.args in
     walks a.vertices.now a.faces.now a.sides.now a.marks.now a.half a.vertices_b.now a.marks_b.now a.start_b a.work.now a.at in
     let q = c.loop-k in comparing_lt both c.args.e c.requires q.g q.k q.invariant
@@ -45,16 +45,16 @@ pub offset_bounds-faces-g : goal.offset_bounds-faces-g
 offset_bounds-faces-g c =
     let both : Walks = let a = c.args in
     walks a.vertices.now a.faces.now a.sides.now a.marks.now a.half a.vertices_b.now a.marks_b.now a.start_b a.work.now a.at in
-    let arrived : c.along_in-g.result < length c.args.faces.now = let q = c.loop-k in
-    next_lt both c.args.e c.requires q.g q.k q.invariant c.loop-k-test.true c.along_in-g.result c.along_in-g.ensures in
+    let arrived : c.along-g.result < length c.args.faces.now = let q = c.loop-k in
+    next_lt both c.args.e c.requires q.g q.k q.invariant c.loop-k-test.true c.along-g.result c.along-g.ensures in
     omega (arith, c.requires.first.table.shaped.space.few, arrived)
 
 pub bounds-faces-g : goal.bounds-faces-g
 bounds-faces-g c =
     let both : Walks = let a = c.args in
     walks a.vertices.now a.faces.now a.sides.now a.marks.now a.half a.vertices_b.now a.marks_b.now a.start_b a.work.now a.at in
-    let arrived : c.along_in-g.result < length c.args.faces.now = let q = c.loop-k in
-    next_lt both c.args.e c.requires q.g q.k q.invariant c.loop-k-test.true c.along_in-g.result c.along_in-g.ensures in
+    let arrived : c.along-g.result < length c.args.faces.now = let q = c.loop-k in
+    next_lt both c.args.e c.requires q.g q.k q.invariant c.loop-k-test.true c.along-g.result c.along-g.ensures in
     arrived
 
 pub same_vertex-requires-in-loop-k : goal.same_vertex-requires-in-loop-k
@@ -63,7 +63,7 @@ same_vertex-requires-in-loop-k c =
     let both : Walks = let a = c.args in
     walks a.vertices.now a.faces.now a.sides.now a.marks.now a.half a.vertices_b.now a.marks_b.now a.start_b a.work.now a.at in
     let q = c.loop-k in
-    next_pair both c.args.e c.requires q.g q.k q.invariant c.loop-k-test.true c.along_in-g.result c.along_in-g.ensures
+    next_pair both c.args.e c.requires q.g q.k q.invariant c.loop-k-test.true c.along-g.result c.along-g.ensures
 
 pub returns-then-not-same_vertex-2 : goal.returns-then-not-same_vertex-2
 unfolding from
@@ -72,7 +72,7 @@ returns-then-not-same_vertex-2 c =
     walks a.vertices.now a.faces.now a.sides.now a.marks.now a.half a.vertices_b.now a.marks_b.now a.start_b a.work.now a.at in
     let q = c.loop-k in
     let x = c.same_vertex-in-loop-k in
-    next_apart both c.args.e c.requires q.g q.k q.invariant c.loop-k-test.true c.along_in-g.result c.along_in-g.ensures x.result x.ensures (c.if-not-same_vertex-2.true)
+    next_apart both c.args.e c.requires q.g q.k q.invariant c.loop-k-test.true c.along-g.result c.along-g.ensures x.result x.ensures (c.if-not-same_vertex-2.true)
 
 pub bounds-marks-u : goal.bounds-marks-u
 unfolding from
@@ -80,33 +80,34 @@ bounds-marks-u c =
     let both : Walks = let a = c.args in
     walks a.vertices.now a.faces.now a.sides.now a.marks.now a.half a.vertices_b.now a.marks_b.now a.start_b a.work.now a.at in
     let q = c.loop-k in
-    (next_pair both c.args.e c.requires q.g q.k q.invariant c.loop-k-test.true c.along_in-g.result c.along_in-g.ensures).mark
+    (next_pair both c.args.e c.requires q.g q.k q.invariant c.loop-k-test.true c.along-g.result c.along-g.ensures).mark
 
 pub returns-then-marks-u-eq1 : goal.returns-then-marks-u-eq1
 unfolding from marked
 returns-then-marks-u-eq1 c =
     let both : Walks = let a = c.args in
     walks a.vertices.now a.faces.now a.sides.now a.marks.now a.half a.vertices_b.now a.marks_b.now a.start_b a.work.now a.at in
-    let step_on : (let q = c.loop-k in let g = c.along_in-g.result in
+    let step_on : (let q = c.loop-k in let g = c.along-g.result in
     let m = marked c.args.marks.now (from c.args.faces.now g) in (m ≡ true → q.k + 1 + 1 ≡ first_apart both) × (m ≡ false → Comparing both c.args.e g (q.k + 1))) = let q = c.loop-k in
     let x = c.same_vertex-in-loop-k in
     let t = c.if-not-same_vertex-2.false in (
-      next_end both c.args.e c.requires q.g q.k q.invariant c.loop-k-test.true c.along_in-g.result c.along_in-g.ensures x.result x.ensures t,
-      comparing_next both c.args.e c.requires q.g q.k q.invariant c.loop-k-test.true c.along_in-g.result c.along_in-g.ensures x.result x.ensures t,
+      next_end both c.args.e c.requires q.g q.k q.invariant c.loop-k-test.true c.along-g.result c.along-g.ensures x.result x.ensures t,
+      comparing_next both c.args.e c.requires q.g q.k q.invariant c.loop-k-test.true c.along-g.result c.along-g.ensures x.result x.ensures t,
     ) in
-    step_on.0 (eq-eqb _ 1 c.if-marks-u-eq1.true)
+    let two : c.loop-k.k + 2 ≡ c.loop-k.k + 1 + 1 = omega arith in
+    two ∙ step_on.0 (eq-eqb _ 1 c.if-marks-u-eq1.true)
 
 pub loop-k-preserved : goal.loop-k-preserved
 unfolding from marked
 loop-k-preserved c =
     let both : Walks = let a = c.args in
     walks a.vertices.now a.faces.now a.sides.now a.marks.now a.half a.vertices_b.now a.marks_b.now a.start_b a.work.now a.at in
-    let step_on : (let q = c.loop-k in let g = c.along_in-g.result in
+    let step_on : (let q = c.loop-k in let g = c.along-g.result in
     let m = marked c.args.marks.now (from c.args.faces.now g) in (m ≡ true → q.k + 1 + 1 ≡ first_apart both) × (m ≡ false → Comparing both c.args.e g (q.k + 1))) = let q = c.loop-k in
     let x = c.same_vertex-in-loop-k in
     let t = c.if-not-same_vertex-2.false in (
-      next_end both c.args.e c.requires q.g q.k q.invariant c.loop-k-test.true c.along_in-g.result c.along_in-g.ensures x.result x.ensures t,
-      comparing_next both c.args.e c.requires q.g q.k q.invariant c.loop-k-test.true c.along_in-g.result c.along_in-g.ensures x.result x.ensures t,
+      next_end both c.args.e c.requires q.g q.k q.invariant c.loop-k-test.true c.along-g.result c.along-g.ensures x.result x.ensures t,
+      comparing_next both c.args.e c.requires q.g q.k q.invariant c.loop-k-test.true c.along-g.result c.along-g.ensures x.result x.ensures t,
     ) in
     step_on.1 (ne_eqb _ 1 c.if-marks-u-eq1.false)
 
