@@ -17,14 +17,13 @@ pub struct Drawn<'a> {
     pub faces: &'a [u32],
     pub sides: &'a [u8],
     pub work: &'a [u32],
+    pub ghost linked: { Linked sides.now faces.now work.now },
 }
 
 impl<'a> HalfEdges for Drawn<'a> {
     ghost shape = { λ s. shape_of s.sides.now };
 
     ghost corners = { λ s. s.faces.now };
-
-    ghost told = { λ s. Linked s.sides.now s.faces.now s.work.now };
 
     fn count(&self) -> usize {
         self.faces.len()

@@ -5,49 +5,39 @@ ghost use Rattle.std.specs.Prelude.{◌≡◌, List, ℕ, ◌<◌, length};
 ghost use Rattle.topology.specs.Shape.{Shape, quads};
 ghost use Rattle.topology.specs.HalfEdge.{mate};
 ghost use Rattle.topology.specs.Boundary.{along, back};
-ghost use Rattle.halfedges.specs.Tables.{Connectivity};
 ghost use Rattle.walks.specs.Ready.{Ready, Closed, FanStart, StartOfFan};
 
-// The half-edges of a net: its corners and its shape, and tables that tell mates and the steps round a face.
+use halfedges::Mesh;
+
+// The half-edges of a net: its corners and its shape, in tables that tell mates and the steps round a face.
 pub trait HalfEdges {
     ghost shape: { Self → Shape };
 
     ghost corners: { Self → List ℕ };
 
-    ghost told: { Self → Type 0 };
-
     fn count(&self) -> usize
         ensures { result ≡ length (corners self.now) };
 
     fn next(&self, h: usize) -> usize
-        requires { told self.now × (h < length (corners self.now)) }
+        requires { h < length (corners self.now) }
         ensures { result ≡ (shape self.now).next h };
 
     fn prev(&self, h: usize) -> usize
-        requires { told self.now × (h < length (corners self.now)) }
+        requires { h < length (corners self.now) }
         ensures { result ≡ (shape self.now).prev h };
 
     fn mate(&self, h: usize) -> usize
-        requires { told self.now × (h < length (corners self.now)) }
+        requires { h < length (corners self.now) }
         ensures { result ≡ mate (shape self.now) (corners self.now) h };
 }
 
-// Those of a net with four-sided faces.
-#[derive(Clone, Copy)]
-pub struct Quads<'a> {
-    pub faces: &'a [u32],
-    pub work: &'a [u32],
-}
-
-impl<'a> HalfEdges for Quads<'a> {
+impl<'a> HalfEdges for Mesh<'a> {
     ghost shape = { λ _. quads };
 
     ghost corners = { λ s. s.faces.now };
 
-    ghost told = { λ s. Connectivity s.faces.now s.work.now };
-
     fn count(&self) -> usize {
-        self.faces.len()
+        self.half_edges()
     }
 
     fn next(&self, h: usize) -> usize {
@@ -59,7 +49,7 @@ impl<'a> HalfEdges for Quads<'a> {
     }
 
     fn mate(&self, h: usize) -> usize {
-        halfedges::mate_side(self.faces, self.work, h)
+        Mesh::mate(*self, h)
     }
 }
 
@@ -73,7 +63,6 @@ pub struct Start {
 // The boundary half-edge that leaves the vertex of h, found by turning back from h, and the place of h in its fan. A fan has at most six faces.
 pub fn start_of_fan<N: HalfEdges>(net: &N, h: usize) -> Start
     requires closed { Closed (N.shape net.now) (N.corners net.now) }
-    requires told { N.told net.now }
     requires h_in_bounds { h < length (N.corners net.now) }
     ensures { StartOfFan (N.shape net.now) (N.corners net.now) h result.side result.place }
 {
@@ -92,7 +81,6 @@ pub fn start_of_fan<N: HalfEdges>(net: &N, h: usize) -> Start
 // The boundary half-edge after h the way the sides run, or none.
 pub fn along<N: HalfEdges>(net: &N, h: usize) -> usize
     requires closed { Closed (N.shape net.now) (N.corners net.now) }
-    requires told { N.told net.now }
     requires h_in_bounds { h < length (N.corners net.now) }
     ensures { result ≡ along (N.shape net.now) (N.corners net.now) h }
 {
@@ -102,7 +90,6 @@ pub fn along<N: HalfEdges>(net: &N, h: usize) -> usize
 // The boundary half-edge that enters the vertex of h, or none, found by turning from h.
 pub fn back<N: HalfEdges>(net: &N, h: usize) -> usize
     requires closed { Closed (N.shape net.now) (N.corners net.now) }
-    requires told { N.told net.now }
     requires h_in_bounds { h < length (N.corners net.now) }
     ensures { result ≡ back (N.shape net.now) (N.corners net.now) h }
 {
@@ -124,7 +111,7 @@ pub fn fan_start(faces: &[u32], work: &[u32], h: usize) -> Start
     requires h_in_bounds { h < length faces.now }
     ensures { FanStart faces.now h result.side result.place }
 {
-    start_of_fan(&Quads { faces, work }, h)
+    start_of_fan(&Mesh { faces, work }, h)
 }
 
 pub fn along_side(faces: &[u32], work: &[u32], h: usize) -> usize
@@ -132,7 +119,7 @@ pub fn along_side(faces: &[u32], work: &[u32], h: usize) -> usize
     requires h_in_bounds { h < length faces.now }
     ensures { result ≡ along quads faces.now h }
 {
-    along(&Quads { faces, work }, h)
+    along(&Mesh { faces, work }, h)
 }
 
 pub fn back_side(faces: &[u32], work: &[u32], h: usize) -> usize
@@ -140,5 +127,5 @@ pub fn back_side(faces: &[u32], work: &[u32], h: usize) -> usize
     requires h_in_bounds { h < length faces.now }
     ensures { result ≡ back quads faces.now h }
 {
-    back(&Quads { faces, work }, h)
+    back(&Mesh { faces, work }, h)
 }

@@ -34,11 +34,11 @@ axes : (c : Joined-same_axis-2) → let x = same_axis c.args.a.now c.args.u c.ar
 axes c =
     let x = same_axis c.args.a.now c.args.u c.args.b.now c.args.v in
     let two : c.if-same_axis.value ≡ x 0 && x 1 = elim c.if-same_axis.branch [
-      then-same_axis w ↦ passed (x 0) (x 1) c.if-same_axis.value (sym c.same_axis.ensures ∙ w.if-same_axis.true) (w.value-is ∙ w.same_axis-then-same_axis.ensures)
+      | then-same_axis w ↦ passed (x 0) (x 1) c.if-same_axis.value (sym c.same_axis.ensures ∙ w.if-same_axis.true) (w.value-is ∙ w.same_axis-then-same_axis.ensures)
       | else-same_axis w ↦ failed (x 0) (x 1) c.if-same_axis.value (sym c.same_axis.ensures ∙ w.if-same_axis.false) (w.value-is ∙ w.if-same_axis.false)
     ] in
     elim c.if-same_axis-2.branch [
-      then-same_axis-2 w ↦ passed (x 0 && x 1) (x 2) c.if-same_axis-2.value (sym two ∙ w.if-same_axis-2.true) (w.value-is ∙ w.same_axis-then-same_axis-2.ensures)
+      | then-same_axis-2 w ↦ passed (x 0 && x 1) (x 2) c.if-same_axis-2.value (sym two ∙ w.if-same_axis-2.true) (w.value-is ∙ w.same_axis-then-same_axis-2.ensures)
       | else-same_axis-2 w ↦ failed (x 0 && x 1) (x 2) c.if-same_axis-2.value (sym two ∙ w.if-same_axis-2.false) (w.value-is ∙ w.if-same_axis-2.false)
     ]
 

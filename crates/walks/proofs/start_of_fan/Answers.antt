@@ -1,6 +1,6 @@
 -- `start_of_fan` meets its contract: the walk ends at the first half-edge of the fan, which has at most six. Assumes nothing.
-use mathlib.Core.Path.{◌≡◌, sym, ap, subst, ◌∙◌}
-use Prim.Native.Nat.{ℕ, ◌<◌}
+use mathlib.Core.Path.{◌≡◌, sym, ap, ◌∙◌}
+use Prim.Native.Nat.{◌<◌}
 use native.Mathlib.Omega.{arith}
 use lib.ListN.{length}
 use Rattle.topology.specs.HalfEdge.{mate}
@@ -26,7 +26,7 @@ next-g-requires g c =
     let e = c.mate-m.ensures in
     let n = c.count-n.ensures in
     let m = mate-le (g.N.HalfEdges.shape c.args.net.now) (g.N.HalfEdges.corners c.args.net.now) c.loop-i.g in
-    (c.requires.told, omega (arith, c.if-m-n.false))
+    omega (arith, c.if-m-n.false)
 
 pub loop-i-preserved : goal.loop-i-preserved
 loop-i-preserved g c =
