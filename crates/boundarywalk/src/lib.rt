@@ -9,18 +9,19 @@ ghost use Rattle.polygons.specs.Polygons.{shape_of};
 ghost use Rattle.sidetable.specs.Table.{Linked};
 ghost use Rattle.boundarywalk.specs.Walkable.{Walkable, way_of, stepped, edges_to, ListRoom, StartsAtMark};
 
+use nets::Net;
 use walks::HalfEdges;
 
 // The corners and the side counts of a net, and the work table that has its mates and its shape.
 #[derive(Clone, Copy)]
-pub struct Drawn<'a> {
+pub struct PolygonMesh<'a> {
     pub faces: &'a [u32],
     pub sides: &'a [u8],
     pub work: &'a [u32],
     pub ghost linked: { Linked sides.now faces.now work.now },
 }
 
-impl<'a> HalfEdges for Drawn<'a> {
+impl<'a> HalfEdges for PolygonMesh<'a> {
     ghost shape = { λ s. shape_of s.sides.now };
 
     ghost corners = { λ s. s.faces.now };
@@ -43,13 +44,19 @@ impl<'a> HalfEdges for Drawn<'a> {
 }
 
 // The boundary half-edge that leaves the vertex p, or none.
-pub fn boundary_from(net: Drawn<'_>, p: usize) -> usize
-    requires { Walkable net.sides.now net.faces.now net.work.now }
+pub fn boundary_from(net: Net<'_>, work: &[u32], p: usize) -> usize
+    requires { Walkable net.sides.now net.faces.now work.now }
     ensures { result ≡ boundary_from (shape_of net.entry.sides.now) net.entry.faces.now p }
 {
-    let n = net.faces.len();
+    let faces = net.faces;
+    let mesh = PolygonMesh {
+        faces,
+        sides: net.sides,
+        work,
+    };
+    let n = faces.len();
     for h in 0..n {
-        if net.mate(h) == n && net.faces[h] as usize == p {
+        if mesh.mate(h) == n && faces[h] as usize == p {
             return h;
         }
     }
@@ -57,50 +64,39 @@ pub fn boundary_from(net: Drawn<'_>, p: usize) -> usize
 }
 
 // One step along the boundary, or against it.
-pub fn step_in(net: Drawn<'_>, h: usize, against: bool) -> usize
-    requires walkable { Walkable net.sides.now net.faces.now net.work.now }
-    requires h_in_bounds { h < length net.faces.now }
-    ensures { result ≡ boundary_step (shape_of net.entry.sides.now) net.entry.faces.now (way_of against) h }
+pub fn step_in(mesh: PolygonMesh<'_>, h: usize, against: bool) -> usize
+    requires walkable { Walkable mesh.sides.now mesh.faces.now mesh.work.now }
+    requires h_in_bounds { h < length mesh.faces.now }
+    ensures { result ≡ boundary_step (shape_of mesh.entry.sides.now) mesh.entry.faces.now (way_of against) h }
 {
     if against {
-        return walks::back(&net, h);
+        return walks::back(&mesh, h);
     }
-    walks::along(&net, h)
+    walks::along(&mesh, h)
 }
 
 // Walks from the boundary half-edge h to the next mark, writes the vertices met after its start, the mark last, to the work table from the place `at` on, and gives their
 // number.
-pub fn walk_to_mark(
-    faces: &[u32],
-    sides: &[u8],
-    marks: &[u8],
-    work: &mut [u32],
-    h: usize,
-    against: bool,
-    at: usize,
-) -> usize
-    requires walkable { Walkable sides.now faces.now work.old }
-    requires starts_at_mark { StartsAtMark sides.now faces.now marks.now h }
-    requires list_room { ListRoom sides.now faces.now work.old at }
-    ensures value { result ≡ edges_to (shape_of sides.now) faces.now marks.now against h }
-    ensures written { Written at (at + result) (λ (j : ℕ). from faces.now (stepped (shape_of sides.now) faces.now against h (suc (j - at)))) work.old work.new }
+pub fn walk_to_mark(net: Net<'_>, work: &mut [u32], h: usize, against: bool, at: usize) -> usize
+    requires walkable { Walkable net.sides.now net.faces.now work.old }
+    requires starts_at_mark { StartsAtMark net.sides.now net.faces.now net.marks.now h }
+    requires list_room { ListRoom net.sides.now net.faces.now work.old at }
+    ensures value { result ≡ edges_to (shape_of net.entry.sides.now) net.entry.faces.now net.entry.marks.now against h }
+    ensures written { Written at (at + result) (λ (j : ℕ). from net.entry.faces.now (stepped (shape_of net.entry.sides.now) net.entry.faces.now against h (suc (j - at)))) work.old work.new }
 {
-    let n = faces.len();
+    let faces = net.faces;
     let mut g = h;
-    for k in 0..n {
-        g = step_in(
-            Drawn {
-                faces,
-                sides,
-                work: &*work,
-            },
-            g,
-            against,
-        );
+    for k in 0..faces.len() {
+        let mesh = PolygonMesh {
+            faces,
+            sides: net.sides,
+            work: &*work,
+        };
+        g = step_in(mesh, g, against);
         work[at + k] = faces[g];
-        if marks[faces[g] as usize] == 1 {
+        if net.marks[faces[g] as usize] == 1 {
             return k + 1;
         }
     }
-    n
+    faces.len()
 }

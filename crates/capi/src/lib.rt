@@ -13,8 +13,9 @@ ghost use Rattle.capi.specs.Export.{check_export_of, check_export, export_of, re
 
 use examination::Examination;
 use limits::Room;
+use nets::Net;
 use reports::{Finding, Report, SeamReport, Sizes};
-use sharing::Sharing;
+use sharing::{SeamSide, Sharing};
 
 // The caller's record: the new points of the accepted calls.
 #[repr(C)]
@@ -165,18 +166,26 @@ pub extern "C" fn gedrovit_share_seam(
     ensures { seam_export_of result work.new ≡ seam_export (seam_tested (seam_side (control_net vertices_a.now faces_a.now sides_a.now marks_a.now) tension_a start_a) (seam_side (control_net vertices_b.now faces_b.now sides_b.now marks_b.now) tension_b start_b) work.old) }
 {
     let sharing: Sharing = sharing::share_seam(
-        vertices_a,
-        faces_a,
-        sides_a,
-        marks_a,
-        tension_a,
-        start_a as usize,
-        vertices_b,
-        faces_b,
-        sides_b,
-        marks_b,
-        tension_b,
-        start_b as usize,
+        SeamSide {
+            net: Net {
+                vertices: vertices_a,
+                faces: faces_a,
+                sides: sides_a,
+                marks: marks_a,
+            },
+            tension: tension_a,
+            start: start_a as usize,
+        },
+        SeamSide {
+            net: Net {
+                vertices: vertices_b,
+                faces: faces_b,
+                sides: sides_b,
+                marks: marks_b,
+            },
+            tension: tension_b,
+            start: start_b as usize,
+        },
         &mut *work,
     );
     reports::seam_report_of(sharing)

@@ -76,7 +76,7 @@ module _ (a : SeamSide) (h : ℕ) (s : Starts a h) where
 
 -- ---- two sides: the first is walked along from the half-edge h; the vertices that the second meets against its sides stand in w, from the place `at` on
 abbrev pub sides_at : (a b : SeamSide) (h : ℕ) → List ℕ → (at : ℕ) → Walks
-sides_at a b h w at = walks a.net.vertices a.net.faces a.net.sides a.net.marks h b.net.vertices b.net.marks b.start w at
+sides_at a b h w at = walks a.net h b.net b.start w at
 
 module _ (a b : SeamSide) (h : ℕ) (s : Starts a h) (w : List ℕ) (at : ℕ)
     (listed : (i : ℕ) → i < edges_from b against_sides → get_or w (at + i) 0 ≡ step_at b against_sides (suc i))

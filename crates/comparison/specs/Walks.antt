@@ -4,7 +4,7 @@ use Rattle.bounds.specs.Bounds.{max_vertices, max_corners, max_half_edges}
 use Rattle.search.specs.Search.{first}
 use Rattle.topology.specs.HalfEdge.{from}
 use Rattle.polygons.specs.Polygons.{shape_of}
-use Rattle.nets.specs.Net.{marked}
+use Rattle.nets.specs.Net.{ControlNet, marked}
 use Rattle.boundarywalk.specs.Walkable.{Walkable, StartsAtMark, stepped, edges_to}
 use Rattle.seamtest.specs.SeamTest.{same_vertex}
 
@@ -31,8 +31,8 @@ pub record Walks : Type 0 where
   pub work : List ℕ
   pub at : ℕ
 
-abbrev pub walks : List ℤ → (faces sides marks : List ℕ) (half : ℕ) → List ℤ → List ℕ → (start' : ℕ) → List ℕ → ℕ → Walks
-walks p l s m h q n v w at = record { vertices = p; faces = l; sides = s; marks = m; half = h; vertices' = q; marks' = n; start' = v; work = w; at = at }
+abbrev pub walks : (a : ControlNet) (half : ℕ) (b : ControlNet) (start' : ℕ) → List ℕ → ℕ → Walks
+walks a h b v w at = record { vertices = a.vertices; faces = a.faces; sides = a.sides; marks = a.marks; half = h; vertices' = b.vertices; marks' = b.marks; start' = v; work = w; at = at }
 
 -- the vertex at step i of the first walk, along the boundary, and of the second
 unfoldable pub first_at : Walks → ℕ → ℕ

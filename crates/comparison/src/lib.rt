@@ -3,10 +3,12 @@
 
 ghost use Rattle.std.specs.Prelude.{◌≡◌, ◌+◌, ◌*◌, ◌<◌, length};
 ghost use Rattle.bounds.specs.Bounds.{max_vertices};
+ghost use Rattle.nets.specs.Drawn.{drawn};
 ghost use Rattle.seamtest.specs.SeamTest.{same_axis, same_vertex};
 ghost use Rattle.comparison.specs.Walks.{Pair, walks, first_apart, Comparable};
 
-use boundarywalk::Drawn;
+use boundarywalk::PolygonMesh;
+use nets::Net;
 
 // Whether vertex u of one table and vertex v of another agree on an axis.
 fn same_axis(a: &[i32], u: usize, b: &[i32], v: usize, axis: usize) -> bool
@@ -17,54 +19,50 @@ fn same_axis(a: &[i32], u: usize, b: &[i32], v: usize, axis: usize) -> bool
 }
 
 // Whether vertex u of one net and vertex v of another have the same point and the same mark.
-fn same_vertex(a: &[i32], marks_a: &[u8], u: usize, b: &[i32], marks_b: &[u8], v: usize) -> bool
-    requires { Pair a.now marks_a.now u b.now marks_b.now v }
-    ensures { result ≡ same_vertex a.now marks_a.now u b.now marks_b.now v }
+fn same_vertex(a: Net<'_>, u: usize, b: Net<'_>, v: usize) -> bool
+    requires { Pair a.vertices.now a.marks.now u b.vertices.now b.marks.now v }
+    ensures { result ≡ same_vertex a.entry.vertices.now a.entry.marks.now u b.entry.vertices.now b.entry.marks.now v }
 {
-    same_axis(a, u, b, v, 0)
-        && same_axis(a, u, b, v, 1)
-        && same_axis(a, u, b, v, 2)
-        && (marks_a[u] == 1) == (marks_b[v] == 1)
+    let (p, q) = (a.vertices, b.vertices);
+    same_axis(p, u, q, v, 0)
+        && same_axis(p, u, q, v, 1)
+        && same_axis(p, u, q, v, 2)
+        && (a.marks[u] == 1) == (b.marks[v] == 1)
 }
 
-// The first step at which two walks differ, or one more than the edges of both: the first starts with the half-edge `half`, the second at the vertex `start_b`, and
+// The first step at which two walks differ, or one more than the edges of both: the first starts with the half-edge `half`, the second at the vertex `start`, and
 // its next e vertices stand in the work table from the place `at` on.
 pub fn first_apart(
-    vertices: &[i32],
-    faces: &[u32],
-    sides: &[u8],
-    marks: &[u8],
+    a: Net<'_>,
     half: usize,
-    vertices_b: &[i32],
-    marks_b: &[u8],
-    start_b: usize,
+    b: Net<'_>,
+    start: usize,
     work: &[u32],
     at: usize,
     e: usize,
 ) -> usize
-    requires { Comparable (walks vertices.now faces.now sides.now marks.now half vertices_b.now marks_b.now start_b work.now at) e }
-    ensures { result ≡ first_apart (walks vertices.now faces.now sides.now marks.now half vertices_b.now marks_b.now start_b work.now at) }
+    requires { Comparable (walks (drawn a) half (drawn b) start work.now at) e }
+    ensures { result ≡ first_apart (walks (drawn a.entry) half (drawn b.entry) start work.now at) }
 {
-    if !same_vertex(
-        vertices,
-        marks,
-        faces[half] as usize,
-        vertices_b,
-        marks_b,
-        start_b,
-    ) {
+    let faces = a.faces;
+    if !same_vertex(a, faces[half] as usize, b, start) {
         return 0;
     }
+    let mesh = PolygonMesh {
+        faces,
+        sides: a.sides,
+        work,
+    };
     let mut g = half;
     for k in 0..e {
-        g = walks::along(&Drawn { faces, sides, work }, g);
+        g = walks::along(&mesh, g);
         let u = faces[g] as usize;
         let v = work[at + k] as usize;
-        if !same_vertex(vertices, marks, u, vertices_b, marks_b, v) {
+        if !same_vertex(a, u, b, v) {
             return k + 1;
         }
         // the end of the first segment
-        if marks[u] == 1 {
+        if a.marks[u] == 1 {
             return k + 2;
         }
     }

@@ -5,12 +5,12 @@ use Prim.Native.Nat.{ℕ, ◌*◌, ◌/◌, ◌^◌, ◌<◌}
 use native.Mathlib.Decide.{dec_lt}
 use native.Mathlib.Omega.{arith}
 use lib.Dec.{ltb}
-use borrow.Author.Tests.{lt-ltb, eq-eqb, ne_eqb}
+use borrow.Author.Tests.{lt-ltb}
 use Rattle.bounds.specs.Bounds.{max_rounds, max_faces}
 use Rattle.verdict.specs.Call.{Room, needed, lengths, quadrilaterals}
 use Rattle.verdict.specs.Verdict.{Verdict, accepted, refused, or_else, refused_if, limits_verdict, tables_verdict, size_verdict}
 use Rattle.verdict.proofs.Accepted.{or_refused, sized_faces, within_if}
-use Rattle.limits.specs.Answer.{limits_of, FinalFaces}
+use Rattle.limits.specs.Answer.{FinalFaces}
 use Rattle.reports.specs.Report.{sizes_by, sizes}
 
 module _ (k nv nf : ℕ) (s : List ℕ) (nm : ℕ) where
@@ -42,17 +42,13 @@ module _ (k nv nf : ℕ) (s : List ℕ) (nm : ℕ) where
         go (no h) (yes d) = many_faces _ _ d
         go (no h) (no d) = ap (λ (x : Room). limits_verdict k s (lengths nv nf nm x)) (n ∙ ap needed (f.final (omega arith) (omega arith)))
 
-    module _ (r : ℕ) (l : limits_verdict k s (lengths nv nf nm least) ≡ limits_of r) where
-      verdict_is : limits_verdict k s (lengths nv nf nm (needed (F * 4 ^ k))) ≡ limits_of r
-      verdict_is = sym same-verdict ∙ l
+    pub refused_sizes : (r : ℕ) → limits_verdict k s (lengths nv nf nm least) ≡ refused r 0 → record { reason = r; out_vertices = 0; out_faces = 0; out_marks = 0; work = 0 } ≡ sizes k nv nf s nm
+    unfolding sizes
+    refused_sizes r l = let v : limits_verdict k s (lengths nv nf nm (needed (F * 4 ^ k))) ≡ refused r 0 = sym same-verdict ∙ l in rw v
 
-      pub refused_sizes : (r ≡ 0 → ⊥) → record { reason = r; out_vertices = 0; out_faces = 0; out_marks = 0; work = 0 } ≡ sizes k nv nf s nm
-      unfolding sizes
-      refused_sizes z = let v : limits_verdict k s (lengths nv nf nm (needed (F * 4 ^ k))) ≡ refused r 0 = verdict_is ∙ rw (ne_eqb r 0 z) in rw v
-
-      pub given_sizes : r ≡ 0 → sizes_by accepted least ≡ sizes k nv nf s nm
-      unfolding sizes
-      given_sizes z =
-          let v : limits_verdict k s (lengths nv nf nm (needed (F * 4 ^ k))) ≡ accepted = verdict_is ∙ rw (eq-eqb r 0 z) in
-          let w = within_if k s _ v in
-          rw v (ap (sizes_by accepted) (n ∙ ap needed (f.final w.few w.faces)))
+    pub given_sizes : limits_verdict k s (lengths nv nf nm least) ≡ accepted → sizes_by accepted least ≡ sizes k nv nf s nm
+    unfolding sizes
+    given_sizes l =
+        let v : limits_verdict k s (lengths nv nf nm (needed (F * 4 ^ k))) ≡ accepted = sym same-verdict ∙ l in
+        let w = within_if k s _ v in
+        rw v (ap (sizes_by accepted) (n ∙ ap needed (f.final w.few w.faces)))

@@ -110,36 +110,27 @@ pub fn sizes_for(rounds: u32, vertices: usize, faces: usize, sides: &[u8], marks
     let quadrilaterals = limits::quadrilaterals(sides, faces);
     let g = limits::final_faces(rounds, quadrilaterals);
     let least = limits::needed(g);
-    let reason = limits::limits(
-        rounds,
-        sides,
-        Lengths {
-            coordinates: vertices,
-            corners: faces,
-            marks,
-            out_vertices: least.vertices,
-            out_faces: least.faces,
-            out_marks: least.marks,
-            with_letters: least.with_letters,
-            letters: least.letters,
-            work: least.work,
+    let lengths = Lengths {
+        coordinates: vertices,
+        corners: faces,
+        marks,
+        room: least,
+    };
+    match limits::limits(rounds, sides, lengths) {
+        Ok(()) => Sizes {
+            reason: 0,
+            out_vertices: least.vertices as u64,
+            out_faces: least.faces as u64,
+            out_marks: least.marks as u64,
+            work: least.work as u64,
         },
-    );
-    if reason != 0 {
-        return Sizes {
-            reason,
+        Err(reason) => Sizes {
+            reason: reason.number(),
             out_vertices: 0,
             out_faces: 0,
             out_marks: 0,
             work: 0,
-        };
-    }
-    Sizes {
-        reason: 0,
-        out_vertices: least.vertices as u64,
-        out_faces: least.faces as u64,
-        out_marks: least.marks as u64,
-        work: least.work as u64,
+        },
     }
 }
 

@@ -1,13 +1,10 @@
 -- The second net after the first, and the work table after both checks. Assumes nothing.
 use mathlib.Core.Path.{◌≡◌, refl, sym, ap, ◌∙◌}
-use mathlib.Core.Bool.{cond}
 use mathlib.Core.List.{List, ◌∷◌, ◌++◌}
-use Prim.Native.Nat.{ℕ, zero, suc, ◌*◌, ◌^◌, ◌≤◌, ◌<◌}
+use Prim.Native.Nat.{ℕ, zero, suc, ◌*◌, ◌^◌, ◌≤◌, ◌<◌, max}
 use native.Mathlib.Decide.{dec_lt}
 use native.Mathlib.Omega.{arith}
 use lib.ListN.{length, drop, replicate}
-use lib.Dec.{ltb}
-use borrow.Author.Tests.{lt-ltb, le-ltb}
 use Rattle.bounds.specs.Bounds.{max_faces}
 use Rattle.lists.proofs.Parts.{drop_later}
 use Rattle.tables.specs.Tables.{cleared}
@@ -89,7 +86,7 @@ module _ (a b : SeamSide) (w : List ℕ) (ok : FirstPassed a w) where
       tested_as (sym x) (sym (no_edges a b (length w) r p x)) c.work
 
   module _ (w₁ : List ℕ) (k₁ : length w₁ ≡ length w) (g : ℕ) (c : AdmittedCall (alone_in b (length w)) g w₁) (d : drop (16 * g) w₁ ≡ drop (16 * g) w) (f : ℕ)
-      (e : f ≡ cond (ltb (faces_of a.net) g) g (faces_of a.net)) where
+      (e : f ≡ max (faces_of a.net) g) where
     faces_second : g ≡ faces_of b.net
     faces_second = let x = c.final in omega arith
 
@@ -102,23 +99,13 @@ module _ (a b : SeamSide) (w : List ℕ) (ok : FirstPassed a w) where
       above : g ≤ faces_of a.net → f ≡ faces_of a.net
 
     larger : Larger
-    larger = go (dec_lt (faces_of a.net) g)
-      where
-        go : Dec (faces_of a.net < g) → Larger
-        go (yes h) =
-            let t = lt-ltb (faces_of a.net) g h in
-            let z : f ≡ g = e ∙ rw t refl in
-            let n = faces_few b (length w) c.accepts in
-            let r = faces_room b (length w) c.accepts in
-            let x = faces_second in
-            record { first = omega arith; second = omega arith; few = omega arith; room = omega arith; below = λ _. z; above = λ y. absurd (omega arith) }
-        go (no h) =
-            let l : g ≤ faces_of a.net = omega arith in
-            let t = le-ltb (faces_of a.net) g l in
-            let z : f ≡ faces_of a.net = e ∙ rw t refl in
-            let n = faces_few a (length w) ok.accepts in
-            let r = faces_room a (length w) ok.accepts in
-            record { first = omega arith; second = omega arith; few = omega arith; room = omega arith; below = λ y. absurd (h y); above = λ _. z }
+    larger =
+        let n₁ = faces_few a (length w) ok.accepts in
+        let r₁ = faces_room a (length w) ok.accepts in
+        let n₂ = faces_few b (length w) c.accepts in
+        let r₂ = faces_room b (length w) c.accepts in
+        let x = faces_second in
+        record { first = omega arith; second = omega arith; few = omega arith; room = omega arith; below = λ h. omega arith; above = λ h. omega arith }
 
     pub both_passed : BothPassed a b f w₁
     both_passed =

@@ -8,18 +8,18 @@ use Rattle.topology.specs.HalfEdge.{from}
 use Rattle.topology.specs.Boundary.{boundary_from}
 use Rattle.topology.proofs.Boundary.{from_on, from_none, from_at}
 use Rattle.boundarywalk.proofs.boundary_from.Goals as goal
-use Rattle.boundarywalk.proofs.boundary_from.Goals.{else-mate-n-via-then-mate-n+else-net-h, else-mate-n-via-else-mate-n}
+use Rattle.boundarywalk.proofs.boundary_from.Goals.{else-mate-n-via-then-mate-n+else-faces-h, else-mate-n-via-else-mate-n}
 
-pub returns-then-net-h : goal.returns-then-net-h
+pub returns-then-faces-h : goal.returns-then-faces-h
 unfolding boundary_from from
-returns-then-net-h c =
-    passed_hit _ _ _ c.loop-h.invariant c.loop-h-test.true (from_on _ _ _ _ (sym c.mate.ensures ∙ c.if-mate-n.true) c.if-net-h.true)
+returns-then-faces-h c =
+    passed_hit _ _ _ c.loop-h.invariant c.loop-h-test.true (from_on _ _ _ _ (sym c.mate.ensures ∙ c.if-mate-n.true) c.if-faces-h.true)
 
 pub loop-h-preserved : goal.loop-h-preserved
 unfolding from
 loop-h-preserved c =
     passed_next _ _ c.loop-h.invariant
-    (refuted _ (λ t. elim c.else-mate-n.branch [ else-mate-n-via-then-mate-n+else-net-h w ↦ w.if-net-h.false (from_at _ _ _ _ t) | else-mate-n-via-else-mate-n w ↦ w.if-mate-n.false (c.mate.ensures ∙ from_none _ _ _ _ t) ]))
+    (refuted _ (λ t. elim c.else-mate-n.branch [ else-mate-n-via-then-mate-n+else-faces-h w ↦ w.if-faces-h.false (from_at _ _ _ _ t) | else-mate-n-via-else-mate-n w ↦ w.if-mate-n.false (c.mate.ensures ∙ from_none _ _ _ _ t) ]))
 
 pub returns : goal.returns
 unfolding boundary_from

@@ -1,19 +1,19 @@
 -- `first_apart` meets its contract: the first walk ends no later than the second, whose last vertex is marked. Assumes nothing.
 use mathlib.Core.Path.{◌≡◌, ◌∙◌}
-use Prim.Native.Nat.{◌+◌, ◌<◌}
+use Prim.Native.Nat.{◌+◌}
 use native.Mathlib.Omega.{arith}
-use lib.ListN.{length}
 use borrow.Author.Tests.{eq-eqb, ne_eqb}
 use Rattle.topology.specs.HalfEdge.{from}
 use Rattle.nets.specs.Net.{marked}
-use Rattle.comparison.specs.Walks.{Walks, walks, first_apart}
+use Rattle.nets.specs.Drawn.{drawn}
+use Rattle.comparison.specs.Walks.{Walks, walks}
 use Rattle.comparison.proofs.Comparing.{start_pair, start-apart, comparing_start, comparing_lt, comparing_ends, next_lt, next_pair, next_apart, next_end, comparing_next}
 use Rattle.comparison.proofs.first_apart.Goals as goal
 use Rattle.comparison.proofs.first_apart.Goals.{Start}
 
 -- both walks
 abbrev both : (c : Start) → Walks
-both c = let a = c.args in walks a.vertices.now a.faces.now a.sides.now a.marks.now a.half a.vertices_b.now a.marks_b.now a.start_b a.work.now a.at
+both c = let a = c.args in walks (drawn a.a) a.half (drawn a.b) a.start a.work.now a.at
 
 pub same_vertex-requires : goal.same_vertex-requires
 unfolding from
@@ -55,19 +55,19 @@ returns-then-not-same_vertex-2 c =
     let x = c.same_vertex-in-loop-k in
     next_apart (both (goal.at.returns-then-not-same_vertex-2 c).Start) c.args.e c.requires q.g q.k q.invariant c.loop-k-test.true c.along-g.result c.along-g.ensures x.result x.ensures c.if-not-same_vertex-2.true
 
-pub bounds-marks-u : goal.bounds-marks-u
+pub bounds-a-u : goal.bounds-a-u
 unfolding from
-bounds-marks-u c =
-    let q = c.loop-k in (next_pair (both (goal.at.bounds-marks-u c).Start) c.args.e c.requires q.g q.k q.invariant c.loop-k-test.true c.along-g.result c.along-g.ensures).mark
+bounds-a-u c =
+    let q = c.loop-k in (next_pair (both (goal.at.bounds-a-u c).Start) c.args.e c.requires q.g q.k q.invariant c.loop-k-test.true c.along-g.result c.along-g.ensures).mark
 
-pub returns-then-marks-u-eq1 : goal.returns-then-marks-u-eq1
+pub returns-then-a-u-eq1 : goal.returns-then-a-u-eq1
 unfolding from marked
-returns-then-marks-u-eq1 c =
+returns-then-a-u-eq1 c =
     let q = c.loop-k in
     let x = c.same_vertex-in-loop-k in
     let two : q.k + 2 ≡ q.k + 1 + 1 = omega arith in
-    two ∙ next_end (both (goal.at.returns-then-marks-u-eq1 c).Start) c.args.e c.requires q.g q.k q.invariant c.loop-k-test.true c.along-g.result c.along-g.ensures x.result x.ensures c.if-not-same_vertex-2.false
-        (eq-eqb _ 1 c.if-marks-u-eq1.true)
+    two ∙ next_end (both (goal.at.returns-then-a-u-eq1 c).Start) c.args.e c.requires q.g q.k q.invariant c.loop-k-test.true c.along-g.result c.along-g.ensures x.result x.ensures c.if-not-same_vertex-2.false
+    (eq-eqb _ 1 c.if-a-u-eq1.true)
 
 pub loop-k-preserved : goal.loop-k-preserved
 unfolding from marked
@@ -75,7 +75,7 @@ loop-k-preserved c =
     let q = c.loop-k in
     let x = c.same_vertex-in-loop-k in
     comparing_next (both (goal.at.loop-k-preserved c).Start) c.args.e c.requires q.g q.k q.invariant c.loop-k-test.true c.along-g.result c.along-g.ensures x.result x.ensures c.if-not-same_vertex-2.false
-    (ne_eqb _ 1 c.if-marks-u-eq1.false)
+    (ne_eqb _ 1 c.if-a-u-eq1.false)
 
 pub returns : goal.returns
 returns c =

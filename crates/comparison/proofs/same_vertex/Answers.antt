@@ -30,9 +30,9 @@ one_differs true true false m v e f = e
 one_differs true false z m v e f = e
 one_differs false y z m v e f = e
 
-axes : (c : Joined-same_axis-2) → let x = same_axis c.args.a.now c.args.u c.args.b.now c.args.v in c.if-same_axis-2.value ≡ (x 0 && x 1) && x 2
+axes : (c : Joined-same_axis-2) → let x = same_axis c.args.a.vertices.now c.args.u c.args.b.vertices.now c.args.v in c.if-same_axis-2.value ≡ (x 0 && x 1) && x 2
 axes c =
-    let x = same_axis c.args.a.now c.args.u c.args.b.now c.args.v in
+    let x = same_axis c.args.a.vertices.now c.args.u c.args.b.vertices.now c.args.v in
     let two : c.if-same_axis.value ≡ x 0 && x 1 = elim c.if-same_axis.branch [
       | then-same_axis w ↦ passed (x 0) (x 1) c.if-same_axis.value (sym c.same_axis.ensures ∙ w.if-same_axis.true) (w.value-is ∙ w.same_axis-then-same_axis.ensures)
       | else-same_axis w ↦ failed (x 0) (x 1) c.if-same_axis.value (sym c.same_axis.ensures ∙ w.if-same_axis.false) (w.value-is ∙ w.if-same_axis.false)
@@ -45,11 +45,11 @@ axes c =
 pub returns-then-same_axis-3 : goal.returns-then-same_axis-3
 unfolding same_vertex marked
 returns-then-same_axis-3 c =
-    let x = same_axis c.args.a.now c.args.u c.args.b.now c.args.v in
+    let x = same_axis c.args.a.vertices.now c.args.u c.args.b.vertices.now c.args.v in
     as_same _ _ ∙ all_agree (x 0) (x 1) (x 2) _ _ (axes (goal.at.returns-then-same_axis-3 c).Joined-same_axis-2) c.if-same_axis-3.true
 
 pub returns-else-same_axis-3 : goal.returns-else-same_axis-3
 unfolding same_vertex marked
 returns-else-same_axis-3 c =
-    let x = same_axis c.args.a.now c.args.u c.args.b.now c.args.v in
+    let x = same_axis c.args.a.vertices.now c.args.u c.args.b.vertices.now c.args.v in
     one_differs (x 0) (x 1) (x 2) _ _ (axes (goal.at.returns-else-same_axis-3 c).Joined-same_axis-2) c.if-same_axis-3.false
