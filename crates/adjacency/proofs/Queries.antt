@@ -1,12 +1,13 @@
 -- What mates and chains tell of a vertex p: where turning round it starts, and whether it is in a face. Assumes nothing.
 use mathlib.Core.Path.{◌≡◌, ◌∙◌}
-use mathlib.Core.Bool.{true, false}
+use mathlib.Core.Bool.{not}
 use mathlib.Core.List.{List}
 use Prim.Native.Nat.{ℕ, ◌+◌, ◌≤◌, ◌<◌}
-use native.Mathlib.Decide.{dec_lt}
+use native.Mathlib.Decide.{ℕ_discrete, dec_lt}
 use native.Mathlib.Omega.{arith}
 use lib.ListN.{length, get_or}
-use borrow.Author.Tests.{lt-ltb, le-ltb}
+use lib.Dec.{eqb, ltb}
+use borrow.Author.Tests.{lt-ltb, le-ltb, eq-eqb, ne_eqb}
 use Rattle.search.specs.Search.{first, any}
 use Rattle.search.proofs.First.{first-le}
 use Rattle.search.proofs.Count.{count-le}
@@ -37,10 +38,11 @@ module _ (l w : List ℕ) (p : ℕ) (c : Chained l w 0) (b : p < length l) where
   head_first : get_or w (length l + p) 0 ≡ first (leaves l p) (length l)
   head_first = c.heads p b ∙ chain_first l p
 
-  pub empty_isolated : get_or w (length l + p) 0 ≡ length l → isolated l p ≡ true
+  -- p is isolated if its chain is empty
+  pub empty_chain : isolated l p ≡ eqb (get_or w (length l + p) 0) (length l)
   unfolding isolated any
-  empty_isolated e = let t = le-ltb (first (leaves l p) (length l)) (length l) (omega (arith, head_first)) in rw t
-
-  pub full_joined : (get_or w (length l + p) 0 ≡ length l → ⊥) → isolated l p ≡ false
-  unfolding isolated any
-  full_joined n = let x = first-le (leaves l p) (length l) in let t = lt-ltb (first (leaves l p) (length l)) (length l) (omega (arith, head_first)) in rw t
+  empty_chain = go (ℕ_discrete (get_or w (length l + p) 0) (length l))
+    where
+      go : Dec (get_or w (length l + p) 0 ≡ length l) → not (ltb (first (leaves l p) (length l)) (length l)) ≡ eqb (get_or w (length l + p) 0) (length l)
+      go (yes e) = rw (le-ltb (first (leaves l p) (length l)) (length l) (omega (arith, head_first)), eq-eqb (get_or w (length l + p) 0) (length l) e)
+      go (no n) = let x = first-le (leaves l p) (length l) in rw (lt-ltb (first (leaves l p) (length l)) (length l) (omega (arith, head_first)), ne_eqb (get_or w (length l + p) 0) (length l) n)

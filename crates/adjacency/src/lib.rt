@@ -3,6 +3,7 @@
 #![tactic(auto)]
 
 ghost use Rattle.std.specs.Prelude.{◌≡◌, ◌*◌, ◌≤◌, ◌<◌, length, get_or, drop, eqb};
+ghost use Rattle.search.specs.Found.{Found};
 ghost use Rattle.search.specs.Search.{first};
 ghost use Rattle.topology.specs.HalfEdge.{mate};
 ghost use Rattle.topology.specs.Vertex.{faces_met};
@@ -100,22 +101,16 @@ pub fn link_faces(faces: &[u32], sides: &[u8], work: &mut [u32])
     build_mates(faces, sides, &mut *work);
 }
 
-// The first of nv vertices that no half-edge leaves, or nv. The chains must be there.
-pub fn first_empty(faces: &[u32], sides: &[u8], nv: usize, work: &[u32]) -> usize
+// The first of nv vertices that no half-edge leaves. The chains must be there.
+pub fn first_empty(faces: &[u32], sides: &[u8], nv: usize, work: &[u32]) -> Option<usize>
     requires tables { Tables sides.now faces.now work.now }
     requires chained { Chained faces.now work.now 0 }
     requires nv_in_bounds { nv ≤ length faces.now }
-    ensures { result ≡ first (isolated faces.now) nv }
+    ensures { Found (isolated faces.now) nv result }
 {
     let n = faces.len();
-    let mut p = 0;
-    while p < nv {
-        if work[n + p] as usize == n {
-            return p;
-        }
-        p += 1;
-    }
-    p
+    let heads = &work[n..n + nv];
+    heads.iter().position(|g| *g as usize == n)
 }
 
 // Whether turning from h meets d faces. It takes at most d turns.

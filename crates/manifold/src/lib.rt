@@ -2,8 +2,8 @@
 #![tactic(auto)]
 
 ghost use Rattle.std.specs.Prelude.{◌≡◌, ◌<◌, length};
+ghost use Rattle.search.specs.Found.{Found};
 ghost use Rattle.search.specs.Search.{first};
-ghost use Rattle.topology.specs.Vertex.{leaves};
 ghost use Rattle.refusals.specs.Refusals.{isolated, non_manifold, bad_valence, marked_ring};
 ghost use Rattle.polygons.specs.Polygons.{shape_of};
 ghost use Rattle.vertexcounts.specs.Counts.{Counted};
@@ -11,7 +11,8 @@ ghost use Rattle.vertexcounts.specs.Counts.{Counted};
 // 10 at the vertex p: its faces form neither one full ring nor one open fan.
 fn non_manifold(faces: &[u32], sides: &[u8], nv: usize, work: &[u32], p: usize) -> bool
     requires counted { Counted nv sides.now faces.now work.now }
-    requires p_lt_nv { (p < nv) × (first (leaves faces.now p) (length faces.now) < length faces.now) }
+    requires joined { first (isolated faces.now) nv ≡ nv }
+    requires p_lt_nv { p < nv }
     ensures { result ≡ non_manifold (shape_of sides.now) faces.now p }
 {
     let h = vertexcounts::start_in(faces, sides, nv, work, p);
@@ -29,10 +30,7 @@ fn bad_valence(faces: &[u32], sides: &[u8], nv: usize, work: &[u32], p: usize) -
     if vertexcounts::is_open(faces, sides, nv, work, p) {
         return bounds::MAX_FAN < m;
     }
-    if m < bounds::MIN_RING {
-        return true;
-    }
-    bounds::MAX_RING < m
+    m < bounds::MIN_RING || bounds::MAX_RING < m
 }
 
 // 12 at the vertex p: mark 1 on a full ring.
@@ -41,55 +39,30 @@ fn marked_ring(faces: &[u32], sides: &[u8], marks: &[u8], work: &[u32], p: usize
     requires p_in_bounds { p < length marks.now }
     ensures { result ≡ marked_ring (shape_of sides.now) faces.now marks.now p }
 {
-    if marks[p] == 1 {
-        return !vertexcounts::is_open(faces, sides, marks.len(), work, p);
-    }
-    false
+    marks[p] == 1 && !vertexcounts::is_open(faces, sides, marks.len(), work, p)
 }
 
-// The first vertex with refusal 10, or nv.
-pub fn first_non_manifold(faces: &[u32], sides: &[u8], nv: usize, work: &[u32]) -> usize
+// The first vertex with refusal 10.
+pub fn first_non_manifold(faces: &[u32], sides: &[u8], nv: usize, work: &[u32]) -> Option<usize>
     requires counted { Counted nv sides.now faces.now work.now }
     requires nv_value { first (isolated faces.now) nv ≡ nv }
-    ensures { result ≡ first (non_manifold (shape_of sides.now) faces.now) nv }
+    ensures { Found (non_manifold (shape_of sides.now) faces.now) nv result }
 {
-    let mut p = 0;
-    while p < nv {
-        if non_manifold(faces, sides, nv, work, p) {
-            return p;
-        }
-        p += 1;
-    }
-    p
+    (0..nv).find(|p| non_manifold(faces, sides, nv, work, *p))
 }
 
-// The first vertex with refusal 11, or nv.
-pub fn first_bad_valence(faces: &[u32], sides: &[u8], nv: usize, work: &[u32]) -> usize
+// The first vertex with refusal 11.
+pub fn first_bad_valence(faces: &[u32], sides: &[u8], nv: usize, work: &[u32]) -> Option<usize>
     requires { Counted nv sides.now faces.now work.now }
-    ensures { result ≡ first (bad_valence (shape_of sides.now) faces.now) nv }
+    ensures { Found (bad_valence (shape_of sides.now) faces.now) nv result }
 {
-    let mut p = 0;
-    while p < nv {
-        if bad_valence(faces, sides, nv, work, p) {
-            return p;
-        }
-        p += 1;
-    }
-    p
+    (0..nv).find(|p| bad_valence(faces, sides, nv, work, *p))
 }
 
-// The first vertex with refusal 12, or the number of marks.
-pub fn first_marked_ring(faces: &[u32], sides: &[u8], marks: &[u8], work: &[u32]) -> usize
+// The first vertex with refusal 12.
+pub fn first_marked_ring(faces: &[u32], sides: &[u8], marks: &[u8], work: &[u32]) -> Option<usize>
     requires { Counted (length marks.now) sides.now faces.now work.now }
-    ensures { result ≡ first (marked_ring (shape_of sides.now) faces.now marks.now) (length marks.now) }
+    ensures { Found (marked_ring (shape_of sides.now) faces.now marks.now) (length marks.now) result }
 {
-    let nv = marks.len();
-    let mut p = 0;
-    while p < nv {
-        if marked_ring(faces, sides, marks, work, p) {
-            return p;
-        }
-        p += 1;
-    }
-    p
+    (0..marks.len()).find(|p| marked_ring(faces, sides, marks, work, *p))
 }

@@ -1,4 +1,4 @@
--- Laws of flags, and of a search that stops at the first hit. Assumes nothing.
+-- Laws of flags. Assumes nothing.
 use mathlib.Core.Path.{◌≡◌, refl, sym, ap, ◌∙◌, subst}
 use mathlib.Core.Bool.{Bool, true, false, cond, not}
 use mathlib.Core.List.{List}
@@ -6,24 +6,20 @@ use Prim.Native.Nat.{ℕ, ◌+◌, ◌≤◌, ◌<◌}
 use native.Mathlib.Decide.{ℕ_discrete}
 use native.Mathlib.Omega.{arith}
 use lib.ListN.{length, get_or, set, drop, replicate, get_or-replicate, get_or-append, length-replicate}
+use lib.Dec.{eqb}
 use lib.Seq.{get_or-set_same, get_or-set_other}
 use borrow.Author.Tests.{eq-eqb, ne_eqb}
+use Rattle.std.specs.Prelude.{Option, None, Some}
+use Rattle.search.specs.Found.{Found}
 use Rattle.search.specs.Search.{first_from, first, any}
 use Rattle.search.proofs.Tests.{clash}
-use Rattle.search.proofs.First.{first_holds, first_before, first_is, first_none, any_on, any_which}
+use Rattle.search.proofs.First.{first_holds, first_before, first_is, any_on, any_which}
 use Rattle.topology.specs.HalfEdge.{from}
 use Rattle.topology.specs.Vertex.{leaves}
 use Rattle.refusals.specs.Refusals.{isolated}
 use Rattle.refusals.proofs.Places.{isolated_soon}
 use Rattle.tables.specs.Tables.{cleared}
 use Rattle.scan.specs.Flags.{Flagged}
-
--- ---- a search: nothing before i
-pub hit : (t : ℕ → Bool) (n i : ℕ) → i < n → ((k : ℕ) → k < i → t k ≡ false) → t i ≡ true → i ≡ first t n
-hit t n i h f e = sym (first_is t n i h e f)
-
-pub end : (t : ℕ → Bool) (n i : ℕ) → i ≤ n → n ≤ i → ((k : ℕ) → k < i → t k ≡ false) → i ≡ first t n
-end t n i h g f = let e : i ≡ n = omega arith in e ∙ sym (first_none t n (λ j k u. clash (t j) u (f j (omega arith))))
 
 -- a longer search that ends early is the shorter one
 first-shorter : (t : ℕ → Bool) (m n : ℕ) → m ≤ n → first t n < m → first t m ≡ first t n
@@ -73,22 +69,15 @@ module _ (m : ℕ) (l w : List ℕ) (h : ℕ) (lt : h < length l) (was : Flagged
   flagged_past g = record { at = λ p b. other p b (λ f. let z : ⊥ = omega arith in z) }
 
 -- a vertex is isolated if it has no flag
-pub unflagged : (m : ℕ) (l w : List ℕ) (p : ℕ) → p < m → Flagged m l w (length l) → get_or w p 0 ≡ 0 → isolated l p ≡ true
+pub unflagged : (m : ℕ) (l w : List ℕ) (p : ℕ) → p < m → Flagged m l w (length l) → isolated l p ≡ eqb (get_or w p 0) 0
 unfolding isolated
-unflagged m l w p h f e = go (any (leaves l p) (length l)) (sym e ∙ f.at p h)
+unflagged m l w p h f = go (any (leaves l p) (length l)) (f.at p h)
   where
-    go : (b : Bool) → ◌≡◌ {A = ℕ} 0 (cond b 1 0) → not b ≡ true
-    go true g = absurd (omega arith)
-    go false g = refl
-
-pub flagged : (m : ℕ) (l w : List ℕ) (p : ℕ) → p < m → Flagged m l w (length l) → (get_or w p 0 ≡ 0 → ⊥) → isolated l p ≡ false
-unfolding isolated
-flagged m l w p h f n = go (any (leaves l p) (length l)) (f.at p h)
-  where
-    go : (b : Bool) → get_or w p 0 ≡ cond b 1 0 → not b ≡ false
-    go true g = refl
-    go false g = absurd (n g)
+    go : (b : Bool) → get_or w p 0 ≡ cond b 1 0 → not b ≡ eqb (get_or w p 0) 0
+    go true g = rw g
+    go false g = rw g
 
 -- more vertices than corners: one of the first n + 1 is isolated
-pub isolated_early : (l : List ℕ) (v : ℕ) → length l < v → first (isolated l) (length l + 1) ≡ first (isolated l) v
-isolated_early l v h = let k = isolated_soon l v h in first-shorter (isolated l) (length l + 1) v (omega arith) (omega arith)
+pub isolated_early : (l : List ℕ) (v : ℕ) (r : Option ℕ) → length l < v → Found (isolated l) (length l + 1) r → Found (isolated l) v r
+isolated_early l v None h f = let k = isolated_soon l v h in let e = first-shorter (isolated l) (length l + 1) v (omega arith) (omega arith) in absurd (omega arith)
+isolated_early l v (Some i) h f = let k = isolated_soon l v h in let e = first-shorter (isolated l) (length l + 1) v (omega arith) (omega arith) in (sym e ∙ f.0, omega arith)

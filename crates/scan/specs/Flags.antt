@@ -1,6 +1,7 @@
 -- Flags of the vertices that are corners of faces.
-use Rattle.std.specs.Prelude.{◌≡◌, cond, List, ℕ, ◌<◌, get_or, drop}
-use Rattle.search.specs.Search.{first, any}
+use Rattle.std.specs.Prelude.{◌≡◌, cond, List, ℕ, ◌<◌, get_or, drop, Option}
+use Rattle.search.specs.Found.{Found}
+use Rattle.search.specs.Search.{any}
 use Rattle.topology.specs.Vertex.{leaves}
 use Rattle.refusals.specs.Refusals.{isolated}
 
@@ -10,5 +11,5 @@ pub record Flagged (m : ℕ) (l w : List ℕ) (h : ℕ) : Type 0 where
 
 -- the first of v vertices in no face; past m numbers the work table is as found.
 -- Open, and may differ between correct programs: its first m numbers
-abbrev pub IsolatedFound : (l : List ℕ) (v m : ℕ) (w w' : List ℕ) (r : ℕ) → Type 0
-IsolatedFound l v m w w' r = (r ≡ first (isolated l) v) × (drop m w' ≡ drop m w)
+abbrev pub IsolatedFound : (l : List ℕ) (v m : ℕ) (w w' : List ℕ) (r : Option ℕ) → Type 0
+IsolatedFound l v m w w' r = Found (isolated l) v r × (drop m w' ≡ drop m w)

@@ -2,7 +2,7 @@
 #![tactic(auto)]
 
 ghost use Rattle.std.specs.Prelude.{◌+◌, ◌*◌, ◌%◌, ◌≤◌, ◌<◌, ◌≡◌, length, drop};
-ghost use Rattle.search.specs.Search.{first};
+ghost use Rattle.search.specs.Found.{Found};
 ghost use Rattle.verdict.specs.Verdict.{bad_coordinate};
 ghost use Rattle.refusals.specs.Refusals.{bad_mark, bad_corner, isolated};
 ghost use Rattle.topology.specs.Shape.{quads};
@@ -11,36 +11,20 @@ ghost use Rattle.sidetable.specs.Table.{Shaped};
 ghost use Rattle.scan.specs.Flags.{Flagged, IsolatedFound};
 ghost use Rattle.scan.specs.Good.{Good, GoodBefore};
 
-// The first coordinate out of range, or their number.
-pub fn first_bad_coordinate(vertices: &[i32]) -> usize
-    ensures { result ≡ first (bad_coordinate vertices.now) (length vertices.now) }
+// The first coordinate out of range.
+pub fn first_bad_coordinate(vertices: &[i32]) -> Option<usize>
+    ensures { Found (bad_coordinate vertices.now) (length vertices.now) result }
 {
-    let mut i = 0;
-    while i < vertices.len() {
-        let x = vertices[i];
-        if x < bounds::MIN_COORDINATE {
-            return i;
-        }
-        if x > bounds::MAX_COORDINATE {
-            return i;
-        }
-        i += 1;
-    }
-    i
+    vertices
+        .iter()
+        .position(|x| x.unsigned_abs() > bounds::MAX_COORDINATE as u32)
 }
 
-// The first mark above 1, or their number.
-pub fn first_bad_mark(marks: &[u8]) -> usize
-    ensures { result ≡ first (bad_mark marks.now) (length marks.now) }
+// The first mark above 1.
+pub fn first_bad_mark(marks: &[u8]) -> Option<usize>
+    ensures { Found (bad_mark marks.now) (length marks.now) result }
 {
-    let mut i = 0;
-    while i < marks.len() {
-        if marks[i] > 1 {
-            return i;
-        }
-        i += 1;
-    }
-    i
+    marks.iter().position(|m| *m > 1)
 }
 
 // Flags the corner of half-edge h, if it is one of the first m vertices.
@@ -60,30 +44,21 @@ fn flag_all(faces: &[u32], m: usize, work: &mut [u32])
     ensures { Flagged m faces.now work.new (length faces.now) × (drop m work.new ≡ drop m work.old) }
 {
     tables::clear(&mut *work, m);
-    let mut h = 0;
-    while h < faces.len() {
+    for h in 0..faces.len() {
         flag(faces, m, &mut *work, h);
-        h += 1;
     }
 }
 
-// The first of m vertices without a flag, or m.
-fn first_unflagged(faces: &[u32], m: usize, work: &[u32]) -> usize
+// The first of m vertices without a flag.
+fn first_unflagged(faces: &[u32], m: usize, work: &[u32]) -> Option<usize>
     requires { (m ≤ length work.now) × Flagged m faces.now work.now (length faces.now) }
-    ensures { result ≡ first (isolated faces.now) m }
+    ensures { Found (isolated faces.now) m result }
 {
-    let mut p = 0;
-    while p < m {
-        if work[p] == 0 {
-            return p;
-        }
-        p += 1;
-    }
-    p
+    work[..m].iter().position(|w| *w == 0)
 }
 
 // The first of nv vertices that is in no face, where there are more of them than the n corners: it is one of the first n + 1.
-pub fn first_isolated(faces: &[u32], nv: usize, work: &mut [u32]) -> usize
+pub fn first_isolated(faces: &[u32], nv: usize, work: &mut [u32]) -> Option<usize>
     requires { (0 < length faces.now) × (length faces.now < nv) × (4 * length faces.now ≤ length work.old) }
     ensures { IsolatedFound faces.now nv (4 * length faces.now) work.old work.new result }
 {
@@ -122,34 +97,16 @@ fn good_face(faces: &[u32], nv: usize, h: usize) -> bool
     let q = faces[h + 1];
     let r = faces[h + 2];
     let s = faces[h + 3];
-    if p as usize >= nv {
-        return false;
-    }
-    if q as usize >= nv {
-        return false;
-    }
-    if r as usize >= nv {
-        return false;
-    }
-    if s as usize >= nv {
-        return false;
-    }
-    if p == q {
-        return false;
-    }
-    if p == r {
-        return false;
-    }
-    if p == s {
-        return false;
-    }
-    if q == r {
-        return false;
-    }
-    if q == s {
-        return false;
-    }
-    r != s
+    (p as usize) < nv
+        && (q as usize) < nv
+        && (r as usize) < nv
+        && (s as usize) < nv
+        && p != q
+        && p != r
+        && p != s
+        && q != r
+        && q != s
+        && r != s
 }
 
 // The first corner of the first four-sided face that is not good, or their number.
@@ -157,14 +114,12 @@ fn skip_good(faces: &[u32], nv: usize) -> usize
     requires { length faces.now % 4 ≡ 0 }
     ensures { GoodBefore quads nv faces.now result }
 {
-    let mut h = 0;
-    while h < faces.len() {
-        if !good_face(faces, nv, h) {
-            return h;
+    for f in 0..faces.len() / 4 {
+        if !good_face(faces, nv, 4 * f) {
+            return 4 * f;
         }
-        h += 4;
     }
-    h
+    faces.len()
 }
 
 // A half-edge with no bad corner before it.
@@ -172,23 +127,22 @@ fn first_suspect(faces: &[u32], sides: &[u8], nv: usize) -> usize
     requires { Sided sides.now (length faces.now) }
     ensures { GoodBefore (shape_of sides.now) nv faces.now result }
 {
-    if sides.len() == 0 {
-        return skip_good(faces, nv);
+    if sides.is_empty() {
+        skip_good(faces, nv)
+    } else {
+        0
     }
-    0
 }
 
-// The first half-edge with a bad corner, or their number.
-pub fn first_bad_corner(faces: &[u32], sides: &[u8], nv: usize, work: &[u32]) -> usize
+// The first half-edge with a bad corner.
+pub fn first_bad_corner(faces: &[u32], sides: &[u8], nv: usize, work: &[u32]) -> Option<usize>
     requires { Shaped sides.now (length faces.now) work.now }
-    ensures { result ≡ first (bad_corner (shape_of sides.now) nv faces.now) (length faces.now) }
+    ensures { Found (bad_corner (shape_of sides.now) nv faces.now) (length faces.now) result }
 {
-    let mut h = first_suspect(faces, sides, nv);
-    while h < faces.len() {
+    for h in first_suspect(faces, sides, nv)..faces.len() {
         if bad_corner(faces, sides, nv, work, h) {
-            return h;
+            return Some(h);
         }
-        h += 1;
     }
-    h
+    None
 }

@@ -1,5 +1,6 @@
 pub mod Tests
 pub mod First
+pub mod Found
 pub mod Count
 pub mod Pigeonhole
 pub mod Iterate

@@ -3,7 +3,7 @@ use mathlib.Core.Path.{sym, ap, ◌∙◌}
 use native.Mathlib.Omega.{arith}
 use lib.ListN.{length}
 use lib.Dec.{ltb}
-use borrow.Author.Tests.{ltb-true, ltb-false}
+use borrow.Author.Tests.{ltb-true, ltb-false, lt-ltb}
 use Rattle.topology.specs.Boundary.{boundary_from}
 use Rattle.polygons.specs.Polygons.{shape_of}
 use Rattle.topology.proofs.Boundary.{boundary_from-le}
@@ -23,10 +23,10 @@ returns-then-m-lt-MIN_RING c =
     let S = shape_of c.args.sides.now in
     let l = c.args.faces.now in
     let p = c.args.p in
-    sym (ring_few S l p (omega (arith, ltb-false (boundary_from S l p) (length l) (sym c.is_open.ensures ∙ c.if-is_open.false), boundary_from-le S l p)) (omega (arith, c.faces_at-m.ensures)))
+    lt-ltb c.faces_at-m.result 3 c.if-m-lt-MIN_RING.true ∙ sym (ring_few S l p (omega (arith, ltb-false (boundary_from S l p) (length l) (sym c.is_open.ensures ∙ c.if-is_open.false), boundary_from-le S l p)) (omega (arith, c.faces_at-m.ensures)))
 
-pub returns : goal.returns
-returns c =
+pub returns-else-m-lt-MIN_RING : goal.returns-else-m-lt-MIN_RING
+returns-else-m-lt-MIN_RING c =
     let S = shape_of c.args.sides.now in
     let l = c.args.faces.now in
     let p = c.args.p in

@@ -1,10 +1,13 @@
--- `first_bad_valence` meets its contract: no vertex below p is refused. Assumes nothing.
-use mathlib.Core.Path.{sym, ◌∙◌}
-use Rattle.search.proofs.First.{passed_hit, passed_end}
+-- `first_bad_valence` meets its contract. Assumes nothing.
+use mathlib.Core.Path.{refl}
+use native.Mathlib.Omega.{arith}
+use Rattle.std.proofs.Common.{rules, tests}
+use Rattle.std.proofs.lemmas.Iterator.{YieldsList-from_range}
+use Rattle.std.proofs.lemmas.Iterator.Search.{find_from_yields_List}
+use Rattle.search.proofs.Found.{found_find}
+use Rattle.polygons.specs.Polygons.{shape_of}
+use Rattle.refusals.specs.Refusals.{bad_valence}
 use Rattle.manifold.proofs.first_bad_valence.Goals as goal
 
-pub returns-then-bad_valence : goal.returns-then-bad_valence
-returns-then-bad_valence c = passed_hit _ _ _ c.loop-p.invariant.1 c.loop-p-test.true (sym c.bad_valence.ensures ∙ c.if-bad_valence.true)
-
 pub returns : goal.returns
-returns c = passed_end _ _ _ c.loop-p.invariant.1 c.loop-p.invariant.0 c.loop-p-test.false
+returns c = found_find (bad_valence (shape_of c.args.sides.now) c.args.faces.now) c.args.nv _ (find_from_yields_List (bad_valence (shape_of c.args.sides.now) c.args.faces.now) _ _ c.find.result c.find.ensures.ran (YieldsList-from_range 0 c.args.nv c.args.nv refl (omega arith)) (λ x b q k. search (rules, tests)))

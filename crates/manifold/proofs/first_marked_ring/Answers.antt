@@ -1,10 +1,14 @@
--- `first_marked_ring` meets its contract: no vertex below p is refused. Assumes nothing.
-use mathlib.Core.Path.{sym, ◌∙◌}
-use Rattle.search.proofs.First.{passed_hit, passed_end}
+-- `first_marked_ring` meets its contract. Assumes nothing.
+use mathlib.Core.Path.{refl}
+use native.Mathlib.Omega.{arith}
+use lib.ListN.{length}
+use Rattle.std.proofs.Common.{rules, tests}
+use Rattle.std.proofs.lemmas.Iterator.{YieldsList-from_range}
+use Rattle.std.proofs.lemmas.Iterator.Search.{find_from_yields_List}
+use Rattle.search.proofs.Found.{found_find}
+use Rattle.polygons.specs.Polygons.{shape_of}
+use Rattle.refusals.specs.Refusals.{marked_ring}
 use Rattle.manifold.proofs.first_marked_ring.Goals as goal
 
-pub returns-then-marked_ring : goal.returns-then-marked_ring
-returns-then-marked_ring c = passed_hit _ _ _ c.loop-p.invariant.1 c.loop-p-test.true (sym c.marked_ring.ensures ∙ c.if-marked_ring.true)
-
 pub returns : goal.returns
-returns c = passed_end _ _ _ c.loop-p.invariant.1 c.loop-p.invariant.0 c.loop-p-test.false
+returns c = found_find (marked_ring (shape_of c.args.sides.now) c.args.faces.now c.args.marks.now) (length c.args.marks.now) _ (find_from_yields_List (marked_ring (shape_of c.args.sides.now) c.args.faces.now c.args.marks.now) _ _ c.find.result c.find.ensures.ran (YieldsList-from_range 0 (length c.args.marks.now) (length c.args.marks.now) refl (omega arith)) (λ x b q k. search (rules, tests)))

@@ -1,18 +1,13 @@
--- `first_non_manifold` meets its contract: no vertex below p is refused. Assumes nothing.
-use mathlib.Core.Path.{sym, ◌∙◌}
+-- `first_non_manifold` meets its contract. Assumes nothing.
+use mathlib.Core.Path.{refl}
 use native.Mathlib.Omega.{arith}
-use Rattle.search.proofs.First.{passed_hit, passed_end, first_before}
-use Rattle.refusals.specs.Refusals.{isolated}
-use Rattle.refusals.proofs.Places.{not_isolated}
+use Rattle.std.proofs.Common.{rules, tests}
+use Rattle.std.proofs.lemmas.Iterator.{YieldsList-from_range}
+use Rattle.std.proofs.lemmas.Iterator.Search.{find_from_yields_List}
+use Rattle.search.proofs.Found.{found_find}
+use Rattle.polygons.specs.Polygons.{shape_of}
+use Rattle.refusals.specs.Refusals.{non_manifold}
 use Rattle.manifold.proofs.first_non_manifold.Goals as goal
 
-pub non_manifold-requires-clause-p_lt_nv : goal.non_manifold-requires-clause-p_lt_nv
-non_manifold-requires-clause-p_lt_nv c =
-    let l = c.args.faces.now in
-    let p = c.loop-p.p in (omega arith, not_isolated l p (first_before (isolated l) c.args.nv p (omega arith)))
-
-pub returns-then-non_manifold : goal.returns-then-non_manifold
-returns-then-non_manifold c = passed_hit _ _ _ c.loop-p.invariant.1 c.loop-p-test.true (sym c.non_manifold.ensures ∙ c.if-non_manifold.true)
-
 pub returns : goal.returns
-returns c = passed_end _ _ _ c.loop-p.invariant.1 c.loop-p.invariant.0 c.loop-p-test.false
+returns c = found_find (non_manifold (shape_of c.args.sides.now) c.args.faces.now) c.args.nv _ (find_from_yields_List (non_manifold (shape_of c.args.sides.now) c.args.faces.now) _ _ c.find.result c.find.ensures.ran (YieldsList-from_range 0 c.args.nv c.args.nv refl (omega arith)) (λ x b q k. search (rules, tests)))

@@ -1,6 +1,8 @@
 -- `non_manifold` meets its contract. Assumes nothing.
 use native.Mathlib.Omega.{arith}
-use Rattle.refusals.specs.Refusals.{non_manifold}
+use Rattle.search.proofs.First.{first_before}
+use Rattle.refusals.specs.Refusals.{isolated, non_manifold}
+use Rattle.refusals.proofs.Places.{not_isolated}
 use Rattle.polygons.specs.Polygons.{shape_of}
 use Rattle.adjacency.proofs.Queries.{start-lt, valence-le}
 use Rattle.manifold.proofs.non_manifold.Goals as goal
@@ -8,7 +10,7 @@ use Rattle.manifold.proofs.non_manifold.Goals as goal
 pub meets_all-requires-clause-h_in_bounds : goal.meets_all-requires-clause-h_in_bounds
 meets_all-requires-clause-h_in_bounds c =
     let l = c.args.faces.now in
-    let p = c.args.p in (omega (arith, c.start_in-h.ensures, start-lt (shape_of c.args.sides.now) l p c.requires.p_lt_nv.1), omega (arith, c.faces_at-d.ensures, valence-le l p))
+    let p = c.args.p in (omega (arith, c.start_in-h.ensures, start-lt (shape_of c.args.sides.now) l p (not_isolated l p (first_before (isolated l) c.args.nv p (omega (arith, c.requires.joined))))), omega (arith, c.faces_at-d.ensures, valence-le l p))
 
 pub returns : goal.returns
 unfolding non_manifold

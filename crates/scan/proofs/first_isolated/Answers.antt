@@ -1,5 +1,4 @@
 -- `scan::first_isolated` meets its contract: the flags of enough vertices tell. Assumes nothing.
-use mathlib.Core.Path.{◌∙◌}
 use Prim.Native.Nat.{◌+◌, ◌*◌}
 use native.Mathlib.Omega.{arith}
 use lib.ListN.{length}
@@ -8,4 +7,4 @@ use Rattle.scan.proofs.Laws.{isolated_early}
 use Rattle.scan.proofs.first_isolated.Goals as goal
 
 pub returns : goal.returns
-returns c = let l = c.args.faces.now in let p = c.requires in (c.first_unflagged.ensures ∙ isolated_early l c.args.nv p.1, drop_later (length l + 1) (4 * length l) _ _ (omega (arith, p.0)) c.flag_all.ensures.1)
+returns c = let l = c.args.faces.now in let p = c.requires in (isolated_early l c.args.nv _ p.1 c.first_unflagged.ensures, drop_later (length l + 1) (4 * length l) _ _ (omega (arith, p.0)) c.flag_all.ensures.1)

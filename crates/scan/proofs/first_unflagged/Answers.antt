@@ -1,15 +1,21 @@
--- `scan::first_unflagged` meets its contract: each vertex before p has a flag. Assumes nothing.
-use native.Mathlib.Omega.{arith}
-use borrow.Author.Count.{below_more}
+-- `scan::first_unflagged` meets its contract: a vertex without a flag is isolated. Assumes nothing.
+use mathlib.Core.Path.{sym, ◌∙◌, ap}
+use Prim.Native.Nat.{ℕ}
+use lib.ListN.{take}
+use Rattle.std.proofs.lemmas.List.{length-take-le, get_or-take}
+use lib.Dec.{eqb}
+use Rattle.std.proofs.Common.{rules}
+use borrow.Author.Tests.{tests}
+use Rattle.std.proofs.lemmas.Iterator.{YieldsList-from_slice}
+use Rattle.std.proofs.lemmas.Iterator.Search.{position_from_yields_List}
 use Rattle.refusals.specs.Refusals.{isolated}
-use Rattle.scan.proofs.Laws.{hit, end, flagged, unflagged}
+use Rattle.search.proofs.Found.{found_position}
+use Rattle.scan.proofs.Laws.{unflagged}
 use Rattle.scan.proofs.first_unflagged.Goals as goal
 
-pub returns-then-work-p-eq0 : goal.returns-then-work-p-eq0
-returns-then-work-p-eq0 c = let l = c.args.faces.now in let p = c.loop-p.p in hit (isolated l) c.args.m p (omega arith) c.loop-p.invariant.1 (unflagged c.args.m l c.args.work.now p (omega arith) c.requires.1 c.if-work-p-eq0.true)
-
-pub loop-p-preserved : goal.loop-p-preserved
-loop-p-preserved c = let l = c.args.faces.now in let p = c.loop-p.p in (omega arith, below_more _ _ c.loop-p.invariant.1 (flagged c.args.m l c.args.work.now p (omega arith) c.requires.1 c.if-work-p-eq0.false))
-
 pub returns : goal.returns
-returns c = end (isolated c.args.faces.now) c.args.m c.loop-p.p (omega arith) (omega arith) c.loop-p.invariant.1
+returns c =
+    let m = c.args.m in
+    let w = c.args.work.now in
+    let l = c.args.faces.now in
+    found_position (isolated l) m (λ (f : ℕ). eqb f 0) (take m w) 0 _ (length-take-le m w c.requires.0) (position_from_yields_List (λ (f : ℕ). eqb f 0) _ _ c.position.result c.position.ensures.ran (YieldsList-from_slice (take m w) (cc)) (λ x b q k. search (rules, tests))) (λ p h. unflagged m l w p h c.requires.1 ∙ ap (λ (f : ℕ). eqb f 0) (sym (get_or-take m w p 0 h)))

@@ -1,12 +1,8 @@
 -- `scan::flag_all` meets its contract: the first h corners are flagged. Assumes nothing.
 use mathlib.Core.Path.{◌≡◌}
-use Prim.Native.Nat.{◌-◌, ◌≤◌}
-use lib.ListN.{length, drop}
+use lib.ListN.{drop}
 use Rattle.scan.specs.Flags.{Flagged}
 use Rattle.scan.proofs.flag_all.Given as goal
 
 abbrev pub invariant-loop-h : goal.invariant-loop-h
-invariant-loop-h l = (l.h ≤ length l.faces) × (length l.work ≡ length l.initial.work) × Flagged l.m l.faces l.work l.h × (drop l.m l.work ≡ drop l.m l.initial.work)
-
-abbrev pub decreases-loop-h : goal.decreases-loop-h
-decreases-loop-h l = length l.faces - l.h
+invariant-loop-h l = Flagged l.m l.faces l.work l.h × (drop l.m l.work ≡ drop l.m l.initial.work)
