@@ -5,109 +5,119 @@ ghost use Rattle.std.specs.Prelude.{◌≡◌, length};
 ghost use Rattle.search.specs.Search.{first};
 ghost use Rattle.refusals.specs.Refusals.{bad_corner};
 ghost use Rattle.polygons.specs.Polygons.{shape_of};
-ghost use Rattle.nets.specs.Net.{control_net};
+ghost use Rattle.nets.specs.Drawn.{drawn};
 ghost use Rattle.verdict.specs.Verdict.{vertex_verdict, adjacency_verdict, faces_verdict, shape_verdict, net_verdict};
+ghost use Rattle.reasons.specs.Reasons.{number, verdict_of};
 ghost use Rattle.slotsteps.specs.Slots.{SlotTables};
 ghost use Rattle.vertexcounts.specs.Counts.{Counted};
-ghost use Rattle.examination.specs.Examine.{verdict_of, CheckTables, Joined, Examined};
+ghost use Rattle.examination.specs.Examine.{refused_where, CheckTables, Joined, Examined};
 
-// No refusal, or a refusal's number and place.
-#[derive(Clone, Copy)]
-pub enum Examination {
-    Passed,
-    Refused(u32, usize),
+use nets::Net;
+use reasons::{Reason, Refusal};
+
+// The refusal for a reason at the place that was found, if one was.
+fn refuse_at(reason: Reason, place: Option<usize>) -> Result<(), Refusal>
+    ensures { verdict_of result ≡ refused_where (number reason) place }
+{
+    match place {
+        Some(place) => Err(Refusal { reason, place }),
+        None => Ok(()),
+    }
 }
 
 // Refusals 10 to 12 of a net with its mates built and its vertices counted.
-fn examine_vertices(faces: &[u32], sides: &[u8], marks: &[u8], work: &[u32]) -> Examination
-    requires counted { Counted (length marks.now) sides.now faces.now work.now }
-    requires joined { Joined faces.now (length marks.now) }
-    ensures { verdict_of result ≡ vertex_verdict (shape_of sides.now) (length marks.now) faces.now marks.now }
+fn examine_vertices(net: Net, work: &[u32]) -> Result<(), Refusal>
+    requires counted { Counted (length net.marks.now) net.sides.now net.faces.now work.now }
+    requires joined { Joined net.faces.now (length net.marks.now) }
+    ensures { verdict_of result ≡ vertex_verdict (shape_of net.entry.sides.now) (length net.entry.marks.now) net.entry.faces.now net.entry.marks.now }
 {
-    let p = manifold::first_non_manifold(faces, sides, marks.len(), work);
-    if p < marks.len() {
-        return Examination::Refused(10, p);
-    }
-    let q = manifold::first_bad_valence(faces, sides, marks.len(), work);
-    if q < marks.len() {
-        return Examination::Refused(11, q);
-    }
-    let s = manifold::first_marked_ring(faces, sides, marks, work);
-    if s < marks.len() {
-        return Examination::Refused(12, s);
-    }
-    Examination::Passed
+    let nv = net.marks.len();
+    refuse_at(
+        Reason::NonManifoldVertex,
+        manifold::first_non_manifold(net.faces, net.sides, nv, work),
+    )?;
+    refuse_at(
+        Reason::ValenceOutOfRange,
+        manifold::first_bad_valence(net.faces, net.sides, nv, work),
+    )?;
+    refuse_at(
+        Reason::MarkedInteriorVertex,
+        manifold::first_marked_ring(net.faces, net.sides, net.marks, work),
+    )
 }
 
 // Refusals 9 to 12 of a net whose vertices all are in faces, with its chains built. On acceptance the work table starts with the mates.
-fn examine_adjacency(faces: &[u32], sides: &[u8], marks: &[u8], work: &mut [u32]) -> Examination
-    requires slot_tables { SlotTables (length marks.now) sides.now faces.now work.old }
-    requires joined { Joined faces.now (length marks.now) }
-    requires faces_value { first (bad_corner (shape_of sides.now) (length marks.now) faces.now) (length faces.now) ≡ length faces.now }
-    ensures { Examined (adjacency_verdict (shape_of sides.now) (length marks.now) faces.now marks.now) sides.now faces.now work.old result work.new }
+fn examine_adjacency(net: Net, work: &mut [u32]) -> Result<(), Refusal>
+    requires slot_tables { SlotTables (length net.marks.now) net.sides.now net.faces.now work.old }
+    requires joined { Joined net.faces.now (length net.marks.now) }
+    requires faces_value { first (bad_corner (shape_of net.sides.now) (length net.marks.now) net.faces.now) (length net.faces.now) ≡ length net.faces.now }
+    ensures { Examined (adjacency_verdict (shape_of net.entry.sides.now) (length net.entry.marks.now) net.entry.faces.now net.entry.marks.now)
+        net.entry.sides.now net.entry.faces.now work.old result work.new }
 {
-    let h = slots::link(faces, sides, marks.len(), &mut *work);
-    if h < faces.len() {
-        return Examination::Refused(9, sidetable::face_in(sides, &*work, faces.len(), h));
+    let n = net.faces.len();
+    if let Some(h) = slots::link(net.faces, net.sides, net.marks.len(), &mut *work) {
+        return Err(Refusal {
+            reason: Reason::RepeatedHalfEdge,
+            place: sidetable::face_in(net.sides, &*work, n, h),
+        });
     }
-    vertexcounts::count_faces(faces, sides, marks.len(), &mut *work);
-    examine_vertices(faces, sides, marks, &*work)
+    vertexcounts::count_faces(net.faces, net.sides, net.marks.len(), &mut *work);
+    examine_vertices(net, &*work)
 }
 
 // Refusals 8 to 12 of a net whose corners all are vertices.
-fn examine_faces(faces: &[u32], sides: &[u8], marks: &[u8], work: &mut [u32]) -> Examination
-    requires check_tables { CheckTables sides.now faces.now work.old }
-    requires faces_value { first (bad_corner (shape_of sides.now) (length marks.now) faces.now) (length faces.now) ≡ length faces.now }
-    ensures { Examined (faces_verdict (shape_of sides.now) (length marks.now) faces.now marks.now) sides.now faces.now work.old result work.new }
+fn examine_faces(net: Net, work: &mut [u32]) -> Result<(), Refusal>
+    requires check_tables { CheckTables net.sides.now net.faces.now work.old }
+    requires faces_value { first (bad_corner (shape_of net.sides.now) (length net.marks.now) net.faces.now) (length net.faces.now) ≡ length net.faces.now }
+    ensures { Examined (faces_verdict (shape_of net.entry.sides.now) (length net.entry.marks.now) net.entry.faces.now net.entry.marks.now)
+        net.entry.sides.now net.entry.faces.now work.old result work.new }
 {
-    if faces.len() == 0 {
-        if marks.len() == 0 {
-            return Examination::Passed;
-        }
-        return Examination::Refused(8, 0);
+    let nv = net.marks.len();
+    if net.faces.len() == 0 {
+        return refuse_at(Reason::IsolatedVertex, (nv != 0).then_some(0));
     }
-    if faces.len() < marks.len() {
-        return Examination::Refused(8, scan::first_isolated(faces, marks.len(), &mut *work));
+    if net.faces.len() < nv {
+        return refuse_at(
+            Reason::IsolatedVertex,
+            scan::first_isolated(net.faces, nv, &mut *work),
+        );
     }
-    adjacency::build_chains(faces, sides, &mut *work);
-    let p = adjacency::first_empty(faces, sides, marks.len(), &*work);
-    if p < marks.len() {
-        return Examination::Refused(8, p);
-    }
-    examine_adjacency(faces, sides, marks, &mut *work)
+    adjacency::build_chains(net.faces, net.sides, &mut *work);
+    refuse_at(
+        Reason::IsolatedVertex,
+        adjacency::first_empty(net.faces, net.sides, nv, &*work),
+    )?;
+    examine_adjacency(net, &mut *work)
 }
 
 // Refusals 6 to 12.
-fn examine_shape(faces: &[u32], sides: &[u8], marks: &[u8], work: &mut [u32]) -> Examination
-    requires { CheckTables sides.now faces.now work.old }
-    ensures { Examined (shape_verdict (shape_of sides.now) faces.now marks.now) sides.now faces.now work.old result work.new }
+fn examine_shape(net: Net, work: &mut [u32]) -> Result<(), Refusal>
+    requires { CheckTables net.sides.now net.faces.now work.old }
+    ensures { Examined (shape_verdict (shape_of net.entry.sides.now) net.entry.faces.now net.entry.marks.now)
+        net.entry.sides.now net.entry.faces.now work.old result work.new }
 {
-    let m = scan::first_bad_mark(marks);
-    if m < marks.len() {
-        return Examination::Refused(6, m);
+    refuse_at(Reason::InvalidMark, scan::first_bad_mark(net.marks))?;
+    let n = net.faces.len();
+    if let Some(h) = scan::first_bad_corner(net.faces, net.sides, net.marks.len(), &*work) {
+        return Err(Refusal {
+            reason: Reason::InvalidCorner,
+            place: sidetable::face_in(net.sides, &*work, n, h),
+        });
     }
-    let h = scan::first_bad_corner(faces, sides, marks.len(), &*work);
-    if h < faces.len() {
-        return Examination::Refused(7, sidetable::face_in(sides, &*work, faces.len(), h));
-    }
-    examine_faces(faces, sides, marks, &mut *work)
+    examine_faces(net, &mut *work)
 }
 
 // Refusals 5 to 12 of a net whose shape is in the work table. Of that table only the first 4n numbers are changed, n being the number of corners; on
 // acceptance it starts with the mates.
-pub fn examine_net(
-    vertices: &[i32],
-    faces: &[u32],
-    sides: &[u8],
-    marks: &[u8],
-    work: &mut [u32],
-) -> Examination
-    requires { CheckTables sides.now faces.now work.old }
-    ensures { Examined (net_verdict (control_net vertices.now faces.now sides.now marks.now)) sides.now faces.now work.old result work.new }
+pub fn examine_net(net: Net, work: &mut [u32]) -> Result<(), Refusal>
+    requires { CheckTables net.sides.now net.faces.now work.old }
+    ensures { Examined (net_verdict (drawn net.entry)) net.entry.sides.now net.entry.faces.now work.old result work.new }
 {
-    let x = scan::first_bad_coordinate(vertices);
-    if x < vertices.len() {
-        return Examination::Refused(5, x / 3);
+    if let Some(x) = scan::first_bad_coordinate(net.vertices) {
+        return Err(Refusal {
+            reason: Reason::CoordinateOutOfRange,
+            place: x / 3,
+        });
     }
-    examine_shape(faces, sides, marks, &mut *work)
+    examine_shape(net, &mut *work)
 }

@@ -10,11 +10,12 @@ use borrow.Author.Tests.{ltb-true, ltb-false}
 use Rattle.std.specs.Prelude.{Option, Some, None, cond}
 use Rattle.std.specs.List.{position, position_or_len, find, range_with_len}
 use Rattle.std.specs.Option.{option_map}
+use Rattle.std.specs.Bool.{then_some}
 use native.Mathlib.Numerals.{add-one}
 use Rattle.std.proofs.lemmas.List.Sums.{fails_before_first, passes_at_first}
 use Rattle.search.specs.Found.{Found}
 use Rattle.search.specs.Search.{first_from, first}
-use Rattle.search.proofs.First.{Passed, passed_hit, passed_all}
+use Rattle.search.proofs.First.{first-le, Passed, passed_hit, passed_all}
 
 module _ (p : ℕ → Bool) (n : ℕ) where
   pub found_at : (i : ℕ) → Passed p i → i < n → p i ≡ true → Found p n (Some i)
@@ -22,6 +23,14 @@ module _ (p : ℕ → Bool) (n : ℕ) where
 
   pub found_none : (i : ℕ) → Passed p i → n ≤ i → Found p n None
   found_none i w h = passed_all p n i w h
+
+  -- the first number, if it is below n
+  pub found_if : (i : ℕ) → i ≡ first p n → Found p n (then_some (ltb i n) i)
+  found_if i e = go (ltb i n) refl
+    where
+      go : (b : Bool) → ltb i n ≡ b → Found p n (then_some b i)
+      go true t = (sym e, ltb-true i n t)
+      go false t = let h = ltb-false i n t in let k = first-le p n in omega arith
 
 -- the answer of `position` on a list whose elements tell
 by_position : {A : Type 0} (p : ℕ → Bool) (test : A → Bool) (xs : List A) (d : A) → ((i : ℕ) → i < length xs → p i ≡ test (get_or xs i d)) → Found p (length xs) (position test xs)

@@ -1,49 +1,43 @@
 -- `examination::examine_shape` meets its contract: the tests in their order. Assumes nothing.
-use mathlib.Core.Path.{refl, ap, ◌∙◌}
+use mathlib.Core.Path.{◌≡◌, refl, ap, ◌∙◌}
 use lib.ListN.{length}
+use Rattle.std.proofs.Common.{rules}
 use Rattle.refusals.specs.Refusals.{bad_mark, bad_corner}
 use Rattle.polygons.specs.Polygons.{shape_of}
 use Rattle.verdict.specs.Verdict.{refused, shape_verdict}
-use Rattle.verdict.proofs.Accepted.{never, at_hit, at_pass}
-use Rattle.examination.proofs.Laws.{all}
+use Rattle.reasons.specs.Reasons.{refused_as, verdict_of}
+use Rattle.examination.proofs.Laws.{hit_at, pass_at, hit_found, pass_found, refused_here, refused_net}
 use Rattle.examination.proofs.examine_shape.Goals as goal
 
-pub returns-then-m-marks : goal.returns-then-m-marks
+pub returns-in_err-refuse_at : goal.returns-in_err-refuse_at
 unfolding shape_verdict
-returns-then-m-marks c =
-    let m = c.args.marks.now in
-    record { verdict = at_hit 6 (bad_mark m) (length m) (λ p. p) _ _ c.first_bad_mark-m.ensures c.if-m-marks.true; mated = λ e. never 6 _ e; rest = refl }
+returns-in_err-refuse_at c =
+    let m = c.args.net.marks.now in
+    let e : verdict_of c.from_residual.result ≡ refused_as c.in_err-refuse_at.field-0.0 = search rules in
+    refused_net _ c.args.net.sides.now c.args.net.faces.now c.args.work.now _ _ _ e
+    (hit_found 6 (bad_mark m) (length m) _ _ _ c.first_bad_mark.ensures c.in_err-refuse_at.ensures) refl
 
-pub returns-then-h-faces : goal.returns-then-h-faces
+pub returns-in-Some : goal.returns-in-Some
 unfolding shape_verdict
-returns-then-h-faces c =
-    let S = shape_of c.args.sides.now in
-    let m = c.args.marks.now in
-    let l = c.args.faces.now in
-    let h = at_hit 7 (bad_corner S (length m) l) (length l) S.face _ _ c.first_bad_corner-h.ensures c.if-h-faces.true in
-    record {
-      verdict = at_pass 6 (bad_mark m) (length m) (λ p. p) _ _ _ c.first_bad_mark-m.ensures c.if-m-marks.false (ap (refused 7) c.face_in.ensures ∙ h);
-      mated = λ e. never 7 _ e;
-      rest = refl;
-    }
-
-pub examine_faces-requires-clause-faces_value : goal.examine_faces-requires-clause-faces_value
-examine_faces-requires-clause-faces_value c =
-    let S = shape_of c.args.sides.now in
-    let l = c.args.faces.now in
-    let v = length c.args.marks.now in all (bad_corner S v l) (length l) _ c.first_bad_corner-h.ensures c.if-h-faces.false
+returns-in-Some c =
+    let S = shape_of c.args.net.sides.now in
+    let m = c.args.net.marks.now in
+    let l = c.args.net.faces.now in
+    refused_here _ c.args.net.sides.now l c.args.work.now _ _
+    (pass_found 6 (bad_mark m) (length m) _ _ _ c.first_bad_mark.ensures c.in_ok-refuse_at.ensures
+    (ap (refused 7) c.face_in.ensures ∙ hit_at 7 (bad_corner S (length m) l) (length l) S.face _ _ c.in-Some.ensures)) refl
 
 pub returns : goal.returns
 unfolding shape_verdict
 returns c =
-    let S = shape_of c.args.sides.now in
-    let m = c.args.marks.now in
-    let l = c.args.faces.now in
+    let S = shape_of c.args.net.sides.now in
+    let m = c.args.net.marks.now in
+    let l = c.args.net.faces.now in
     let e = c.examine_faces.ensures in
     record {
       verdict =
-          at_pass 6 (bad_mark m) (length m) (λ p. p) _ _ _ c.first_bad_mark-m.ensures c.if-m-marks.false
-          (at_pass 7 (bad_corner S (length m) l) (length l) S.face _ _ _ c.first_bad_corner-h.ensures c.if-h-faces.false e.verdict);
+          pass_found 6 (bad_mark m) (length m) _ _ _ c.first_bad_mark.ensures c.in_ok-refuse_at.ensures
+          (pass_at 7 (bad_corner S (length m) l) (length l) S.face _ _ c.in_default.ensures e.verdict);
       mated = e.mated;
       rest = e.rest;
     }

@@ -1,49 +1,38 @@
 -- `examination::examine_vertices` meets its contract: the tests in their order. Assumes nothing.
-use mathlib.Core.Path.{◌≡◌}
+use mathlib.Core.Path.{◌≡◌, ◌∙◌}
 use lib.ListN.{length}
+use Rattle.std.proofs.Common.{rules}
 use Rattle.polygons.specs.Polygons.{shape_of}
 use Rattle.refusals.specs.Refusals.{non_manifold, bad_valence, marked_ring}
-use Rattle.verdict.specs.Verdict.{Verdict, refused_at, vertex_verdict}
-use Rattle.verdict.proofs.Accepted.{at_hit, at_pass, last_hit, last_pass}
+use Rattle.verdict.specs.Verdict.{vertex_verdict}
+use Rattle.reasons.specs.Reasons.{refused_as, verdict_of}
+use Rattle.examination.proofs.Laws.{hit_found, pass_found, last_found}
 use Rattle.examination.proofs.examine_vertices.Goals as goal
 
-pub returns-then-p-marks : goal.returns-then-p-marks
+pub returns-in_err-refuse_at : goal.returns-in_err-refuse_at
 unfolding vertex_verdict
-returns-then-p-marks c =
-    let S = shape_of c.args.sides.now in
-    let l = c.args.faces.now in
-    let v = length c.args.marks.now in
-    at_hit 10 (non_manifold S l) v (λ p. p) _ _ c.first_non_manifold-p.ensures c.if-p-marks.true
+returns-in_err-refuse_at c =
+    let S = shape_of c.args.net.sides.now in
+    let l = c.args.net.faces.now in
+    let e : verdict_of c.from_residual.result ≡ refused_as c.in_err-refuse_at.field-0.0 = search rules in
+    e ∙ hit_found 10 (non_manifold S l) (length c.args.net.marks.now) _ _ _ c.first_non_manifold.ensures c.in_err-refuse_at.ensures
 
-pub returns-then-q-marks : goal.returns-then-q-marks
+pub returns-in_err-refuse_at-2 : goal.returns-in_err-refuse_at-2
 unfolding vertex_verdict
-returns-then-q-marks c =
-    let S = shape_of c.args.sides.now in
-    let l = c.args.faces.now in
-    let v = length c.args.marks.now in
-    at_pass 10 (non_manifold S l) v (λ p. p) _ _ _ c.first_non_manifold-p.ensures c.if-p-marks.false
-    (at_hit 11 (bad_valence S l) v (λ p. p) _ _ c.first_bad_valence-q.ensures c.if-q-marks.true)
-
-pub returns-then-s-marks : goal.returns-then-s-marks
-unfolding vertex_verdict
-returns-then-s-marks c =
-    let past : (u : Verdict)
-    → (let S = shape_of c.args.sides.now in let l = c.args.faces.now in let m = c.args.marks.now in
-    u ≡ refused_at 12 (marked_ring S l m) (length m) (λ p. p) → u ≡ vertex_verdict S (length m) l m) = λ u e. let S = shape_of c.args.sides.now in
-    let l = c.args.faces.now in
-    let v = length c.args.marks.now in
-    at_pass 10 (non_manifold S l) v (λ p. p) _ _ _ c.first_non_manifold-p.ensures c.if-p-marks.false
-    (at_pass 11 (bad_valence S l) v (λ p. p) _ _ _ c.first_bad_valence-q.ensures c.if-q-marks.false e) in
-    past _ (last_hit 12 (marked_ring _ _ _) _ (λ p. p) _ c.first_marked_ring-s.ensures c.if-s-marks.true)
+returns-in_err-refuse_at-2 c =
+    let S = shape_of c.args.net.sides.now in
+    let l = c.args.net.faces.now in
+    let v = length c.args.net.marks.now in
+    let e : verdict_of c.from_residual-in_err-refuse_at-2.result ≡ refused_as c.in_err-refuse_at-2.field-0.0 = search rules in
+    pass_found 10 (non_manifold S l) v _ _ _ c.first_non_manifold.ensures c.in_ok-refuse_at.ensures
+    (e ∙ hit_found 11 (bad_valence S l) v _ _ _ c.first_bad_valence.ensures c.in_err-refuse_at-2.ensures)
 
 pub returns : goal.returns
 unfolding vertex_verdict
 returns c =
-    let past : (u : Verdict)
-    → (let S = shape_of c.args.sides.now in let l = c.args.faces.now in let m = c.args.marks.now in
-    u ≡ refused_at 12 (marked_ring S l m) (length m) (λ p. p) → u ≡ vertex_verdict S (length m) l m) = λ u e. let S = shape_of c.args.sides.now in
-    let l = c.args.faces.now in
-    let v = length c.args.marks.now in
-    at_pass 10 (non_manifold S l) v (λ p. p) _ _ _ c.first_non_manifold-p.ensures c.if-p-marks.false
-    (at_pass 11 (bad_valence S l) v (λ p. p) _ _ _ c.first_bad_valence-q.ensures c.if-q-marks.false e) in
-    past _ (last_pass 12 (marked_ring _ _ _) _ (λ p. p) _ c.first_marked_ring-s.ensures c.if-s-marks.false)
+    let S = shape_of c.args.net.sides.now in
+    let l = c.args.net.faces.now in
+    let m = c.args.net.marks.now in
+    pass_found 10 (non_manifold S l) (length m) _ _ _ c.first_non_manifold.ensures c.in_ok-refuse_at.ensures
+    (pass_found 11 (bad_valence S l) (length m) _ _ _ c.first_bad_valence.ensures c.in_ok-refuse_at-2.ensures
+    (c.refuse_at-3.ensures ∙ last_found 12 (marked_ring S l m) (length m) _ c.first_marked_ring.ensures))

@@ -9,7 +9,7 @@ use Rattle.search.proofs.Found.{found_if}
 use Rattle.tables.specs.Tables.{SameOutside}
 use Rattle.tables.proofs.Laws.{outside_wider}
 use Rattle.adjacency.proofs.Chains.{tables_lawful}
-use Rattle.slotsteps.specs.Slots.{SlotTables}
+use Rattle.slotsteps.specs.Slots.{SlotTables, repeats}
 use Rattle.slotsteps.proofs.Slots.{slots_zeros, slots_drop, least_start, least_all, taking_start, taking_all, tables_slots, tables_mates}
 use Rattle.slots.proofs.link.Goals as goal
 use Rattle.slots.proofs.link.Goals.{After-clear_from, After-put_slots-bad}
@@ -57,7 +57,11 @@ loop-a-preserved c =
     }
 
 pub returns-clause-value : goal.returns-clause-value
-returns-clause-value c = ?
+returns-clause-value c =
+    let l = c.args.faces.now in
+    let S = shape_of c.args.sides.now in
+    rw c.then_some.ensures
+    (found_if (repeats S l) (length l) c.loop-a.bad (least_all S c.args.nv l c.loop-a.a c.loop-a.bad c.requires.corners c.loop-a-test.false c.loop-a.invariant.least))
 
 pub returns-clause-mate_table_of : goal.returns-clause-mate_table_of
 returns-clause-mate_table_of c =
