@@ -22,7 +22,12 @@ use Rattle.sidetable.specs.Table.{ShapeRoom, ShapeBuilt}
 use Rattle.sidetable.proofs.Table.{shaped_kept}
 use Rattle.examination.specs.Examine.{CheckTables}
 use Rattle.admission.specs.Answer.{checked_as, checked}
-use Rattle.admission.specs.Admission.{RefusedCall, AdmittedCall}
+use Rattle.admission.specs.Admission.{RefusedCall, AdmittedCall, Admits}
+use Rattle.std.specs.Prelude.{Result, Ok, Err}
+use Rattle.std.specs.Result.{IsErrAnd}
+use Rattle.reasons.specs.declared.Reason.{Reason}
+use Rattle.reasons.specs.declared.Refusal.{Refusal}
+use Rattle.reasons.specs.Reasons.{number, first_place}
 
 -- n corners against the faces where refining begins
 pub record Corners (s : List ℕ) (n : ℕ) : Type 0 where
@@ -133,3 +138,8 @@ module _ (c : Call) (g : ℕ) (w : List ℕ) (a : AdmittedCall c g w) where
 pub checked_refused : (c : Call) (w w' : List ℕ) (number place : ℕ) → RefusedCall c w number place w' → checked_as (refused number place) w' ≡ checked c w
 unfolding checked
 checked_refused c w w' number place a = λ i. checked_as (sym a.refuses i) (a.work i)
+
+-- a refusal that concerns no place, passed on
+pub admits_refused : (c : Call) (w w' : List ℕ) (r : Result ℕ Refusal) (x : Reason) → IsErrAnd r (first_place x) → RefusedCall c w (number x) 0 w' → Admits c w r w'
+admits_refused c w w' (Ok g) x e h = absurd e
+admits_refused c w w' (Err y) x e h = rw (e.reason, e.place) h

@@ -1,12 +1,12 @@
 -- What admitting the net of a call gives, and leaves in the work table.
-use Rattle.std.specs.Prelude.{◌≡◌, List, ℕ, ◌*◌, length, drop}
+use Rattle.std.specs.Prelude.{◌≡◌, List, ℕ, ◌*◌, length, drop, Result, Ok, Err}
 use Rattle.polygons.specs.Polygons.{shape_of}
 use Rattle.halfedges.specs.Tables.{MateTableOf}
 use Rattle.sidetable.specs.Table.{Shaped}
 use Rattle.verdict.specs.Call.{Call, final_faces}
 use Rattle.verdict.specs.Verdict.{accepted, refused, verdict, work_after}
-use Rattle.admission.specs.declared.Admission.{Admission}
-use Rattle.admission.specs.declared.Admission.TheVariants.{Refused, Admitted}
+use Rattle.reasons.specs.declared.Refusal.{Refusal}
+use Rattle.reasons.specs.Reasons.{number}
 
 -- the check refuses the call c, and leaves w' of its work table w
 pub record RefusedCall (c : Call) (w : List ℕ) (number place : ℕ) (w' : List ℕ) : Type 0 where
@@ -22,6 +22,6 @@ pub record AdmittedCall (c : Call) (g : ℕ) (w : List ℕ) : Type 0 where
 
 -- "Work numbers beyond 16G are never touched." Open, and may differ between correct programs: those up to 16G but the mates and the shape, where the
 -- call is admitted
-abbrev pub Admits : Call → List ℕ → Admission → List ℕ → Type 0
-Admits c w (Refused number place) w' = RefusedCall c w number place w'
-Admits c w (Admitted g) w' = AdmittedCall c g w' × (drop (16 * g) w' ≡ drop (16 * g) w)
+abbrev pub Admits : Call → List ℕ → Result ℕ Refusal → List ℕ → Type 0
+Admits c w (Err x) w' = RefusedCall c w (number x.reason) x.place w'
+Admits c w (Ok g) w' = AdmittedCall c g w' × (drop (16 * g) w' ≡ drop (16 * g) w)

@@ -2,62 +2,45 @@
 #![tactic(auto)]
 
 ghost use Rattle.std.specs.Prelude.{◌≡◌, length};
-ghost use Rattle.nets.specs.Net.{control_net};
+ghost use Rattle.nets.specs.Drawn.{drawn};
 ghost use Rattle.verdict.specs.Call.{call, alone_room, alone};
+ghost use Rattle.reasons.specs.Reasons.{verdict_of};
 ghost use Rattle.limits.specs.Answer.{room_in};
-ghost use Rattle.examination.specs.Examine.{verdict_of};
 ghost use Rattle.admission.specs.Answer.{checked_as, checked};
 ghost use Rattle.admission.specs.Admission.{Admits};
 
-use examination::Examination;
 use limits::{Lengths, Room};
-
-// A refusal's number and place, or the number of refined faces.
-#[derive(Clone, Copy)]
-pub enum Admission {
-    Refused(u32, usize),
-    Admitted(usize),
-}
+use nets::Net;
+use reasons::Refusal;
 
 // Admits the net of a call, given the lengths of its output tables, that of the letter table too where letters are asked for, and leaves its mates at the front of
-// the work table, and its shape where there are side counts; or refuses it.
+// the work table, and its shape where there are side counts; or refuses it. The answer is the number of refined faces.
 // The time is linear in the tables.
 pub fn admit(
     rounds: u32,
-    vertices: &[i32],
-    faces: &[u32],
-    sides: &[u8],
-    marks: &[u8],
+    net: Net,
     tension: u32,
     room: Room,
     work: &mut [u32],
-) -> Admission
+) -> Result<usize, Refusal>
     requires { room.work ≡ length work.old }
-    ensures { Admits (call rounds (control_net vertices.now faces.now sides.now marks.now) tension (room_in room))
-        work.old result work.new }
+    ensures { Admits (call rounds (drawn net.entry) tension (room_in room)) work.old result work.new }
 {
-    let fault = limits::call_fault(
-        rounds,
-        sides,
-        Lengths {
-            coordinates: vertices.len(),
-            corners: faces.len(),
-            marks: marks.len(),
-            room,
-        },
-        tension,
-    );
-    match fault {
-        Ok(()) => {}
-        Err(reason) => return Admission::Refused(reason.number(), 0),
-    }
-    let last = limits::final_faces(rounds, limits::quadrilaterals(sides, faces.len()));
-    sidetable::build_shape(sides, faces.len(), &mut *work);
-    match examination::examine_net(vertices, faces, sides, marks, &mut *work) {
-        Examination::Passed => Admission::Admitted(last),
-        Examination::Refused(number, place) => {
+    let lengths = Lengths {
+        coordinates: net.vertices.len(),
+        corners: net.faces.len(),
+        marks: net.marks.len(),
+        room,
+    };
+    limits::call_fault(rounds, net.sides, lengths, tension)?;
+    let quadrilaterals = limits::quadrilaterals(net.sides, net.faces.len());
+    let last = limits::final_faces(rounds, quadrilaterals);
+    sidetable::build_shape(net.sides, net.faces.len(), &mut *work);
+    match examination::examine_net(net, &mut *work) {
+        Ok(()) => Ok(last),
+        Err(refusal) => {
             tables::clear(&mut *work, 16 * last);
-            Admission::Refused(number, place)
+            Err(refusal)
         }
     }
 }
@@ -65,27 +48,17 @@ pub fn admit(
 // The verdict on a call but for 15, given the lengths of its output tables. The time is that of admitting it, and of clearing the work table.
 pub fn check(
     rounds: u32,
-    vertices: &[i32],
-    faces: &[u32],
-    sides: &[u8],
-    marks: &[u8],
+    net: Net,
     tension: u32,
     room: Room,
     work: &mut [u32],
-) -> Examination
+) -> Result<(), Refusal>
     requires { room.work ≡ length work.old }
-    ensures { checked_as (verdict_of result) work.new ≡
-        checked (call rounds (control_net vertices.now faces.now sides.now marks.now) tension (room_in room)) work.old }
+    ensures { checked_as (verdict_of result) work.new ≡ checked (call rounds (drawn net.entry) tension (room_in room)) work.old }
 {
-    match admit(
-        rounds, vertices, faces, sides, marks, tension, room, &mut *work,
-    ) {
-        Admission::Admitted(g) => {
-            tables::clear(&mut *work, 16 * g);
-            Examination::Passed
-        }
-        Admission::Refused(number, place) => Examination::Refused(number, place),
-    }
+    let g = admit(rounds, net, tension, room, &mut *work)?;
+    tables::clear(&mut *work, 16 * g);
+    Ok(())
 }
 
 // Outputs that serve every net at zero rounds, without letters.
@@ -103,33 +76,17 @@ fn alone_room(work: usize) -> Room
 }
 
 // Admits a net by itself, as `admit` does for zero rounds and outputs that are long enough.
-pub fn admit_alone(
-    vertices: &[i32],
-    faces: &[u32],
-    sides: &[u8],
-    marks: &[u8],
-    tension: u32,
-    work: &mut [u32],
-) -> Admission
-    ensures { Admits (alone (control_net vertices.now faces.now sides.now marks.now) tension (length work.old))
-        work.old result work.new }
+pub fn admit_alone(net: Net, tension: u32, work: &mut [u32]) -> Result<usize, Refusal>
+    ensures { Admits (alone (drawn net.entry) tension (length work.old)) work.old result work.new }
 {
     let room = alone_room(work.len());
-    admit(0, vertices, faces, sides, marks, tension, room, &mut *work)
+    admit(0, net, tension, room, &mut *work)
 }
 
 // The verdict on a net by itself.
-pub fn check_alone(
-    vertices: &[i32],
-    faces: &[u32],
-    sides: &[u8],
-    marks: &[u8],
-    tension: u32,
-    work: &mut [u32],
-) -> Examination
-    ensures { checked_as (verdict_of result) work.new ≡
-        checked (alone (control_net vertices.now faces.now sides.now marks.now) tension (length work.old)) work.old }
+pub fn check_alone(net: Net, tension: u32, work: &mut [u32]) -> Result<(), Refusal>
+    ensures { checked_as (verdict_of result) work.new ≡ checked (alone (drawn net.entry) tension (length work.old)) work.old }
 {
     let room = alone_room(work.len());
-    check(0, vertices, faces, sides, marks, tension, room, &mut *work)
+    check(0, net, tension, room, &mut *work)
 }

@@ -1,74 +1,42 @@
 -- `admission::admit` meets its contract: the limits, then the net. Assumes nothing.
-use mathlib.Core.Path.{◌≡◌, sym, ap, ◌∙◌, subst}
-use mathlib.Core.List.{List}
-use Prim.Native.Nat.{ℕ}
+use mathlib.Core.Path.{refl}
 use lib.ListN.{length}
-use Rattle.nets.specs.Net.{ControlNet}
-use Rattle.verdict.specs.Call.{Room, call, quadrilaterals}
-use Rattle.verdict.specs.Verdict.{accepted, refused, call_verdict}
+use Rattle.nets.specs.Drawn.{drawn}
+use Rattle.verdict.specs.Call.{call, quadrilaterals}
 use Rattle.limits.specs.Answer.{room_in, FinalFaces}
-use Rattle.examination.specs.Examine.{verdict_of}
-use Rattle.admission.proofs.Laws.{refused_limits, shape_room, check_tables, room_work_lem, admitted_net, refused_net}
+use Rattle.admission.proofs.Laws.{refused_limits, shape_room, check_tables, room_work_lem, admitted_net, refused_net, admits_refused}
 use Rattle.admission.proofs.admit.Goals as goal
+use Rattle.admission.proofs.admit.Goals.{After-final_faces-last}
 
-pub returns-in-Err : goal.returns-in-Err
-returns-in-Err c =
-    let net : ControlNet = record { vertices = c.args.vertices.now; faces = c.args.faces.now; sides = c.args.sides.now; marks = c.args.marks.now } in
-    let room : Room = room_in c.args.room in
-    refused_limits c.args.rounds net c.args.tension room c.args.work.now c.number.result (c.in-Err.ensures ∙ ap (λ (r : ℕ). refused r 0) (sym c.number.ensures))
+final : (c : After-final_faces-last) → FinalFaces c.args.rounds (quadrilaterals c.args.net.sides.now (length c.args.net.faces.now)) c.final_faces-last.result
+final c = rw c.quadrilaterals-quadrilaterals.ensures at c.final_faces-last.ensures
+
+pub returns-in_err-call_fault : goal.returns-in_err-call_fault
+returns-in_err-call_fault c =
+    admits_refused (call c.args.rounds (drawn c.args.net) c.args.tension (room_in c.args.room)) c.args.work.now c.args.work.now _ c.in_err-call_fault.field-0.0 c.from_residual.ensures.1
+    (refused_limits c.args.rounds (drawn c.args.net) c.args.tension (room_in c.args.room) c.args.work.now _ c.in_err-call_fault.ensures)
 
 pub build_shape-requires : goal.build_shape-requires
-build_shape-requires c =
-    let net : ControlNet = record { vertices = c.args.vertices.now; faces = c.args.faces.now; sides = c.args.sides.now; marks = c.args.marks.now } in
-    let room : Room = room_in c.args.room in
-    let past : call_verdict (call c.args.rounds net c.args.tension room) ≡ accepted = c.in-Ok.ensures in
-    shape_room c.args.rounds net c.args.tension room c.args.work.now past c.requires
+build_shape-requires c = shape_room c.args.rounds (drawn c.args.net) c.args.tension (room_in c.args.room) c.args.work.now c.in_ok-call_fault.ensures c.requires
 
 pub examine_net-requires : goal.examine_net-requires
 examine_net-requires c =
-    let net : ControlNet = record { vertices = c.args.vertices.now; faces = c.args.faces.now; sides = c.args.sides.now; marks = c.args.marks.now } in
-    let room : Room = room_in c.args.room in
-    let past : call_verdict (call c.args.rounds net c.args.tension room) ≡ accepted = c.in-Ok.ensures in
-    let shaped : List ℕ = c.build_shape.new.work in
-    let kept : length shaped ≡ length c.args.work.now = c.build_shape.auto.work in
-    check_tables c.args.rounds net c.args.tension room c.args.work.now past shaped c.build_shape.ensures kept c.requires
+    check_tables c.args.rounds (drawn c.args.net) c.args.tension (room_in c.args.room) c.args.work.now c.in_ok-call_fault.ensures c.build_shape.new.work c.build_shape.ensures c.build_shape.auto.work
+    c.requires
 
 pub clear-requires : goal.clear-requires
 clear-requires c =
-    let net : ControlNet = record { vertices = c.args.vertices.now; faces = c.args.faces.now; sides = c.args.sides.now; marks = c.args.marks.now } in
-    let room : Room = room_in c.args.room in
-    let past : call_verdict (call c.args.rounds net c.args.tension room) ≡ accepted = c.in-Ok.ensures in
-    let shaped : List ℕ = c.build_shape.new.work in
-    let kept : length shaped ≡ length c.args.work.now = c.build_shape.auto.work in
-    let final : (FinalFaces c.args.rounds (quadrilaterals c.args.sides.now (length c.args.faces.now)) c.final_faces-last.result) = subst (λ (q : ℕ). FinalFaces c.args.rounds q c.final_faces-last.result) c.quadrilaterals.ensures c.final_faces-last.ensures in
-    let examined : List ℕ = c.examine_net.new.work in
-    room_work_lem c.args.rounds net c.args.tension room c.args.work.now past shaped c.build_shape.ensures kept _ final examined c.examine_net.ensures.rest c.requires
-    c.examine_net.auto.work
+    room_work_lem c.args.rounds (drawn c.args.net) c.args.tension (room_in c.args.room) c.args.work.now c.in_ok-call_fault.ensures c.build_shape.new.work c.build_shape.ensures c.build_shape.auto.work _
+    (final (goal.at.clear-requires c).After-final_faces-last) c.examine_net.new.work c.examine_net.ensures.rest c.requires c.examine_net.auto.work
 
-pub returns-in-Passed : goal.returns-in-Passed
-returns-in-Passed c =
-    let net : ControlNet = record { vertices = c.args.vertices.now; faces = c.args.faces.now; sides = c.args.sides.now; marks = c.args.marks.now } in
-    let room : Room = room_in c.args.room in
-    let past : call_verdict (call c.args.rounds net c.args.tension room) ≡ accepted = c.in-Ok.ensures in
-    let shaped : List ℕ = c.build_shape.new.work in
-    let kept : length shaped ≡ length c.args.work.now = c.build_shape.auto.work in
-    let final : (FinalFaces c.args.rounds (quadrilaterals c.args.sides.now (length c.args.faces.now)) c.final_faces-last.result) = subst (λ (q : ℕ). FinalFaces c.args.rounds q c.final_faces-last.result) c.quadrilaterals.ensures c.final_faces-last.ensures in
-    let examined : List ℕ = c.examine_net.new.work in
-    let e = c.examine_net.ensures in
-    let a = ap verdict_of c.in-Passed.is in
-    admitted_net c.args.rounds net c.args.tension room c.args.work.now past shaped c.build_shape.ensures kept _ final examined e.rest
-    c.examine_net.auto.work (sym a ∙ e.verdict) (e.mated a)
+pub returns-in-Ok : goal.returns-in-Ok
+returns-in-Ok c =
+    let e = c.in-Ok.ensures in
+    admitted_net c.args.rounds (drawn c.args.net) c.args.tension (room_in c.args.room) c.args.work.now c.in_ok-call_fault.ensures c.build_shape.new.work c.build_shape.ensures c.build_shape.auto.work _
+    (final (goal.at.returns-in-Ok c).After-final_faces-last) c.examine_net.new.work e.rest c.examine_net.auto.work e.verdict (e.mated refl)
 
-pub returns-in-Refused : goal.returns-in-Refused
-returns-in-Refused c =
-    let net : ControlNet = record { vertices = c.args.vertices.now; faces = c.args.faces.now; sides = c.args.sides.now; marks = c.args.marks.now } in
-    let room : Room = room_in c.args.room in
-    let past : call_verdict (call c.args.rounds net c.args.tension room) ≡ accepted = c.in-Ok.ensures in
-    let shaped : List ℕ = c.build_shape.new.work in
-    let kept : length shaped ≡ length c.args.work.now = c.build_shape.auto.work in
-    let final : (FinalFaces c.args.rounds (quadrilaterals c.args.sides.now (length c.args.faces.now)) c.final_faces-last.result) = subst (λ (q : ℕ). FinalFaces c.args.rounds q c.final_faces-last.result) c.quadrilaterals.ensures c.final_faces-last.ensures in
-    let examined : List ℕ = c.examine_net.new.work in
-    let e = c.examine_net.ensures in
-    let a = ap verdict_of c.in-Refused.is in
-    refused_net c.args.rounds net c.args.tension room c.args.work.now past shaped c.build_shape.ensures kept _ final examined e.rest _ _ _ (sym a ∙ e.verdict)
-    c.clear.ensures
+pub returns-in-Err : goal.returns-in-Err
+returns-in-Err c =
+    let e = c.in-Err.ensures in
+    refused_net c.args.rounds (drawn c.args.net) c.args.tension (room_in c.args.room) c.args.work.now c.in_ok-call_fault.ensures c.build_shape.new.work c.build_shape.ensures c.build_shape.auto.work _
+    (final (goal.at.returns-in-Err c).After-final_faces-last) c.examine_net.new.work e.rest _ _ _ e.verdict c.clear.ensures
