@@ -21,12 +21,17 @@ def promised():
             yield from ((crate, name) for crate in names & crates for name in names)
 
 
+def code(file):
+    """A file's text, in which the path and the arguments of a type in code stand apart."""
+    return re.sub(r"::|(?<=\w)[<>]|[<>](?=\w)", " ", file.body) if file.rattle else file.body
+
+
 def roots(files):
     """What code and its proofs name, promises, and computed examples."""
     named = set(promised())
     for path, file in files.items():
         if file.rattle:
-            yield from file.reached(file.body.replace("::", " "))[0]
+            yield from file.reached(code(file))[0]
         for name, declaration in file.declarations.items():
             # what proofs/F/ of a function F says of its goals, its loops or the whole
             proof = path.name in ("Answers.antt", "Invariants.antt", "Proof.antt") and antt.folder(path) == "proofs" and declaration.is_public
@@ -42,7 +47,7 @@ def unreached(files):
 
 def unused_imports(files):
     for path, file in files.items():
-        used = file.reached(file.body.replace("::", " ") if file.rattle else file.body)[1]
+        used = file.reached(code(file))[1]
         for name in [*file.imports, *file.modules, *file.whole]:
             # a module of computed examples is imported so that the check comes to it
             if name not in used and not {**file.modules, **file.whole}.get(name, "").split(".")[-1].startswith("Examples"):
