@@ -8,20 +8,19 @@ use lib.IntN.{ℤ}
 use lib.ListN.{length, take, drop, length-drop}
 use Rattle.decimalform.specs.Decimal.{read_as, bad}
 use Rattle.decimal.proofs.Reading.{part_rest}
-use Rattle.limits.specs.Answer.{limits_of}
+use Rattle.verdict.specs.Verdict.{Verdict, accepted}
 use Rattle.textform.specs.Limits.{longest_text}
-use Rattle.textform.specs.Form.{parsed, bad_line}
+use Rattle.textform.specs.Form.{TextNet, parsed, bad_line}
 use Rattle.readingform.specs.Loaded.{net_read, loaded, coordinates_of, marks_of, corners_of, counts_verdict, read_by}
-use Rattle.reading.specs.Answers.{counts_are, InputTables}
+use Rattle.reading.specs.Answers.{InputTables}
 use Rattle.reading.proofs.Body.{ended_none, ended_some}
-use Rattle.readingform.proofs.Limits.{Served}
+use Rattle.readingform.proofs.Limits.{passed_served}
 use Rattle.readingform.proofs.Lengths.{length_coordinates, length_marks, length_corners}
 use Rattle.reading.proofs.Storing.{front}
-use Rattle.reading.proofs.Cases.{FormRead, tables_serve, net_there}
+use Rattle.reading.proofs.Cases.{FormRead, net_there}
 use Rattle.obj.proofs.Passing.{vertices_few, faces_few}
 use Rattle.objform.specs.Form.{read_rounds, items, net_of, parse_items, parse_obj}
-use Rattle.obj.specs.declared.Counted.{Counted}
-use Rattle.obj.specs.Answers.{item_vertices, item_faces, AllGood, BadAt, CountsItems, ItemsStored, ItemsRoom}
+use Rattle.obj.specs.Answers.{item_vertices, item_faces, AllGood, BadAt, ItemsStored, ItemsRoom}
 
 -- ---- the first line
 module _ (l : List ℕ) where
@@ -48,8 +47,11 @@ module _ (l : List ℕ) (at : ℕ) where
   abbrev part : List ℕ
   part = take (length l - at) (drop at l)
 
-  pub counts_here : {r q : Counted} → CountsItems r part → r ≡ q → CountsItems q (drop at l)
-  counts_here {r} h e = subst (λ (o : Counted). CountsItems o (drop at l)) e (subst (λ (p : List ℕ). CountsItems r p) (part_rest l at) h)
+  pub good_here : {v f : ℕ} → AllGood part v f → AllGood (drop at l) v f
+  good_here {v} {f} g = subst (λ (p : List ℕ). AllGood p v f) (part_rest l at) g
+
+  pub bad_here : {n : ℕ} → BadAt part n → BadAt (drop at l) n
+  bad_here {n} g = subst (λ (p : List ℕ). BadAt p n) (part_rest l at) g
 
   -- v and f are no more than the bytes of l
   pub good_fits : {v f : ℕ} → length l ≤ longest_text → AllGood (drop at l) v f → (v < 4294967296) × (f < 4294967296)
@@ -61,37 +63,34 @@ module _ (l : List ℕ) (at : ℕ) where
       let n = length-drop at l in
       (omega arith, omega arith)
 
--- ---- the text has the form, with v vertices and f faces from `at` on and k rounds, and r is the answer to these counts
-pub record ItemsRead (l : List ℕ) (k at v f r : ℕ) : Type 0 where
+-- ---- the text has the form, with v vertices and f faces from `at` on and k rounds
+pub record ItemsRead (l : List ℕ) (k at v f : ℕ) : Type 0 where
   pub short : length l ≤ longest_text
   pub first : read_rounds l ≡ read_as k (drop at l)
   pub good : AllGood (drop at l) v f
-  pub verdict : counts_verdict (counts_are v f k) ≡ limits_of r
 
-module _ {l : List ℕ} {k at v f r : ℕ} (c : ItemsRead l k at v f r) where
-  pub form_read : FormRead parse_obj l (net_of k (items (drop at l)).values) r
+module _ {l : List ℕ} {k at v f : ℕ} (c : ItemsRead l k at v f) where
+  abbrev net : TextNet
+  net = net_of k (items (drop at l)).values
+
+  pub form_read : FormRead parse_obj l net
+  form_read = record { short = c.short; form = all_good l at c.first c.good }
+
+  pub verdict_read : {w : Verdict} → counts_verdict (record { vertices = v; faces = f; rounds = k }) ≡ w → counts_verdict net.counts ≡ w
   unfolding net_of
-  form_read = record {
-    short = c.short;
-    form = all_good l at c.first c.good;
-    verdict = (λ i. counts_verdict (counts_are (c.good.vertices i) (c.good.faces i) k)) ∙ c.verdict;
-  }
+  verdict_read e = (λ i. counts_verdict (record { vertices = c.good.vertices i; faces = c.good.faces i; rounds = k })) ∙ e
 
-  module _ (z : r ≡ 0) where
-    serves : Served v f
-    unfolding net_of
-    serves = let s = tables_serve form_read z in let a = c.good.vertices in let b = c.good.faces in record { vertices = omega arith; faces = omega arith }
-
+  module _ (passed : counts_verdict (record { vertices = v; faces = f; rounds = k }) ≡ accepted) where
     module _ (vs : List ℤ) (fs ms : List ℕ) (room : InputTables (length vs) (length fs) (length ms)) where
       here_room : ItemsRoom (length (item_vertices (drop at l))) (length (item_faces (drop at l))) (length vs) (length fs) (length ms)
       here_room =
-          let s = serves in
+          let s = passed_served (record { vertices = v; faces = f; rounds = k }) passed in
           let a = c.good.vertices in
           let b = c.good.faces in
           record { vertices = omega arith; faces = omega arith; marks = omega arith }
 
-      pub items-room : ItemsRoom (length (item_vertices (part l at))) (length (item_faces (part l at))) (length vs) (length fs) (length ms)
-      items-room = rw (part_rest l at) here_room
+      pub items_room : ItemsRoom (length (item_vertices (part l at))) (length (item_faces (part l at))) (length vs) (length fs) (length ms)
+      items_room = rw (part_rest l at) here_room
 
       pub items_read : {u : List ℤ} {g o : List ℕ} → ItemsStored (item_vertices (part l at)) (item_faces (part l at)) 0 0 vs u fs g ms o → loaded (net_read k false v f) u g o ≡ read_by parse_obj l vs fs ms
       unfolding net_of
@@ -104,4 +103,4 @@ module _ {l : List ℕ} {k at v f r : ℕ} (c : ItemsRead l k at v f r) where
           let eu = h.vertices ∙ front (coordinates_of (item_vertices (drop at l))) vs (omega arith) in
           let eg = h.faces ∙ front (corners_of (item_faces (drop at l))) fs (omega arith) in
           let eo = h.marks ∙ front (marks_of (item_vertices (drop at l))) ms (omega arith) in
-          rw (eu, eg, eo, ← c.good.vertices, ← c.good.faces) (net_there form_read vs fs ms z)
+          rw (eu, eg, eo, ← c.good.vertices, ← c.good.faces) (net_there form_read vs fs ms (verdict_read passed))

@@ -10,13 +10,12 @@ use lib.ListN.{length, get_or, take, drop, drop_of_length-le}
 use lib.Seq.{drop-cons, drop-drop}
 use borrow.Author.Tests.{eq-eqb, ne_eqb}
 use Rattle.decimalform.specs.Decimal.{Read, read_as, bad, read_natural, largest_number}
-use Rattle.decimal.specs.Answers.{number_of, GivesNumber}
-use Rattle.decimal.specs.declared.Number.{Number}
-use Rattle.decimal.specs.declared.Number.TheVariants as number
-use Rattle.decimal.proofs.Reading.{says_at}
+use Rattle.std.proofs.Common.{Option, Some, None}
+use Rattle.decimal.specs.declared.Read as declared
+use Rattle.decimal.specs.Answers.{read_of, GivesNumber}
+use Rattle.reading.proofs.Lines.{line_reads}
 use Rattle.textform.specs.Bytes.{bytes}
 use Rattle.textform.specs.Form.{starts_with, ended_by, natural}
-use Rattle.textform.proofs.Lines.{ends_short, ends_other, ends_there}
 use Rattle.objform.specs.Form.{skip_to, skip_part, named, read_corner, read_rounds}
 use Rattle.obj.specs.Answers.{StartsAt}
 
@@ -54,38 +53,36 @@ named_some : (n : ℕ) (l : List ℕ) → (n ≡ 0 → ⊥) → named (read_as n
 named_some zero l e = absurd (e refl)
 named_some (suc n) l e = let q : suc n - 1 ≡ n = omega arith in rw q
 
-module _ (l : List ℕ) (at e : ℕ) {r : Number} (g : GivesNumber r (take (length l - at) (drop at l)) (read_natural largest_number (take (length l - at) (drop at l)))) where
-  by_number : {q : Number} → r ≡ q → read_corner e (drop at l) ≡ ended_by e (named (number_of q (drop at l)))
+module _ (l : List ℕ) (at e : ℕ) where
+  abbrev rest : List ℕ
+  rest = take (length l - at) (drop at l)
+
+  abbrev GivesRest : Option (declared.Read ℕ) → Type 0
+  GivesRest r = GivesNumber r rest (read_natural largest_number rest)
+
+  by_number : {r : Option (declared.Read ℕ)} → GivesRest r → read_corner e (drop at l) ≡ ended_by e (named (read_of (λ (n : ℕ). n) r (drop at l)))
   unfolding read_corner
-  by_number p = ap (λ (w : Read ℕ). ended_by e (named w)) (says_at (read_natural largest_number) l at g p)
+  by_number g = ap (λ (w : Read ℕ). ended_by e (named w)) (line_reads (read_natural largest_number) l at g)
 
-  pub corner_bad : r ≡ number.Bad → GivesNumber number.Bad l (read_corner e (drop at l))
-  corner_bad p = record { reads = sym (by_number p); within = omega arith }
+  pub corner_bad : GivesRest None → bad ≡ read_corner e (drop at l)
+  corner_bad g = sym (by_number g)
 
-  module _ {n used : ℕ} (p : r ≡ number.Value n used) where
-    pub corner-zero : n ≡ 0 → GivesNumber number.Bad l (read_corner e (drop at l))
-    corner-zero z = record { reads = sym (by_number p ∙ ap (ended_by e) (named-zero n (drop used (drop at l)) z)); within = omega arith }
+  module _ {n : declared.Read ℕ} (g : GivesRest (Some n)) where
+    pub corner_zero : n.value ≡ 0 → bad ≡ read_corner e (drop at l)
+    corner_zero z = sym (by_number g ∙ ap (ended_by e) (named-zero n.value (drop n.used (drop at l)) z))
 
-    module _ {stop : ℕ} (some : n ≡ 0 → ⊥) (s : StartsAt (skip_part (drop (at + used) l)) l (at + used) stop) where
-      corner_at : read_corner e (drop at l) ≡ ended_by e (read_as (n - 1) (drop stop l))
-      corner_at =
-          let m = ap skip_part (drop-drop used at l) ∙ sym s.rest in
-          by_number p ∙ ap (ended_by e) (named_some n (drop used (drop at l)) some) ∙ ap (λ (k : List ℕ). ended_by e (read_as (n - 1) k)) m
-
-      pub corner_short : length l ≤ stop → GivesNumber number.Bad l (read_corner e (drop at l))
-      corner_short h = record { reads = sym (corner_at ∙ ends_short l stop e (n - 1) h); within = omega arith }
-
-      pub corner-other : stop < length l → (get_or l stop 0 ≡ e → ⊥) → GivesNumber number.Bad l (read_corner e (drop at l))
-      corner-other h d = record { reads = sym (corner_at ∙ ends_other l stop e (n - 1) h d); within = omega arith }
-
-      pub corner_found : stop < length l → get_or l stop 0 ≡ e → GivesNumber (number.Value (n - 1) (stop + 1)) l (read_corner e (drop at l))
-      corner_found h d = record { reads = sym (corner_at ∙ ends_there l stop e (n - 1) h d); within = omega arith }
+    pub corner_ended : {r : Option (declared.Read ℕ)} {stop v : ℕ} → 0 < n.value → v ≡ n.value - 1 → StartsAt (skip_part (drop (at + n.used) l)) l (at + n.used) stop
+        → GivesNumber r l (ended_by e (read_as v (drop stop l))) → GivesNumber r l (read_corner e (drop at l))
+    corner_ended {r} {stop} {v} some q s h =
+        let m = ap skip_part (drop-drop n.used at l) ∙ sym s.rest in
+        let k : read_corner e (drop at l) ≡ ended_by e (read_as v (drop stop l)) = by_number g ∙ ap (ended_by e) (named_some n.value (drop n.used (drop at l)) (λ z. let y : ⊥ = omega arith in y)) ∙ rw (m, q) in
+        rw k h
 
 -- ---- the first line
 module _ (l : List ℕ) where
-  pub rounds_none : starts_with (bytes "# rounds ") l ≡ false → GivesNumber number.Bad l (read_rounds l)
+  pub rounds_none : starts_with (bytes "# rounds ") l ≡ false → bad ≡ read_rounds l
   unfolding read_rounds
-  rounds_none e = record { reads = rw e; within = omega arith }
+  rounds_none e = rw e
 
   module _ (e : starts_with (bytes "# rounds ") l ≡ true) where
     pub rounds_there : read_rounds l ≡ natural largest_number 10 (drop 9 l)

@@ -7,38 +7,23 @@ use native.Mathlib.Nat.{add_comm}
 use native.Mathlib.Numerals.{add-one}
 use native.Mathlib.Omega.{arith}
 use lib.Dec.{eqb}
-use lib.IntN.{ℤ}
 use lib.ListN.{length, get_or, take, drop, drop_of_length-le}
 use lib.Seq.{drop-cons, drop-drop}
-use Rattle.decimalform.specs.Decimal.{Read, read_as, bad}
-use Rattle.decimal.specs.Answers.{Gives}
-use Rattle.decimal.proofs.Reading.{says_at, took_at}
+use Rattle.decimalform.specs.Decimal.{read_as, bad}
+use Rattle.std.proofs.Common.{Option, Some, None}
+use Rattle.decimal.specs.declared.Read as declared
+use Rattle.decimal.specs.Answers.{read_of, used, Gives}
+use Rattle.reading.proofs.Lines.{line_reads, line_within}
 use Rattle.textform.specs.Bytes.{bytes}
-use Rattle.textform.specs.Form.{Vertex, starts_with, ended_by, and_then, coordinate, read_vertex}
-use Rattle.text.specs.Answers.{vertex_line_of, vertex_used, face_line_of, face_used}
-use Rattle.text.specs.declared.VertexLine.{VertexLine}
-use Rattle.text.specs.declared.VertexLine.TheVariants as vertex_line
-use Rattle.text.specs.declared.FaceLine.{FaceLine}
-use Rattle.text.specs.declared.FaceLine.TheVariants as face_line
+use Rattle.textform.specs.Form.{starts_with, ended_by, read_vertex, face_by}
+use Rattle.text.specs.Answers.{vertex_is, face_is}
+use Rattle.text.specs.declared.Vertex as code
+use Rattle.text.specs.declared.Face as code_face
 use Rattle.textform.proofs.Lines.{starts_length}
-use Rattle.objform.specs.Form.{vertex, face, comment, mapped, skip_to, read_corners, read_comment, read_item}
+use Rattle.objform.specs.Form.{vertex, face, comment, mapped, skip_to, read_corner, read_corners, read_comment, read_item}
 use Rattle.obj.specs.declared.Item.TheVariants as item
-use Rattle.obj.specs.declared.Line.TheVariants as line
-use Rattle.obj.specs.Answers.{StartsAt, item_is, GivesLine}
-
--- ---- a vertex without a mark has the mark 0
-abbrev Unmarked : Read Vertex → Type 0
-Unmarked (read_as v l) = v.mark ≡ 0
-Unmarked bad = Unit {0}
-
-then_unmarked : {A : Type 0} (q : Read A) (f : A → List ℕ → Read Vertex) → ((v : A) (l : List ℕ) → Unmarked (f v l)) → Unmarked (and_then q f)
-then_unmarked (read_as v l) f h = h v l
-then_unmarked bad f h = tt
-
-vertex_unmarked : (l : List ℕ) → Unmarked (read_vertex false l)
-unfolding read_vertex
-vertex_unmarked l =
-    then_unmarked (coordinate 32 l) _ (λ x l₁. then_unmarked (coordinate 32 l₁) _ (λ y l₂. then_unmarked (coordinate 10 l₂) _ (λ z l₃. refl)))
+use Rattle.obj.specs.declared.Item.{Item}
+use Rattle.obj.specs.Answers.{StartsAt, GivesLine}
 
 -- ---- what is left begins with the byte e, or with a newline
 skip_begins : (e : ℕ) (l : List ℕ) (b : ℕ) (m : List ℕ) → skip_to e l ≡ b ∷ m → (eqb b e || eqb b 10) ≡ true
@@ -55,8 +40,8 @@ or_same true e = refl
 or_same false e = e
 
 -- ---- the first bytes decide
-bad_line_lem : {l : List ℕ} → read_item l ≡ bad → GivesLine line.Bad l
-bad_line_lem e = record { gives = record { reads = sym e; within = omega arith }; takes = tt }
+pub no_line : {r : Option (declared.Read Item)} {l : List ℕ} → r ≡ None → bad ≡ read_item l → GivesLine r l
+no_line e b = rw e (record { gives = record { reads = b; within = omega arith }; takes = tt })
 
 module _ (l : List ℕ) where
   by_vertex : starts_with (bytes "v ") l ≡ true → read_item l ≡ mapped vertex (read_vertex false (drop 2 l))
@@ -73,9 +58,9 @@ module _ (l : List ℕ) where
       unfolding read_item bytes
       by_comment e = rw (e₁, e₂, e)
 
-      pub other_line : starts_with (bytes "#") l ≡ false → GivesLine line.Bad l
+      pub other_line : starts_with (bytes "#") l ≡ false → bad ≡ read_item l
       unfolding read_item
-      other_line e = bad_line_lem (rw (e₁, e₂, e))
+      other_line e = rw (e₁, e₂, e)
 
   after_two : (n : ℕ) → drop n (drop 2 l) ≡ drop (n + 2) l
   after_two n = drop-drop n 2 l ∙ ap (λ (j : ℕ). drop j l) (add_comm 2 n)
@@ -86,21 +71,17 @@ module _ (l : List ℕ) (e : starts_with (bytes "v ") l ≡ true) where
   unfolding bytes
   vertex_within = starts_length (bytes "v ") l e
 
-  module _ {r : VertexLine} (g : Gives vertex_line_of vertex_used r (take (length l - 2) (drop 2 l)) (read_vertex false (take (length l - 2) (drop 2 l)))) where
-    pub vertex_bad : r ≡ vertex_line.Bad → GivesLine line.Bad l
-    vertex_bad p = bad_line_lem (by_vertex l e ∙ ap (mapped vertex) (says_at (read_vertex false) l 2 g p))
+  module _ {r : Option (declared.Read code.Vertex)} (g : Gives vertex_is r (take (length l - 2) (drop 2 l)) (read_vertex false (take (length l - 2) (drop 2 l)))) where
+    vertex_read : read_item l ≡ mapped vertex (read_of vertex_is r (drop 2 l))
+    vertex_read = by_vertex l e ∙ ap (mapped vertex) (line_reads (read_vertex false) l 2 g)
 
-    module _ {x y z : ℤ} {m n : ℕ} (p : r ≡ vertex_line.Vertex x y z m n) where
-      pub vertex_used_lem : n + 2 ≤ length l
-      vertex_used_lem = let w = took_at (read_vertex false) l 2 g p vertex_within in omega arith
+    pub vertex_bad : r ≡ None → bad ≡ read_item l
+    vertex_bad p = sym (vertex_read ∙ rw p)
 
-      pub vertex_good : GivesLine (line.Good (item.Vertex x y z) (n + 2)) l
-      vertex_good =
-          let s = says_at (read_vertex false) l 2 g p in
-          let k : m ≡ 0 = subst Unmarked s (vertex_unmarked (drop 2 l)) in
-          let v : mapped vertex (read_vertex false (drop 2 l)) ≡ read_as (vertex (record { x = x; y = y; z = z; mark = 0 })) (drop (n + 2) l)
-          = ap (mapped vertex) s ∙ (λ i. read_as (vertex (record { x = x; y = y; z = z; mark = k i })) (after_two l n i)) in
-          record { gives = record { reads = sym (by_vertex l e ∙ v); within = vertex_used_lem }; takes = omega arith }
+    pub vertex_good : {v : declared.Read code.Vertex} → r ≡ Some v → GivesLine (Some (record { value = item.Vertex v.value; used = v.used + 2 })) l
+    vertex_good {v} p =
+        let w : 2 + v.used ≤ length l = subst (λ o. 2 + used o ≤ length l) p (line_within l 2 g vertex_within) in
+        record { gives = record { reads = sym (vertex_read ∙ rw p (ap (read_as (vertex (vertex_is v.value))) (after_two l v.used))); within = omega arith }; takes = omega arith }
 
 -- ---- a face
 module _ (l : List ℕ) (e₁ : starts_with (bytes "v ") l ≡ false) (e : starts_with (bytes "f ") l ≡ true) where
@@ -108,18 +89,18 @@ module _ (l : List ℕ) (e₁ : starts_with (bytes "v ") l ≡ false) (e : start
   unfolding bytes
   face_within = starts_length (bytes "f ") l e
 
-  module _ {r : FaceLine} (g : Gives face_line_of face_used r (take (length l - 2) (drop 2 l)) (read_corners (take (length l - 2) (drop 2 l)))) where
-    pub face_bad : r ≡ face_line.Bad → GivesLine line.Bad l
-    face_bad p = bad_line_lem (by_face l e₁ e ∙ ap (mapped face) (says_at read_corners l 2 g p))
+  module _ {r : Option (declared.Read code_face.Face)} (g : Gives face_is r (take (length l - 2) (drop 2 l)) (face_by read_corner (take (length l - 2) (drop 2 l)))) where
+    face_read : read_item l ≡ mapped face (read_of face_is r (drop 2 l))
+    unfolding read_corners
+    face_read = by_face l e₁ e ∙ ap (mapped face) (line_reads (face_by read_corner) l 2 g)
 
-    module _ {a b c d n : ℕ} (p : r ≡ face_line.Face a b c d n) where
-      pub face_used_lem : n + 2 ≤ length l
-      face_used_lem = let w = took_at read_corners l 2 g p face_within in omega arith
+    pub face_bad : r ≡ None → bad ≡ read_item l
+    face_bad p = sym (face_read ∙ rw p)
 
-      pub face_good : GivesLine (line.Good (item.Face a b c d) (n + 2)) l
-      face_good =
-          let v = ap (mapped face) (says_at read_corners l 2 g p) ∙ ap (read_as (item_is (item.Face a b c d))) (after_two l n) in
-          record { gives = record { reads = sym (by_face l e₁ e ∙ v); within = face_used_lem }; takes = omega arith }
+    pub face_good : {f : declared.Read code_face.Face} → r ≡ Some f → GivesLine (Some (record { value = item.Face f.value; used = f.used + 2 })) l
+    face_good {f} p =
+        let w : 2 + f.used ≤ length l = subst (λ o. 2 + used o ≤ length l) p (line_within l 2 g face_within) in
+        record { gives = record { reads = sym (face_read ∙ rw p (ap (read_as (face (face_is f.value))) (after_two l f.used))); within = omega arith }; takes = omega arith }
 
 -- ---- a comment, whose rest starts at n
 module _ (l : List ℕ) (e₁ : starts_with (bytes "v ") l ≡ false) (e₂ : starts_with (bytes "f ") l ≡ false) (e : starts_with (bytes "#") l ≡ true) where
@@ -128,10 +109,10 @@ module _ (l : List ℕ) (e₁ : starts_with (bytes "v ") l ≡ false) (e₂ : st
     unfolding read_comment
     by_rest = by_comment l e₁ e₂ e ∙ ap (λ (m : List ℕ). ended_by 10 (read_as comment m)) (sym s.rest)
 
-    pub comment_bad : length l ≤ n → GivesLine line.Bad l
-    comment_bad h = bad_line_lem (by_rest ∙ ap (λ (m : List ℕ). ended_by 10 (read_as comment m)) (drop_of_length-le l {i = n} h))
+    pub comment_bad : length l ≤ n → bad ≡ read_item l
+    comment_bad h = sym (by_rest ∙ ap (λ (m : List ℕ). ended_by 10 (read_as comment m)) (drop_of_length-le l {i = n} h))
 
-    pub comment_good : n < length l → GivesLine (line.Good item.Comment (n + 1)) l
+    pub comment_good : n < length l → GivesLine (Some (record { value = item.Comment; used = n + 1 })) l
     comment_good h =
         let c = drop-cons l n 0 h in
         let b : eqb (get_or l n 0) 10 ≡ true = or_same (eqb (get_or l n 0) 10) (skip_begins 10 (drop 1 l) (get_or l n 0) (drop (suc n) l) (sym s.rest ∙ c)) in

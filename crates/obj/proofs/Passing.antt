@@ -1,26 +1,27 @@
 -- Reading items one after another: what is left to read after each turn, and what was met. Assumes nothing.
-use mathlib.Core.Path.{◌≡◌, refl, sym, ap, ◌∙◌, subst}
+use mathlib.Core.Path.{◌≡◌, refl, sym, ap, ◌∙◌}
 use mathlib.Core.List.{List, [], ◌∷◌, ◌++◌}
 use Prim.Native.Nat.{ℕ, ◌+◌, ◌*◌, ◌-◌, ◌≤◌, ◌<◌}
 use native.Mathlib.Omega.{arith}
 use lib.IntN.{ℤ}
-use lib.ListN.{length, set, take, drop, length-drop, drop_of_length-le}
+use lib.ListN.{length, drop, length-drop, drop_of_length-le}
 use lib.Seq.{sets, length-sets}
 use Rattle.decimalform.specs.Decimal.{read_as, bad}
-use Rattle.decimal.proofs.Reading.{says_at, took_at}
 use Rattle.decimalform.proofs.Writing.{sets_after}
 use Rattle.textform.specs.Form.{Vertex, Face, Rows, rows, one_more}
 use Rattle.readingform.specs.Loaded.{coordinates_of, marks_of, corners_of}
 use Rattle.textform.proofs.Lines.{rows_length}
 use Rattle.reading.proofs.Lines.{rows_bad, rows_next, Passed, passed_bad, passed_more}
 use Rattle.readingform.proofs.Lengths.{length_coordinates, length_marks, length_corners}
-use Rattle.reading.proofs.Storing.{three_stores, four_stores, Filling, filling_more, filling_bad}
+use Rattle.reading.proofs.Storing.{Filling, filling_more, filling_bad}
 use Rattle.objform.proofs.Net.{item_none, vertices_one, faces_one, vertices_length, faces_length, vertices_most, faces_most}
 use Rattle.objform.specs.Form.{Item, read_item, vertices_in, faces_in, items}
-use Rattle.obj.specs.declared.Line.{Line}
+use Rattle.text.specs.declared.Vertex as code
+use Rattle.text.specs.declared.Face as code_face
+use Rattle.text.specs.Answers.{vertex_is, face_is}
 use Rattle.obj.specs.declared.Item as declared
 use Rattle.obj.specs.declared.Item.TheVariants as item
-use Rattle.obj.specs.Answers.{item_is, line_of, line_used, Takes, GivesLine, item_vertices, item_faces, MeetsItem, AllGood, BadAt, ItemsStored, ItemsRoom, RoomFor, ItemStored}
+use Rattle.obj.specs.Answers.{item_is, item_vertices, item_faces, MeetsItem, AllGood, BadAt, ItemsStored, ItemsRoom, RoomFor, ItemStored}
 
 -- there are no more vertices and faces than bytes
 pub vertices_few : (l : List ℕ) → length (item_vertices l) ≤ length l
@@ -31,11 +32,11 @@ faces_few l = let a = faces_most (items l).values in let b = rows_length read_it
 
 -- ---- what one item adds
 module _ {i : declared.Item} (v f : ℕ) where
-  pub meets_vertex : {x y z : ℤ} → i ≡ item.Vertex x y z → MeetsItem (item_is i) v f (v + 1) f
+  pub meets_vertex : {x : code.Vertex} → i ≡ item.Vertex x → MeetsItem (item_is i) v f (v + 1) f
   unfolding vertices_in faces_in
   meets_vertex e = rw e (record { vertices = refl; faces = omega arith })
 
-  pub meets_face : {a b c d : ℕ} → i ≡ item.Face a b c d → MeetsItem (item_is i) v f v (f + 1)
+  pub meets_face : {x : code_face.Face} → i ≡ item.Face x → MeetsItem (item_is i) v f v (f + 1)
   unfolding vertices_in faces_in
   meets_face e = rw e (record { vertices = omega arith; faces = refl })
 
@@ -44,29 +45,23 @@ module _ {i : declared.Item} (v f : ℕ) where
   meets_comment e = rw e (record { vertices = omega arith; faces = omega arith })
 
   -- and what it needs and leaves
-  module _ {x y z : ℤ} (e : i ≡ item.Vertex x y z) where
+  module _ {x : code.Vertex} (e : i ≡ item.Vertex x) where
     pub room_vertex : {a b c : ℕ} → RoomFor (item_is i) v f a b c → (3 * v + 3 ≤ a) × (v < c)
     unfolding vertices_in
     room_vertex r = let q : length (vertices_in (item_is i ∷ [])) ≡ 1 = rw e in let h = r.vertices in let k = r.marks in (omega arith, omega arith)
 
-    pub stored_vertex : (t : List ℤ) (c m : List ℕ) → ItemStored (item_is i) v f (v + 1) f t (set (set (set t (3 * v) x) (3 * v + 1) y) (3 * v + 2) z) c c m (set m v 0)
-    unfolding vertices_in faces_in coordinates_of corners_of marks_of
-    stored_vertex t c m = record {
-      meets = meets_vertex e;
-      stored = rw e (record { vertices = sym (three_stores t v (record { x = x; y = y; z = z; mark = 0 }) []); faces = refl; marks = refl });
-    }
+    pub stored_vertex : {t u : List ℤ} {c m o : List ℕ} → u ≡ sets t (3 * v) (coordinates_of (vertex_is x ∷ [])) → o ≡ sets m v (marks_of (vertex_is x ∷ [])) → ItemStored (item_is i) v f (v + 1) f t u c c m o
+    unfolding vertices_in faces_in corners_of
+    stored_vertex p q = record { meets = meets_vertex e; stored = rw e (record { vertices = p; faces = refl; marks = q }) }
 
-  module _ {a b c d : ℕ} (e : i ≡ item.Face a b c d) where
+  module _ {x : code_face.Face} (e : i ≡ item.Face x) where
     pub room_face : {p q r : ℕ} → RoomFor (item_is i) v f p q r → 4 * f + 4 ≤ q
     unfolding faces_in
     room_face r = let q : length (faces_in (item_is i ∷ [])) ≡ 1 = rw e in let h = r.faces in omega arith
 
-    pub stored_face : (t : List ℤ) (k m : List ℕ) → ItemStored (item_is i) v f v (f + 1) t t k (set (set (set (set k (4 * f) a) (4 * f + 1) b) (4 * f + 2) c) (4 * f + 3) d) m m
-    unfolding vertices_in faces_in coordinates_of corners_of marks_of
-    stored_face t k m = record {
-      meets = meets_face e;
-      stored = rw e (record { vertices = refl; faces = sym (four_stores k f (record { a = a; b = b; c = c; d = d }) []); marks = refl });
-    }
+    pub stored_face : {t : List ℤ} {k d m : List ℕ} → d ≡ sets k (4 * f) (corners_of (face_is x ∷ [])) → ItemStored (item_is i) v f v (f + 1) t t k d m m
+    unfolding vertices_in faces_in coordinates_of marks_of
+    stored_face p = record { meets = meets_face e; stored = rw e (record { vertices = refl; faces = p; marks = refl }) }
 
   pub stored_comment : i ≡ item.Comment → (t : List ℤ) (c m : List ℕ) → ItemStored (item_is i) v f v f t t c c m m
   unfolding vertices_in faces_in coordinates_of corners_of marks_of
@@ -75,15 +70,6 @@ module _ {i : declared.Item} (v f : ℕ) where
 -- ---- turns
 pub item_end : (l : List ℕ) (at : ℕ) → length l ≤ at → read_item (drop at l) ≡ bad
 item_end l at h = ap read_item (drop_of_length-le l {i = at} h) ∙ item_none
-
--- the line of l from `at` on, where its reader's answer is q
-pub record ItemAt (l : List ℕ) (at : ℕ) (q : Line) : Type 0 where
-  pub reads : read_item (drop at l) ≡ line_of q (drop at l)
-  pub within : at + line_used q ≤ length l
-  pub takes : Takes q
-
-pub item_at : {r q : Line} (l : List ℕ) (at : ℕ) → GivesLine r (take (length l - at) (drop at l)) → r ≡ q → at ≤ length l → ItemAt l at q
-item_at l at g e h = record { reads = says_at read_item l at g.gives e; within = took_at read_item l at g.gives e h; takes = subst Takes e g.takes }
 
 abbrev left : List ℕ → ℕ → ℕ → Rows Item
 left l lines at = rows read_item (length l - lines) (drop at l)

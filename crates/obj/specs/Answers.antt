@@ -1,16 +1,14 @@
 -- What the answers of the readers say of a text l.
-use Rattle.std.specs.Prelude.{◌≡◌, List, [], ◌∷◌, ℤ, ℕ, ◌+◌, ◌*◌, ◌≤◌, ◌<◌, length, drop}
+use Rattle.std.specs.Prelude.{◌≡◌, List, [], ◌∷◌, ℤ, ℕ, ◌+◌, ◌*◌, ◌≤◌, ◌<◌, length, drop, Option, Result, Ok, Err, IfSome}
 use Rattle.std.proofs.lemmas.List.Edits.{sets}
-use Rattle.decimalform.specs.Decimal.{Read, read_as, bad}
+use Rattle.decimal.specs.declared.Read as declared
 use Rattle.decimal.specs.Answers.{Gives}
+use Rattle.text.specs.Answers.{vertex_is, face_is}
 use Rattle.textform.specs.Form.{Vertex, Face}
 use Rattle.readingform.specs.Loaded.{coordinates_of, marks_of, corners_of}
 use Rattle.obj.specs.declared.Item.{Item}
 use Rattle.obj.specs.declared.Item.TheVariants as item
-use Rattle.obj.specs.declared.Line.{Line}
-use Rattle.obj.specs.declared.Line.TheVariants as line
-use Rattle.obj.specs.declared.Counted.{Counted}
-use Rattle.obj.specs.declared.Counted.TheVariants as counted
+use Rattle.obj.specs.declared.Met.{Met}
 use Rattle.objform.specs.Form as form
 use Rattle.objform.specs.Form.{read_item, vertices_in, faces_in, items}
 
@@ -21,27 +19,14 @@ pub record StartsAt (part l : List ℕ) (at r : ℕ) : Type 0 where
   pub within : r ≤ length l
 
 abbrev pub item_is : Item → form.Item
-item_is (item.Vertex x y z) = form.vertex (record { x = x; y = y; z = z; mark = 0 })
-item_is (item.Face a b c d) = form.face (record { a = a; b = b; c = c; d = d })
+item_is (item.Vertex v) = form.vertex (vertex_is v)
+item_is (item.Face f) = form.face (face_is f)
 item_is item.Comment = form.comment
 
-abbrev pub line_of : Line → List ℕ → Read form.Item
-line_of (line.Good i n) l = read_as (item_is i) (drop n l)
-line_of line.Bad l = bad
-
-abbrev pub line_used : Line → ℕ
-line_used (line.Good i n) = n
-line_used line.Bad = 0
-
--- a good line takes a byte
-abbrev pub Takes : Line → Type 0
-Takes (line.Good i n) = 0 < n
-Takes line.Bad = Unit {0}
-
--- r says what the line at the front of l says
-pub record GivesLine (r : Line) (l : List ℕ) : Type 0 where
-  pub gives : Gives line_of line_used r l (read_item l)
-  pub takes : Takes r
+-- r says what the line at the front of l says; a good line takes a byte
+pub record GivesLine (r : Option (declared.Read Item)) (l : List ℕ) : Type 0 where
+  pub gives : Gives item_is r l (read_item l)
+  pub takes : IfSome r (λ n. 0 < n.used)
 
 -- ---- all lines of a text that starts with line 2
 
@@ -68,9 +53,9 @@ pub record BadAt (l : List ℕ) (n : ℕ) : Type 0 where
   pub line : n ≡ 2 + length (items l).values
   pub some : 0 < length (items l).rest
 
-abbrev pub CountsItems : Counted → List ℕ → Type 0
-CountsItems (counted.All v f) l = AllGood l v f
-CountsItems (counted.Bad n) l = BadAt l n
+abbrev pub CountsItems : Result Met ℕ → List ℕ → Type 0
+CountsItems (Ok m) l = AllGood l m.vertices m.faces
+CountsItems (Err n) l = BadAt l n
 
 -- ---- tables t, c, m that come to u, d, o: vs and fs stand there behind v vertices and f faces
 pub record ItemsStored (vs : List Vertex) (fs : List Face) (v f : ℕ) (t u : List ℤ) (c d m o : List ℕ) : Type 0 where

@@ -1,9 +1,8 @@
 // The program's answers, written into a buffer.
 #![tactic(auto)]
 
-ghost use Rattle.std.specs.Prelude.{◌≡◌, true, ◌+◌, ◌*◌, ◌≤◌, ◌<◌, length, get_or};
+ghost use Rattle.std.specs.Prelude.{◌≡◌, ℕ, List, true, ◌+◌, ◌*◌, ◌≤◌, ◌<◌, length, get_or};
 ghost use Rattle.decimalform.specs.Decimal.{natural_text, integer_text};
-ghost use Rattle.decimalform.specs.Stored.{Stored};
 ghost use Rattle.textform.specs.Text.{field, pair_text, numbers_text, columns_text, end_text, lettered_text, face_text, texts, refusal_text};
 ghost use Rattle.printingform.specs.Tables.{lettered_of, faces_of, columns_room, end_room, room_for, tables_text};
 ghost use Rattle.printingform.specs.Lines.{vertex_is, face_is, Printed, TextWritten};
@@ -12,43 +11,68 @@ fn put_bytes(out: &mut [u8], at: usize, s: &[u8]) -> usize
     requires { at + length s.now ≤ length out.old }
     ensures { Printed out.old out.new at result s.now (length s.now) }
 {
-    let mut i: usize = 0;
-    while i < s.len() {
-        out[at + i] = s[i];
-        i += 1;
+    out[at..at + s.len()].copy_from_slice(s);
+    at + s.len()
+}
+
+// A number as it is printed: its text, and the most bytes that it takes.
+trait Number: Copy {
+    ghost text: { Self → List ℕ };
+
+    ghost most: { ℕ };
+
+    // Writes the number from `at` on, and answers where it ends.
+    fn put(self, out: &mut [u8], at: usize) -> usize
+        requires { at + most ≤ length out.old }
+        ensures { Printed out.old out.new at result (text self) most };
+}
+
+impl Number for u8 {
+    ghost text = { natural_text };
+
+    ghost most = { 3 };
+
+    fn put(self, out: &mut [u8], at: usize) -> usize {
+        decimal::put_natural(out, at, u64::from(self))
     }
-    at + i
 }
 
-// A number and the byte after it; then the same by type, with the most bytes that it takes.
-fn put_natural(out: &mut [u8], at: usize, n: u64, end: u8) -> usize
-    requires { at + length (natural_text n) + 1 ≤ length out.old }
-    ensures { Stored out.old out.new at result (field (natural_text n) end) }
-{
-    let stop = decimal::put_natural(&mut *out, at, n);
-    out[stop] = end;
-    stop + 1
+impl Number for u32 {
+    ghost text = { natural_text };
+
+    ghost most = { 10 };
+
+    fn put(self, out: &mut [u8], at: usize) -> usize {
+        decimal::put_natural(out, at, u64::from(self))
+    }
 }
 
-fn put_u32(out: &mut [u8], at: usize, n: u32, end: u8) -> usize
-    requires { at + 11 ≤ length out.old }
-    ensures { Printed out.old out.new at result (field (natural_text n) end) 11 }
-{
-    put_natural(&mut *out, at, n as u64, end)
+impl Number for u64 {
+    ghost text = { natural_text };
+
+    ghost most = { 20 };
+
+    fn put(self, out: &mut [u8], at: usize) -> usize {
+        decimal::put_natural(out, at, self)
+    }
 }
 
-fn put_u64(out: &mut [u8], at: usize, n: u64, end: u8) -> usize
-    requires { at + 21 ≤ length out.old }
-    ensures { Printed out.old out.new at result (field (natural_text n) end) 21 }
-{
-    put_natural(&mut *out, at, n, end)
+impl Number for i32 {
+    ghost text = { integer_text };
+
+    ghost most = { 11 };
+
+    fn put(self, out: &mut [u8], at: usize) -> usize {
+        decimal::put_integer(out, at, self)
+    }
 }
 
-fn put_i32(out: &mut [u8], at: usize, z: i32, end: u8) -> usize
-    requires { at + 12 ≤ length out.old }
-    ensures { Printed out.old out.new at result (field (integer_text z) end) 12 }
+// A number and the byte after it.
+fn put_field<N: Number>(out: &mut [u8], at: usize, n: N, end: u8) -> usize
+    requires { at + N.most + 1 ≤ length out.old }
+    ensures { Printed out.old out.new at result (field (N.text n) end) (N.most + 1) }
 {
-    let stop = decimal::put_integer(&mut *out, at, z);
+    let stop = n.put(&mut *out, at);
     out[stop] = end;
     stop + 1
 }
@@ -58,15 +82,8 @@ fn put_pair(out: &mut [u8], at: usize, a: u64, b: u64) -> usize
     requires { at + 42 ≤ length out.old }
     ensures { Printed out.old out.new at result (pair_text a b) 42 }
 {
-    let i = put_u64(&mut *out, at, a, b' ');
-    put_u64(&mut *out, i, b, b'\n')
-}
-
-fn put_mark(out: &mut [u8], at: usize, mark: u8) -> usize
-    requires { at + 3 ≤ length out.old }
-    ensures { Printed out.old out.new at result (natural_text mark) 3 }
-{
-    decimal::put_natural(&mut *out, at, mark as u64)
+    let i = put_field(&mut *out, at, a, b' ');
+    put_field(&mut *out, i, b, b'\n')
 }
 
 // The numbers of a vertex.
@@ -74,10 +91,10 @@ fn put_numbers(out: &mut [u8], at: usize, x: i32, y: i32, z: i32, mark: u8) -> u
     requires { at + 39 ≤ length out.old }
     ensures { Printed out.old out.new at result (numbers_text (vertex_is x y z mark)) 39 }
 {
-    let i = put_i32(&mut *out, at, x, b' ');
-    let j = put_i32(&mut *out, i, y, b' ');
-    let k = put_i32(&mut *out, j, z, b' ');
-    put_mark(&mut *out, k, mark)
+    let i = put_field(&mut *out, at, x, b' ');
+    let j = put_field(&mut *out, i, y, b' ');
+    let k = put_field(&mut *out, j, z, b' ');
+    mark.put(out, k)
 }
 
 // The end of a vertex line: letter i, if letters are asked for, and the newline.
@@ -86,23 +103,20 @@ fn put_end(out: &mut [u8], at: usize, rule: bool, letters: &[u8], i: usize) -> u
     ensures { Printed out.old out.new at result (end_text rule (get_or letters.now i 0)) (end_room rule) }
 {
     if rule {
-        out[at] = b' ';
-        out[at + 1] = letters[i];
-        out[at + 2] = b'\n';
-        return at + 3;
+        put_bytes(out, at, &[b' ', letters[i], b'\n'])
+    } else {
+        put_bytes(out, at, b"\n")
     }
-    out[at] = b'\n';
-    at + 1
 }
 
 fn put_face(out: &mut [u8], at: usize, a: u32, b: u32, c: u32, d: u32) -> usize
     requires { at + 44 ≤ length out.old }
     ensures { Printed out.old out.new at result (face_text (face_is a b c d)) 44 }
 {
-    let i = put_u32(&mut *out, at, a, b' ');
-    let j = put_u32(&mut *out, i, b, b' ');
-    let k = put_u32(&mut *out, j, c, b' ');
-    put_u32(&mut *out, k, d, b'\n')
+    let i = put_field(&mut *out, at, a, b' ');
+    let j = put_field(&mut *out, i, b, b' ');
+    let k = put_field(&mut *out, j, c, b' ');
+    put_field(&mut *out, k, d, b'\n')
 }
 
 fn put_vertices(
@@ -118,14 +132,12 @@ fn put_vertices(
     ensures { Printed out.old out.new at result (texts (lettered_text rule) (lettered_of count vertices.now marks.now letters.now)) ((39 + end_room rule) * count) }
 {
     let mut to = at;
-    let mut i: usize = 0;
-    while i < count {
+    for i in 0..count {
         let x = vertices[3 * i];
         let y = vertices[3 * i + 1];
         let z = vertices[3 * i + 2];
         let end = put_numbers(&mut *out, to, x, y, z, marks[i]);
         to = put_end(&mut *out, end, rule, letters, i);
-        i += 1;
     }
     to
 }
@@ -135,14 +147,12 @@ fn put_faces(out: &mut [u8], at: usize, count: usize, faces: &[u32]) -> usize
     ensures { Printed out.old out.new at result (texts face_text (faces_of count faces.now)) (44 * count) }
 {
     let mut to = at;
-    let mut i: usize = 0;
-    while i < count {
+    for i in 0..count {
         let a = faces[4 * i];
         let b = faces[4 * i + 1];
         let c = faces[4 * i + 2];
         let d = faces[4 * i + 3];
         to = put_face(&mut *out, to, a, b, c, d);
-        i += 1;
     }
     to
 }
@@ -153,9 +163,10 @@ fn put_columns(out: &mut [u8], at: usize, rule: bool) -> usize
     ensures { Printed out.old out.new at result (columns_text rule) (columns_room rule) }
 {
     if rule {
-        return put_bytes(&mut *out, at, b"x y z corner rule\n");
+        put_bytes(out, at, b"x y z corner rule\n")
+    } else {
+        put_bytes(out, at, b"x y z corner\n")
     }
-    put_bytes(&mut *out, at, b"x y z corner\n")
 }
 
 // Writes the answer with v vertices and f faces, with letters if `rule` is asked for, and gives its length.

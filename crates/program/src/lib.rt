@@ -13,6 +13,7 @@ ghost use Rattle.programform.specs.Answer.{refined_text, parse_any, program_text
 ghost use Rattle.programform.specs.Input.{input_room, InputAnswered};
 
 use reading::Input;
+use reasons::Refusal;
 use refine::Answer;
 
 // The input buffer has one byte more than the longest text; the other holds every answer.
@@ -70,14 +71,20 @@ fn refine_net(
 }
 
 // Reads the net that `text` writes, as OBJ if its first byte is `#`, into the front of the tables, or refuses and leaves them as they are.
-fn read_any(text: &[u8], vertices: &mut [i32], faces: &mut [u32], marks: &mut [u8]) -> Input
+fn read_any(
+    text: &[u8],
+    vertices: &mut [i32],
+    faces: &mut [u32],
+    marks: &mut [u8],
+) -> Result<Input, Refusal>
     requires { InputTables (length vertices.old) (length faces.old) (length marks.old) }
     ensures { loaded (answer_of result) vertices.new faces.new marks.new ≡ read_by parse_any text.now vertices.old faces.old marks.old }
 {
-    if text::starts_with(text, b"#") {
-        return obj::read_net(text, vertices, faces, marks);
+    if text.starts_with(b"#") {
+        obj::read_net(text, vertices, faces, marks)
+    } else {
+        reading::read_net(text, vertices, faces, marks)
     }
-    reading::read_net(text, vertices, faces, marks)
 }
 
 // Writes the answer to `text` into `out`, and gives its length.
@@ -89,20 +96,15 @@ fn answer_text(text: &[u8], out: &mut [u8]) -> usize
     let mut faces = [0u32; reading::CORNERS];
     let mut marks = [0u8; reading::MARKS];
     match read_any(text, &mut vertices, &mut faces, &mut marks) {
-        Input::Net {
-            rounds,
-            rule,
-            vertices: v,
-            faces: f,
-        } => refine_net(
-            rounds,
-            rule,
-            &vertices[..3 * v],
-            &faces[..4 * f],
-            &marks[..v],
+        Ok(net) => refine_net(
+            net.rounds,
+            net.rule,
+            &vertices[..3 * net.vertices],
+            &faces[..4 * net.faces],
+            &marks[..net.vertices],
             out,
         ),
-        Input::Refused(reason, place) => printing::write_refusal(out, reason, place),
+        Err(refusal) => { printing::write_refusal(out, refusal.reason.number(), refusal.place) }
     }
 }
 

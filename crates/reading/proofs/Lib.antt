@@ -1,6 +1,5 @@
 pub mod Lines
-pub mod Head
+pub mod FirstLines
 pub mod Body
-pub mod Limits
 pub mod Storing
 pub mod Cases

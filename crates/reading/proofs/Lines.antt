@@ -1,15 +1,18 @@
 -- Reading lines one after another: what is left to read after each turn. Assumes nothing.
-use mathlib.Core.Path.{◌≡◌, refl, sym, ◌∙◌}
+use mathlib.Core.Path.{◌≡◌, refl, sym, ap, ◌∙◌}
 use mathlib.Core.List.{List}
 use Prim.Native.Nat.{ℕ, zero, suc, ◌+◌, ◌-◌, ◌≤◌, ◌<◌}
 use native.Mathlib.Omega.{arith}
-use lib.ListN.{length, take, drop}
+use lib.ListN.{length, take, drop, length-drop}
+use Rattle.std.proofs.Common.{Option}
 use lib.Seq.{drop-drop}
 use Rattle.decimalform.specs.Decimal.{Read, read_as, bad}
-use Rattle.decimal.specs.Answers.{Gives}
-use Rattle.decimal.proofs.Reading.{says_at, took_at}
-use Rattle.textform.specs.Form.{rows, no_rows, one_more}
-use Rattle.reading.specs.Answers.{LinesCounted}
+use Rattle.decimal.specs.declared.Read as declared
+use Rattle.decimal.specs.Answers.{read_of, used, Gives}
+use Rattle.decimal.proofs.Reading.{part_rest, gives_rest}
+use Rattle.textform.specs.Form.{rows, rows_after, no_rows, one_more}
+use Rattle.reading.specs.Answers.{forgotten, bare, LinesCounted}
+use Rattle.reading.specs.declared.Block.{Block}
 
 module _ {A : Type 0} (read : List ℕ → Read A) where
   rows_none : (n : ℕ) (l : List ℕ) → n ≡ 0 → rows read n l ≡ no_rows l
@@ -61,11 +64,27 @@ module _ {A : Type 0} {read : List ℕ → Read A} {count : ℕ} {l : List ℕ} 
       let k = rows_next read count l good used v n h e in
       record { few = omega arith; within = w; number = p.number ∙ rw k (omega arith); rest = p.rest ∙ rw k }
 
--- ---- the line of l from `at` on, where its reader's answer is q
-pub record LineAt {R A : Type 0} (of : R → List ℕ → Read A) (used : R → ℕ) (read : List ℕ → Read A) (l : List ℕ) (at : ℕ) (q : R) : Type 0 where
-  pub reads : read (drop at l) ≡ of q (drop at l)
-  pub within : at + used q ≤ length l
+-- ---- the line of l from `at` on, where its reader's answer is r
+pub line_reads : {V A : Type 0} {is : V → A} {r : Option (declared.Read V)} (read : List ℕ → Read A) (l : List ℕ) (at : ℕ)
+    → Gives is r (take (length l - at) (drop at l)) (read (take (length l - at) (drop at l))) → read (drop at l) ≡ read_of is r (drop at l)
+line_reads read l at g = sym (gives_rest read l at g).reads
 
-pub line_at : {R A : Type 0} {of : R → List ℕ → Read A} {used : R → ℕ} {r q : R} (read : List ℕ → Read A) (l : List ℕ) (at : ℕ)
-    → Gives of used r (take (length l - at) (drop at l)) (read (take (length l - at) (drop at l))) → r ≡ q → at ≤ length l → LineAt of used read l at q
-line_at read l at g e h = record { reads = says_at read l at g e; within = took_at read l at g e h }
+pub line_within : {V A : Type 0} {is : V → A} {r : Option (declared.Read V)} {what : Read A} (l : List ℕ) (at : ℕ) → Gives is r (take (length l - at) (drop at l)) what → at ≤ length l → at + used r ≤ length l
+line_within {r = r} l at g h =
+    let w : used r ≤ length (drop at l) = rw (part_rest l at) at g.within in
+    omega (arith, length-drop at l)
+
+-- ---- what a line says is not asked: the good lines are as many, and leave the same
+module _ {A : Type 0} (read : List ℕ → Read A) where
+  rows_bare : (n : ℕ) (l : List ℕ) → (length (rows (bare read) n l).values ≡ length (rows read n l).values) × ((rows (bare read) n l).rest ≡ (rows read n l).rest)
+  unfolding rows
+  rows_bare zero l = (refl, refl)
+  rows_bare (suc n) l = go (read l) (λ m. rows_bare n m)
+    where
+      go : (r : Read A) → ((m : List ℕ) → (length (rows (bare read) n m).values ≡ length (rows read n m).values) × ((rows (bare read) n m).rest ≡ (rows read n m).rest))
+          → (length (rows_after l (forgotten r) (rows (bare read) n)).values ≡ length (rows_after l r (rows read n)).values) × ((rows_after l (forgotten r) (rows (bare read) n)).rest ≡ (rows_after l r (rows read n)).rest)
+      go (read_as v m) h = (ap suc (h m).0, (h m).1)
+      go bad h = (refl, refl)
+
+  pub bare_counted : {r : Block} (n : ℕ) (l : List ℕ) → LinesCounted r l (rows (bare read) n l) → LinesCounted r l (rows read n l)
+  bare_counted n l c = record { good = c.good ∙ (rows_bare n l).0; rest = c.rest ∙ (rows_bare n l).1; within = c.within }

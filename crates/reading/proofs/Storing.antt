@@ -1,11 +1,12 @@
 -- The second pass: one line's numbers are stored a turn, and the table that the whole text gives is the one that the rest gives from here. Assumes nothing.
 use mathlib.Core.Path.{◌≡◌, refl, sym, ap, ◌∙◌}
 use mathlib.Core.List.{List, [], ◌∷◌, ◌++◌}
-use Prim.Native.Nat.{ℕ, suc, ◌+◌, ◌*◌, ◌-◌, ◌≤◌, ◌<◌}
+use Prim.Native.Nat.{ℕ, ◌+◌, ◌*◌, ◌-◌, ◌≤◌, ◌<◌}
 use native.Mathlib.Omega.{arith}
 use lib.IntN.{ℤ}
-use lib.ListN.{length, set, take, drop}
-use lib.Seq.{sets, sets-eq}
+use lib.ListN.{length, take, drop}
+use lib.Seq.{sets, sets-eq, drop-drop}
+use Rattle.decimalform.proofs.Writing.{sets_after}
 use Rattle.decimalform.specs.Decimal.{Read, read_as, bad}
 use Rattle.decimal.proofs.Reading.{part_rest}
 use Rattle.textform.specs.Form.{Vertex, Face, Rows, rows, no_rows}
@@ -38,28 +39,21 @@ module _ {A E : Type 0} {flat : List A → List E} {read : List ℕ → Read A} 
     filling_bad e = ends (rows_bad read (count - i) (drop at l) e)
 
 -- ---- the numbers of one line, and of none
-pub three_stores : (t : List ℤ) (i : ℕ) (v : Vertex) (vs : List Vertex)
-    → sets t (3 * i) (coordinates_of (v ∷ vs)) ≡ sets (set (set (set t (3 * i) v.x) (3 * i + 1) v.y) (3 * i + 2) v.z) (3 * (i + 1)) (coordinates_of vs)
+one_more_stored : {A E : Type 0} (flat : List A → List E) → ((v : A) (vs : List A) → flat (v ∷ vs) ≡ flat (v ∷ []) ++ flat vs)
+    → (t : List E) (k j : ℕ) (v : A) (vs : List A) → j ≡ k + length (flat (v ∷ [])) → sets t k (flat (v ∷ vs)) ≡ sets (sets t k (flat (v ∷ []))) j (flat vs)
+one_more_stored flat split t k j v vs e = rw (split v vs, e) (sym (sets_after (flat (v ∷ [])) t (flat vs) k))
+
+pub vertex_stored : (t : List ℤ) {u : List ℤ} (i : ℕ) (v : Vertex) → u ≡ sets t (3 * i) (coordinates_of (v ∷ [])) → (vs : List Vertex) → sets t (3 * i) (coordinates_of (v ∷ vs)) ≡ sets u (3 * (i + 1)) (coordinates_of vs)
 unfolding coordinates_of
-three_stores t i v vs =
-    let a : 3 * i + 1 ≡ suc (3 * i) = omega arith in
-    let b : 3 * i + 2 ≡ suc (suc (3 * i)) = omega arith in
-    let c : 3 * (i + 1) ≡ suc (suc (suc (3 * i))) = omega arith in
-    rw (a, b, c)
+vertex_stored t i v e vs = rw e (one_more_stored coordinates_of (λ x xs. refl) t (3 * i) (3 * (i + 1)) v vs (omega arith))
 
-pub one_store : (t : List ℕ) (i : ℕ) (v : Vertex) (vs : List Vertex) → sets t i (marks_of (v ∷ vs)) ≡ sets (set t i v.mark) (i + 1) (marks_of vs)
+pub mark_stored : (t : List ℕ) {u : List ℕ} (i : ℕ) (v : Vertex) → u ≡ sets t i (marks_of (v ∷ [])) → (vs : List Vertex) → sets t i (marks_of (v ∷ vs)) ≡ sets u (i + 1) (marks_of vs)
 unfolding marks_of
-one_store t i v vs = let a : i + 1 ≡ suc i = omega arith in rw a
+mark_stored t i v e vs = rw e (one_more_stored marks_of (λ x xs. refl) t i (i + 1) v vs (omega arith))
 
-pub four_stores : (t : List ℕ) (i : ℕ) (f : Face) (fs : List Face)
-    → sets t (4 * i) (corners_of (f ∷ fs)) ≡ sets (set (set (set (set t (4 * i) f.a) (4 * i + 1) f.b) (4 * i + 2) f.c) (4 * i + 3) f.d) (4 * (i + 1)) (corners_of fs)
+pub face_stored : (t : List ℕ) {u : List ℕ} (i : ℕ) (f : Face) → u ≡ sets t (4 * i) (corners_of (f ∷ [])) → (fs : List Face) → sets t (4 * i) (corners_of (f ∷ fs)) ≡ sets u (4 * (i + 1)) (corners_of fs)
 unfolding corners_of
-four_stores t i f fs =
-    let a : 4 * i + 1 ≡ suc (4 * i) = omega arith in
-    let b : 4 * i + 2 ≡ suc (suc (4 * i)) = omega arith in
-    let c : 4 * i + 3 ≡ suc (suc (suc (4 * i))) = omega arith in
-    let d : 4 * (i + 1) ≡ suc (suc (suc (suc (4 * i)))) = omega arith in
-    rw (a, b, c, d)
+face_stored t i f e fs = rw e (one_more_stored corners_of (λ x xs. refl) t (4 * i) (4 * (i + 1)) f fs (omega arith))
 
 pub no_coordinates : (t : List ℤ) (j : ℕ) → sets t j (coordinates_of []) ≡ t
 unfolding coordinates_of

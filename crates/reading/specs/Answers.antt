@@ -1,19 +1,39 @@
 -- What the answers of the two passes say of a text l.
-use Rattle.std.specs.Prelude.{◌≡◌, Bool, List, [], ℕ, ◌*◌, ◌≤◌, ℤ, length, drop}
+use Rattle.std.specs.Prelude.{◌≡◌, List, [], ℕ, ◌*◌, ◌≤◌, ℤ, length, drop, Option, Some, None, Result, Ok, Err, IfOk, IfSome}
 use Rattle.std.proofs.lemmas.List.Edits.{sets}
-use Rattle.decimal.specs.Answers.{Gives}
+use Rattle.decimalform.specs.Decimal.{Read, read_as, bad}
+use Rattle.decimal.specs.declared.Read as declared
 use Rattle.textform.specs.Limits.{program_vertices, program_faces}
-use Rattle.textform.specs.Form.{TextCounts, Vertex, TextNet, Head, Rows, rows, read_vertex, read_face, Parsed, parsed, bad_line, parse_body, parse}
+use Rattle.textform.specs.Form as form
+use Rattle.textform.specs.Form.{Vertex, TextNet, Rows, rows, read_vertex, read_face, Parsed, parsed, bad_line, parse_head, parse_body, parse}
+use Rattle.text.specs.Answers.{counts_is}
+use Rattle.reasons.specs.Reasons.{number}
+use Rattle.reasons.specs.declared.Refusal.{Refusal}
 use Rattle.readingform.specs.Loaded.{ReadAnswer, net_read, net_refused, coordinates_of, marks_of}
 use Rattle.reading.specs.declared.Block.{Block}
-use Rattle.reading.specs.declared.HeadLines.{HeadLines}
-use Rattle.reading.specs.declared.HeadLines.TheVariants as head
-use Rattle.reading.specs.declared.BodyLines.{BodyLines}
-use Rattle.reading.specs.declared.BodyLines.TheVariants as body
-use Rattle.reading.specs.declared.Checked.{Checked}
-use Rattle.reading.specs.declared.Checked.TheVariants as checked
+use Rattle.reading.specs.declared.Head.{Head}
+use Rattle.reading.specs.declared.Form.{Form}
 use Rattle.reading.specs.declared.Input.{Input}
-use Rattle.reading.specs.declared.Input.TheVariants as input
+
+-- ---- lines that are counted
+
+-- the line at the front of l takes r bytes, or has not the form: what it says is not asked
+abbrev pub line_of : Option ℕ → List ℕ → Read (Unit {0})
+line_of (Some n) l = read_as tt (drop n l)
+line_of None l = bad
+
+-- what a line says, but that it is good, is not asked
+abbrev pub forgotten : {A : Type 0} → Read A → Read (Unit {0})
+forgotten (read_as v l) = read_as tt l
+forgotten bad = bad
+
+abbrev pub bare : {A : Type 0} → (List ℕ → Read A) → List ℕ → Read (Unit {0})
+bare read l = forgotten (read l)
+
+-- the same, with no more bytes than l has
+pub record TakesLine (r : Option ℕ) (l : List ℕ) (what : Read (Unit {0})) : Type 0 where
+  pub reads : line_of r l ≡ what
+  pub within : IfSome r (λ n. n ≤ length l)
 
 -- r has the number of good lines and of their bytes
 pub record LinesCounted {A : Type 0} (r : Block) (l : List ℕ) (w : Rows A) : Type 0 where
@@ -21,22 +41,23 @@ pub record LinesCounted {A : Type 0} (r : Block) (l : List ℕ) (w : Rows A) : T
   pub rest : drop r.used l ≡ w.rest
   pub within : r.used ≤ length l
 
-abbrev pub counts_are : ℕ → ℕ → ℕ → TextCounts
-counts_are v f k = record { vertices = v; faces = f; rounds = k }
+-- ---- the first pass
 
-abbrev pub head_is : ℕ → ℕ → ℕ → Bool → Bool → Head
-head_is v f k r m = record { rule = r; counts = counts_are v f k; marks = m }
+-- a value, or the number of the first bad line
+abbrev pub parsed_of : {V A : Type 0} → (V → Parsed A) → Result V ℕ → Parsed A
+parsed_of of (Ok v) = of v
+parsed_of of (Err n) = bad_line n
 
-abbrev pub head_of : HeadLines → List ℕ → Parsed Head
-head_of (head.Head v f k r m n) l = parsed (head_is v f k r m) (drop n l)
-head_of (head.Bad n) l = bad_line n
+abbrev pub head_is : Head → form.Head
+head_is h = record { rule = h.rule; counts = counts_is h.counts; marks = h.marks }
 
-abbrev pub head_used : HeadLines → ℕ
-head_used (head.Head v f k r m n) = n
-head_used (head.Bad n) = 0
+-- r says what the form says of the first three lines of l
+pub record GivesHead (r : Result (declared.Read Head) ℕ) (l : List ℕ) : Type 0 where
+  pub reads : parsed_of (λ h. parsed (head_is h.value) (drop h.used l)) r ≡ parse_head l
+  pub within : IfOk r (λ h. h.used ≤ length l)
 
 -- the net of these counts whose vertex lines start at i and whose face lines start at j
-abbrev pub net_at : Head → List ℕ → ℕ → ℕ → TextNet
+abbrev pub net_at : form.Head → List ℕ → ℕ → ℕ → TextNet
 net_at h l i j =
     record {
       rule = h.rule;
@@ -45,35 +66,21 @@ net_at h l i j =
       faces = (rows read_face h.counts.faces (drop j l)).values;
     }
 
--- the answer after a head whose lines took i bytes
-abbrev pub body_of : Head → ℕ → BodyLines → List ℕ → Parsed TextNet
-body_of h i (body.Body j) l = parsed (net_at h l i j) []
-body_of h i (body.Bad n) l = bad_line n
+-- the same of the lines after a head that ends at i
+pub record GivesBody (h : form.Head) (i : ℕ) (r : Result ℕ ℕ) (l : List ℕ) : Type 0 where
+  pub reads : parsed_of (λ j. parsed (net_at h l i j) []) r ≡ parse_body h (drop i l)
+  pub within : IfOk r (λ j. j ≤ length l)
 
-abbrev pub body_used : BodyLines → ℕ
-body_used (body.Body j) = j
-body_used (body.Bad n) = 0
-
-abbrev pub GivesBody : Head → ℕ → BodyLines → List ℕ → Type 0
-GivesBody h i r l = Gives (body_of h i) body_used r l (parse_body h (drop i l))
-
-abbrev pub checked_of : Checked → List ℕ → Parsed TextNet
-checked_of (checked.Form v f k r m i j) l = parsed (net_at (head_is v f k r m) l i j) []
-checked_of (checked.Bad n) l = bad_line n
-
-abbrev pub vertices_at : Checked → ℕ
-vertices_at (checked.Form v f k r m i j) = i
-vertices_at (checked.Bad n) = 0
-
-abbrev pub faces_at : Checked → ℕ
-faces_at (checked.Form v f k r m i j) = j
-faces_at (checked.Bad n) = 0
+abbrev pub net_in : List ℕ → Form → TextNet
+net_in l f = net_at (head_is f.head) l f.vertices_at f.faces_at
 
 -- r says what the form says of l, and both blocks of lines start inside l
-pub record Checks (r : Checked) (l : List ℕ) : Type 0 where
-  pub reads : checked_of r l ≡ parse l
-  pub vertices : vertices_at r ≤ length l
-  pub faces : faces_at r ≤ length l
+pub record Checks (r : Result Form ℕ) (l : List ℕ) : Type 0 where
+  pub reads : parsed_of (λ f. parsed (net_in l f) []) r ≡ parse l
+  pub vertices : IfOk r (λ f. f.vertices_at ≤ length l)
+  pub faces : IfOk r (λ f. f.faces_at ≤ length l)
+
+-- ---- the second pass
 
 -- t and m come to u and o when vs is stored from the front on
 pub record VerticesStored (vs : List Vertex) (t u : List ℤ) (m o : List ℕ) : Type 0 where
@@ -81,9 +88,9 @@ pub record VerticesStored (vs : List Vertex) (t u : List ℤ) (m o : List ℕ) :
   pub marks : o ≡ sets m 0 (marks_of vs)
 
 -- paper 01's number and place of a refusal, or what was read
-abbrev pub answer_of : Input → ReadAnswer
-answer_of (input.Net k r v f) = net_read k r v f
-answer_of (input.Refused reason place) = net_refused reason place
+abbrev pub answer_of : Result Input Refusal → ReadAnswer
+answer_of (Ok n) = net_read n.rounds n.rule n.vertices n.faces
+answer_of (Err x) = net_refused (number x.reason) x.place
 
 -- room for every net that the counts let pass
 pub record InputTables (vertex_table face_table mark_table : ℕ) : Type 0 where

@@ -1,16 +1,20 @@
 // A net read from a text in two passes: the first decides refusal 13 and finds where the lines stand, the second stores them.
 #![tactic(auto)]
 
-ghost use Rattle.std.specs.Prelude.{◌≡◌, ◌*◌, ◌≤◌, ◌<◌, length};
+ghost use Rattle.std.specs.Prelude.{◌≡◌, List, [], ◌∷◌, ℕ, ◌+◌, ◌*◌, ◌≤◌, ◌<◌, length, IfSome};
+ghost use Rattle.std.specs.Fn.{FnReturnsAt};
 ghost use Rattle.std.proofs.lemmas.List.Edits.{sets};
-ghost use Rattle.decimal.specs.Answers.{Gives};
-ghost use Rattle.textform.specs.Form.{read_vertex, read_face, rows, parse_head, parse};
-ghost use Rattle.limits.specs.Answer.{limits_of};
-ghost use Rattle.readingform.specs.Loaded.{corners_of, counts_verdict, loaded, read_by};
-ghost use Rattle.reading.specs.Answers.{LinesCounted, counts_are, head_is, head_of, head_used, GivesBody, Checks, VerticesStored, answer_of, InputTables};
+ghost use Rattle.decimalform.specs.Decimal.{Read};
+ghost use Rattle.textform.specs.Form as form;
+ghost use Rattle.textform.specs.Form.{read_vertex, read_face, rows, parse};
+ghost use Rattle.text.specs.Answers.{counts_is, vertex_is, face_is};
+ghost use Rattle.reasons.specs.Reasons.{reason_of};
+ghost use Rattle.readingform.specs.Loaded.{coordinates_of, marks_of, corners_of, counts_verdict, loaded, read_by};
+ghost use Rattle.reading.specs.Answers.{line_of, bare, TakesLine, LinesCounted, head_is, GivesHead, GivesBody, Checks, VerticesStored, answer_of, InputTables};
 
-use limits::Lengths;
-use text::{ColumnsLine, CountsLine, FaceLine, InputLine, VertexLine};
+use limits::{Lengths, Room};
+use reasons::{Reason, Refusal};
+use text::{Counts, Face, Index, Vertex};
 
 // The program's tables: for 1,024 vertices, and for 256 faces after the rounds, of which each takes at most 12 coordinates, 4 corners, 4 marks, 4 letters and 16 work numbers.
 pub const VERTICES: u32 = 1024;
@@ -30,307 +34,240 @@ struct Block {
     used: usize,
 }
 
-// The first three lines, or the number of the first bad one.
+// What the first three lines say: the counts, whether letters are asked for, and whether the vertices have marks.
 #[derive(Clone, Copy)]
-enum HeadLines {
-    Head {
-        vertices: u32,
-        faces: u32,
-        rounds: u32,
-        rule: bool,
-        marks: bool,
-        used: usize,
-    },
-    Bad(usize),
-}
-
-// Where the faces start, or the number of the first bad line.
-#[derive(Clone, Copy)]
-enum BodyLines {
-    Body(usize),
-    Bad(usize),
-}
-
-#[derive(Clone, Copy)]
-enum Checked {
-    Form {
-        vertices: u32,
-        faces: u32,
-        rounds: u32,
-        rule: bool,
-        marks: bool,
-        vertices_at: usize,
-        faces_at: usize,
-    },
-    Bad(usize),
-}
-
-// A net, with its counts and whether letters are asked for, or the number of a refusal and its place.
-#[derive(Clone, Copy)]
-pub enum Input {
-    Net {
-        rounds: u32,
-        rule: bool,
-        vertices: usize,
-        faces: usize,
-    },
-    Refused(u32, usize),
-}
-
-// How many of `count` lines are good before the first bad one.
-fn count_vertices(text: &[u8], count: usize, marked: bool) -> Block
-    ensures { LinesCounted result text.now (rows (read_vertex marked) count text.now) }
-{
-    let mut good: usize = 0;
-    let mut used: usize = 0;
-    while good < count {
-        let VertexLine::Vertex {
-            x: _,
-            y: _,
-            z: _,
-            mark: _,
-            used: n,
-        } = text::read_vertex(&text[used..], marked)
-        else {
-            return Block { good, used };
-        };
-        used += n;
-        good += 1;
-    }
-    Block { good, used }
-}
-
-fn count_faces(text: &[u8], count: usize) -> Block
-    ensures { LinesCounted result text.now (rows read_face count text.now) }
-{
-    let mut good: usize = 0;
-    let mut used: usize = 0;
-    while good < count {
-        let FaceLine::Face {
-            a: _,
-            b: _,
-            c: _,
-            d: _,
-            used: n,
-        } = text::read_face(&text[used..])
-        else {
-            return Block { good, used };
-        };
-        used += n;
-        good += 1;
-    }
-    Block { good, used }
-}
-
-fn check_head(text: &[u8]) -> HeadLines
-    ensures { Gives head_of head_used result text.now (parse_head text.now) }
-{
-    let InputLine::Input { rule, used: i } = text::read_input(text) else {
-        return HeadLines::Bad(1);
-    };
-    let CountsLine::Counts {
-        vertices,
-        faces,
-        rounds,
-        used,
-    } = text::read_counts(&text[i..])
-    else {
-        return HeadLines::Bad(2);
-    };
-    let j = i + used;
-    match text::read_columns(&text[j..]) {
-        ColumnsLine::Marked(n) => HeadLines::Head {
-            vertices,
-            faces,
-            rounds,
-            rule,
-            marks: true,
-            used: j + n,
-        },
-        ColumnsLine::Unmarked(n) => HeadLines::Head {
-            vertices,
-            faces,
-            rounds,
-            rule,
-            marks: false,
-            used: j + n,
-        },
-        ColumnsLine::Bad => HeadLines::Bad(3),
-    }
-}
-
-fn check_body(
-    text: &[u8],
-    at: usize,
-    vertices: u32,
-    faces: u32,
-    rounds: u32,
+struct Head {
+    counts: Counts,
     rule: bool,
     marks: bool,
-) -> BodyLines
-    requires { at ≤ length text.now }
-    ensures { GivesBody (head_is vertices faces rounds rule marks) at result text.now }
+}
+
+// A text of the form, and where its vertices and its faces start.
+#[derive(Clone, Copy)]
+struct Form {
+    head: Head,
+    vertices_at: usize,
+    faces_at: usize,
+}
+
+// A net that was read: its rounds, whether letters are asked for, and its counts.
+#[derive(Clone, Copy)]
+pub struct Input {
+    pub rounds: u32,
+    pub rule: bool,
+    pub vertices: usize,
+    pub faces: usize,
+}
+
+// How many of `count` lines are good before the first bad one, where `line` tells how many bytes a good line takes.
+fn count_lines<F: Fn(&[u8]) -> Option<usize>>(text: &[u8], count: usize, line: F) -> Block
+    requires callable { F.IsAlwaysCallable line }
+    requires within { (l : List ℕ) (r : _) → FnReturnsAt F.Fn line l r → IfSome r (λ n. n ≤ length l) }
+    ensures { (read : List ℕ → Read (Unit {0})) → ((l : List ℕ) (r : _) → FnReturnsAt F.Fn line l r → line_of r l ≡ read l) → LinesCounted result text.now (rows read count text.now) }
 {
-    let v = vertices as usize;
-    let f = faces as usize;
-    let vs = count_vertices(&text[at..], v, marks);
+    let mut used: usize = 0;
+    for good in 0..count {
+        let Some(n) = line(&text[used..]) else {
+            return Block { good, used };
+        };
+        used += n;
+    }
+    Block { good: count, used }
+}
+
+// The first three lines, or the number of the first bad one.
+fn check_head(text: &[u8]) -> Result<decimal::Read<Head>, usize>
+    ensures { GivesHead result text.now }
+{
+    let Some(rule) = text::read_input(text) else {
+        return Err(1);
+    };
+    let Some(counts) = text::read_counts(&text[rule.used..]) else {
+        return Err(2);
+    };
+    let at = rule.used + counts.used;
+    let Some(marks) = text::read_columns(&text[at..]) else {
+        return Err(3);
+    };
+    Ok(decimal::Read {
+        value: Head {
+            counts: counts.value,
+            rule: rule.value,
+            marks: marks.value,
+        },
+        used: at + marks.used,
+    })
+}
+
+// Where the faces start, after a head that ends at `at`, or the number of the first bad line.
+#[tactic(auto, unfolding(textform::specs::Form::read_face))]
+fn check_body(text: &[u8], at: usize, head: Head) -> Result<usize, usize>
+    requires { at ≤ length text.now }
+    ensures { GivesBody (head_is head) at result text.now }
+{
+    let v = head.counts.vertices as usize;
+    let f = head.counts.faces as usize;
+    let marks = head.marks;
+    let vs = count_lines(
+        &text[at..],
+        v,
+        |l: &[u8]| -> Option<usize>
+            ensures { TakesLine result l.now (bare (read_vertex marks) l.now) }
+        { Some(text::read_vertex(l, marks)?.used) },
+    );
     if vs.good != v {
-        return BodyLines::Bad(4 + vs.good);
+        return Err(4 + vs.good);
     }
     let i = at + vs.used;
-    if !text::starts_with(&text[i..], b"a b c d\n") {
-        return BodyLines::Bad(4 + v);
+    if !text[i..].starts_with(b"a b c d\n") {
+        return Err(4 + v);
     }
     let j = i + 8;
-    let fs = count_faces(&text[j..], f);
+    let fs = count_lines(
+        &text[j..],
+        f,
+        |l: &[u8]| -> Option<usize>
+            ensures { TakesLine result l.now (bare read_face l.now) }
+        { Some(text::read_face::<Index>(l)?.used) },
+    );
     if fs.good != f {
-        return BodyLines::Bad(5 + v + fs.good);
+        return Err(5 + v + fs.good);
     }
     if j + fs.used != text.len() {
-        return BodyLines::Bad(5 + v + f);
+        return Err(5 + v + f);
     }
-    BodyLines::Body(j)
+    Ok(j)
 }
 
 // The first pass.
-fn check(text: &[u8]) -> Checked
+fn check(text: &[u8]) -> Result<Form, usize>
     ensures { Checks result text.now }
 {
-    match check_head(text) {
-        HeadLines::Bad(n) => Checked::Bad(n),
-        HeadLines::Head {
-            vertices,
-            faces,
-            rounds,
-            rule,
-            marks,
-            used,
-        } => match check_body(text, used, vertices, faces, rounds, rule, marks) {
-            BodyLines::Bad(n) => Checked::Bad(n),
-            BodyLines::Body(j) => Checked::Form {
-                vertices,
-                faces,
-                rounds,
-                rule,
-                marks,
-                vertices_at: used,
-                faces_at: j,
-            },
-        },
-    }
+    let head = check_head(text)?;
+    let faces_at = check_body(text, head.used, head.value)?;
+    Ok(Form {
+        head: head.value,
+        vertices_at: head.used,
+        faces_at,
+    })
 }
 
-// Refusals 1, 3 and 4 from the counts alone, or 0.
-pub fn refusal(vertices: u32, faces: u32, rounds: u32) -> u32
-    ensures { counts_verdict (counts_are vertices faces rounds) ≡ limits_of result }
+// Refusals 1, 3 and 4 from the counts alone.
+#[tactic(auto, unfolding(readingform::specs::Loaded::counts_verdict))]
+pub fn test_counts(counts: Counts) -> Result<(), Reason>
+    ensures { counts_verdict (counts_is counts) ≡ reason_of result }
 {
-    let v = vertices as usize;
-    let f = faces as usize;
-    let coordinates = 3 * v;
-    let corners = 4 * f;
-    let none = [0u8; 0];
-    let reason = limits::limits(
-        rounds,
-        &none,
+    let vertices = counts.vertices as usize;
+    let faces = counts.faces as usize;
+    limits::limits(
+        counts.rounds,
+        &[],
         Lengths {
-            coordinates,
-            corners,
-            marks: v,
-            out_vertices: COORDINATES,
-            out_faces: CORNERS,
-            out_marks: MARKS,
-            with_letters: true,
-            letters: MARKS,
-            work: WORK,
+            coordinates: 3 * vertices,
+            corners: 4 * faces,
+            marks: vertices,
+            room: Room {
+                vertices: COORDINATES,
+                faces: CORNERS,
+                marks: MARKS,
+                with_letters: true,
+                letters: MARKS,
+                work: WORK,
+            },
         },
-    );
-    if reason != 0 {
-        return reason;
+    )?;
+    if VERTICES < counts.vertices {
+        return Err(Reason::TableTooShort);
     }
-    if VERTICES < vertices {
-        return 4;
-    }
-    0
+    Ok(())
+}
+
+// Stores a vertex as number i of the tables.
+pub fn store_vertex(vertex: Vertex, i: usize, vertices: &mut [i32], marks: &mut [u8])
+    requires { (3 * i + 3 ≤ length vertices.old) × (i < length marks.old) }
+    ensures coordinates { vertices.new ≡ sets vertices.old (3 * i) (coordinates_of (vertex_is vertex ∷ [])) }
+    ensures mark { marks.new ≡ sets marks.old i (marks_of (vertex_is vertex ∷ [])) }
+{
+    vertices[3 * i..3 * i + 3].copy_from_slice(&[vertex.x, vertex.y, vertex.z]);
+    marks[i] = vertex.mark;
+}
+
+// Stores a face as number i of the table.
+pub fn store_face(face: Face, i: usize, faces: &mut [u32])
+    requires { 4 * i + 4 ≤ length faces.old }
+    ensures { faces.new ≡ sets faces.old (4 * i) (corners_of (face_is face ∷ [])) }
+{
+    faces[4 * i..4 * i + 4].copy_from_slice(&[face.a, face.b, face.c, face.d]);
 }
 
 fn store_vertices(text: &[u8], count: usize, marked: bool, vertices: &mut [i32], marks: &mut [u8])
     requires { (3 * count ≤ length vertices.old) × (count ≤ length marks.old) }
     ensures { VerticesStored (rows (read_vertex marked) count text.now).values vertices.old vertices.new marks.old marks.new }
 {
-    let mut i: usize = 0;
     let mut at: usize = 0;
-    while i < count {
-        let VertexLine::Vertex {
-            x,
-            y,
-            z,
-            mark,
-            used,
-        } = text::read_vertex(&text[at..], marked)
-        else {
+    for i in 0..count {
+        let Some(line) = text::read_vertex(&text[at..], marked) else {
             return;
         };
-        vertices[3 * i] = x;
-        vertices[3 * i + 1] = y;
-        vertices[3 * i + 2] = z;
-        marks[i] = mark;
-        at += used;
-        i += 1;
+        store_vertex(line.value, i, &mut *vertices, &mut *marks);
+        at += line.used;
     }
 }
 
+#[tactic(auto, unfolding(textform::specs::Form::read_face))]
 fn store_faces(text: &[u8], count: usize, faces: &mut [u32])
     requires { 4 * count ≤ length faces.old }
     ensures { faces.new ≡ sets faces.old 0 (corners_of (rows read_face count text.now).values) }
 {
-    let mut i: usize = 0;
     let mut at: usize = 0;
-    while i < count {
-        let FaceLine::Face { a, b, c, d, used } = text::read_face(&text[at..]) else {
+    for i in 0..count {
+        let Some(line) = text::read_face::<Index>(&text[at..]) else {
             return;
         };
-        faces[4 * i] = a;
-        faces[4 * i + 1] = b;
-        faces[4 * i + 2] = c;
-        faces[4 * i + 3] = d;
-        at += used;
-        i += 1;
+        store_face(line.value, i, &mut *faces);
+        at += line.used;
     }
 }
 
 // Internal: the program alone calls it, with tables of its own. Reads the net that `text` writes into their front, or refuses and leaves them as they are.
-pub fn read_net(text: &[u8], vertices: &mut [i32], faces: &mut [u32], marks: &mut [u8]) -> Input
+pub fn read_net(
+    text: &[u8],
+    vertices: &mut [i32],
+    faces: &mut [u32],
+    marks: &mut [u8],
+) -> Result<Input, Refusal>
     requires { InputTables (length vertices.old) (length faces.old) (length marks.old) }
     ensures { loaded (answer_of result) vertices.new faces.new marks.new ≡ read_by parse text.now vertices.old faces.old marks.old }
 {
     if text::LONGEST < text.len() {
-        return Input::Refused(13, 0);
+        return Err(Refusal {
+            reason: Reason::MalformedText,
+            place: 0,
+        });
     }
-    match check(text) {
-        Checked::Bad(line) => Input::Refused(13, line),
-        Checked::Form {
-            vertices: v,
-            faces: f,
-            rounds: k,
-            rule: r,
-            marks: m,
-            vertices_at: i,
-            faces_at: j,
-        } => {
-            let reason = refusal(v, f, k);
-            if reason != 0 {
-                return Input::Refused(reason, 0);
-            }
-            store_vertices(&text[i..], v as usize, m, vertices, marks);
-            store_faces(&text[j..], f as usize, faces);
-            let vertex_count = v as usize;
-            let face_count = f as usize;
-            Input::Net {
-                rounds: k,
-                rule: r,
-                vertices: vertex_count,
-                faces: face_count,
-            }
+    let form = match check(text) {
+        Ok(form) => form,
+        Err(place) => {
+            return Err(Refusal {
+                reason: Reason::MalformedText,
+                place,
+            });
         }
-    }
+    };
+    let Head {
+        counts,
+        rule,
+        marks: marked,
+    } = form.head;
+    test_counts(counts)?;
+    let v = counts.vertices as usize;
+    let f = counts.faces as usize;
+    store_vertices(&text[form.vertices_at..], v, marked, vertices, marks);
+    store_faces(&text[form.faces_at..], f, faces);
+    Ok(Input {
+        rounds: counts.rounds,
+        rule,
+        vertices: v,
+        faces: f,
+    })
 }

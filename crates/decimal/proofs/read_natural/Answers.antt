@@ -1,22 +1,19 @@
 -- `decimal::read_natural` meets its contract. Assumes nothing.
-use mathlib.Core.Path.{sym, ◌∙◌}
-use Prim.Native.Nat.{◌<◌}
 use native.Mathlib.Omega.{arith}
-use lib.ListN.{length}
-use Rattle.decimalform.proofs.Reading.{natural-digits}
-use Rattle.decimal.proofs.Reading.{natural_none, natural-zero, natural-other}
+use Rattle.decimal.proofs.Reading.{natural_none, natural_zero, natural_digits, natural_below, natural_above}
 use Rattle.decimal.proofs.read_natural.Goals as goal
 
-pub returns-then-text-eq0 : goal.returns-then-text-eq0
-returns-then-text-eq0 c = natural_none _ _ c.if-text-eq0.true
+pub returns-in-48 : goal.returns-in-48
+returns-in-48 c = natural_zero _ _ (omega arith) (omega arith)
 
-pub returns-then-b-eq48 : goal.returns-then-b-eq48
-returns-then-b-eq48 c = natural-zero _ _ (omega arith) c.if-b-eq48.true
+pub returns-in-49-to-57 : goal.returns-in-49-to-57
+returns-in-49-to-57 c = rw (natural_digits c.args.limit c.args.text.now (omega arith) (omega arith) (omega arith)) c.read_digits.ensures
 
-pub returns-then-not-is_digit : goal.returns-then-not-is_digit
-returns-then-not-is_digit c = natural-other _ _ c.if-b-eq48.false (sym c.is_digit.ensures ∙ c.if-not-is_digit.true)
+pub returns-in_default : goal.returns-in_default
+returns-in_default c = natural_none _ _ (omega arith)
 
-pub returns : goal.returns
-returns c =
-    let h : 0 < length c.args.text.now = omega arith in
-    rw (natural-digits c.args.limit c.args.text.now h c.if-b-eq48.false (sym c.is_digit.ensures ∙ c.if-not-is_digit.false)) c.read_digits.ensures
+pub returns-in_default-2 : goal.returns-in_default-2
+returns-in_default-2 c = natural_below _ _ (omega arith) (omega arith)
+
+pub returns-in_default-3 : goal.returns-in_default-3
+returns-in_default-3 c = natural_above _ _ (omega arith) (omega arith)

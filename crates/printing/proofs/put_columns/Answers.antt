@@ -6,6 +6,6 @@ pub returns-then-rule : goal.returns-then-rule
 unfolding bytes
 returns-then-rule c = rw c.if-rule.true c.put_bytes.ensures
 
-pub returns : goal.returns
+pub returns-else-rule : goal.returns-else-rule
 unfolding bytes
-returns c = rw c.if-rule.false c.put_bytes-2.ensures
+returns-else-rule c = rw c.if-rule.false c.put_bytes-else-rule.ensures

@@ -6,4 +6,4 @@ use Rattle.printing.proofs.put_face.Goals as goal
 pub returns : goal.returns
 unfolding face_text
 returns c =
-    in_row (in_row (in_row c.put_u32-i.ensures c.put_u32-j.ensures) c.put_u32-k.ensures) c.put_u32.ensures
+    in_row (in_row (in_row c.put_field-i.ensures c.put_field-j.ensures) c.put_field-k.ensures) c.put_field.ensures

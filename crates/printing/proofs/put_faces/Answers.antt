@@ -1,6 +1,4 @@
 -- `printing::put_faces` meets its contract. Assumes nothing.
-use mathlib.Core.Path.{refl, ◌∙◌}
-use native.Mathlib.Omega.{arith}
 use Rattle.textform.specs.Text.{face_text}
 use Rattle.printingform.specs.Tables.{text_face_at, faces_of}
 use Rattle.printingform.proofs.Writing.{lines_none, lines_more}
@@ -8,9 +6,9 @@ use Rattle.printing.proofs.put_faces.Goals as goal
 
 pub loop-i-init : goal.loop-i-init
 unfolding faces_of
-loop-i-init c = (omega arith, refl, lines_none face_text (text_face_at c.args.faces.now) 44 _ _)
+loop-i-init c = (lines_none face_text (text_face_at c.args.faces.now) 44 _ _)
 
 pub loop-i-preserved : goal.loop-i-preserved
 unfolding faces_of
 loop-i-preserved c =
-    (omega arith, c.put_face-to.auto.out ∙ c.loop-i.invariant.1, lines_more face_text (text_face_at c.args.faces.now) 44 c.loop-i.i c.loop-i.invariant.2 c.put_face-to.ensures)
+    lines_more face_text (text_face_at c.args.faces.now) 44 c.loop-i.i c.loop-i.invariant c.put_face-to.ensures

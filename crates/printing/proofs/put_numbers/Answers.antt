@@ -11,4 +11,4 @@ returns c =
     let fx = f.x in
     let fy = f.y in
     let fz = f.z in
-    simp to_z-of_z at (in_row (in_row (in_row c.put_i32-i.ensures c.put_i32-j.ensures) c.put_i32-k.ensures) c.put_mark.ensures)
+    simp to_z-of_z at (in_row (in_row (in_row c.put_field-i.ensures c.put_field-j.ensures) c.put_field-k.ensures) c.put.ensures)

@@ -6,4 +6,4 @@ use Rattle.printing.proofs.put_pair.Goals as goal
 pub returns : goal.returns
 unfolding pair_text
 returns c =
-    in_row c.put_u64-i.ensures c.put_u64.ensures
+    in_row c.put_field-i.ensures c.put_field.ensures

@@ -1,7 +1,5 @@
 -- `printing::put_vertices` meets its contract. Assumes nothing.
-use mathlib.Core.Path.{refl, ◌∙◌}
 use Prim.Native.Nat.{◌+◌, ◌*◌}
-use native.Mathlib.Omega.{arith}
 use borrow.Author.Rules.{rules}
 use lib.IntN.{pos}
 use mir.Syntax.{w32}
@@ -17,7 +15,7 @@ pub loop-i-init : goal.loop-i-init
 unfolding lettered_of
 loop-i-init c =
     let a = c.args in
-    (omega arith, refl, lines_none (lettered_text a.rule) (lettered_at a.vertices.now a.marks.now a.letters.now) (39 + end_room a.rule) _ _)
+    (lines_none (lettered_text a.rule) (lettered_at a.vertices.now a.marks.now a.letters.now) (39 + end_room a.rule) _ _)
 
 pub loop-i-preserved : goal.loop-i-preserved
 unfolding lettered_of lettered_text
@@ -27,5 +25,5 @@ loop-i-preserved c =
     let fy : SFits w32 (get_or a.vertices.now (3 * c.loop-i.i + 1) (pos 0)) = search rules in
     let fz : SFits w32 (get_or a.vertices.now (3 * c.loop-i.i + 2) (pos 0)) = search rules in
     let w = in_row (simp to_z-of_z at c.put_numbers-end.ensures) c.put_end-to.ensures in
-    let more = lines_more (lettered_text a.rule) (lettered_at a.vertices.now a.marks.now a.letters.now) (39 + end_room a.rule) c.loop-i.i c.loop-i.invariant.2 w in
-    (omega (arith, c.loop-i-test.true), c.put_end-to.auto.out ∙ c.put_numbers-end.auto.out ∙ c.loop-i.invariant.1, more)
+    let more = lines_more (lettered_text a.rule) (lettered_at a.vertices.now a.marks.now a.letters.now) (39 + end_room a.rule) c.loop-i.i c.loop-i.invariant w in
+    more

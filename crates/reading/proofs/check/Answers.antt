@@ -1,17 +1,13 @@
 -- `reading::check` meets its contract. Assumes nothing.
-use Rattle.decimal.proofs.Reading.{says, took}
-use Rattle.reading.proofs.Head.{head_refused, body_refused, body_read}
+use Rattle.std.proofs.lemmas.Result.{err_from_is_err_and}
+use Rattle.reading.proofs.FirstLines.{head_refused, body_refused, body_read}
 use Rattle.reading.proofs.check.Goals as goal
 
-pub returns-in-Bad : goal.returns-in-Bad
-returns-in-Bad c = head_refused (says c.check_head.ensures c.in-Bad.is)
+pub returns-in_err-head : goal.returns-in_err-head
+returns-in_err-head c = let p = err_from_is_err_and c.from_residual.result c.from_residual.ensures.1 in rw (p.1, p.2) (head_refused c.in_err-head.ensures)
 
-pub returns-in-Bad-check_body : goal.returns-in-Bad-check_body
-returns-in-Bad-check_body c =
-    body_refused c.in-Head.used (says c.check_head.ensures c.in-Head.is) (says c.check_body.ensures c.in-Bad-check_body.is)
+pub returns-in_err-faces_at : goal.returns-in_err-faces_at
+returns-in_err-faces_at c = let p = err_from_is_err_and c.from_residual-in_err-faces_at.result c.from_residual-in_err-faces_at.ensures.1 in rw (p.1, p.2) (body_refused c.in_ok-head.ensures c.in_err-faces_at.ensures)
 
-pub returns-in-Body : goal.returns-in-Body
-returns-in-Body c =
-    let h = c.check_head.ensures in
-    let b = c.check_body.ensures in
-    body_read _ (says h c.in-Head.is) (says b c.in-Body.is) (took h c.in-Head.is) (took b c.in-Body.is)
+pub returns : goal.returns
+returns c = body_read c.in_ok-head.ensures c.in_ok-faces_at.ensures

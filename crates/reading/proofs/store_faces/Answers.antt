@@ -1,21 +1,21 @@
 -- `reading::store_faces` meets its contract. Assumes nothing.
-use native.Mathlib.Omega.{arith}
-use lib.ListN.{length-set}
 use Rattle.textform.specs.Form.{read_face}
-use Rattle.text.specs.Answers.{face_line_of, face_used}
-use Rattle.reading.proofs.Lines.{line_at}
-use Rattle.reading.proofs.Storing.{filling_more, filling_over, filling_bad, four_stores, no_corners}
+use Rattle.reading.proofs.Lines.{line_reads, line_within}
+use Rattle.reading.proofs.Storing.{filling_more, filling_over, filling_bad, face_stored, no_corners}
 use Rattle.reading.proofs.store_faces.Goals as goal
 
 pub returns-in_default : goal.returns-in_default
-returns-in_default c =
-    filling_bad c.loop-i.invariant.2 no_corners (line_at {of = face_line_of} {used = face_used} read_face c.args.text.now c.loop-i.at c.read_face.ensures c.in_default.is c.loop-i.invariant.1).reads
+unfolding read_face
+returns-in_default c = filling_bad c.loop-i.invariant.1 no_corners (line_reads read_face c.args.text.now c.loop-i.at c.in_default.ensures)
 
 pub loop-i-preserved : goal.loop-i-preserved
+unfolding read_face
 loop-i-preserved c =
-    let l = c.loop-i in
-    let e = line_at {of = face_line_of} {used = face_used} read_face c.args.text.now c.loop-i.at c.read_face.ensures c.in-Face.is c.loop-i.invariant.1 in
-    (omega arith, e.within, filling_more l.invariant.2 _ _ _ _ c.loop-i-test.true e.reads (four_stores l.faces l.i _) (simp length-set))
+    let l = c.loop-i.invariant in
+    let g = c.in-Some.ensures in (
+      line_within c.args.text.now c.loop-i.at g l.0,
+      filling_more l.1 _ _ _ _ c.loop-i-test.true (line_reads read_face c.args.text.now c.loop-i.at g) (face_stored _ c.loop-i.i _ c.store_face.ensures) c.store_face.auto.faces,
+    )
 
 pub returns : goal.returns
-returns c = filling_over c.loop-i.invariant.2 no_corners c.loop-i-test.false
+returns c = filling_over c.loop-i.invariant.1 no_corners c.loop-i-test.false

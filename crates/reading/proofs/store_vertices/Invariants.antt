@@ -1,5 +1,5 @@
 -- `reading::store_vertices` meets its contract. Assumes nothing.
-use Prim.Native.Nat.{◌*◌, ◌-◌, ◌≤◌}
+use Prim.Native.Nat.{◌*◌, ◌≤◌}
 use lib.ListN.{length}
 use Rattle.textform.specs.Form.{read_vertex}
 use Rattle.readingform.specs.Loaded.{coordinates_of, marks_of}
@@ -8,10 +8,6 @@ use Rattle.reading.proofs.store_vertices.Given as goal
 
 abbrev pub invariant-loop-i : goal.invariant-loop-i
 invariant-loop-i l =
-    (l.i ≤ l.count)
-    × (l.at ≤ length l.text)
+    (l.at ≤ length l.text)
     × Filling coordinates_of (read_vertex l.marked) l.count l.text l.initial.vertices l.vertices (3 * l.i) l.i l.at
     × Filling marks_of (read_vertex l.marked) l.count l.text l.initial.marks l.marks l.i l.i l.at
-
-abbrev pub decreases-loop-i : goal.decreases-loop-i
-decreases-loop-i l = l.count - l.i

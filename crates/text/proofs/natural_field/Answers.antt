@@ -1,30 +1,14 @@
 -- `text::natural_field` meets its contract. Assumes nothing.
-use mathlib.Core.Path.{sym, ◌∙◌}
-use native.Mathlib.Omega.{arith}
 use Rattle.decimalform.specs.Decimal.{read_natural}
 use Rattle.textform.specs.Form.{natural}
-use Rattle.textform.proofs.Lines.{field_short, field-other, field_ends}
-use Rattle.text.proofs.Lines.{ended_at}
+use Rattle.decimal.proofs.Reading.{gives_none}
+use Rattle.text.proofs.Lines.{no_field, field_ended}
 use Rattle.text.proofs.natural_field.Goals as goal
 
-pub returns-in_default : goal.returns-in_default
+pub returns-in_err-n : goal.returns-in_err-n
 unfolding natural
-returns-in_default c = record { reads = sym (ended_at (read_natural c.args.limit) c.args.line.now c.args.at c.args.end c.read_natural.ensures c.in_default.is); within = omega arith }
-
-pub returns-then-line-stop : goal.returns-then-line-stop
-unfolding natural
-returns-then-line-stop c =
-    let a = c.args in
-    record { reads = sym (ended_at (read_natural c.args.limit) c.args.line.now c.args.at c.args.end c.read_natural.ensures c.in-Value.is ∙ field_short a.line.now a.at _ _ _ c.if-line-stop.true); within = omega arith }
-
-pub returns-then-line-stop-2 : goal.returns-then-line-stop-2
-unfolding natural
-returns-then-line-stop-2 c =
-    let a = c.args in
-    record { reads = sym (ended_at (read_natural c.args.limit) c.args.line.now c.args.at c.args.end c.read_natural.ensures c.in-Value.is ∙ field-other a.line.now a.at _ _ _ c.if-line-stop.false c.if-line-stop-2.true); within = omega arith }
+returns-in_err-n c = gives_none c.from_residual.ensures (no_field (read_natural c.args.limit) c.args.line.now c.args.at c.args.end c.in_err-n.ensures)
 
 pub returns : goal.returns
 unfolding natural
-returns c =
-    let a = c.args in
-    record { reads = sym (ended_at (read_natural c.args.limit) c.args.line.now c.args.at c.args.end c.read_natural.ensures c.in-Value.is ∙ field_ends a.line.now a.at _ _ _ c.if-line-stop.false c.if-line-stop-2.false); within = omega arith }
+returns c = field_ended (read_natural c.args.limit) c.args.line.now c.args.at c.args.end c.in_ok-n.ensures c.ended.ensures
