@@ -12,8 +12,6 @@ pub const MAX_FACES: usize = 4096;
 pub const MAX_REFINED_FACES: usize = 262144;
 
 // Refusal 5.
-pub const MIN_COORDINATE: i32 = -1048576;
-
 pub const MAX_COORDINATE: i32 = 1048576;
 
 // Refusal 11.

@@ -1,5 +1,4 @@
--- The absolute value: of a sum, a difference, a product, so that a bound on a signed expression is one on naturals, which `omega` proves;
--- and what a signed test tells of it. Assumes nothing.
+-- The absolute value of a sum, a difference, a product, so that a bound on a signed expression is one on naturals, which `omega` proves. Assumes nothing.
 use mathlib.Core.Path.{◌≡◌, refl}
 use mathlib.Core.Bool.{Bool, true, false, cond}
 use Prim.Native.Nat.{ℕ, zero, suc, ◌+◌, ◌*◌, ◌-◌, ◌≤◌, ◌<◌}
@@ -7,8 +6,6 @@ use native.Mathlib.Nat.{le_refl}
 use native.Mathlib.Omega.{arith}
 use lib.Dec.{T, ltb, ltb→lt}
 use lib.IntN.{ℤ, pos, negsuc, neg_ℤ, sub_ℕ, ◌+ℤ◌, ◌-ℤ◌, ◌*ℤ◌, nat_abs}
-use lib.Signed.{lt_z}
-use borrow.Author.Tests.{ltb-true, ltb-false}
 
 abs_neg : (z : ℤ) → nat_abs (neg_ℤ z) ≡ nat_abs z
 abs_neg (pos zero) = refl
@@ -36,16 +33,3 @@ abs-mul (pos a) (pos b) = refl
 abs-mul (pos a) (negsuc b) = abs_neg (pos (a * suc b))
 abs-mul (negsuc a) (pos b) = abs_neg (pos (suc a * b))
 abs-mul (negsuc a) (negsuc b) = refl
-
--- ---- the tests z < -(m + 1), m < z, and neither
-pub below_abs : (z : ℤ) (m : ℕ) → lt_z z (negsuc m) ≡ true → suc m < nat_abs z
-below_abs (pos a) m h = let z : ◌≡◌ {A = ℕ} 0 1 = cc in absurd (omega arith)
-below_abs (negsuc a) m h = omega (arith, ltb-true m a h)
-
-pub above_abs : (z : ℤ) (m : ℕ) → lt_z (pos m) z ≡ true → m < nat_abs z
-above_abs (pos a) m h = ltb-true m a h
-above_abs (negsuc a) m h = let z : ◌≡◌ {A = ℕ} 0 1 = cc in absurd (omega arith)
-
-pub within_abs : (z : ℤ) (m : ℕ) → lt_z z (negsuc m) ≡ false → lt_z (pos (suc m)) z ≡ false → nat_abs z ≤ suc m
-within_abs (pos a) m h k = ltb-false (suc m) a k
-within_abs (negsuc a) m h k = omega (arith, ltb-false m a h)

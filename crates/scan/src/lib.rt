@@ -27,25 +27,17 @@ pub fn first_bad_mark(marks: &[u8]) -> Option<usize>
     marks.iter().position(|m| *m > 1)
 }
 
-// Flags the corner of half-edge h, if it is one of the first m vertices.
-fn flag(faces: &[u32], m: usize, work: &mut [u32], h: usize)
-    requires { (h < length faces.now) × (m ≤ length work.old) × Flagged m faces.now work.old h }
-    ensures { Flagged m faces.now work.new (h + 1) × (drop m work.new ≡ drop m work.old) }
-{
-    let a = faces[h] as usize;
-    if a < m {
-        work[a] = 1;
-    }
-}
-
 // Flags the corners of all faces among the first m vertices.
 fn flag_all(faces: &[u32], m: usize, work: &mut [u32])
     requires { m ≤ length work.old }
     ensures { Flagged m faces.now work.new (length faces.now) × (drop m work.new ≡ drop m work.old) }
 {
     tables::clear(&mut *work, m);
-    for h in 0..faces.len() {
-        flag(faces, m, &mut *work, h);
+    for corner in faces {
+        let a = *corner as usize;
+        if a < m {
+            work[a] = 1;
+        }
     }
 }
 
