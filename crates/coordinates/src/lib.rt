@@ -9,19 +9,27 @@ ghost use Rattle.nets.specs.Net.{axis};
 ghost use Rattle.coordinates.specs.Points.{InTable, OnAxes, put_point};
 ghost use Rattle.coordinates.specs.Stencil.{FarIn, far_value, stencil_value, interior_value};
 
-// An exact point: its numerators over one denominator.
+// What belongs to the axes 0, 1 and 2.
 #[derive(Clone, Copy)]
-pub struct Exact {
-    pub x: i64,
-    pub y: i64,
-    pub z: i64,
+pub struct Axes<T> {
+    pub x: T,
+    pub y: T,
+    pub z: T,
 }
 
-// A point at the far end of a stencil: the one at an index, or none, where the near points are mirrored.
-#[derive(Clone, Copy)]
-pub enum Far {
-    At(usize),
-    Nowhere,
+// An exact point: its numerators over one denominator.
+pub type Exact = Axes<i64>;
+
+// f(a) on each axis a.
+pub fn on_axes<T: Copy, F: Fn(usize) -> T>(f: F) -> Axes<T>
+    requires { F.pre f 0 × F.pre f 1 × F.pre f 2 }
+    ensures { F.post f 0 result.x × F.post f 1 result.y × F.post f 2 result.z }
+{
+    Axes {
+        x: f(0),
+        y: f(1),
+        z: f(2),
+    }
 }
 
 // Coordinate a of vertex v.
@@ -64,26 +72,30 @@ pub fn interior_exact(points: &[i32], o: usize, p: usize, q: usize, r: usize, t:
     requires in_table { InTable points.now o × InTable points.now p × InTable points.now q × InTable points.now r × (t ≤ 4) }
     ensures { OnAxes (λ (a : ℕ). interior_value (tension t) (axis points.now a) o p q r) result.x result.y result.z }
 {
-    Exact {
-        x: interior_on(points, o, p, q, r, 0, t),
-        y: interior_on(points, o, p, q, r, 1, t),
-        z: interior_on(points, o, p, q, r, 2, t),
-    }
+    on_axes(|a| interior_on(points, o, p, q, r, a, t))
 }
 
-// Coordinate a of the far point o beyond p, which is x; y is that of the other near point.
-pub fn far_on(points: &[i32], o: Far, x: i64, y: i64, a: usize) -> i64
+// Coordinate a of the far point o beyond p, which is x; y is that of the other near point. Where there is no far point, the other near point is mirrored.
+pub fn far_on(points: &[i32], o: Option<usize>, x: i64, y: i64, a: usize) -> i64
     requires { (a < 3) × FarIn points.now o × (nat_abs x < 2 ^ 56) × (nat_abs y < 2 ^ 56) }
     ensures { result ≡ far_value (axis points.now a) o x y }
 {
     match o {
-        Far::At(v) => coordinate(points, v, a),
-        Far::Nowhere => curve::mirrored(x, y),
+        Some(v) => coordinate(points, v, a),
+        None => curve::mirrored(x, y),
     }
 }
 
 // The four-point rule at tension t on axis a of the vertices p and q between far points.
-fn stencil_on(points: &[i32], o: Far, p: usize, q: usize, r: Far, a: usize, t: u32) -> i64
+fn stencil_on(
+    points: &[i32],
+    o: Option<usize>,
+    p: usize,
+    q: usize,
+    r: Option<usize>,
+    a: usize,
+    t: u32,
+) -> i64
     requires within { Within coordinate_range points.now }
     requires a_bound { (a < 3) × FarIn points.now o × InTable points.now p × InTable points.now q × FarIn points.now r × (t ≤ 4) }
     ensures { result ≡ stencil_value (tension t) (axis points.now a) o p q r }
@@ -96,14 +108,17 @@ fn stencil_on(points: &[i32], o: Far, p: usize, q: usize, r: Far, a: usize, t: u
 }
 
 // The same on all axes.
-pub fn stencil_exact(points: &[i32], o: Far, p: usize, q: usize, r: Far, t: u32) -> Exact
+pub fn stencil_exact(
+    points: &[i32],
+    o: Option<usize>,
+    p: usize,
+    q: usize,
+    r: Option<usize>,
+    t: u32,
+) -> Exact
     requires within { Within coordinate_range points.now }
     requires far_in { FarIn points.now o × InTable points.now p × InTable points.now q × FarIn points.now r × (t ≤ 4) }
     ensures { OnAxes (λ (a : ℕ). stencil_value (tension t) (axis points.now a) o p q r) result.x result.y result.z }
 {
-    Exact {
-        x: stencil_on(points, o, p, q, r, 0, t),
-        y: stencil_on(points, o, p, q, r, 1, t),
-        z: stencil_on(points, o, p, q, r, 2, t),
-    }
+    on_axes(|a| stencil_on(points, o, p, q, r, a, t))
 }

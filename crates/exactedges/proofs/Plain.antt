@@ -2,6 +2,7 @@
 use mathlib.Core.Path.{◌≡◌, sym, ap, ap₂, ◌∙◌, subst}
 use mathlib.Core.Bool.{Bool, true, false, cond}
 use mathlib.Core.List.{List}
+use Rattle.std.proofs.Common.{Option, Some, None}
 use Prim.Native.Nat.{ℕ, ◌+◌, ◌≤◌, ◌<◌}
 use native.Mathlib.Omega.{arith}
 use lib.Dec.{ltb}
@@ -19,8 +20,6 @@ use Rattle.topology.proofs.Boundary.{along_on, back_on}
 use Rattle.scheme.specs.Points.{inner_rule}
 use Rattle.schemelaws.specs.Ordinary.{Ordinary, OrdinaryEnds, straight, ordinary_value}
 use Rattle.schemelaws.proofs.Made.{straight_read}
-use Rattle.coordinates.specs.declared.Far.{Far}
-use Rattle.coordinates.specs.declared.Far.TheVariants.{At, Nowhere}
 use Rattle.coordinates.specs.Points.{InTable, Points, OnAxes}
 use Rattle.coordinates.specs.Stencil.{FarIn, far_value, stencil_value, interior_value}
 use Rattle.exactedges.specs.Edge.{CornerOf, StraightFar}
@@ -51,25 +50,13 @@ pub corner-room : (l : List ℕ) (t : List ℤ) → Points l t → (o : ℕ) →
 corner-room l t room o c = subst (InTable t) c.is (room.room c.at c.lt)
 
 -- ---- far points
-index : Far → ℕ → ℕ
-index (At c) d = c
-index Nowhere d = d
+far_at : (t : List ℤ) (o : ℕ) → InTable t o → FarIn t (Some o)
+far_at t o k = record { room = λ u e. let i : o ≡ u = cc in subst (InTable t) i k }
 
-at_one : (a b : ℕ) → At a ≡ At b → a ≡ b
-unfolding index
-at_one a b e = ap (λ (f : Far). index f a) e
+far_none : (t : List ℤ) → FarIn t None
+far_none t = record { room = λ u e. cc }
 
-apart : (u : ℕ) → Nowhere ≡ At u → ⊥
-unfolding index
-apart u e = let z : ◌≡◌ {A = ℕ} u (u + 1) = sym (ap (λ (f : Far). index f u) e) ∙ ap (λ (f : Far). index f (u + 1)) (sym e) in omega arith
-
-far_at : (t : List ℤ) (o : ℕ) → InTable t o → FarIn t (At o)
-far_at t o k = record { room = λ u e. subst (InTable t) (at_one o u e) k }
-
-far_none : (t : List ℤ) → FarIn t Nowhere
-far_none t = record { room = λ u e. let z : ⊥ = apart u e in absurd z }
-
-pub far_by : (t : List ℤ) (b : Bool) (o : ℕ) → InTable t o → FarIn t (cond b Nowhere (At o))
+pub far_by : (t : List ℤ) (b : Bool) (o : ℕ) → InTable t o → FarIn t (cond b None (Some o))
 far_by t true o k = far_none t
 far_by t false o k = far_at t o k
 
@@ -85,18 +72,18 @@ module _ (v : ℕ) (l : List ℕ) (ok : Manifold quads v l) (h : ℕ) (k : h < l
   straight-mirror : length l ≤ g → (e : ℕ → ℤ) → straight l e h ≡ mirror (e (from l h)) (e (to quads l h))
   straight-mirror b e = let t = le-ltb g (length l) b in straight_is e ∙ ap (λ (c : Bool). cond c (e (from l (quads.prev g))) (mirror (e (from l h)) (e (to quads l h)))) t
 
-  pub far_vertex : g < length l → (r : ℕ) → r ≡ from l (quads.prev g) → StraightFar l h (At r)
+  pub far_vertex : g < length l → (r : ℕ) → r ≡ from l (quads.prev g) → StraightFar l h (Some r)
   unfolding far_value
   far_vertex b r e = record {
     value = λ f. ap f e ∙ sym (straight_vertex b f);
-    corner = λ u q. before_corner v l ok g u b (sym (at_one r u q) ∙ e);
+    corner = λ u q. before_corner v l ok g u b (let i : u ≡ r = cc in i ∙ e);
   }
 
-  pub far_mirror : length l ≤ g → StraightFar l h Nowhere
+  pub far_mirror : length l ≤ g → StraightFar l h None
   unfolding far_value
-  far_mirror b = record { value = λ f. sym (straight-mirror b f); corner = λ u q. let z : ⊥ = apart u q in absurd z }
+  far_mirror b = record { value = λ f. sym (straight-mirror b f); corner = λ u q. let z : ⊥ = cc in absurd z }
 
-pub straight_in : (l : List ℕ) (t : List ℤ) → Points l t → (h : ℕ) (f : Far) → StraightFar l h f → FarIn t f
+pub straight_in : (l : List ℕ) (t : List ℤ) → Points l t → (h : ℕ) (f : Option ℕ) → StraightFar l h f → FarIn t f
 straight_in l t room h f s = record { room = λ o e. corner-room l t room o (s.corner o e) }
 
 -- ---- the other side of an inner edge
@@ -115,7 +102,7 @@ ends_mate v l ok h m o e =
 
 -- ---- the point between ordinary vertices
 module _ (v : ℕ) (l : List ℕ) (ok : Manifold quads v l) (h m : ℕ) (o : OrdinaryEnds l h) (em : m ≡ mate quads l h) (p q : ℕ) (ep : p ≡ from l h) (eq : q ≡ to quads l h) where
-  pub sided_made : (weights : Weights) (f g : Far) → StraightFar l h f → StraightFar l m g → (e : ℕ → ℤ) → stencil_value weights e f p q g ≡ ordinary_value weights l e h inner_rule
+  pub sided_made : (weights : Weights) (f g : Option ℕ) → StraightFar l h f → StraightFar l m g → (e : ℕ → ℤ) → stencil_value weights e f p q g ≡ ordinary_value weights l e h inner_rule
   unfolding stencil_value ordinary_value
   sided_made weights f g sf sg e =
       let r = mate_is quads l h o.inner in

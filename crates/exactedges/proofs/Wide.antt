@@ -3,6 +3,7 @@ use mathlib.Core.Path.{◌≡◌, refl, sym, ap, ap₂, ◌∙◌, subst}
 use mathlib.Core.Bool.{Bool, true, false, cond}
 use mathlib.Core.Logic.{inr}
 use mathlib.Core.List.{List, []}
+use Rattle.std.proofs.Common.{Option, Some, None}
 use Prim.Native.Nat.{ℕ, ◌*◌, ◌≤◌, ◌<◌}
 use native.Mathlib.Nat.{mul-one, mul-le-mul_left, mul-le-mul_right}
 use native.Mathlib.Omega.{arith}
@@ -32,8 +33,6 @@ use Rattle.schemelaws.proofs.Ties.{equals_virtual_at, edge_boundary}
 use Rattle.schemelaws.proofs.Sizes.{virtual_range_lem, edge_range_lem}
 use Rattle.schemelaws.proofs.Plain.{edge-plain}
 use Rattle.ringsizes.specs.Classes.{ordinary_by}
-use Rattle.coordinates.specs.declared.Far.{Far}
-use Rattle.coordinates.specs.declared.Far.TheVariants.{At, Nowhere}
 use Rattle.coordinates.specs.Points.{Points, OnAxes}
 use Rattle.edgeentries.specs.Entry.{wide_flag, boundary_flag, unit_of}
 use Rattle.coordinates.specs.Stencil.{far_value, stencil_value}
@@ -67,7 +66,7 @@ module _ (t : ℕ) (low : t ≤ 4) where
         equals_one (pos (virtual_scale (tension t)) *ℤ straight l e h) (virtual_at_z (tension t) l e h)
         (equals_cong refl (mul-one (virtual_scale (tension t))) (equals_scaled (virtual_scale (tension t)) (virtual_ordinary (tension t) (omega arith) v l ok e h k m o))) (equals_virtual_at (tension t) (omega arith) v l ok e h k)
 
-  pub far_virtual : (v : ℕ) (l : List ℕ) → Manifold quads v l → (h : ℕ) → h < length l → mate quads l h < length l → Ordinary l (from l h) → (f : Far) → StraightFar l h f
+  pub far_virtual : (v : ℕ) (l : List ℕ) → Manifold quads v l → (h : ℕ) → h < length l → mate quads l h < length l → Ordinary l (from l h) → (f : Option ℕ) → StraightFar l h f
       → (p q : ℕ) → p ≡ from l h → q ≡ to quads l h → (e : ℕ → ℤ) (z : ℤ) → z ≡ pos (virtual_scale (tension t)) *ℤ far_on e f p q → z ≡ virtual_at_z (tension t) l e h
   far_virtual v l ok h k m o f s p q ep eq e z ez =
       ez
@@ -136,7 +135,7 @@ module _ (t : ℕ) (low : t ≤ 4) where
         )
 
     -- ---- a boundary edge, by its far points
-    module _ (marks : List ℕ) (h : ℕ) (k : h < length l) (none : mate quads l h ≡ length l) (f g : Far)
+    module _ (marks : List ℕ) (h : ℕ) (k : h < length l) (none : mate quads l h ≡ length l) (f g : Option ℕ)
         (value : (e : ℕ → ℤ) → stencil_value (tension t) e f (from l h) (to quads l h) g ≡ ordinary_value (tension t) l e h (edge_rule l marks h)) where
       boundary_value : (e : ℕ → ℤ) → pos (virtual_scale (tension t)) *ℤ stencil_value (tension t) e f (from l h) (to quads l h) g ≡ edge_z (tension t) l marks e h
       unfolding ordinary_edge
@@ -166,28 +165,28 @@ module _ (t : ℕ) (low : t ≤ 4) where
 
   -- ---- the far points of each rule
   module _ (l : List ℕ) (h : ℕ) (e : ℕ → ℤ) where
-    inside_rule : (o r : ℕ) → o ≡ from l (back quads l h) → r ≡ to quads l (along quads l h) → stencil_value (tension t) e (At o) (from l h) (to quads l h) (At r) ≡ ordinary_value (tension t) l e h inside_segment
+    inside_rule : (o r : ℕ) → o ≡ from l (back quads l h) → r ≡ to quads l (along quads l h) → stencil_value (tension t) e (Some o) (from l h) (to quads l h) (Some r) ≡ ordinary_value (tension t) l e h inside_segment
     unfolding stencil_value far_value ordinary_value
     inside_rule o r eo er = ap₂ (λ (x y : ℕ). interior (tension t) (e x) (e (from l h)) (e (to quads l h)) (e y)) eo er
 
-    start_rule : (r : ℕ) → r ≡ to quads l (along quads l h) → stencil_value (tension t) e Nowhere (from l h) (to quads l h) (At r) ≡ ordinary_value (tension t) l e h start_of_segment
+    start_rule : (r : ℕ) → r ≡ to quads l (along quads l h) → stencil_value (tension t) e None (from l h) (to quads l h) (Some r) ≡ ordinary_value (tension t) l e h start_of_segment
     unfolding stencil_value far_value ordinary_value
     start_rule r er =
         ap (λ (x : ℕ). interior (tension t) (mirror (e (from l h)) (e (to quads l h))) (e (from l h)) (e (to quads l h)) (e x)) er
         ∙ sym (end_mirrored (tension t) (omega arith) (e (from l h)) (e (to quads l h)) (e (to quads l (along quads l h))))
 
-    end_rule_lem : (o : ℕ) → o ≡ from l (back quads l h) → stencil_value (tension t) e (At o) (from l h) (to quads l h) Nowhere ≡ ordinary_value (tension t) l e h end_of_segment
+    end_rule_lem : (o : ℕ) → o ≡ from l (back quads l h) → stencil_value (tension t) e (Some o) (from l h) (to quads l h) None ≡ ordinary_value (tension t) l e h end_of_segment
     unfolding stencil_value far_value ordinary_value
     end_rule_lem o eo =
         ap (λ (x : ℕ). interior (tension t) (e x) (e (from l h)) (e (to quads l h)) (mirror (e (to quads l h)) (e (from l h)))) eo
         ∙ interior_turned (tension t) (e (from l (back quads l h))) (e (from l h)) (e (to quads l h)) (mirror (e (to quads l h)) (e (from l h)))
         ∙ sym (end_mirrored (tension t) (omega arith) (e (to quads l h)) (e (from l h)) (e (from l (back quads l h))))
 
-    whole_rule : stencil_value (tension t) e Nowhere (from l h) (to quads l h) Nowhere ≡ ordinary_value (tension t) l e h whole_segment
+    whole_rule : stencil_value (tension t) e None (from l h) (to quads l h) None ≡ ordinary_value (tension t) l e h whole_segment
     unfolding stencil_value far_value ordinary_value
     whole_rule = sym (single_mirrored (tension t) (omega arith) (e (from l h)) (e (to quads l h)))
 
-    by_marks : (b c : Bool) → stencil_value (tension t) e (cond b Nowhere (At (from l (back quads l h)))) (from l h) (to quads l h) (cond c Nowhere (At (to quads l (along quads l h))))
+    by_marks : (b c : Bool) → stencil_value (tension t) e (cond b None (Some (from l (back quads l h)))) (from l h) (to quads l h) (cond c None (Some (to quads l (along quads l h))))
         ≡ ordinary_value (tension t) l e h (cond b (cond c whole_segment start_of_segment) (cond c end_of_segment inside_segment))
     by_marks true true = whole_rule
     by_marks true false = start_rule _ refl

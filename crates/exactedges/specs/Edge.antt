@@ -1,5 +1,5 @@
 -- The exact point of one edge on the caller's tables.
-use Rattle.std.specs.Prelude.{◌≡◌, Bool, true, false, cond, List, ℕ, ◌+◌, ◌≤◌, ◌<◌, ℤ, pos, nat_abs, ◌*ℤ◌, length}
+use Rattle.std.specs.Prelude.{◌≡◌, Bool, true, false, cond, Option, None, Some, List, ℕ, ◌+◌, ◌≤◌, ◌<◌, ℤ, pos, nat_abs, ◌*ℤ◌, length}
 use Rattle.curve.specs.Weights.{Weights}
 use Rattle.rings.specs.Scales.{edge_range}
 use Rattle.topology.specs.Shape.{quads}
@@ -8,17 +8,15 @@ use Rattle.topology.specs.Boundary.{along, back}
 use Rattle.nets.specs.Net.{marked}
 use Rattle.schemelaws.specs.Ordinary.{Ordinary, straight}
 use Rattle.ringsizes.specs.Classes.{ordinary_by}
-use Rattle.coordinates.specs.declared.Far.{Far}
-use Rattle.coordinates.specs.declared.Far.TheVariants.{At, Nowhere}
 use Rattle.edgeentries.specs.Entry.{wide_flag, boundary_flag, unit_of}
 use Rattle.coordinates.specs.Stencil.{far_value}
 
 -- the far points beyond the start and the end of the boundary half-edge h: the next vertex of its segment, or none where that end is marked
-abbrev pub far_before : (l marks : List ℕ) (h : ℕ) → Far
-far_before l marks h = cond (marked marks (from l h)) Nowhere (At (from l (back quads l h)))
+abbrev pub far_before : (l marks : List ℕ) (h : ℕ) → Option ℕ
+far_before l marks h = cond (marked marks (from l h)) None (Some (from l (back quads l h)))
 
-abbrev pub far_after : (l marks : List ℕ) (h : ℕ) → Far
-far_after l marks h = cond (marked marks (to quads l h)) Nowhere (At (to quads l (along quads l h)))
+abbrev pub far_after : (l marks : List ℕ) (h : ℕ) → Option ℕ
+far_after l marks h = cond (marked marks (to quads l h)) None (Some (to quads l (along quads l h)))
 
 -- the vertex o is a corner of l
 pub record CornerOf (l : List ℕ) (o : ℕ) : Type 0 where
@@ -27,12 +25,12 @@ pub record CornerOf (l : List ℕ) (o : ℕ) : Type 0 where
   pub is : from l at ≡ o
 
 -- the far point beyond the ordinary vertex that the inner half-edge h leaves
-pub record StraightFar (l : List ℕ) (h : ℕ) (f : Far) : Type 0 where
+pub record StraightFar (l : List ℕ) (h : ℕ) (f : Option ℕ) : Type 0 where
   pub value : (e : ℕ → ℤ) → far_value e f (e (from l h)) (e (to quads l h)) ≡ straight l e h
-  pub corner : (o : ℕ) → f ≡ At o → CornerOf l o
+  pub corner : (o : ℕ) → f ≡ Some o → CornerOf l o
 
 -- the value of the far point f beyond p, where q is the other near point
-abbrev pub far_on : (ℕ → ℤ) → Far → (p q : ℕ) → ℤ
+abbrev pub far_on : (ℕ → ℤ) → Option ℕ → (p q : ℕ) → ℤ
 far_on e f p q = far_value e f (e p) (e q)
 
 -- the corners of l that the classes in w, from `at` on, call ordinary are, and the others are not
