@@ -13,7 +13,6 @@ use Rattle.integers.proofs.Polynomial.{var, lit, ◌⊞◌, ◌⊟◌, ◌⊠◌
 use Rattle.integers.proofs.Sum.{sum_cong}
 use Rattle.rings.specs.Ring.{Periodic, wrap}
 use Rattle.rings.specs.RingWeights.{one_at}
-use Rattle.rings.proofs.Examples
 
 -- ---- what comes round
 module _ {A : Type 0} (n : ℕ) (f : ℕ → A) where

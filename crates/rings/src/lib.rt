@@ -32,10 +32,7 @@ fn weight(t: u32, o: usize, x: i8) -> i64
 {
     let far = t as i64;
     let unit = x as i64;
-    if o < 8 {
-        return (32 + far) * unit;
-    }
-    far * unit
+    if o < 8 { (32 + far) * unit } else { far * unit }
 }
 
 // The weights of a ring of n at tension t.
@@ -44,12 +41,9 @@ pub fn weights(n: usize, t: u32) -> [i64; 16]
     ensures { result ≡ row (tension t) n }
 {
     let units = unit_weights(n);
-    let mut w: [i64; 16] = [0; 16];
-    let mut i: usize = 0;
-    while i < 16 {
-        let x = units[i];
-        w[i] = weight(t, i, x);
-        i += 1;
+    let mut w = [0; 16];
+    for i in 0..16 {
+        w[i] = weight(t, i, units[i]);
     }
     w
 }

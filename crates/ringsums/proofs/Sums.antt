@@ -90,12 +90,11 @@ sums_small w n e m t L K x y z f s b h k g =
     record { on₀ = rw e₀ (on 0); on₁ = rw e₁ (on 1); on₂ = rw e₂ (on 2) }
 
 -- ---- without weights
--- the vertices of a list after the first
-abbrev pub far_of : List ℤ → ℕ → List ℕ → ℕ → ℤ
-far_of t a L i = axis t a (get_or L (i + 1) 0)
+abbrev pub vertex_of : List ℤ → ℕ → List ℕ → ℕ → ℤ
+vertex_of t a L i = axis t a (get_or L i 0)
 
-pub far_small : (t : List ℤ) (a : ℕ) (L : List ℕ) (m : ℕ) → Within coordinate_range t → nat_abs (sum m (far_of t a L)) ≤ m * coordinate_range
-far_small t a L m b = abs-sum m (far_of t a L) coordinate_range (λ i c. axis_bound t a (get_or L (i + 1) 0) b)
+pub vertices_small : (t : List ℤ) (a : ℕ) (L : List ℕ) (m : ℕ) → Within coordinate_range t → nat_abs (sum m (vertex_of t a L)) ≤ m * coordinate_range
+vertices_small t a L m b = abs-sum m (vertex_of t a L) coordinate_range (λ i c. axis_bound t a (get_or L i 0) b)
 
 -- ---- the weights of the row
 weighed-row : (weights : Weights) (n d : ℕ) (x y : ℤ) → d < n → n ≤ 8 → weighed (row weights n) d x y ≡ weight_l weights n d *ℤ x +ℤ weight_k weights n d *ℤ y

@@ -5,10 +5,16 @@ use Rattle.curve.specs.Weights.{Weights}
 use Rattle.rings.specs.RingWeights.{row}
 use Rattle.rings.specs.Scales.{extrapolated_scale, valence_scale, coordinate_range}
 use Rattle.coordinates.specs.Points.{InTable}
+use Rattle.ringsums.specs.declared.Fan.{Fan}
 
 -- the first n vertices of L are in the table t
 pub record VerticesIn (t : List ℤ) (n : ℕ) (L : List ℕ) : Type 0 where
   pub room : (i : ℕ) → i < n → InTable t (get_or L i 0)
+
+-- those of a fan are
+pub record FanIn (t : List ℤ) (f : Fan) : Type 0 where
+  pub neighbours : VerticesIn t f.count f.neighbours
+  pub opposites : VerticesIn t f.count f.opposites
 
 -- no weight of the table exceeds 144 at a tension, and the sixteen of a ring make of coordinates no more than this
 abbrev pub weight_range : ℕ

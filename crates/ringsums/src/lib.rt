@@ -1,13 +1,26 @@
 // Sums over the vertices round a vertex, by the weights of a ring and without, on the caller's tables.
 #![tactic(auto)]
 
-ghost use Rattle.std.specs.Prelude.{◌≡◌, ℕ, ◌+◌, ◌*◌, ◌/◌, ◌^◌, ◌≤◌, ◌<◌, pos, nat_abs, ◌*ℤ◌, get_or};
+ghost use Rattle.std.specs.Prelude.{◌≡◌, ℕ, ◌+◌, ◌*◌, ◌/◌, ◌^◌, ◌≤◌, ◌<◌, pos, nat_abs, ◌*ℤ◌, length, get_or};
 ghost use Rattle.integers.specs.Sum.{sum};
 ghost use Rattle.integers.specs.Within.{Within, WithinFirst};
 ghost use Rattle.rings.specs.Scales.{extrapolated_scale, valence_scale, coordinate_range, extrapolated_range};
 ghost use Rattle.nets.specs.Net.{axis};
 ghost use Rattle.coordinates.specs.Points.{InTable, OnAxes};
-ghost use Rattle.ringsums.specs.Sums.{VerticesIn, weight_range, sum_range, weighed, place_on, weighted_sum, ring_sum, fan_sum};
+ghost use Rattle.ringsums.specs.Sums.{VerticesIn, FanIn, weight_range, sum_range, weighed, place_on, weighted_sum, ring_sum, fan_sum};
+
+use coordinates::Exact;
+
+// The faces met in turning about a vertex from a half-edge, eight at most: how many, their neighbours and opposite corners, the half-edge in the last, and the one after
+// it, which is the first again or none.
+#[derive(Clone, Copy)]
+pub struct Fan {
+    pub neighbours: [usize; 8],
+    pub opposites: [usize; 8],
+    pub count: usize,
+    pub last: usize,
+    pub after: usize,
+}
 
 // The denominator of extrapolated points.
 pub const EXTRAPOLATED_SCALE: i64 = 60;
@@ -19,10 +32,7 @@ const VALENCE_SCALE: usize = 840;
 fn place_on(n: usize, s: usize) -> usize
     ensures { result ≡ place_on n s }
 {
-    if s < n {
-        return s;
-    }
-    s - n
+    if s < n { s } else { s - n }
 }
 
 // The neighbour x and the opposite corner y by the weights at place d.
@@ -49,34 +59,25 @@ fn weigh_on(points: &[i32], w: &[i64; 16], d: usize, p: usize, q: usize, a: usiz
     )
 }
 
-// The sums of the first m neighbours and opposite corners by the weights w of a ring of n, of which they take the places from e on.
-pub fn weighted_sum(
-    points: &[i32],
-    w: &[i64; 16],
-    l: &[usize; 8],
-    k: &[usize; 8],
-    m: u16,
-    n: usize,
-    e: usize,
-) -> coordinates::Exact
+// The sums of the neighbours and opposite corners of a fan by the weights w of a ring of n, of which they take the places from e on.
+pub fn weighted_sum(points: &[i32], w: &[i64; 16], fan: &Fan, n: usize, e: usize) -> Exact
     requires within { Within coordinate_range points.now × WithinFirst 16 weight_range w.now }
-    requires m_le_n { (m ≤ n) × (n ≤ 8) × (e ≤ n) × VerticesIn points.now m l.now × VerticesIn points.now m k.now }
-    ensures { OnAxes (λ (a : ℕ). weighted_sum w.now n e m (axis points.now a) l.now k.now) result.x result.y result.z }
+    requires fan_in { (fan.now.count ≤ n) × (n ≤ 8) × (e ≤ n) × FanIn points.now fan.now }
+    ensures { OnAxes (λ (a : ℕ). weighted_sum w.now n e fan.now.count (axis points.now a) fan.now.neighbours fan.now.opposites) result.x result.y result.z }
 {
     let mut x: i64 = 0;
     let mut y: i64 = 0;
     let mut z: i64 = 0;
-    let mut i: usize = 0;
-    while i < m as usize {
+    for i in 0..fan.count {
         let d = place_on(n, e + i);
-        let p = l[i];
-        let q = k[i];
-        x = x + weigh_on(points, w, d, p, q, 0);
-        y = y + weigh_on(points, w, d, p, q, 1);
-        z = z + weigh_on(points, w, d, p, q, 2);
-        i += 1;
+        let p = fan.neighbours[i];
+        let q = fan.opposites[i];
+        let s = coordinates::on_axes(|a| weigh_on(points, w, d, p, q, a));
+        x += s.x;
+        y += s.y;
+        z += s.z;
     }
-    coordinates::Exact { x: x, y: y, z: z }
+    Exact { x, y, z }
 }
 
 // v, which is over near · n times the extrapolated scale, over one denominator for all sizes n of a ring.
@@ -84,8 +85,7 @@ fn times_share(n: usize, v: i64) -> i64
     requires { (3 ≤ n) × (n ≤ 8) × (nat_abs v ≤ 2 ^ 50) }
     ensures { result ≡ pos (valence_scale / n) *ℤ v }
 {
-    let c = VALENCE_SCALE / n;
-    c as i64 * v
+    (VALENCE_SCALE / n) as i64 * v
 }
 
 // The same for a sum s over vertices, which is over near · n alone.
@@ -96,17 +96,14 @@ pub fn scaled_share(n: usize, s: i64) -> i64
     times_share(n, EXTRAPOLATED_SCALE * s)
 }
 
-// The sum over the vertices 1 to r of a list, on axis a.
-pub fn far_sum(points: &[i32], l: &[usize; 8], r: u16, a: usize) -> i64
-    requires { Within coordinate_range points.now × (a < 3) × (r ≤ 5) × VerticesIn points.now (r + 1) l.now }
-    ensures { result ≡ sum r (λ (i : ℕ). axis points.now a (get_or l.now (i + 1) 0)) }
+// The sum over the vertices of a list, on axis a.
+pub fn vertex_sum(points: &[i32], l: &[usize], a: usize) -> i64
+    requires { Within coordinate_range points.now × (a < 3) × (length l.now ≤ 5) × VerticesIn points.now (length l.now) l.now }
+    ensures { result ≡ sum (length l.now) (λ (i : ℕ). axis points.now a (get_or l.now i 0)) }
 {
     let mut total: i64 = 0;
-    let mut i: usize = 0;
-    while i < r as usize {
-        i += 1;
-        let v = l[i];
-        total = total + coordinates::coordinate(points, v, a);
+    for v in l {
+        total += coordinates::coordinate(points, *v, a);
     }
     total
 }

@@ -32,7 +32,7 @@ small_at : (n i : ℕ) (u : List ℤ) → 3 ≤ n → n ≤ 8 → i < 16 → u �
 small_at n i u a b h e = rw (unit-at n i u h e) (unit_small n a b i h)
 
 pub loop-i-init : goal.loop-i-init
-loop-i-init c = (omega arith, write_none (entry (tension c.args.t) c.args.n) _)
+loop-i-init c = write_none (entry (tension c.args.t) c.args.n) _
 
 pub weight-requires : goal.weight-requires
 weight-requires c =
@@ -51,4 +51,4 @@ loop-i-preserved c =
     let f = fits_abs w8 (get_or u.result l.i (pos 0)) (omega arith) in
     let g : c.weight.result ≡ weight_of (tension c.args.t) l.i (get_or u.result l.i (pos 0)) = simp to_z-of_z at c.weight.ensures in
     let i : SFits w64 c.weight.result = search rules in
-    (omega arith, simp to_z-of_z (written c.args.n c.args.t l.i l.w _ (get_or u.result l.i (pos 0)) c.weight.result h l.invariant.1 (unit-at c.args.n l.i u.result h u.ensures) g))
+    simp to_z-of_z (written c.args.n c.args.t l.i l.w _ (get_or u.result l.i (pos 0)) c.weight.result h l.invariant (unit-at c.args.n l.i u.result h u.ensures) g)

@@ -1,7 +1,6 @@
 -- `rings::weights` meets its contract. Assumes nothing.
 use mathlib.Core.Path.{◌≡◌}
 use mathlib.Core.List.{◌++◌}
-use Prim.Native.Nat.{◌-◌, ◌≤◌}
 use lib.ListN.{drop}
 use Rattle.lists.specs.Tabulate.{tabulate}
 use Rattle.curve.specs.Weights.{tension}
@@ -10,7 +9,4 @@ use Rattle.rings.proofs.weights.Given as goal
 
 -- the first i weights are made
 abbrev pub invariant-loop-i : goal.invariant-loop-i
-invariant-loop-i l = (l.i ≤ 16) × (l.w ≡ tabulate l.i (entry (tension l.t) l.n) ++ drop l.i l.initial.w)
-
-abbrev pub decreases-loop-i : goal.decreases-loop-i
-decreases-loop-i l = 16 - l.i
+invariant-loop-i l = l.w ≡ tabulate l.i (entry (tension l.t) l.n) ++ drop l.i l.initial.w
