@@ -1,9 +1,10 @@
 -- The caller's tables of points and marks during a round.
-use Rattle.std.specs.Prelude.{◌≡◌, List, ◌++◌, ℕ, ◌+◌, ◌*◌, ◌/◌, ◌%◌, ◌<◌, ℤ, length, set, drop}
+use Rattle.std.specs.Prelude.{◌≡◌, List, ◌++◌, ℕ, zero, suc, ◌+◌, ◌*◌, ◌/◌, ◌%◌, ◌<◌, ℤ, length, set, drop}
 use Rattle.lists.specs.Tabulate.{tabulate}
 use Rattle.integers.specs.Within.{Within}
 use Rattle.topology.specs.HalfEdge.{from}
 use Rattle.rings.specs.Scales.{coordinate_range}
+use Rattle.coordinates.specs.declared.Axes.{Axes}
 
 -- the three coordinates of vertex v are in the table p
 abbrev pub InTable : List ℤ → ℕ → Type 0
@@ -23,6 +24,12 @@ pub record OnAxes (f : ℕ → ℤ) (x y z : ℤ) : Type 0 where
   pub on₀ : x ≡ f 0
   pub on₁ : y ≡ f 1
   pub on₂ : z ≡ f 2
+
+-- what p has for axis a
+abbrev pub on : {A : Type 0} → Axes A → ℕ → A
+on p zero = p.x
+on p (suc zero) = p.y
+on p (suc (suc a)) = p.z
 
 -- t with the coordinates of vertex i
 unfoldable pub put_point : List ℤ → ℕ → ℤ → ℤ → ℤ → List ℤ

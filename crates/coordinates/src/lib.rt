@@ -6,7 +6,7 @@ ghost use Rattle.integers.specs.Within.{Within};
 ghost use Rattle.curve.specs.Weights.{tension};
 ghost use Rattle.rings.specs.Scales.{coordinate_range};
 ghost use Rattle.nets.specs.Net.{axis};
-ghost use Rattle.coordinates.specs.Points.{InTable, OnAxes, put_point};
+ghost use Rattle.coordinates.specs.Points.{InTable, OnAxes, on, put_point};
 ghost use Rattle.coordinates.specs.Stencil.{FarIn, far_value, stencil_value, interior_value};
 
 // What belongs to the axes 0, 1 and 2.
@@ -15,6 +15,32 @@ pub struct Axes<T> {
     pub x: T,
     pub y: T,
     pub z: T,
+}
+
+impl<T: Copy> Axes<T> {
+    // What belongs to axis a.
+    pub fn on(self, a: usize) -> T
+        requires { a < 3 }
+        ensures { result ≡ on self a }
+    {
+        match a {
+            0 => self.x,
+            1 => self.y,
+            _ => self.z,
+        }
+    }
+
+    // f of what belongs to each axis.
+    pub fn map<U: Copy, F: Fn(T) -> U>(self, f: F) -> Axes<U>
+        requires { F.pre f self.x × F.pre f self.y × F.pre f self.z }
+        ensures { F.post f self.x result.x × F.post f self.y result.y × F.post f self.z result.z }
+    {
+        Axes {
+            x: f(self.x),
+            y: f(self.y),
+            z: f(self.z),
+        }
+    }
 }
 
 // An exact point: its numerators over one denominator.

@@ -1,7 +1,7 @@
 -- The extrapolated point of a boundary vertex from its gathered fan.
 use mathlib.Core.Path.{◌≡◌, refl, sym, ap, ap₂, ◌∙◌}
 use mathlib.Core.List.{List}
-use Prim.Native.Nat.{ℕ, zero, suc, ◌+◌, ◌-◌, ◌*◌, ◌/◌, ◌≤◌, ◌<◌}
+use Prim.Native.Nat.{ℕ, zero, suc, ◌-◌, ◌*◌, ◌/◌, ◌≤◌, ◌<◌}
 use native.Mathlib.Omega.{arith}
 use lib.IntN.{ℤ, pos, nat_abs, ◌-ℤ◌, ◌*ℤ◌}
 use lib.ListN.{length, get_or}
@@ -27,7 +27,8 @@ use Rattle.coordinates.specs.Points.{OnAxes}
 use Rattle.coordinates.proofs.Values.{axis_bound}
 use Rattle.extrapolation.specs.Gathered.{OpenFan}
 use Rattle.extrapolation.specs.Exact.{Extrapolated, extrapolated_on}
-use Rattle.ringsums.proofs.Sums.{far_of}
+use Rattle.ringsums.specs.declared.Fan.{Fan}
+use Rattle.ringsums.proofs.Sums.{vertex_of}
 
 module _ (v : ℕ) (l : List ℕ) (ok : Manifold quads v l) (s : ℕ) (o : OnBoundary quads l s) where
   starts : boundary_from quads l (from l s) ≡ s
@@ -58,8 +59,8 @@ module _ (v : ℕ) (l : List ℕ) (ok : Manifold quads v l) (s : ℕ) (o : OnBou
       record { on₀ = omega arith; on₁ = omega arith; on₂ = omega arith }
 
 -- what the code makes of it
-module _ (l : List ℕ) (s m : ℕ) (L K : List ℕ) (f : OpenFan l s m L K) (t : List ℤ) (a : ℕ) (P Q r : ℤ) (e_p : P ≡ axis t a (from l s)) where
-  pub corner_made : m ≡ 1 → Q ≡ axis t a (get_or K 0 0) → r ≡ pos (2 * extrapolated_scale) *ℤ P -ℤ pos extrapolated_scale *ℤ Q → r ≡ extrapolated_on l t s a
+module _ (l : List ℕ) (s : ℕ) (fan : Fan) (f : OpenFan l s fan) (t : List ℤ) (a : ℕ) (P Q r : ℤ) (e_p : P ≡ axis t a (from l s)) where
+  pub corner_made : fan.count ≡ 1 → Q ≡ axis t a (get_or fan.opposites 0 0) → r ≡ pos (2 * extrapolated_scale) *ℤ P -ℤ pos extrapolated_scale *ℤ Q → r ≡ extrapolated_on l t s a
   unfolding extrapolated_at_z iterate
   corner_made c e_q er =
       let d = starts f.vertices l f.net s f.start in
@@ -67,15 +68,19 @@ module _ (l : List ℕ) (s m : ℕ) (L K : List ℕ) (f : OpenFan l s m L K) (t 
       let x = f.filled.corners 0 f.some in
       rw (q, d) (er ∙ ap₂ (λ (y z : ℤ). pos (2 * extrapolated_scale) *ℤ y -ℤ pos extrapolated_scale *ℤ z) e_p (e_q ∙ ap (axis t a) x))
 
-  pub mean_made : (m ≡ 1 → ⊥) → Q ≡ sum (m - 1) (far_of t a L) → r ≡ pos (2 * extrapolated_scale) *ℤ P -ℤ pos (extrapolated_scale / (m - 1)) *ℤ Q → r ≡ extrapolated_on l t s a
+  -- far being the neighbours after the first
+  pub mean_made : (fan.count ≡ 1 → ⊥) → (far : List ℕ) → length far ≡ fan.count - 1 → ((i : ℕ) → i < fan.count - 1 → get_or far i 0 ≡ get_or fan.neighbours (suc i) 0)
+      → Q ≡ sum (length far) (vertex_of t a far) → r ≡ pos (2 * extrapolated_scale) *ℤ P -ℤ pos (extrapolated_scale / length far) *ℤ Q → r ≡ extrapolated_on l t s a
   unfolding extrapolated_at_z
-  mean_made n e_q er =
+  mean_made n far size read e_q er =
       let d = starts f.vertices l f.net s f.start in
       let c = f.count in
       let q = ne_eqb (valence l (from l s)) 1 (λ x. n (c ∙ x)) in
-      let g : sum (m - 1) (far_of t a L) ≡ sum (m - 1) (λ (i : ℕ). axis t a (fan_end l s (suc i))) =
-      sum_cong (m - 1) (far_of t a L) (λ (i : ℕ). axis t a (fan_end l s (suc i)))
-      (λ i b. let k : suc i < m = omega arith in let j : i + 1 ≡ suc i = omega arith in ap (axis t a) (ap (λ (x : ℕ). get_or L x 0) j ∙ f.filled.neighbours (suc i) k ∙ sym (end_inside_lem f.vertices l f.net s f.start (suc i) (omega arith)))) in
-      let y : r ≡ pos (2 * extrapolated_scale) *ℤ axis t a (from l s) -ℤ pos (extrapolated_scale / (m - 1)) *ℤ sum (m - 1) (λ (i : ℕ). axis t a (fan_end l s (suc i))) =
-      er ∙ ap₂ (λ (y z : ℤ). pos (2 * extrapolated_scale) *ℤ y -ℤ pos (extrapolated_scale / (m - 1)) *ℤ z) e_p (e_q ∙ g) in
+      let g : sum (fan.count - 1) (vertex_of t a far) ≡ sum (fan.count - 1) (λ (i : ℕ). axis t a (fan_end l s (suc i))) =
+      sum_cong (fan.count - 1) (vertex_of t a far) (λ (i : ℕ). axis t a (fan_end l s (suc i)))
+      (λ i b. ap (axis t a) (read i b ∙ f.filled.neighbours (suc i) (omega arith) ∙ sym (end_inside_lem f.vertices l f.net s f.start (suc i) (omega arith)))) in
+      let y : r ≡ pos (2 * extrapolated_scale) *ℤ axis t a (from l s) -ℤ pos (extrapolated_scale / (fan.count - 1)) *ℤ sum (fan.count - 1) (λ (i : ℕ). axis t a (fan_end l s (suc i))) =
+      er ∙ ap₂ (λ (y z : ℤ). pos (2 * extrapolated_scale) *ℤ y -ℤ pos (extrapolated_scale / length far) *ℤ z) e_p e_q
+      ∙ ap (λ (k : ℕ). pos (2 * extrapolated_scale) *ℤ axis t a (from l s) -ℤ pos (extrapolated_scale / k) *ℤ sum k (vertex_of t a far)) size
+      ∙ ap (λ (z : ℤ). pos (2 * extrapolated_scale) *ℤ axis t a (from l s) -ℤ pos (extrapolated_scale / (fan.count - 1)) *ℤ z) g in
       rw (q, d) (rw c at y)

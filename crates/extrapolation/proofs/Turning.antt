@@ -21,7 +21,8 @@ use Rattle.topology.proofs.Walks.{fan_from-le, back-turns}
 use Rattle.walks.proofs.Around.{ring_here, ring_here_range, fan_here, fan_here_range, fan_differ}
 use Rattle.coordinates.specs.Points.{Points}
 use Rattle.extrapolation.specs.Gathered.{Filled, Circuit, Gathered, OpenFan}
-use Rattle.ringsums.specs.Sums.{VerticesIn}
+use Rattle.ringsums.specs.declared.Fan.{Fan}
+use Rattle.ringsums.specs.Sums.{VerticesIn, FanIn}
 
 -- i turns from h lead to g, before the circuit from h ends
 pub record Turning (l : List ℕ) (h g i : ℕ) : Type 0 where
@@ -105,7 +106,7 @@ module _ (l : List ℕ) (h g i : ℕ) (w : Turning l h g i) where
         go (yes b) = absurd (w.circuit.goes_on (suc i) (omega arith) b (sym at ∙ x))
         go (no b) = let y = w.lt in omega arith
 
-    pub turning_end : (m ≡ length l) ⊎ (m ≡ h) → (L K : List ℕ) → Filled l h (i + 1) L K → Gathered l h (i + 1) g m L K
+    pub turning_end : (m ≡ length l) ⊎ (m ≡ h) → (L K : List ℕ) → Filled l h (i + 1) L K → Gathered l h (record { neighbours = L; opposites = K; count = i + 1; last = g; after = m })
     turning_end x L K f =
         let c : i + 1 ≡ w.count = ⊎_elim at_none at_back x in
         let d : i ≡ i + 1 - 1 = omega arith in
@@ -158,36 +159,36 @@ module _ (l : List ℕ) (h : ℕ) where
       }
 
 -- ---- what is gathered
-module _ (v : ℕ) (l : List ℕ) (ok : Manifold quads v l) (h n g e : ℕ) (L K : List ℕ) (w : Gathered l h n g e L K) where
+module _ (v : ℕ) (l : List ℕ) (ok : Manifold quads v l) (h : ℕ) (f : Fan) (w : Gathered l h f) where
   -- whether h comes again tells a full ring from an open fan
-  pub gathered_ring : h < length l → e ≡ h → boundary_from quads l (from l h) ≡ length l
+  pub gathered_ring : h < length l → f.after ≡ h → boundary_from quads l (from l h) ≡ length l
   gathered_ring b x = go (dec_lt (boundary_from quads l (from l h)) (length l))
     where
       go : Dec (boundary_from quads l (from l h) < length l) → boundary_from quads l (from l h) ≡ length l
       go (yes o) = let y = w.circuit.fan o in let z = w.after in let q : ⊥ = omega arith in absurd q
       go (no o) = omega (arith, boundary_from-le quads l (from l h))
 
-  pub gathered_fan : (e ≡ h → ⊥) → boundary_from quads l (from l h) < length l
+  pub gathered_fan : (f.after ≡ h → ⊥) → boundary_from quads l (from l h) < length l
   gathered_fan x = go (dec_lt (boundary_from quads l (from l h)) (length l))
     where
       go : Dec (boundary_from quads l (from l h) < length l) → boundary_from quads l (from l h) < length l
       go (yes o) = o
       go (no o) = let y : boundary_from quads l (from l h) ≡ length l = omega (arith, boundary_from-le quads l (from l h)) in absurd (x (w.after ∙ (w.circuit.ring y).1))
 
-  pub open_fan : OnBoundary quads l h → OpenFan l h n L K
+  pub open_fan : OnBoundary quads l h → OpenFan l h f
   open_fan o =
       let c = w.circuit.whole o in
       let k = fan_from-le quads v l ok h o in
       record { vertices = v; net = ok; start = o; count = c; some = w.circuit.some; few = omega arith; filled = w.filled }
 
-  pub gathered_back : OnBoundary quads l h → quads.prev g ≡ back quads l h
+  pub gathered_back : OnBoundary quads l h → quads.prev f.last ≡ back quads l h
   gathered_back o = ap quads.prev (w.last ∙ ap (λ (i : ℕ). turns quads l (i - 1) h) (w.circuit.whole o)) ∙ sym (back-turns quads v l ok h o)
 
-  pub neighbours_in : (t : List ℤ) → Points l t → VerticesIn t n L
+  neighbours_in : (t : List ℤ) → Points l t → VerticesIn t f.count f.neighbours
   unfolding to
   neighbours_in t p = record { room = λ i b. let x = w.filled.neighbours i b in rw x (p.room (quads.next (turns quads l i h)) (ok.oriented.shape.next_lt (turns quads l i h) (w.circuit.inside i b))) }
 
-  pub corners_in : (t : List ℤ) → Points l t → VerticesIn t n K
+  corners_in : (t : List ℤ) → Points l t → VerticesIn t f.count f.opposites
   unfolding opposite_corner to
   corners_in t p = record {
     room = λ i b.
@@ -195,3 +196,6 @@ module _ (v : ℕ) (l : List ℕ) (ok : Manifold quads v l) (h n g e : ℕ) (L K
         let x = w.filled.corners i b in
         rw x (p.room (quads.next (quads.next (turns quads l i h))) (s.next_lt (quads.next (turns quads l i h)) (s.next_lt (turns quads l i h) (w.circuit.inside i b))));
   }
+
+  pub fan_in : (t : List ℤ) → Points l t → FanIn t f
+  fan_in t p = record { neighbours = neighbours_in t p; opposites = corners_in t p }

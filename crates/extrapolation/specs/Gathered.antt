@@ -6,6 +6,7 @@ use Rattle.topology.specs.Boundary.{OnBoundary, boundary_from}
 use Rattle.topology.specs.Vertex.{valence, turns}
 use Rattle.topology.specs.Manifold.{Manifold}
 use Rattle.topology.specs.Quads.{opposite_corner}
+use Rattle.ringsums.specs.declared.Fan.{Fan}
 
 -- L and K begin with the neighbours and the opposite corners of n faces, from h on. Open, and may differ between correct programs: the places after them
 pub record Filled (l : List ℕ) (h n : ℕ) (L K : List ℕ) : Type 0 where
@@ -24,19 +25,19 @@ pub record Circuit (l : List ℕ) (h n : ℕ) : Type 0 where
   pub fan : boundary_from quads l (from l h) < length l → turns quads l n h ≡ length l
   pub whole : OnBoundary quads l h → n ≡ valence l (from l h)
 
--- the last face is met at g, and e comes after it
-pub record Gathered (l : List ℕ) (h n g e : ℕ) (L K : List ℕ) : Type 0 where
-  pub circuit : Circuit l h n
-  pub last : g ≡ turns quads l (n - 1) h
-  pub after : e ≡ turns quads l n h
-  pub filled : Filled l h n L K
+-- f has the faces that are met in turning from h
+pub record Gathered (l : List ℕ) (h : ℕ) (f : Fan) : Type 0 where
+  pub circuit : Circuit l h f.count
+  pub last : f.last ≡ turns quads l (f.count - 1) h
+  pub after : f.after ≡ turns quads l f.count h
+  pub filled : Filled l h f.count f.neighbours f.opposites
 
--- the open fan of m faces that starts with s, in a manifold net, gathered
-pub record OpenFan (l : List ℕ) (s m : ℕ) (L K : List ℕ) : Type 0 where
+-- f is the open fan that starts with s, in a manifold net, gathered
+pub record OpenFan (l : List ℕ) (s : ℕ) (f : Fan) : Type 0 where
   pub vertices : ℕ
   pub net : Manifold quads vertices l
   pub start : OnBoundary quads l s
-  pub count : m ≡ valence l (from l s)
-  pub some : 0 < m
-  pub few : m ≤ 6
-  pub filled : Filled l s m L K
+  pub count : f.count ≡ valence l (from l s)
+  pub some : 0 < f.count
+  pub few : f.count ≤ 6
+  pub filled : Filled l s f.count f.neighbours f.opposites

@@ -1,11 +1,11 @@
--- `gather` meets its contract: after i turns the first i places of both lists are filled. Assumes nothing.
+-- `gather` meets its contract: after i turns the first i places of the fan are filled. Assumes nothing.
 use Prim.Native.Nat.{◌-◌}
 use Rattle.extrapolation.specs.Gathered.{Filled}
 use Rattle.extrapolation.proofs.Turning.{Turning}
 use Rattle.extrapolation.proofs.gather.Given as goal
 
-abbrev pub invariant-loop-h : goal.invariant-loop-h
-invariant-loop-h l = Turning l.faces l.h l.g l.i × Filled l.faces l.h l.i l.l l.k
+abbrev pub invariant-loop-g : goal.invariant-loop-g
+invariant-loop-g l = Turning l.faces l.h l.g l.i × Filled l.faces l.h l.i l.fan.neighbours l.fan.opposites
 
-abbrev pub decreases-loop-h : goal.decreases-loop-h
-decreases-loop-h l = 8 - l.i
+abbrev pub decreases-loop-g : goal.decreases-loop-g
+decreases-loop-g l = 8 - l.i
