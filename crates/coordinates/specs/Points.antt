@@ -1,5 +1,5 @@
 -- The caller's tables of points and marks during a round.
-use Rattle.std.specs.Prelude.{◌≡◌, List, ◌++◌, ℕ, zero, suc, ◌+◌, ◌*◌, ◌/◌, ◌%◌, ◌<◌, ℤ, length, set, drop}
+use Rattle.std.specs.Prelude.{◌≡◌, List, ◌++◌, ℕ, zero, suc, ◌+◌, ◌*◌, ◌/◌, ◌%◌, ◌≤◌, ◌<◌, ℤ, nat_abs, length, set, drop}
 use Rattle.lists.specs.Tabulate.{tabulate}
 use Rattle.integers.specs.Within.{Within}
 use Rattle.topology.specs.HalfEdge.{from}
@@ -30,6 +30,12 @@ abbrev pub on : {A : Type 0} → Axes A → ℕ → A
 on p zero = p.x
 on p (suc zero) = p.y
 on p (suc (suc a)) = p.z
+
+-- no coordinate of p exceeds B
+pub record Bounded (B : ℕ) (p : Axes ℤ) : Type 0 where
+  pub on₀ : nat_abs p.x ≤ B
+  pub on₁ : nat_abs p.y ≤ B
+  pub on₂ : nat_abs p.z ≤ B
 
 -- t with the coordinates of vertex i
 unfoldable pub put_point : List ℤ → ℕ → ℤ → ℤ → ℤ → List ℤ

@@ -23,10 +23,11 @@ use Rattle.topology.proofs.Walks.{fan_from}
 use Rattle.schemelaws.specs.Numerators.{extrapolated_at_z}
 use Rattle.schemelaws.proofs.Sizes.{extrapolated_at_size}
 use Rattle.nets.specs.Net.{axis}
-use Rattle.coordinates.specs.Points.{OnAxes}
+use Rattle.coordinates.specs.declared.Axes.{Axes}
+use Rattle.coordinates.specs.Points.{OnAxes, Bounded}
 use Rattle.coordinates.proofs.Values.{axis_bound}
 use Rattle.extrapolation.specs.Gathered.{OpenFan}
-use Rattle.extrapolation.specs.Exact.{Extrapolated, extrapolated_on}
+use Rattle.extrapolation.specs.Exact.{extrapolated_on}
 use Rattle.ringsums.specs.declared.Fan.{Fan}
 use Rattle.ringsums.proofs.Sums.{vertex_of}
 
@@ -48,8 +49,8 @@ module _ (v : ℕ) (l : List ℕ) (ok : Manifold quads v l) (s : ℕ) (o : OnBou
       let x = extrapolated_at_size v l ok (axis t a) coordinate_range (λ x k. axis_bound t a x b) (from l s) q in
       omega arith
 
-  pub extrapolated_small : (t : List ℤ) → Within coordinate_range t → (x y z : ℤ) → OnAxes (extrapolated_on l t s) x y z → Extrapolated x y z
-  extrapolated_small t b x y z f =
+  pub extrapolated_small : (t : List ℤ) → Within coordinate_range t → (p : Axes ℤ) → OnAxes (extrapolated_on l t s) p.x p.y p.z → Bounded extrapolated_range p
+  extrapolated_small t b p f =
       let e₀ = ap nat_abs f.on₀ in
       let e₁ = ap nat_abs f.on₁ in
       let e₂ = ap nat_abs f.on₂ in

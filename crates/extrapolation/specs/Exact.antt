@@ -1,6 +1,5 @@
 -- Exact extrapolated points, on the axes of a table of points t.
-use Rattle.std.specs.Prelude.{List, ℕ, ◌≤◌, ℤ, nat_abs}
-use Rattle.rings.specs.Scales.{extrapolated_range}
+use Rattle.std.specs.Prelude.{List, ℕ, ℤ}
 use Rattle.topology.specs.HalfEdge.{from}
 use Rattle.schemelaws.specs.Numerators.{extrapolated_at_z}
 use Rattle.nets.specs.Net.{axis}
@@ -8,9 +7,3 @@ use Rattle.nets.specs.Net.{axis}
 -- the numerator on axis a of the extrapolated point of the vertex that s leaves
 abbrev pub extrapolated_on : List ℕ → List ℤ → (s a : ℕ) → ℤ
 extrapolated_on l t s a = extrapolated_at_z l (axis t a) (from l s)
-
--- within three times the largest coordinate
-pub record Extrapolated (x y z : ℤ) : Type 0 where
-  pub on₀ : nat_abs x ≤ extrapolated_range
-  pub on₁ : nat_abs y ≤ extrapolated_range
-  pub on₂ : nat_abs z ≤ extrapolated_range

@@ -21,7 +21,8 @@ use Rattle.rings.proofs.Periodic.{wrap_periodic, sum_turned}
 use Rattle.rings.proofs.Virtual.{virtual_weighted}
 use Rattle.rings.proofs.Table.{row_l, row_k}
 use Rattle.nets.specs.Net.{axis}
-use Rattle.coordinates.specs.Points.{OnAxes}
+use Rattle.coordinates.specs.declared.Axes.{Axes}
+use Rattle.coordinates.specs.Points.{OnAxes, Bounded}
 use Rattle.coordinates.proofs.Values.{axis_bound}
 use Rattle.ringsums.specs.Sums.{weight_range, sum_range, weighed, place_on, weighted_sum}
 
@@ -74,15 +75,9 @@ terms_small w n e m t a L K s b h k g =
     (λ i c. let q = place_lt n (e + i) (omega arith) in weighed_small w (place_on n (e + i)) (axis t a (get_or L i 0)) (axis t a (get_or K i 0)) coordinate_range s (omega arith) (axis_bound t a (get_or L i 0) b) (axis_bound t a (get_or K i 0) b)) in
     omega arith
 
--- on all axes
-pub record SmallSums (x y z : ℤ) : Type 0 where
-  pub on₀ : nat_abs x ≤ sum_range
-  pub on₁ : nat_abs y ≤ sum_range
-  pub on₂ : nat_abs z ≤ sum_range
-
-pub sums_small : (w : List ℤ) (n e m : ℕ) (t : List ℤ) (L K : List ℕ) (x y z : ℤ) → OnAxes (λ (a : ℕ). weighted_sum w n e m (axis t a) L K) x y z
-    → WithinFirst 16 weight_range w → Within coordinate_range t → m ≤ n → n ≤ 8 → e ≤ n → SmallSums x y z
-sums_small w n e m t L K x y z f s b h k g =
+pub sums_small : (w : List ℤ) (n e m : ℕ) (t : List ℤ) (L K : List ℕ) (p : Axes ℤ) → OnAxes (λ (a : ℕ). weighted_sum w n e m (axis t a) L K) p.x p.y p.z
+    → WithinFirst 16 weight_range w → Within coordinate_range t → m ≤ n → n ≤ 8 → e ≤ n → Bounded sum_range p
+sums_small w n e m t L K p f s b h k g =
     let on : (a : ℕ) → nat_abs (weighted_sum w n e m (axis t a) L K) ≤ sum_range = λ a. terms_small w n e m t a L K s b h k g in
     let e₀ = f.on₀ in
     let e₁ = f.on₁ in

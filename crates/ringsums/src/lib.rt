@@ -6,7 +6,7 @@ ghost use Rattle.integers.specs.Sum.{sum};
 ghost use Rattle.integers.specs.Within.{Within, WithinFirst};
 ghost use Rattle.rings.specs.Scales.{extrapolated_scale, valence_scale, coordinate_range, extrapolated_range};
 ghost use Rattle.nets.specs.Net.{axis};
-ghost use Rattle.coordinates.specs.Points.{InTable, OnAxes};
+ghost use Rattle.coordinates.specs.Points.{InTable, OnAxes, Bounded, on};
 ghost use Rattle.ringsums.specs.Sums.{VerticesIn, FanIn, weight_range, sum_range, weighed, place_on, weighted_sum, ring_sum, fan_sum};
 
 use coordinates::Exact;
@@ -114,20 +114,20 @@ pub fn closed_on(
     w: &[i64; 16],
     n: usize,
     t: usize,
-    s: i64,
+    s: Exact,
     c: usize,
-    p: i64,
-    q: i64,
-    r: i64,
+    p: Exact,
+    q: Exact,
+    r: Exact,
     a: usize,
 ) -> i64
     requires within { Within coordinate_range points.now × WithinFirst 16 weight_range w.now × (a < 3) × InTable points.now c }
-    requires le_n { (3 ≤ n) × (n ≤ 8) × (t + 2 ≤ n) × (nat_abs s ≤ sum_range) }
-    requires p_bound { (nat_abs p ≤ extrapolated_range) × (nat_abs q ≤ extrapolated_range) × (nat_abs r ≤ extrapolated_range) }
-    ensures { result ≡ fan_sum w.now n t s (pos extrapolated_scale *ℤ axis points.now a c) q p r }
+    requires le_n { (3 ≤ n) × (n ≤ 8) × (t + 2 ≤ n) }
+    requires bounded { Bounded sum_range s × Bounded extrapolated_range p × Bounded extrapolated_range q × Bounded extrapolated_range r }
+    ensures { result ≡ fan_sum w.now n t (on s a) (pos extrapolated_scale *ℤ axis points.now a c) (on q a) (on p a) (on r a) }
 {
     let x = EXTRAPOLATED_SCALE * coordinates::coordinate(points, c, a);
-    let u = weigh(w, t, x, q);
-    let v = weigh(w, t + 1, p, r);
-    times_share(n, EXTRAPOLATED_SCALE * s + u + v)
+    let u = weigh(w, t, x, q.on(a));
+    let v = weigh(w, t + 1, p.on(a), r.on(a));
+    times_share(n, EXTRAPOLATED_SCALE * s.on(a) + u + v)
 }

@@ -5,15 +5,14 @@ ghost use Rattle.std.specs.Prelude.{◌≡◌, ℕ, ◌≤◌, ◌<◌, length};
 ghost use Rattle.integers.specs.Within.{Within};
 ghost use Rattle.curve.specs.Weights.{tension};
 ghost use Rattle.rings.specs.RingWeights.{row};
-ghost use Rattle.rings.specs.Scales.{coordinate_range};
+ghost use Rattle.rings.specs.Scales.{coordinate_range, extrapolated_range};
 ghost use Rattle.topology.specs.Shape.{quads};
 ghost use Rattle.topology.specs.HalfEdge.{from, mate};
 ghost use Rattle.topology.specs.Boundary.{boundary_from};
 ghost use Rattle.nets.specs.Net.{axis};
 ghost use Rattle.walks.specs.Ready.{Ready};
-ghost use Rattle.coordinates.specs.Points.{InTable, Points, OnAxes, on};
+ghost use Rattle.coordinates.specs.Points.{InTable, Points, OnAxes, Bounded, on};
 ghost use Rattle.ringsums.specs.Sums.{FanIn, weighted_sum, ring_sum, fan_on};
-ghost use Rattle.extrapolation.specs.Exact.{Extrapolated};
 ghost use Rattle.virtualpoints.specs.Virtual.{virtual_on};
 
 use coordinates::Exact;
@@ -44,16 +43,14 @@ fn fan_sum(
 ) -> Exact
     requires within { Within coordinate_range points.now × (0 < j) × (j < fan.now.count) × (fan.now.count ≤ 6) × InTable points.now c × (t ≤ 4) }
     requires fan_in { FanIn points.now fan.now }
-    requires extrapolated { Extrapolated p.x p.y p.z × Extrapolated q.x q.y q.z × Extrapolated r.x r.y r.z }
+    requires extrapolated { Bounded extrapolated_range p × Bounded extrapolated_range q × Bounded extrapolated_range r }
     ensures { OnAxes (λ (a : ℕ). fan_on (tension t) (axis points.now a) fan.now.neighbours fan.now.opposites fan.now.count j c (on p a) (on q a) (on r a)) result.x result.y result.z }
 {
     let n = fan.count + 2;
     let place = fan.count - j;
     let w = rings::weights(n, t);
     let s = ringsums::weighted_sum(points, &w, fan, n, n - j);
-    coordinates::on_axes(|a| {
-        ringsums::closed_on(points, &w, n, place, s.on(a), c, p.on(a), q.on(a), r.on(a), a)
-    })
+    coordinates::on_axes(|a| ringsums::closed_on(points, &w, n, place, s, c, p, q, r, a))
 }
 
 // The virtual point at a boundary vertex, on the inner edge of h.
