@@ -6,9 +6,11 @@ ghost use Rattle.rounding.specs.Rounding.{round};
 ghost use Rattle.curve.specs.Weights.{tension};
 ghost use Rattle.rings.specs.Scales.{edge_scale, edge_range};
 ghost use Rattle.coordinates.specs.Points.{put_point};
+ghost use Rattle.edgepoints.specs.Kind.{flag_of};
 ghost use Rattle.edgerounding.specs.Rounded.{rounded_by, Small};
 
-use edgepoints::Edge;
+use coordinates::Axes;
+use edgepoints::{Edge, EdgeKind};
 
 // A coordinate over 64, rounded.
 pub fn rounded_plain(z: i64) -> i32
@@ -34,20 +36,24 @@ fn rounded_wide(z: i64, t: u32) -> i32
     rounding::round_div(z, half_edge_scale(t)) as i32
 }
 
+// The point of an edge, rounded.
+fn rounded_point(e: Edge, t: u32) -> Axes<i32>
+    requires { Small (tension t) (flag_of e.kind) e.point.x e.point.y e.point.z × (t ≤ 4) }
+    ensures x { result.x ≡ rounded_by (tension t) (flag_of e.kind) e.point.x }
+    ensures y { result.y ≡ rounded_by (tension t) (flag_of e.kind) e.point.y }
+    ensures z { result.z ≡ rounded_by (tension t) (flag_of e.kind) e.point.z }
+{
+    match e.kind {
+        EdgeKind::Wide => e.point.map(|z| rounded_wide(z, t)),
+        _ => e.point.map(|z| rounded_plain(z)),
+    }
+}
+
 // Writes the rounded coordinates of vertex i, from its exact point.
 pub fn put_rounded(points: &mut [i32], i: usize, e: Edge, t: u32)
-    requires { (3 * i + 3 ≤ length points.old) × Small (tension t) e.flag e.x e.y e.z × (t ≤ 4) }
-    ensures { points.new ≡ put_point points.old i (rounded_by (tension t) e.flag e.x) (rounded_by (tension t) e.flag e.y) (rounded_by (tension t) e.flag e.z) }
+    requires { (3 * i + 3 ≤ length points.old) × Small (tension t) (flag_of e.kind) e.point.x e.point.y e.point.z × (t ≤ 4) }
+    ensures { points.new ≡ put_point points.old i (rounded_by (tension t) (flag_of e.kind) e.point.x) (rounded_by (tension t) (flag_of e.kind) e.point.y) (rounded_by (tension t) (flag_of e.kind) e.point.z) }
 {
-    if e.flag == edgeentries::WIDE {
-        let x = rounded_wide(e.x, t);
-        let y = rounded_wide(e.y, t);
-        let z = rounded_wide(e.z, t);
-        coordinates::put_point(&mut *points, i, x, y, z);
-        return;
-    }
-    let x = rounded_plain(e.x);
-    let y = rounded_plain(e.y);
-    let z = rounded_plain(e.z);
-    coordinates::put_point(&mut *points, i, x, y, z);
+    let p = rounded_point(e, t);
+    coordinates::put_point(&mut *points, i, p.x, p.y, p.z);
 }

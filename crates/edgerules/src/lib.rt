@@ -36,15 +36,12 @@ pub fn edge_rule(faces: &[u32], marks: &[u8], h: usize, m: usize) -> EdgeRule
     if m < faces.len() {
         return EdgeRule::InnerRule;
     }
-    let ends = is_marked(marks, halfedges::end_of(faces, h));
-    if is_marked(marks, halfedges::start_of(faces, h)) {
-        if ends {
-            return EdgeRule::WholeSegment;
-        }
-        return EdgeRule::StartOfSegment;
+    let start = is_marked(marks, halfedges::start_of(faces, h));
+    let end = is_marked(marks, halfedges::end_of(faces, h));
+    match (start, end) {
+        (true, true) => EdgeRule::WholeSegment,
+        (true, false) => EdgeRule::StartOfSegment,
+        (false, true) => EdgeRule::EndOfSegment,
+        (false, false) => EdgeRule::InsideSegment,
     }
-    if ends {
-        return EdgeRule::EndOfSegment;
-    }
-    EdgeRule::InsideSegment
 }

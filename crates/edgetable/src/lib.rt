@@ -3,8 +3,6 @@
 
 ghost use Rattle.edgetable.specs.EdgeTable.{Turn, Turned};
 
-use coordinates::Exact;
-
 // Makes the point of the edge of half-edge h if the edge is first met there, where `edges` are met before; the answer is how many are met then.
 pub fn edge_side(
     points: &mut [i32],
@@ -30,11 +28,6 @@ pub fn edge_side(
     let end = 3 * v;
     let e = edgepoints::edge_exact(&points[..end], faces, marks, &*work, at, initial, h, m, t);
     edgerounding::put_rounded(&mut *points, v + edges, e, t);
-    let x = Exact {
-        x: e.x,
-        y: e.y,
-        z: e.z,
-    };
-    edgeentries::store_edge(&mut *work, n, h, edges, e.flag, x);
+    edgeentries::store_edge(&mut *work, n, h, edges, e.kind.flag(), e.point);
     edges + 1
 }

@@ -17,17 +17,6 @@ use ringsums::Fan;
 // The denominator of extrapolated points, where it is divided by the number of inner edges of a fan.
 const EXTRAPOLATED_SHARES: usize = 60;
 
-// A fan before its faces are met.
-pub fn no_faces() -> Fan {
-    Fan {
-        neighbours: [0; 8],
-        opposites: [0; 8],
-        count: 0,
-        last: 0,
-        after: 0,
-    }
-}
-
 // Gathers the faces met in turning from h.
 pub fn gather(faces: &[u32], work: &[u32], h: usize, fan: &mut Fan)
     requires ready { Ready faces.now work.now }
@@ -90,7 +79,7 @@ pub fn extrapolated_point(points: &[i32], faces: &[u32], work: &[u32], s: usize)
     requires points { Points faces.now points.now × OnBoundary quads faces.now s }
     ensures { OnAxes (extrapolated_on faces.now points.now s) result.x result.y result.z }
 {
-    let mut fan = no_faces();
+    let mut fan = Fan::default();
     gather(faces, work, s, &mut fan);
     extrapolated_from(points, faces, s, &fan)
 }

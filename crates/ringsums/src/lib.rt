@@ -13,7 +13,7 @@ use coordinates::Exact;
 
 // The faces met in turning about a vertex from a half-edge, eight at most: how many, their neighbours and opposite corners, the half-edge in the last, and the one after
 // it, which is the first again or none.
-#[derive(Clone, Copy)]
+#[derive(Clone, Copy, Default)]
 pub struct Fan {
     pub neighbours: [usize; 8],
     pub opposites: [usize; 8],

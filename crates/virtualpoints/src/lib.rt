@@ -62,7 +62,7 @@ fn fan_point(points: &[i32], faces: &[u32], work: &[u32], h: usize, t: u32) -> E
 {
     let f = walks::fan_start(faces, work, h);
     let s = f.side;
-    let mut fan = extrapolation::no_faces();
+    let mut fan = Fan::default();
     extrapolation::gather(faces, work, s, &mut fan);
     let e = halfedges::prev_side(fan.last);
     let d = walks::along_side(faces, work, s);
@@ -80,7 +80,7 @@ pub fn virtual_point(points: &[i32], faces: &[u32], work: &[u32], h: usize, t: u
     requires h_in_bounds { (h < length faces.now) × (mate quads faces.now h < length faces.now) × (t ≤ 4) }
     ensures { OnAxes (virtual_on (tension t) faces.now points.now h) result.x result.y result.z }
 {
-    let mut fan = extrapolation::no_faces();
+    let mut fan = Fan::default();
     extrapolation::gather(faces, work, h, &mut fan);
     if fan.after == h {
         return ring_point(points, &fan, t);

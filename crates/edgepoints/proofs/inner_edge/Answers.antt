@@ -1,11 +1,7 @@
 -- `inner_edge` meets its contract. Assumes nothing.
 use Prim.Native.Nat.{◌<◌}
 use native.Mathlib.Omega.{arith}
-use borrow.Author.Rules.{rules}
 use lib.ListN.{length}
-use mir.Syntax.{w64}
-use mir.Val.{SFits}
-use mir.Facts.{to_z-of_z}
 use Rattle.topology.specs.Shape.{quads}
 use Rattle.topology.specs.HalfEdge.{mate}
 use Rattle.schemelaws.specs.Ordinary.{OrdinaryEnds}
@@ -17,15 +13,11 @@ returns-then-ordinary_ends c =
     let inner : mate quads c.args.faces.now c.args.h < length c.args.faces.now = let e = c.requires.h_in_bounds.1 in let b = c.requires.h_in_bounds.2 in omega arith in
     let ends : (OrdinaryEnds c.args.faces.now c.args.h) = let o = c.ordinary_ends.ensures.both c.if-ordinary_ends.true in
     record { lt = c.requires.h_in_bounds.0; inner = inner; start = o.0; end = o.1 } in
-    let fits : SFits w64 c.plain_exact-e.result.x × SFits w64 c.plain_exact-e.result.y × SFits w64 c.plain_exact-e.result.z = let k = c.plain_exact-e.type_inv in (search (rules, k), search (rules, k), search (rules, k.1.1)) in
-    let r = c.plain_exact-e.result in
-    let f₁ : SFits w64 r.x = fits.0 in
-    let f₂ : SFits w64 r.y = fits.1 in
-    let f₃ : SFits w64 r.z = fits.2 in
-    simp to_z-of_z (plain_point c.args.t c.requires.h_in_bounds.3 c.requires.ready.vertices _ c.requires.ready.net c.args.points.now c.requires.points.0 _ ends r.x r.y r.z c.plain_exact-e.ensures)
+    let r = c.plain_exact.result in
+    plain_point c.args.t c.requires.h_in_bounds.3 c.requires.ready.vertices _ c.requires.ready.net c.args.points.now c.requires.points.0 _ ends r.x r.y r.z c.plain_exact.ensures
 
 pub returns : goal.returns
 returns c =
     let inner : mate quads c.args.faces.now c.args.h < length c.args.faces.now = let e = c.requires.h_in_bounds.1 in let b = c.requires.h_in_bounds.2 in omega arith in
     let r = c.wide_edge.result in
-    wide_point c.args.t c.requires.h_in_bounds.3 c.requires.ready.vertices _ c.requires.ready.net c.args.points.now c.requires.points.0 _ c.requires.h_in_bounds.0 inner (c.ordinary_ends.ensures.not_both c.if-ordinary_ends.false) r.flag r.x r.y r.z c.wide_edge.ensures
+    wide_point c.args.t c.requires.h_in_bounds.3 c.requires.ready.vertices _ c.requires.ready.net c.args.points.now c.requires.points.0 _ c.requires.h_in_bounds.0 inner (c.ordinary_ends.ensures.not_both c.if-ordinary_ends.false) _ r.point.x r.point.y r.point.z c.wide_edge.ensures

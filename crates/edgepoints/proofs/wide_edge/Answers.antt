@@ -1,142 +1,73 @@
 -- `wide_edge` meets its contract. Assumes nothing.
 use mathlib.Core.Path.{◌≡◌, refl, ap, ◌∙◌}
+use mathlib.Core.List.{List}
 use Prim.Native.Nat.{ℕ, ◌≤◌, ◌<◌}
 use native.Mathlib.Omega.{arith}
 use borrow.Author.Rules.{rules}
-use lib.IntN.{ℤ, nat_abs}
+use lib.IntN.{ℤ}
 use lib.ListN.{length}
-use mir.Syntax.{w64}
-use mir.Val.{SFits}
-use mir.Facts.{to_z-of_z}
 use Rattle.curve.specs.Weights.{tension}
 use Rattle.rings.specs.Scales.{virtual_range}
+use Rattle.rules.specs.Numerators.{inner_edge_z}
 use Rattle.topology.specs.Shape.{quads}
 use Rattle.topology.specs.HalfEdge.{mate}
+use Rattle.topology.specs.Manifold.{Manifold}
 use Rattle.topology.proofs.Mates.{mate-back}
 use Rattle.nets.specs.Net.{axis}
 use Rattle.schemelaws.specs.Numerators.{virtual_at_z}
-use Rattle.coordinates.specs.Points.{InTable}
+use Rattle.coordinates.specs.declared.Axes.{Axes}
+use Rattle.coordinates.specs.Points.{InTable, Points, OnAxes, Bounded}
 use Rattle.exactedges.proofs.Plain.{start-corner, end_corner, corner-room}
 use Rattle.exactedges.proofs.Wide.{virtual_small, wide_made}
 use Rattle.edgepoints.proofs.wide_edge.Goals as goal
 
+-- the mate of the inner half-edge h has one too
+mated : (v : ℕ) (l : List ℕ) → Manifold quads v l → (h m : ℕ) → h < length l → m ≡ mate quads l h → m < length l → mate quads l m < length l
+mated v l ok h m k e b =
+    let i : mate quads l h < length l = omega arith in
+    let x = ap (mate quads l) e ∙ mate-back quads v l ok.oriented h k i in
+    omega arith
+
+-- virtual points are small
+small : (t : ℕ) → t ≤ 4 → (v : ℕ) (l : List ℕ) → Manifold quads v l → (points : List ℤ) → Points l points → (h : ℕ) → h < length l → mate quads l h < length l → (p : Axes ℤ)
+    → OnAxes (λ (a : ℕ). virtual_at_z (tension t) l (axis points a) h) p.x p.y p.z → Bounded (virtual_range (tension t)) p
+small t low v l ok points room h k m p o = record {
+  on₀ = virtual_small t low v l ok points room 0 h k m p.x o.on₀;
+  on₁ = virtual_small t low v l ok points room 1 h k m p.y o.on₁;
+  on₂ = virtual_small t low v l ok points room 2 h k m p.z o.on₂;
+}
+
 pub end_virtual-w-requires-clause-h_in_bounds : goal.end_virtual-w-requires-clause-h_in_bounds
 end_virtual-w-requires-clause-h_in_bounds c =
-    let inner : mate quads c.args.faces.now c.args.h < length c.args.faces.now = let e = c.requires.h_in_bounds.1 in let b = c.requires.h_in_bounds.2 in omega arith in
-    let back : mate quads c.args.faces.now c.args.m < length c.args.faces.now = let e = ap (mate quads c.args.faces.now) c.requires.h_in_bounds.1 ∙ mate-back quads c.requires.ready.vertices _ c.requires.ready.net.oriented _ c.requires.h_in_bounds.0 inner in
-    let b = c.requires.h_in_bounds.0 in
-    omega arith in (c.requires.h_in_bounds.2, back, c.requires.h_in_bounds.3)
+    let b = c.requires.h_in_bounds in
+    (b.2, mated c.requires.ready.vertices _ c.requires.ready.net _ _ b.0 b.1 b.2, b.3)
 
-pub wide_on-requires-clause-a_bound : goal.wide_on-requires-clause-a_bound
-wide_on-requires-clause-a_bound c =
-    let start_in : InTable c.args.points.now c.start_of-p.result = corner-room _ _ c.requires.points.0 _ (start-corner c.requires.ready.vertices _ c.requires.ready.net _ _ c.requires.h_in_bounds.0 c.start_of-p.ensures) in
-    let end_in : InTable c.args.points.now c.end_of-q.result = corner-room _ _ c.requires.points.0 _ (end_corner c.requires.ready.vertices _ c.requires.ready.net _ _ c.requires.h_in_bounds.0 c.end_of-q.ensures) in
-    let inner : mate quads c.args.faces.now c.args.h < length c.args.faces.now = let e = c.requires.h_in_bounds.1 in let b = c.requires.h_in_bounds.2 in omega arith in
-    let back : mate quads c.args.faces.now c.args.m < length c.args.faces.now = let e = ap (mate quads c.args.faces.now) c.requires.h_in_bounds.1 ∙ mate-back quads c.requires.ready.vertices _ c.requires.ready.net.oriented _ c.requires.h_in_bounds.0 inner in
-    let b = c.requires.h_in_bounds.0 in
-    omega arith in
-    let small : (h a : ℕ) → h < length c.args.faces.now → mate quads c.args.faces.now h < length c.args.faces.now → (z : ℤ)
-    → z ≡ virtual_at_z (tension c.args.t) c.args.faces.now (axis c.args.points.now a) h → nat_abs z ≤ virtual_range (tension c.args.t) = λ h a k m z e. virtual_small c.args.t c.requires.h_in_bounds.3 c.requires.ready.vertices _ c.requires.ready.net _ c.requires.points.0 a h k m z e in
-    let fits_first : SFits w64 c.end_virtual-u.result.x × SFits w64 c.end_virtual-u.result.y × SFits w64 c.end_virtual-u.result.z = (search rules, search rules, search rules) in
-    let fits_second : SFits w64 c.end_virtual-w.result.x × SFits w64 c.end_virtual-w.result.y × SFits w64 c.end_virtual-w.result.z = (search rules, search rules, search rules) in
-    let f : SFits w64 c.end_virtual-u.result.x = fits_first.0 in
-    let g : SFits w64 c.end_virtual-w.result.x = fits_second.0 in (omega arith, start_in, end_in, c.requires.points.0.bounded)
-
-pub wide_on-requires-clause-u_bound : goal.wide_on-requires-clause-u_bound
-wide_on-requires-clause-u_bound c =
-    let start_in : InTable c.args.points.now c.start_of-p.result = corner-room _ _ c.requires.points.0 _ (start-corner c.requires.ready.vertices _ c.requires.ready.net _ _ c.requires.h_in_bounds.0 c.start_of-p.ensures) in
-    let end_in : InTable c.args.points.now c.end_of-q.result = corner-room _ _ c.requires.points.0 _ (end_corner c.requires.ready.vertices _ c.requires.ready.net _ _ c.requires.h_in_bounds.0 c.end_of-q.ensures) in
-    let inner : mate quads c.args.faces.now c.args.h < length c.args.faces.now = let e = c.requires.h_in_bounds.1 in let b = c.requires.h_in_bounds.2 in omega arith in
-    let back : mate quads c.args.faces.now c.args.m < length c.args.faces.now = let e = ap (mate quads c.args.faces.now) c.requires.h_in_bounds.1 ∙ mate-back quads c.requires.ready.vertices _ c.requires.ready.net.oriented _ c.requires.h_in_bounds.0 inner in
-    let b = c.requires.h_in_bounds.0 in
-    omega arith in
-    let small : (h a : ℕ) → h < length c.args.faces.now → mate quads c.args.faces.now h < length c.args.faces.now → (z : ℤ)
-    → z ≡ virtual_at_z (tension c.args.t) c.args.faces.now (axis c.args.points.now a) h → nat_abs z ≤ virtual_range (tension c.args.t) = λ h a k m z e. virtual_small c.args.t c.requires.h_in_bounds.3 c.requires.ready.vertices _ c.requires.ready.net _ c.requires.points.0 a h k m z e in
-    let fits_first : SFits w64 c.end_virtual-u.result.x × SFits w64 c.end_virtual-u.result.y × SFits w64 c.end_virtual-u.result.z = (search rules, search rules, search rules) in
-    let fits_second : SFits w64 c.end_virtual-w.result.x × SFits w64 c.end_virtual-w.result.y × SFits w64 c.end_virtual-w.result.z = (search rules, search rules, search rules) in
-    let f : SFits w64 c.end_virtual-u.result.x = fits_first.0 in
-    let g : SFits w64 c.end_virtual-w.result.x = fits_second.0 in simp to_z-of_z ((small _ 0 c.requires.h_in_bounds.0 inner _ c.end_virtual-u.ensures.on₀, small _ 0 c.requires.h_in_bounds.2 back _ c.end_virtual-w.ensures.on₀, c.requires.h_in_bounds.3))
-
-pub wide_on-requires-2-clause-a_bound : goal.wide_on-requires-2-clause-a_bound
-wide_on-requires-2-clause-a_bound c =
-    let start_in : InTable c.args.points.now c.start_of-p.result = corner-room _ _ c.requires.points.0 _ (start-corner c.requires.ready.vertices _ c.requires.ready.net _ _ c.requires.h_in_bounds.0 c.start_of-p.ensures) in
-    let end_in : InTable c.args.points.now c.end_of-q.result = corner-room _ _ c.requires.points.0 _ (end_corner c.requires.ready.vertices _ c.requires.ready.net _ _ c.requires.h_in_bounds.0 c.end_of-q.ensures) in
-    let inner : mate quads c.args.faces.now c.args.h < length c.args.faces.now = let e = c.requires.h_in_bounds.1 in let b = c.requires.h_in_bounds.2 in omega arith in
-    let back : mate quads c.args.faces.now c.args.m < length c.args.faces.now = let e = ap (mate quads c.args.faces.now) c.requires.h_in_bounds.1 ∙ mate-back quads c.requires.ready.vertices _ c.requires.ready.net.oriented _ c.requires.h_in_bounds.0 inner in
-    let b = c.requires.h_in_bounds.0 in
-    omega arith in
-    let small : (h a : ℕ) → h < length c.args.faces.now → mate quads c.args.faces.now h < length c.args.faces.now → (z : ℤ)
-    → z ≡ virtual_at_z (tension c.args.t) c.args.faces.now (axis c.args.points.now a) h → nat_abs z ≤ virtual_range (tension c.args.t) = λ h a k m z e. virtual_small c.args.t c.requires.h_in_bounds.3 c.requires.ready.vertices _ c.requires.ready.net _ c.requires.points.0 a h k m z e in
-    let fits_first : SFits w64 c.end_virtual-u.result.x × SFits w64 c.end_virtual-u.result.y × SFits w64 c.end_virtual-u.result.z = (search rules, search rules, search rules) in
-    let fits_second : SFits w64 c.end_virtual-w.result.x × SFits w64 c.end_virtual-w.result.y × SFits w64 c.end_virtual-w.result.z = (search rules, search rules, search rules) in
-    let f : SFits w64 c.end_virtual-u.result.y = fits_first.1 in
-    let g : SFits w64 c.end_virtual-w.result.y = fits_second.1 in (omega arith, start_in, end_in, c.requires.points.0.bounded)
-
-pub wide_on-requires-2-clause-u_bound : goal.wide_on-requires-2-clause-u_bound
-wide_on-requires-2-clause-u_bound c =
-    let start_in : InTable c.args.points.now c.start_of-p.result = corner-room _ _ c.requires.points.0 _ (start-corner c.requires.ready.vertices _ c.requires.ready.net _ _ c.requires.h_in_bounds.0 c.start_of-p.ensures) in
-    let end_in : InTable c.args.points.now c.end_of-q.result = corner-room _ _ c.requires.points.0 _ (end_corner c.requires.ready.vertices _ c.requires.ready.net _ _ c.requires.h_in_bounds.0 c.end_of-q.ensures) in
-    let inner : mate quads c.args.faces.now c.args.h < length c.args.faces.now = let e = c.requires.h_in_bounds.1 in let b = c.requires.h_in_bounds.2 in omega arith in
-    let back : mate quads c.args.faces.now c.args.m < length c.args.faces.now = let e = ap (mate quads c.args.faces.now) c.requires.h_in_bounds.1 ∙ mate-back quads c.requires.ready.vertices _ c.requires.ready.net.oriented _ c.requires.h_in_bounds.0 inner in
-    let b = c.requires.h_in_bounds.0 in
-    omega arith in
-    let small : (h a : ℕ) → h < length c.args.faces.now → mate quads c.args.faces.now h < length c.args.faces.now → (z : ℤ)
-    → z ≡ virtual_at_z (tension c.args.t) c.args.faces.now (axis c.args.points.now a) h → nat_abs z ≤ virtual_range (tension c.args.t) = λ h a k m z e. virtual_small c.args.t c.requires.h_in_bounds.3 c.requires.ready.vertices _ c.requires.ready.net _ c.requires.points.0 a h k m z e in
-    let fits_first : SFits w64 c.end_virtual-u.result.x × SFits w64 c.end_virtual-u.result.y × SFits w64 c.end_virtual-u.result.z = (search rules, search rules, search rules) in
-    let fits_second : SFits w64 c.end_virtual-w.result.x × SFits w64 c.end_virtual-w.result.y × SFits w64 c.end_virtual-w.result.z = (search rules, search rules, search rules) in
-    let f : SFits w64 c.end_virtual-u.result.y = fits_first.1 in
-    let g : SFits w64 c.end_virtual-w.result.y = fits_second.1 in simp to_z-of_z ((small _ 1 c.requires.h_in_bounds.0 inner _ c.end_virtual-u.ensures.on₁, small _ 1 c.requires.h_in_bounds.2 back _ c.end_virtual-w.ensures.on₁, c.requires.h_in_bounds.3))
-
-pub wide_on-requires-3-clause-a_bound : goal.wide_on-requires-3-clause-a_bound
-wide_on-requires-3-clause-a_bound c =
-    let start_in : InTable c.args.points.now c.start_of-p.result = corner-room _ _ c.requires.points.0 _ (start-corner c.requires.ready.vertices _ c.requires.ready.net _ _ c.requires.h_in_bounds.0 c.start_of-p.ensures) in
-    let end_in : InTable c.args.points.now c.end_of-q.result = corner-room _ _ c.requires.points.0 _ (end_corner c.requires.ready.vertices _ c.requires.ready.net _ _ c.requires.h_in_bounds.0 c.end_of-q.ensures) in
-    let inner : mate quads c.args.faces.now c.args.h < length c.args.faces.now = let e = c.requires.h_in_bounds.1 in let b = c.requires.h_in_bounds.2 in omega arith in
-    let back : mate quads c.args.faces.now c.args.m < length c.args.faces.now = let e = ap (mate quads c.args.faces.now) c.requires.h_in_bounds.1 ∙ mate-back quads c.requires.ready.vertices _ c.requires.ready.net.oriented _ c.requires.h_in_bounds.0 inner in
-    let b = c.requires.h_in_bounds.0 in
-    omega arith in
-    let small : (h a : ℕ) → h < length c.args.faces.now → mate quads c.args.faces.now h < length c.args.faces.now → (z : ℤ)
-    → z ≡ virtual_at_z (tension c.args.t) c.args.faces.now (axis c.args.points.now a) h → nat_abs z ≤ virtual_range (tension c.args.t) = λ h a k m z e. virtual_small c.args.t c.requires.h_in_bounds.3 c.requires.ready.vertices _ c.requires.ready.net _ c.requires.points.0 a h k m z e in
-    let fits_first : SFits w64 c.end_virtual-u.result.x × SFits w64 c.end_virtual-u.result.y × SFits w64 c.end_virtual-u.result.z = (search rules, search rules, search rules) in
-    let fits_second : SFits w64 c.end_virtual-w.result.x × SFits w64 c.end_virtual-w.result.y × SFits w64 c.end_virtual-w.result.z = (search rules, search rules, search rules) in
-    let f : SFits w64 c.end_virtual-u.result.z = fits_first.2 in
-    let g : SFits w64 c.end_virtual-w.result.z = fits_second.2 in (omega arith, start_in, end_in, c.requires.points.0.bounded)
-
-pub wide_on-requires-3-clause-u_bound : goal.wide_on-requires-3-clause-u_bound
-wide_on-requires-3-clause-u_bound c =
-    let start_in : InTable c.args.points.now c.start_of-p.result = corner-room _ _ c.requires.points.0 _ (start-corner c.requires.ready.vertices _ c.requires.ready.net _ _ c.requires.h_in_bounds.0 c.start_of-p.ensures) in
-    let end_in : InTable c.args.points.now c.end_of-q.result = corner-room _ _ c.requires.points.0 _ (end_corner c.requires.ready.vertices _ c.requires.ready.net _ _ c.requires.h_in_bounds.0 c.end_of-q.ensures) in
-    let inner : mate quads c.args.faces.now c.args.h < length c.args.faces.now = let e = c.requires.h_in_bounds.1 in let b = c.requires.h_in_bounds.2 in omega arith in
-    let back : mate quads c.args.faces.now c.args.m < length c.args.faces.now = let e = ap (mate quads c.args.faces.now) c.requires.h_in_bounds.1 ∙ mate-back quads c.requires.ready.vertices _ c.requires.ready.net.oriented _ c.requires.h_in_bounds.0 inner in
-    let b = c.requires.h_in_bounds.0 in
-    omega arith in
-    let small : (h a : ℕ) → h < length c.args.faces.now → mate quads c.args.faces.now h < length c.args.faces.now → (z : ℤ)
-    → z ≡ virtual_at_z (tension c.args.t) c.args.faces.now (axis c.args.points.now a) h → nat_abs z ≤ virtual_range (tension c.args.t) = λ h a k m z e. virtual_small c.args.t c.requires.h_in_bounds.3 c.requires.ready.vertices _ c.requires.ready.net _ c.requires.points.0 a h k m z e in
-    let fits_first : SFits w64 c.end_virtual-u.result.x × SFits w64 c.end_virtual-u.result.y × SFits w64 c.end_virtual-u.result.z = (search rules, search rules, search rules) in
-    let fits_second : SFits w64 c.end_virtual-w.result.x × SFits w64 c.end_virtual-w.result.y × SFits w64 c.end_virtual-w.result.z = (search rules, search rules, search rules) in
-    let f : SFits w64 c.end_virtual-u.result.z = fits_first.2 in
-    let g : SFits w64 c.end_virtual-w.result.z = fits_second.2 in simp to_z-of_z ((small _ 2 c.requires.h_in_bounds.0 inner _ c.end_virtual-u.ensures.on₂, small _ 2 c.requires.h_in_bounds.2 back _ c.end_virtual-w.ensures.on₂, c.requires.h_in_bounds.3))
+pub on_axes-requires : goal.on_axes-requires
+on_axes-requires c =
+    let b = c.requires.h_in_bounds in
+    let r = c.requires.ready in
+    let room = c.requires.points.0 in
+    let within = room.bounded in
+    let inner : mate quads c.args.faces.now c.args.h < length c.args.faces.now = omega (arith, b.1) in
+    let start_in : InTable c.args.points.now c.start_of-p.result = corner-room _ _ room _ (start-corner r.vertices _ r.net _ _ b.0 c.start_of-p.ensures) in
+    let end_in : InTable c.args.points.now c.end_of-q.result = corner-room _ _ room _ (end_corner r.vertices _ r.net _ _ b.0 c.end_of-q.ensures) in
+    let first = small c.args.t b.3 r.vertices _ r.net _ room _ b.0 inner c.end_virtual-u.result c.end_virtual-u.ensures in
+    let second = small c.args.t b.3 r.vertices _ r.net _ room _ b.2 (mated r.vertices _ r.net _ _ b.0 b.1 b.2) c.end_virtual-w.result c.end_virtual-w.ensures in
+    search rules
 
 pub returns : goal.returns
 returns c =
-    let fits_first : SFits w64 c.end_virtual-u.result.x × SFits w64 c.end_virtual-u.result.y × SFits w64 c.end_virtual-u.result.z = (search rules, search rules, search rules) in
-    let fits_second : SFits w64 c.end_virtual-w.result.x × SFits w64 c.end_virtual-w.result.y × SFits w64 c.end_virtual-w.result.z = (search rules, search rules, search rules) in
-    let P = c.end_virtual-u.result in
-    let Q = c.end_virtual-w.result in
-    let f₁ : SFits w64 c.wide_on.result = search rules in
-    let f₂ : SFits w64 c.wide_on-2.result = search rules in
-    let f₃ : SFits w64 c.wide_on-3.result = search rules in
-    let p₁ : SFits w64 P.x = fits_first.0 in
-    let p₂ : SFits w64 P.y = fits_first.1 in
-    let p₃ : SFits w64 P.z = fits_first.2 in
-    let q₁ : SFits w64 Q.x = fits_second.0 in
-    let q₂ : SFits w64 Q.y = fits_second.1 in
-    let q₃ : SFits w64 Q.z = fits_second.2 in
+    let r = c.on_axes.result in
+    let u = c.end_virtual-u in
+    let w = c.end_virtual-w in
+    let x : r.x ≡ inner_edge_z (tension c.args.t) (axis c.args.points.now 0 c.start_of-p.result) (axis c.args.points.now 0 c.end_of-q.result) u.result.x w.result.x = search rules in
+    let y : r.y ≡ inner_edge_z (tension c.args.t) (axis c.args.points.now 1 c.start_of-p.result) (axis c.args.points.now 1 c.end_of-q.result) u.result.y w.result.y = search rules in
+    let z : r.z ≡ inner_edge_z (tension c.args.t) (axis c.args.points.now 2 c.start_of-p.result) (axis c.args.points.now 2 c.end_of-q.result) u.result.z w.result.z = search rules in
     let made = wide_made c.args.t c.requires.h_in_bounds.3 c.args.faces.now c.args.h c.args.m c.requires.h_in_bounds.1 _ _ c.start_of-p.ensures c.end_of-q.ensures in (
       refl,
-      simp to_z-of_z (record {
-        on₀ = made (axis c.args.points.now 0) P.x Q.x c.wide_on.result c.end_virtual-u.ensures.on₀ c.end_virtual-w.ensures.on₀ (simp to_z-of_z at c.wide_on.ensures);
-        on₁ = made (axis c.args.points.now 1) P.y Q.y c.wide_on-2.result c.end_virtual-u.ensures.on₁ c.end_virtual-w.ensures.on₁ (simp to_z-of_z at c.wide_on-2.ensures);
-        on₂ = made (axis c.args.points.now 2) P.z Q.z c.wide_on-3.result c.end_virtual-u.ensures.on₂ c.end_virtual-w.ensures.on₂ (simp to_z-of_z at c.wide_on-3.ensures);
-      }),
+      record {
+        on₀ = made (axis c.args.points.now 0) u.result.x w.result.x r.x u.ensures.on₀ w.ensures.on₀ x;
+        on₁ = made (axis c.args.points.now 1) u.result.y w.result.y r.y u.ensures.on₁ w.ensures.on₁ y;
+        on₂ = made (axis c.args.points.now 2) u.result.z w.result.z r.z u.ensures.on₂ w.ensures.on₂ z;
+      },
     )

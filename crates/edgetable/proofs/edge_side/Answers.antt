@@ -2,12 +2,9 @@
 use mathlib.Core.Path.{refl}
 use Prim.Native.Nat.{◌<◌}
 use native.Mathlib.Omega.{arith}
-use borrow.Author.Rules.{rules}
-use mir.Syntax.{w64}
-use mir.Val.{SFits}
-use mir.Facts.{to_z-of_z}
 use Rattle.topology.specs.Shape.{quads}
 use Rattle.topology.specs.HalfEdge.{mate}
+use Rattle.edgepoints.specs.Kind.{flag_of}
 use Rattle.edgetable.specs.EdgeTable.{met}
 use Rattle.edgetable.proofs.EdgeTable.{small_of, exact_small}
 use Rattle.edgetable.proofs.edge_side.Goals as goal
@@ -19,7 +16,7 @@ put_rounded-requires c =
     let z = c.requires.other in
     omega (arith, z) in
     let r = c.edge_exact-e.result in
-    (c.requires.room first, small_of c.args.t _ _ r.flag _ r.x r.y r.z c.edge_exact-e.ensures.0 c.edge_exact-e.ensures.1, c.requires.low)
+    (c.requires.room first, small_of c.args.t _ _ (flag_of r.kind) _ r.point.x r.point.y r.point.z c.edge_exact-e.ensures.0 c.edge_exact-e.ensures.1, c.requires.low)
 
 pub store_edge-requires-clause-x_bound : goal.store_edge-requires-clause-x_bound
 store_edge-requires-clause-x_bound c =
@@ -27,15 +24,11 @@ store_edge-requires-clause-x_bound c =
     let b = c.if-m-h.false in
     let z = c.requires.other in
     omega (arith, z) in
-    let fits : SFits w64 c.edge_exact-e.result.x × SFits w64 c.edge_exact-e.result.y × SFits w64 c.edge_exact-e.result.z = let k = c.edge_exact-e.type_inv in (search (rules, k), search (rules, k), search (rules, k.1.1)) in
     let r = c.edge_exact-e.result in
-    let fx : SFits w64 r.x = fits.0 in
-    let fy : SFits w64 r.y = fits.1 in
-    let fz : SFits w64 r.z = fits.2 in
     let k = c.requires.ready.table.sides.few in
     let a = c.requires.below in
     let b = c.requires.lt in
-    let d = c.requires.entries in simp to_z-of_z (exact_small c.args.t c.requires.low _ _ r.flag _ r.x r.y r.z c.edge_exact-e.ensures.0 c.edge_exact-e.ensures.1)
+    let d = c.requires.entries in (exact_small c.args.t c.requires.low _ _ (flag_of r.kind) _ r.point.x r.point.y r.point.z c.edge_exact-e.ensures.0 c.edge_exact-e.ensures.1)
 
 pub returns : goal.returns
 returns c =
@@ -43,9 +36,5 @@ returns c =
     let b = c.if-m-h.false in
     let z = c.requires.other in
     omega (arith, z) in
-    let fits : SFits w64 c.edge_exact-e.result.x × SFits w64 c.edge_exact-e.result.y × SFits w64 c.edge_exact-e.result.z = let k = c.edge_exact-e.type_inv in (search (rules, k), search (rules, k), search (rules, k.1.1)) in
     let r = c.edge_exact-e.result in
-    let fx : SFits w64 r.x = fits.0 in
-    let fy : SFits w64 r.y = fits.1 in
-    let fz : SFits w64 r.z = fits.2 in
-    met r.flag r.x r.y r.z first refl c.edge_exact-e.ensures.0 c.edge_exact-e.ensures.1 c.put_rounded.ensures (simp to_z-of_z at c.store_edge.ensures)
+    met (flag_of r.kind) r.point.x r.point.y r.point.z first refl c.edge_exact-e.ensures.0 c.edge_exact-e.ensures.1 c.put_rounded.ensures (rw c.flag.ensures at c.store_edge.ensures)
