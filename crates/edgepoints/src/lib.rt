@@ -8,7 +8,7 @@ ghost use Rattle.rings.specs.Scales.{virtual_scale, coordinate_range, virtual_ra
 ghost use Rattle.rules.specs.Numerators.{inner_edge_z};
 ghost use Rattle.topology.specs.Shape.{quads};
 ghost use Rattle.topology.specs.HalfEdge.{from, to, mate};
-ghost use Rattle.topology.specs.Boundary.{OnBoundary, along, back};
+ghost use Rattle.topology.specs.Boundary.{OnBoundary};
 ghost use Rattle.scheme.specs.Points.{inner_rule};
 ghost use Rattle.nets.specs.Net.{axis};
 ghost use Rattle.schemelaws.specs.Ordinary.{Ordinary, OrdinaryEnds, ordinary_value};

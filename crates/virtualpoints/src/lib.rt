@@ -1,7 +1,7 @@
 // Virtual points on the caller's tables, on all axes.
 #![tactic(auto)]
 
-ghost use Rattle.std.specs.Prelude.{◌≡◌, ℕ, ◌≤◌, ◌<◌, length};
+ghost use Rattle.std.specs.Prelude.{ℕ, ◌≤◌, ◌<◌, length};
 ghost use Rattle.integers.specs.Within.{Within};
 ghost use Rattle.curve.specs.Weights.{tension};
 ghost use Rattle.rings.specs.RingWeights.{row};
