@@ -1,7 +1,7 @@
 // Numbers as text: read from the front of a slice, and written into one.
 #![tactic(auto)]
 
-ghost use Rattle.std.specs.Prelude.{◌≡◌, ◌+◌, ◌≤◌, length};
+ghost use Rattle.std.specs.Prelude.{◌+◌, ◌≤◌, length};
 ghost use Rattle.decimalform.specs.Decimal.{natural_text, integer_text, read_digits, at_most, read_natural, negated, unsigned, read_integer, largest_number, largest_magnitude};
 ghost use Rattle.decimalform.specs.Stored.{Stored};
 ghost use Rattle.decimal.specs.Answers.{GivesNumber};

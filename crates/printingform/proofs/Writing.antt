@@ -7,7 +7,7 @@ use native.Mathlib.Nat.{add-zero, mul-suc}
 use native.Mathlib.Numerals.{add-one}
 use native.Mathlib.Omega.{arith}
 use lib.IntN.{ℤ}
-use lib.ListN.{length, get_or, set, drop, length-append}
+use lib.ListN.{length, get_or, set, drop}
 use lib.Seq.{sets-eq}
 use Rattle.lists.specs.Tabulate.{tabulate}
 use Rattle.lists.proofs.Tabulate.{length-tabulate}
@@ -31,12 +31,6 @@ in_row {d} {e} {o} {at} {r} {q} {s} {t} v w =
     let a = v.within in
     let b = w.within in
     record { stored = stored_then d e o at r q s t v.stored w.stored; within = omega arith }
-
--- a number of at most m digits and the byte after it
-pub printed_field : {d o : List ℕ} {at r : ℕ} (s : List ℕ) (b m : ℕ) → Stored d o at r (field s b) → length s ≤ m → Printed d o at r (field s b) (m + 1)
-printed_field s b m w h =
-    let e = w.end in
-    record { stored = w; within = omega (arith, length-append s (b ∷ [])) }
 
 -- ---- lines, one a turn
 texts_more : {A : Type 0} (text : A → List ℕ) (i : ℕ) (item : ℕ → A) → texts text (tabulate (suc i) item) ≡ texts text (tabulate i item) ++ text (item i)

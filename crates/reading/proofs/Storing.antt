@@ -5,7 +5,7 @@ use Prim.Native.Nat.{ℕ, ◌+◌, ◌*◌, ◌-◌, ◌≤◌, ◌<◌}
 use native.Mathlib.Omega.{arith}
 use lib.IntN.{ℤ}
 use lib.ListN.{length, take, drop}
-use lib.Seq.{sets, sets-eq, drop-drop}
+use lib.Seq.{sets, sets-eq}
 use Rattle.decimalform.proofs.Writing.{sets_after}
 use Rattle.decimalform.specs.Decimal.{Read, read_as, bad}
 use Rattle.decimal.proofs.Reading.{part_rest}

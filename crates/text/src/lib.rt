@@ -1,7 +1,7 @@
 // The lines of the text form, each read from the front of a slice. An answer has the values and the number of bytes that they took.
 #![tactic(auto)]
 
-ghost use Rattle.std.specs.Prelude.{◌≡◌, ℕ, List, ◌≤◌, length, drop};
+ghost use Rattle.std.specs.Prelude.{ℕ, List, ◌≤◌, length, drop};
 ghost use Rattle.decimalform.specs.Decimal as form;
 ghost use Rattle.decimal.specs.Answers.{Gives, GivesNumber};
 ghost use Rattle.textform.specs.Form.{read_input, read_columns, ended_by, coordinate, natural, index, read_counts, read_vertex, face_by};

@@ -2,14 +2,11 @@
 use mathlib.Core.Path.{◌≡◌, refl, ap, ◌∙◌}
 use mathlib.Core.Bool.{Bool, true, false, cond, ◌&&◌}
 use mathlib.Core.List.{List, [], ◌∷◌}
-use Prim.Native.Nat.{ℕ, zero, suc, ◌+◌, ◌≤◌, ◌<◌}
+use Prim.Native.Nat.{ℕ, zero, suc, ◌≤◌, ◌<◌}
 use native.Mathlib.Decide.{dec_lt}
-use native.Mathlib.Numerals.{add-one}
 use native.Mathlib.Omega.{arith}
 use lib.Dec.{eqb}
-use lib.ListN.{length, get_or, drop, drop_of_length-le}
-use lib.Seq.{drop-cons, drop-drop}
-use borrow.Author.Tests.{eq-eqb, ne_eqb}
+use lib.ListN.{length, drop}
 use Rattle.decimalform.specs.Decimal.{Read, read_as, bad, read_natural}
 use Rattle.decimalform.proofs.Reading.{natural_at_most}
 use Rattle.textform.specs.Form.{starts_with, read_names, ended_by, natural, rows, rows_after}
@@ -44,31 +41,6 @@ module _ {A : Type 0} (names : A → List ℕ) (m : A) (ms : List A) (l : List �
 pub names_none : {A : Type 0} (names : A → List ℕ) (l : List ℕ) → read_names names [] l ≡ bad
 unfolding read_names
 names_none names l = refl
-
--- ---- the byte after a number that ends at s
-module _ {A : Type 0} (l : List ℕ) (s e : ℕ) (v : A) where
-  pub ends_short : length l ≤ s → ended_by e (read_as v (drop s l)) ≡ bad
-  ends_short h = rw (drop_of_length-le l {i = s} h)
-
-  pub ends_other : s < length l → (get_or l s 0 ≡ e → ⊥) → ended_by e (read_as v (drop s l)) ≡ bad
-  ends_other h d = rw (drop-cons l s 0 h, ne_eqb (get_or l s 0) e d)
-
-  pub ends_there : s < length l → get_or l s 0 ≡ e → ended_by e (read_as v (drop s l)) ≡ read_as v (drop (s + 1) l)
-  ends_there h d = rw (drop-cons l s 0 h, eq-eqb (get_or l s 0) e d, add-one s)
-
--- the number starts at `at` and has n bytes
-module _ {A : Type 0} (l : List ℕ) (at n e : ℕ) (v : A) where
-  moved : ended_by e (read_as v (drop n (drop at l))) ≡ ended_by e (read_as v (drop (at + n) l))
-  moved = ap (λ (m : List ℕ). ended_by e (read_as v m)) (drop-drop n at l)
-
-  pub field_short : length l ≤ at + n → ended_by e (read_as v (drop n (drop at l))) ≡ bad
-  field_short h = moved ∙ ends_short l (at + n) e v h
-
-  pub field-other : at + n < length l → (get_or l (at + n) 0 ≡ e → ⊥) → ended_by e (read_as v (drop n (drop at l))) ≡ bad
-  field-other h d = moved ∙ ends_other l (at + n) e v h d
-
-  pub field_ends : at + n < length l → get_or l (at + n) 0 ≡ e → ended_by e (read_as v (drop n (drop at l))) ≡ read_as v (drop (at + n + 1) l)
-  field_ends h d = moved ∙ ends_there l (at + n) e v h d
 
 -- a number that is read is at most the limit
 ended_limit : (limit : ℕ) (l : List ℕ) (e x v : ℕ) (k m : List ℕ) → read_natural limit l ≡ read_as x k → ended_by e (read_as x k) ≡ read_as v m → v ≤ limit
