@@ -33,8 +33,8 @@ pub fn put_midpoint(points: &mut [i32], i: usize, p: usize, q: usize)
     ensures { points.new ≡ put_point points.old i (midpoint_on points.old p q 0)
         (midpoint_on points.old p q 1) (midpoint_on points.old p q 2) }
 {
-    let [x, y, z]: [i32; 3] = std::array::from_fn(|a| midpoint(&*points, p, q, a));
-    coordinates::put_point(&mut *points, i, x, y, z);
+    let at = coordinates::on_axes(|a| midpoint(&*points, p, q, a));
+    coordinates::put_point(&mut *points, i, at.x, at.y, at.z);
 }
 
 // The sum of coordinate a of c corners, from h on.
@@ -66,6 +66,6 @@ pub fn put_mean(points: &mut [i32], faces: &[u32], i: usize, h: usize, c: usize)
     ensures { points.new ≡ put_point points.old i (mean_on points.old faces.now h c 0)
         (mean_on points.old faces.now h c 1) (mean_on points.old faces.now h c 2) }
 {
-    let [x, y, z]: [i32; 3] = std::array::from_fn(|a| mean(&*points, faces, h, c, a));
-    coordinates::put_point(&mut *points, i, x, y, z);
+    let at = coordinates::on_axes(|a| mean(&*points, faces, h, c, a));
+    coordinates::put_point(&mut *points, i, at.x, at.y, at.z);
 }
