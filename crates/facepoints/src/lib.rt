@@ -43,10 +43,11 @@ pub fn plain_face(
     let u = edgeentries::point_place(n, q);
     let v = edgeentries::point_place(n, r);
     let w = edgeentries::point_place(n, s);
-    let x = plain_on(work, o, u, v, w, t);
-    let y = plain_on(work, o + 2, u + 2, v + 2, w + 2, t);
-    let z = plain_on(work, o + 4, u + 4, v + 4, w + 4, t);
-    coordinates::put_point(&mut *out, f, x, y, z);
+    let c = coordinates::on_axes(|a| {
+        let i = 2 * a;
+        plain_on(work, o + i, u + i, v + i, w + i, t)
+    });
+    coordinates::put_point(&mut *out, f, c.x, c.y, c.z);
 }
 
 // Writes the point of face f. Where all eight edges of both directions are plain, as the sums tell, one direction is enough.

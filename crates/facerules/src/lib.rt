@@ -40,10 +40,7 @@ fn unit(e: usize, t: u32) -> i64
     requires { t ≤ 4 }
     ensures { result ≡ pos (unit_of (tension t) e) }
 {
-    if edgeentries::is_plain(e) {
-        return rings::virtual_scale(t);
-    }
-    if edgeentries::is_boundary(e) {
+    if edgeentries::is_plain(e) || edgeentries::is_boundary(e) {
         return rings::virtual_scale(t);
     }
     1
@@ -87,10 +84,7 @@ fn inner_twice(work: &[u32], n: usize, h: usize) -> bool
     requires { EntryTable n work.now × (h < n) }
     ensures { result ≡ inner_twice_of n work.now h }
 {
-    if mate(work, n, h) < n {
-        return !edgeentries::is_boundary(beyond(work, n, h));
-    }
-    false
+    mate(work, n, h) < n && !edgeentries::is_boundary(beyond(work, n, h))
 }
 
 // Whether the direction of the side h has four inner edges.
@@ -98,10 +92,7 @@ fn four_inner(work: &[u32], n: usize, h: usize) -> bool
     requires { EntryTable n work.now × (h < n) }
     ensures { result ≡ four_inner_of n work.now h }
 {
-    if inner_twice(work, n, h) {
-        return inner_twice(work, n, halfedges::across_side(h));
-    }
-    false
+    inner_twice(work, n, h) && inner_twice(work, n, halfedges::across_side(h))
 }
 
 // The rule of face f.
@@ -110,17 +101,14 @@ fn face_rule(work: &[u32], n: usize, f: usize) -> FaceRule
     ensures { result ≡ face_rule_of n work.now f }
 {
     let h = 4 * f;
+    let first = four_inner(work, n, h);
     let second = four_inner(work, n, h + 1);
-    if four_inner(work, n, h) {
-        if second {
-            return FaceRule::BothInner;
-        }
-        return FaceRule::FirstAlone;
+    match (first, second) {
+        (true, true) => FaceRule::BothInner,
+        (true, false) => FaceRule::FirstAlone,
+        (false, true) => FaceRule::SecondAlone,
+        (false, false) => FaceRule::NeitherInner,
     }
-    if second {
-        return FaceRule::SecondAlone;
-    }
-    FaceRule::NeitherInner
 }
 
 // Half the denominator of a face point.
@@ -151,8 +139,7 @@ fn face_on(work: &[u32], n: usize, f: usize, rule: FaceRule, a: usize, t: u32) -
     match rule {
         FaceRule::FirstAlone => mean_on(work, n, g, g, a, t),
         FaceRule::SecondAlone => mean_on(work, n, h, h, a, t),
-        FaceRule::BothInner => mean_on(work, n, g, h, a, t),
-        FaceRule::NeitherInner => mean_on(work, n, g, h, a, t),
+        FaceRule::BothInner | FaceRule::NeitherInner => mean_on(work, n, g, h, a, t),
     }
 }
 
@@ -162,8 +149,6 @@ pub fn general_face(out: &mut [i32], work: &[u32], n: usize, f: usize, t: u32)
     ensures { out.new ≡ put_point out.old f (face_coordinate (tension t) n work.now 0 f) (face_coordinate (tension t) n work.now 1 f) (face_coordinate (tension t) n work.now 2 f) }
 {
     let rule = face_rule(work, n, f);
-    let x = face_on(work, n, f, rule, 0, t);
-    let y = face_on(work, n, f, rule, 1, t);
-    let z = face_on(work, n, f, rule, 2, t);
-    coordinates::put_point(&mut *out, f, x, y, z);
+    let p = coordinates::on_axes(|a| face_on(work, n, f, rule, a, t));
+    coordinates::put_point(&mut *out, f, p.x, p.y, p.z);
 }

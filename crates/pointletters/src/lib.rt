@@ -17,12 +17,10 @@ pub fn edge_letter(faces: &[u32], marks: &[u8], h: usize, m: usize) -> u8
     requires h_in_bounds { (from faces.now h < length marks.now) × (to quads faces.now h < length marks.now) }
     ensures { result ≡ letter_of (made_by (edge_case (edge_rule faces.now marks.now h))) }
 {
-    let rule = edgerules::edge_rule(faces, marks, h, m);
-    match rule {
+    match edgerules::edge_rule(faces, marks, h, m) {
         EdgeRule::InnerRule => b'C',
         EdgeRule::InsideSegment => b'A',
-        EdgeRule::StartOfSegment => b'B',
-        EdgeRule::EndOfSegment => b'B',
+        EdgeRule::StartOfSegment | EdgeRule::EndOfSegment => b'B',
         EdgeRule::WholeSegment => b'M',
     }
 }

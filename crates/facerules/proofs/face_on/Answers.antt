@@ -1,6 +1,8 @@
 -- `face_on` meets its contract, by cases. Assumes nothing.
 use borrow.Author.Rules.{rules}
-use mathlib.Core.Path.{sym, ap, ◌∙◌}
+use mathlib.Core.Path.{◌≡◌, sym, ap, ◌∙◌}
+use mathlib.Core.Logic.{⊎_elim}
+use lib.IntN.{ℤ}
 use mir.Syntax.{w32}
 use mir.Val.{SFits}
 use mir.Facts.{to_z-of_z}
@@ -8,6 +10,7 @@ use Rattle.rounding.specs.Rounding.{round}
 use Rattle.curve.specs.Weights.{tension}
 use Rattle.rings.specs.Scales.{face_scale}
 use Rattle.facerules.specs.declared.FaceRule.{FaceRule}
+use Rattle.facerules.specs.declared.FaceRule.TheVariants.{BothInner}
 use Rattle.facerules.specs.Faces.{face_value_of}
 use Rattle.facerules.proofs.face_on.Goals as goal
 
@@ -29,12 +32,6 @@ pub returns-in-BothInner : goal.returns-in-BothInner
 unfolding face_value_of
 returns-in-BothInner c =
     let f : SFits w32 c.mean_on-in-BothInner.result = search rules in
-    let e = ap (λ (r : FaceRule). round (face_value_of (tension c.args.t) c.args.n c.args.work.now c.args.a c.args.f r) (face_scale (tension c.args.t))) c.in-BothInner.is in
-    simp to_z-of_z (c.mean_on-in-BothInner.ensures ∙ sym e)
-
-pub returns-in-NeitherInner : goal.returns-in-NeitherInner
-unfolding face_value_of
-returns-in-NeitherInner c =
-    let f : SFits w32 c.mean_on-in-NeitherInner.result = search rules in
-    let e = ap (λ (r : FaceRule). round (face_value_of (tension c.args.t) c.args.n c.args.work.now c.args.a c.args.f r) (face_scale (tension c.args.t))) c.in-NeitherInner.is in
-    simp to_z-of_z (c.mean_on-in-NeitherInner.ensures ∙ sym e)
+    let v : FaceRule → ℤ = λ r. round (face_value_of (tension c.args.t) c.args.n c.args.work.now c.args.a c.args.f r) (face_scale (tension c.args.t)) in
+    let e : v BothInner ≡ v c.args.rule = ⊎_elim (λ x. sym (ap v x)) (λ x. sym (ap v x)) c.in-BothInner.is in
+    simp to_z-of_z (c.mean_on-in-BothInner.ensures ∙ e)

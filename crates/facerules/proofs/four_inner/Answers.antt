@@ -1,4 +1,5 @@
 -- `four_inner` meets its contract. Assumes nothing.
+use mathlib.Core.Path.{◌∙◌}
 use native.Mathlib.Omega.{arith}
 use Rattle.facerules.proofs.Reading.{across_lt}
 use Rattle.facerules.proofs.Directions.{four_yes, four_no}
@@ -10,5 +11,5 @@ inner_twice-requires-then-inner_twice c = (c.requires.0, omega (arith, c.across_
 pub returns-then-inner_twice : goal.returns-then-inner_twice
 returns-then-inner_twice c = four_yes _ _ _ _ _ _ c.across_side.ensures c.inner_twice.ensures c.if-inner_twice.true c.inner_twice-then-inner_twice.ensures
 
-pub returns : goal.returns
-returns c = four_no _ _ _ _ c.inner_twice.ensures c.if-inner_twice.false
+pub returns-else-inner_twice : goal.returns-else-inner_twice
+returns-else-inner_twice c = c.if-inner_twice.false ∙ four_no _ _ _ _ c.inner_twice.ensures c.if-inner_twice.false
