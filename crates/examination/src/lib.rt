@@ -9,11 +9,11 @@ ghost use Rattle.nets.specs.Drawn.{drawn};
 ghost use Rattle.verdict.specs.Verdict.{vertex_verdict, adjacency_verdict, faces_verdict, shape_verdict, net_verdict};
 ghost use Rattle.reasons.specs.Reasons.{number, verdict_of};
 ghost use Rattle.slotsteps.specs.Slots.{SlotTables};
-ghost use Rattle.vertexcounts.specs.Counts.{Counted};
 ghost use Rattle.examination.specs.Examine.{refused_where, CheckTables, Joined, Examined};
 
 use nets::Net;
 use reasons::{Reason, Refusal};
+use vertexcounts::CountedVertices;
 
 // The refusal for a reason at the place that was found, if one was.
 fn refuse_at(reason: Reason, place: Option<usize>) -> Result<(), Refusal>
@@ -26,23 +26,22 @@ fn refuse_at(reason: Reason, place: Option<usize>) -> Result<(), Refusal>
 }
 
 // Refusals 10 to 12 of a net with its mates built and its vertices counted.
-fn examine_vertices(net: Net, work: &[u32]) -> Result<(), Refusal>
-    requires counted { Counted (length net.marks.now) net.sides.now net.faces.now work.now }
-    requires joined { Joined net.faces.now (length net.marks.now) }
-    ensures { verdict_of result ≡ vertex_verdict (shape_of net.entry.sides.now) (length net.entry.marks.now) net.entry.faces.now net.entry.marks.now }
+fn examine_vertices(vertices: CountedVertices, marks: &[u8]) -> Result<(), Refusal>
+    requires count { vertices.count ≡ length marks.now }
+    requires joined { Joined vertices.faces.now vertices.count }
+    ensures { verdict_of result ≡ vertex_verdict (shape_of vertices.entry.sides.now) vertices.entry.count vertices.entry.faces.now marks.now }
 {
-    let nv = net.marks.len();
     refuse_at(
         Reason::NonManifoldVertex,
-        manifold::first_non_manifold(net.faces, net.sides, nv, work),
+        manifold::first_non_manifold(vertices),
     )?;
     refuse_at(
         Reason::ValenceOutOfRange,
-        manifold::first_bad_valence(net.faces, net.sides, nv, work),
+        manifold::first_bad_valence(vertices),
     )?;
     refuse_at(
         Reason::MarkedInteriorVertex,
-        manifold::first_marked_ring(net.faces, net.sides, net.marks, work),
+        manifold::first_marked_ring(vertices, marks),
     )
 }
 
@@ -54,15 +53,23 @@ fn examine_adjacency(net: Net, work: &mut [u32]) -> Result<(), Refusal>
     ensures { Examined (adjacency_verdict (shape_of net.entry.sides.now) (length net.entry.marks.now) net.entry.faces.now net.entry.marks.now)
         net.entry.sides.now net.entry.faces.now work.old result work.new }
 {
-    let n = net.faces.len();
-    if let Some(h) = slots::link(net.faces, net.sides, net.marks.len(), &mut *work) {
+    let faces = net.faces;
+    let sides = net.sides;
+    let count = net.marks.len();
+    if let Some(h) = slots::link(faces, sides, count, &mut *work) {
         return Err(Refusal {
             reason: Reason::RepeatedHalfEdge,
-            place: sidetable::face_in(net.sides, &*work, n, h),
+            place: sidetable::face_in(sides, &*work, faces.len(), h),
         });
     }
-    vertexcounts::count_faces(net.faces, net.sides, net.marks.len(), &mut *work);
-    examine_vertices(net, &*work)
+    vertexcounts::count_faces(faces, sides, count, &mut *work);
+    let vertices = CountedVertices {
+        faces,
+        sides,
+        count,
+        work: &*work,
+    };
+    examine_vertices(vertices, net.marks)
 }
 
 // Refusals 8 to 12 of a net whose corners all are vertices.

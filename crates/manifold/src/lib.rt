@@ -6,63 +6,60 @@ ghost use Rattle.search.specs.Found.{Found};
 ghost use Rattle.search.specs.Search.{first};
 ghost use Rattle.refusals.specs.Refusals.{isolated, non_manifold, bad_valence, marked_ring};
 ghost use Rattle.polygons.specs.Polygons.{shape_of};
-ghost use Rattle.vertexcounts.specs.Counts.{Counted};
+
+use vertexcounts::CountedVertices;
 
 // 10 at the vertex p: its faces form neither one full ring nor one open fan.
-fn non_manifold(faces: &[u32], sides: &[u8], nv: usize, work: &[u32], p: usize) -> bool
-    requires counted { Counted nv sides.now faces.now work.now }
-    requires joined { first (isolated faces.now) nv ≡ nv }
-    requires p_lt_nv { p < nv }
-    ensures { result ≡ non_manifold (shape_of sides.now) faces.now p }
+fn non_manifold(vertices: CountedVertices, p: usize) -> bool
+    requires joined { first (isolated vertices.faces.now) vertices.count ≡ vertices.count }
+    requires p_lt_count { p < vertices.count }
+    ensures { result ≡ non_manifold (shape_of vertices.entry.sides.now) vertices.entry.faces.now p }
 {
-    let h = vertexcounts::start_in(faces, sides, nv, work, p);
-    let d = vertexcounts::faces_at(faces, sides, nv, work, p);
-    !adjacency::meets_all(faces, sides, work, h, d)
+    let h = vertices.start(p);
+    let d = vertices.valence(p);
+    !adjacency::meets_all(vertices.faces, vertices.sides, vertices.work, h, d)
 }
 
 // 11 at the vertex p: a ring of fewer than 3 or more than 8 faces, or a fan of more than 6.
-fn bad_valence(faces: &[u32], sides: &[u8], nv: usize, work: &[u32], p: usize) -> bool
-    requires counted { Counted nv sides.now faces.now work.now }
-    requires p_lt_nv { p < nv }
-    ensures { result ≡ bad_valence (shape_of sides.now) faces.now p }
+fn bad_valence(vertices: CountedVertices, p: usize) -> bool
+    requires { p < vertices.count }
+    ensures { result ≡ bad_valence (shape_of vertices.entry.sides.now) vertices.entry.faces.now p }
 {
-    let m = vertexcounts::faces_at(faces, sides, nv, work, p);
-    if vertexcounts::is_open(faces, sides, nv, work, p) {
+    let m = vertices.valence(p);
+    if vertices.is_open(p) {
         return bounds::MAX_FAN < m;
     }
     m < bounds::MIN_RING || bounds::MAX_RING < m
 }
 
 // 12 at the vertex p: mark 1 on a full ring.
-fn marked_ring(faces: &[u32], sides: &[u8], marks: &[u8], work: &[u32], p: usize) -> bool
-    requires counted { Counted (length marks.now) sides.now faces.now work.now }
-    requires p_in_bounds { p < length marks.now }
-    ensures { result ≡ marked_ring (shape_of sides.now) faces.now marks.now p }
+fn marked_ring(vertices: CountedVertices, marks: &[u8], p: usize) -> bool
+    requires count { vertices.count ≡ length marks.now }
+    requires p_lt_count { p < vertices.count }
+    ensures { result ≡ marked_ring (shape_of vertices.entry.sides.now) vertices.entry.faces.now marks.now p }
 {
-    marks[p] == 1 && !vertexcounts::is_open(faces, sides, marks.len(), work, p)
+    marks[p] == 1 && !vertices.is_open(p)
 }
 
 // The first vertex with refusal 10.
-pub fn first_non_manifold(faces: &[u32], sides: &[u8], nv: usize, work: &[u32]) -> Option<usize>
-    requires counted { Counted nv sides.now faces.now work.now }
-    requires nv_value { first (isolated faces.now) nv ≡ nv }
-    ensures { Found (non_manifold (shape_of sides.now) faces.now) nv result }
+pub fn first_non_manifold(vertices: CountedVertices) -> Option<usize>
+    requires { first (isolated vertices.faces.now) vertices.count ≡ vertices.count }
+    ensures { Found (non_manifold (shape_of vertices.entry.sides.now) vertices.entry.faces.now) vertices.entry.count result }
 {
-    (0..nv).find(|p| non_manifold(faces, sides, nv, work, *p))
+    (0..vertices.count).find(|p| non_manifold(vertices, *p))
 }
 
 // The first vertex with refusal 11.
-pub fn first_bad_valence(faces: &[u32], sides: &[u8], nv: usize, work: &[u32]) -> Option<usize>
-    requires { Counted nv sides.now faces.now work.now }
-    ensures { Found (bad_valence (shape_of sides.now) faces.now) nv result }
+pub fn first_bad_valence(vertices: CountedVertices) -> Option<usize>
+    ensures { Found (bad_valence (shape_of vertices.entry.sides.now) vertices.entry.faces.now) vertices.entry.count result }
 {
-    (0..nv).find(|p| bad_valence(faces, sides, nv, work, *p))
+    (0..vertices.count).find(|p| bad_valence(vertices, *p))
 }
 
 // The first vertex with refusal 12.
-pub fn first_marked_ring(faces: &[u32], sides: &[u8], marks: &[u8], work: &[u32]) -> Option<usize>
-    requires { Counted (length marks.now) sides.now faces.now work.now }
-    ensures { Found (marked_ring (shape_of sides.now) faces.now marks.now) (length marks.now) result }
+pub fn first_marked_ring(vertices: CountedVertices, marks: &[u8]) -> Option<usize>
+    requires { vertices.count ≡ length marks.now }
+    ensures { Found (marked_ring (shape_of vertices.entry.sides.now) vertices.entry.faces.now marks.now) vertices.entry.count result }
 {
-    (0..marks.len()).find(|p| marked_ring(faces, sides, marks, work, *p))
+    (0..vertices.count).find(|p| marked_ring(vertices, marks, *p))
 }

@@ -1,7 +1,6 @@
 -- `first_marked_ring` meets its contract. Assumes nothing.
 use mathlib.Core.Path.{refl}
 use native.Mathlib.Omega.{arith}
-use lib.ListN.{length}
 use Rattle.std.proofs.Common.{rules, tests}
 use Rattle.std.proofs.lemmas.Iterator.{YieldsList-from_range}
 use Rattle.std.proofs.lemmas.Iterator.Search.{find_from_yields_List}
@@ -11,4 +10,4 @@ use Rattle.refusals.specs.Refusals.{marked_ring}
 use Rattle.manifold.proofs.first_marked_ring.Goals as goal
 
 pub returns : goal.returns
-returns c = found_find (marked_ring (shape_of c.args.sides.now) c.args.faces.now c.args.marks.now) (length c.args.marks.now) _ (find_from_yields_List (marked_ring (shape_of c.args.sides.now) c.args.faces.now c.args.marks.now) _ _ c.find.result c.find.ensures.ran (YieldsList-from_range 0 (length c.args.marks.now) (length c.args.marks.now) refl (omega arith)) (λ x b q k. search (rules, tests)))
+returns c = found_find (marked_ring (shape_of c.args.vertices.sides.now) c.args.vertices.faces.now c.args.marks.now) c.args.vertices.count _ (find_from_yields_List (marked_ring (shape_of c.args.vertices.sides.now) c.args.vertices.faces.now c.args.marks.now) _ _ c.find.result c.find.ensures.ran (YieldsList-from_range 0 c.args.vertices.count c.args.vertices.count refl (omega arith)) (λ x b q k. search (rules, tests)))

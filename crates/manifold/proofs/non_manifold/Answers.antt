@@ -9,9 +9,9 @@ use Rattle.manifold.proofs.non_manifold.Goals as goal
 
 pub meets_all-requires-clause-h_in_bounds : goal.meets_all-requires-clause-h_in_bounds
 meets_all-requires-clause-h_in_bounds c =
-    let l = c.args.faces.now in
-    let p = c.args.p in (omega (arith, c.start_in-h.ensures, start-lt (shape_of c.args.sides.now) l p (not_isolated l p (first_before (isolated l) c.args.nv p (omega (arith, c.requires.joined))))), omega (arith, c.faces_at-d.ensures, valence-le l p))
+    let l = c.args.vertices.faces.now in
+    let p = c.args.p in (omega (arith, c.start-h.ensures, start-lt (shape_of c.args.vertices.sides.now) l p (not_isolated l p (first_before (isolated l) c.args.vertices.count p (omega (arith, c.requires.joined))))), omega (arith, c.valence-d.ensures, valence-le l p))
 
 pub returns : goal.returns
 unfolding non_manifold
-returns c = rw (c.meets_all.ensures, c.start_in-h.ensures, c.faces_at-d.ensures)
+returns c = rw (c.meets_all.ensures, c.start-h.ensures, c.valence-d.ensures)

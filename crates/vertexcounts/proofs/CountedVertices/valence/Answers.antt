@@ -1,0 +1,9 @@
+-- `valence` meets its contract. Assumes nothing.
+use Rattle.polygons.specs.Polygons.{shape_of}
+use Rattle.vertexcounts.proofs.Counts.{count-valence}
+use Rattle.vertexcounts.proofs.CountedVertices.valence.Goals as goal
+
+pub returns : goal.returns
+returns c =
+    let v = c.args.self in
+    count-valence (shape_of v.sides.now) v.faces.now v.count v.work.now c.args.p v.counted.countable.few c.requires v.counted.all

@@ -1,7 +1,0 @@
--- `faces_at` meets its contract. Assumes nothing.
-use Rattle.polygons.specs.Polygons.{shape_of}
-use Rattle.vertexcounts.proofs.Counts.{count-valence}
-use Rattle.vertexcounts.proofs.faces_at.Goals as goal
-
-pub returns : goal.returns
-returns c = count-valence (shape_of c.args.sides.now) c.args.faces.now c.args.nv c.args.work.now c.args.p c.requires.counted.countable.few c.requires.p_lt_nv c.requires.counted.all

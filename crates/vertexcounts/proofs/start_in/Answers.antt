@@ -1,7 +1,0 @@
--- `start_in` meets its contract. Assumes nothing.
-use Rattle.polygons.specs.Polygons.{shape_of}
-use Rattle.vertexcounts.proofs.Counts.{count-start}
-use Rattle.vertexcounts.proofs.start_in.Goals as goal
-
-pub returns : goal.returns
-returns c = count-start (shape_of c.args.sides.now) c.args.faces.now c.args.nv c.args.work.now c.args.p c.requires.counted.countable.few c.requires.p_lt_nv c.requires.counted.all
