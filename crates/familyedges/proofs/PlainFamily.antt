@@ -135,6 +135,23 @@ module _ (v : ℕ) (l : List ℕ) (ok : Manifold quads v l) (fours : length l % 
           back₃ = inside₁ v l ok.oriented fours (4 * p + 3) (16 * p + 13) (16 * p + 2) (omega arith) (omega arith) (omega arith);
         }
 
+-- as both tests tell
+pub family_tested : (l : List ℕ) (h : ℕ) → ((i : ℕ) → i < 4 → mate quads l (h + 4 * i) < length l) → ((i : ℕ) → i < 4 → Ordinary l (from l (h + 4 * i))) → FamilyTest l h
+family_tested l h m o =
+    let e : h + 4 * 0 ≡ h = omega arith in
+    let m₀ : mate quads l h < length l = rw e at (m 0 (omega arith)) in
+    let o₀ : Ordinary l (from l h) = rw e at (o 0 (omega arith)) in
+    record {
+      mate₀ = m₀;
+      mate₁ = m 1 (omega arith);
+      mate₂ = m 2 (omega arith);
+      mate₃ = m 3 (omega arith);
+      corner₀ = o₀;
+      corner₁ = o 1 (omega arith);
+      corner₂ = o 2 (omega arith);
+      corner₃ = o 3 (omega arith);
+    }
+
 pub mates_some : (l : List ℕ) (h : ℕ) → PlainFamily l h → ((2 ≤ mate quads l h) × (mate quads l h < length l)) × ((2 ≤ mate quads l (h + 4)) × (mate quads l (h + 4) < length l))
     × ((2 ≤ mate quads l (h + 8)) × (mate quads l (h + 8) < length l)) × ((2 ≤ mate quads l (h + 12)) × (mate quads l (h + 12) < length l))
 mates_some l h x =

@@ -2,7 +2,10 @@
 // vertices with fixed places: it takes no walk and no test of its own.
 #![tactic(auto)]
 
-ghost use Rattle.std.specs.Prelude.{◌≡◌, true, ◌+◌, ◌<◌, length};
+ghost use Rattle.std.specs.Prelude.{◌≡◌, true, ℕ, ◌+◌, ◌*◌, ◌<◌, length};
+ghost use Rattle.topology.specs.Shape.{quads};
+ghost use Rattle.topology.specs.HalfEdge.{from, mate};
+ghost use Rattle.schemelaws.specs.Ordinary.{Ordinary};
 ghost use Rattle.halfedges.specs.Tables.{Connectivity};
 ghost use Rattle.exactedges.specs.Edge.{ClassedCorners};
 ghost use Rattle.familylines.specs.Steps.{Going, Carries};
@@ -62,41 +65,34 @@ pub fn family_edges(
     )
 }
 
-// Whether the sides of the face that was split have mates and its corners are ordinary, where its family starts at h.
+// Whether the half-edge h has a mate.
+fn is_mated(faces: &[u32], work: &[u32], h: usize) -> bool
+    requires { Connectivity faces.now work.now × (h < length faces.now) }
+    ensures { result ≡ true → mate quads faces.now h < length faces.now }
+{
+    halfedges::mate_side(faces, work, h) < faces.len()
+}
+
+// Whether the sides of the face that was split have mates, where its family starts at h.
+fn mated_sides(faces: &[u32], work: &[u32], h: usize) -> bool
+    requires { Connectivity faces.now work.now × (h + 15 < length faces.now) }
+    ensures { result ≡ true → (i : ℕ) → i < 4 → mate quads faces.now (h + 4 * i) < length faces.now }
+{
+    (0..4).all(|i| is_mated(faces, work, h + 4 * i))
+}
+
+// Whether its corners are ordinary.
+fn ordinary_corners(faces: &[u32], work: &[u32], at: usize, initial: usize, h: usize) -> bool
+    requires { ClassedCorners at initial faces.now work.now × (h + 15 < length faces.now) }
+    ensures { result ≡ true → (i : ℕ) → i < 4 → Ordinary faces.now (from faces.now (h + 4 * i)) }
+{
+    (0..4).all(|i| classes::is_ordinary(work, at, initial, halfedges::start_of(faces, h + 4 * i)))
+}
+
+// Whether both hold.
 pub fn plain_family(faces: &[u32], work: &[u32], at: usize, initial: usize, h: usize) -> bool
     requires { Connectivity faces.now work.now × ClassedCorners at initial faces.now work.now × (h + 15 < length faces.now) }
     ensures { result ≡ true → FamilyTest faces.now h }
 {
-    let n = faces.len();
-    if halfedges::mate_side(faces, work, h) < n {
-        if halfedges::mate_side(faces, work, h + 4) < n {
-            if halfedges::mate_side(faces, work, h + 8) < n {
-                if halfedges::mate_side(faces, work, h + 12) < n {
-                    if classes::is_ordinary(work, at, initial, halfedges::start_of(faces, h)) {
-                        if classes::is_ordinary(
-                            work,
-                            at,
-                            initial,
-                            halfedges::start_of(faces, h + 4),
-                        ) {
-                            if classes::is_ordinary(
-                                work,
-                                at,
-                                initial,
-                                halfedges::start_of(faces, h + 8),
-                            ) {
-                                return classes::is_ordinary(
-                                    work,
-                                    at,
-                                    initial,
-                                    halfedges::start_of(faces, h + 12),
-                                );
-                            }
-                        }
-                    }
-                }
-            }
-        }
-    }
-    false
+    mated_sides(faces, work, h) && ordinary_corners(faces, work, at, initial, h)
 }

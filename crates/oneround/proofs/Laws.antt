@@ -85,6 +85,9 @@ module _ (t v n at initial : ℕ) (B : Buffers) (c : Current t v n at initial B)
   unfolding quads
   count-le = let e = corners in let q = c.vertices in let k = vertices_refined v l (omega arith) in omega arith
 
+  pub made-le : (edge : ℕ) → edge ≡ edge_count quads l → v + edge + n / 4 ≤ 4 * n
+  made-le edge e = subst (λ (j : ℕ). v + j + n / 4 ≤ 4 * n) (sym e) count-le
+
   pub count_is : v + edge_count quads l + n / 4 ≡ length (step (tension t) old).marks
   unfolding quads
   count_is =

@@ -51,20 +51,6 @@ pub fn round(
     let count = v + edges + n / 4;
     roundfaces::extend_marks(&mut *marks, v, count);
     let first = 3 * (v + edges);
-    // Two calls: the compiler then leaves the pass a function of its own, which takes fewer instructions.
-    if later {
-        passes::face_points(
-            &mut points[first..],
-            &mut *faces,
-            &*work,
-            n,
-            v,
-            edges,
-            t,
-            true,
-        );
-        return count;
-    }
     passes::face_points(
         &mut points[first..],
         &mut *faces,
@@ -73,7 +59,7 @@ pub fn round(
         v,
         edges,
         t,
-        false,
+        later,
     );
     count
 }

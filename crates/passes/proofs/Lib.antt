@@ -1,3 +1,3 @@
+mod EdgePass
 mod FacePass
 pub mod FamilyTable
-mod Turns

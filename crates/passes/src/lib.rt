@@ -1,17 +1,117 @@
 // The passes of a round over all edges and over all faces: one by one in the first round, by families in later ones, where a round made the net.
 #![tactic(auto)]
 
-ghost use Rattle.std.specs.Prelude.{◌≡◌, true, ◌*◌, ◌/◌, ◌≤◌, length, take};
+ghost use Rattle.std.specs.Prelude.{◌≡◌, true, ◌+◌, ◌*◌, ◌/◌, ◌%◌, ◌≤◌, ◌<◌, length, take};
 ghost use Rattle.curve.specs.Weights.{tension};
 ghost use Rattle.topology.specs.Shape.{quads};
 ghost use Rattle.topology.specs.HalfEdge.{edge_count};
 ghost use Rattle.refinedfaces.specs.Refined.{refined};
 ghost use Rattle.refinedfaces.specs.Families.{AfterRound};
-ghost use Rattle.tables.specs.Tables.{filled};
-ghost use Rattle.roundfaces.specs.Faces.{FacesIn};
-ghost use Rattle.facerules.specs.Faces.{FaceTable, face_coordinates};
+ghost use Rattle.tables.specs.Tables.{filled, Written};
+ghost use Rattle.roundfaces.specs.Faces.{refined_by, FacesIn};
+ghost use Rattle.facerules.specs.Faces.{FaceTable, face_coordinate, face_coordinates};
 ghost use Rattle.familyfaces.specs.Family.{FamilyTable};
 ghost use Rattle.edgetable.specs.EdgeTable.{Round, Edges};
+ghost use Rattle.familylines.specs.Steps.{Carries};
+ghost use Rattle.passes.specs.Parts.{Underway, PartIn, PointsPut};
+
+// Makes the points of the edges of the half-edges from h up to `end`, where `edges` are met before; the answer is how many are met then.
+fn side_points(
+    points: &mut [i32],
+    faces: &[u32],
+    marks: &[u8],
+    work: &mut [u32],
+    at: usize,
+    initial: usize,
+    h: usize,
+    end: usize,
+    edges: usize,
+    t: u32,
+) -> usize
+    requires underway { Underway t faces.now marks.now points.old work.old at initial h edges }
+    requires end_in_bounds { (h ≤ end) × (end ≤ length faces.now) }
+    ensures { Carries t faces.now marks.now h edges end result points.old work.old points.new work.new }
+{
+    let mut met = edges;
+    for g in h..end {
+        met = edgetable::edge_side(
+            &mut *points,
+            faces,
+            marks,
+            &mut *work,
+            at,
+            initial,
+            g,
+            met,
+            t,
+        );
+    }
+    met
+}
+
+// Makes the points of the edges of the family from h on.
+fn family_points(
+    points: &mut [i32],
+    faces: &[u32],
+    marks: &[u8],
+    work: &mut [u32],
+    at: usize,
+    initial: usize,
+    h: usize,
+    edges: usize,
+    t: u32,
+) -> usize
+    requires underway { Underway t faces.now marks.now points.old work.old at initial h edges }
+    requires after_round { AfterRound faces.now × (h % 16 ≡ 0) × (h < length faces.now) }
+    ensures { Carries t faces.now marks.now h edges (h + 16) result points.old work.old points.new work.new }
+{
+    if familyedges::plain_family(faces, &*work, at, initial, h) {
+        return familyedges::family_edges(&mut *points, faces, marks, &mut *work, h, edges, t);
+    }
+    side_points(
+        &mut *points,
+        faces,
+        marks,
+        &mut *work,
+        at,
+        initial,
+        h,
+        h + 16,
+        edges,
+        t,
+    )
+}
+
+// Makes the points of all edges, family by family.
+fn edges_by_families(
+    points: &mut [i32],
+    faces: &[u32],
+    marks: &[u8],
+    work: &mut [u32],
+    at: usize,
+    initial: usize,
+    t: u32,
+) -> usize
+    requires round { Round t faces.now marks.now points.old work.old at initial }
+    requires after_round { AfterRound faces.now }
+    ensures { Carries t faces.now marks.now 0 0 (length faces.now) result points.old work.old points.new work.new }
+{
+    let mut edges = 0;
+    for p in 0..faces.len() / 16 {
+        edges = family_points(
+            &mut *points,
+            faces,
+            marks,
+            &mut *work,
+            at,
+            initial,
+            16 * p,
+            edges,
+            t,
+        );
+    }
+    edges
+}
 
 // Makes the points of all edges; the answer is their number.
 pub fn edge_points(
@@ -29,43 +129,86 @@ pub fn edge_points(
     ensures value { result ≡ edge_count quads faces.now }
     ensures edges { Edges t faces.now marks.now points.old work.old points.new work.new (length faces.now) (edge_count quads faces.now) }
 {
-    let n = faces.len();
-    let mut edges = 0;
-    let mut h = 0;
-    while h < n {
-        let mut end = n;
-        if later {
-            if familyedges::plain_family(faces, &*work, at, initial, h) {
-                edges = familyedges::family_edges(
-                    &mut *points,
-                    faces,
-                    marks,
-                    &mut *work,
-                    h,
-                    edges,
-                    t,
-                );
-                h += 16;
-                continue;
-            }
-            end = h + 16;
-        }
-        while h < end {
-            edges = edgetable::edge_side(
-                &mut *points,
-                faces,
-                marks,
-                &mut *work,
-                at,
-                initial,
-                h,
-                edges,
-                t,
-            );
-            h += 1;
-        }
+    if later {
+        return edges_by_families(&mut *points, faces, marks, &mut *work, at, initial, t);
     }
-    edges
+    side_points(
+        &mut *points,
+        faces,
+        marks,
+        &mut *work,
+        at,
+        initial,
+        0,
+        faces.len(),
+        0,
+        t,
+    )
+}
+
+// Writes the points of the faces from f up to `end` to `out`, and their refined corners over the corners, the last first.
+fn put_faces(
+    out: &mut [i32],
+    faces: &mut [u32],
+    work: &[u32],
+    n: usize,
+    v: usize,
+    edges: usize,
+    f: usize,
+    end: usize,
+    t: u32,
+)
+    requires { PartIn t n v edges f end out.old faces.old work.now }
+    ensures points { PointsPut (face_coordinate (tension t) n work.now) f end out.old out.new }
+    ensures corners { Written (16 * f) (16 * end) (refined_by n v edges faces.old work.now) faces.old faces.new }
+{
+    for g in (f..end).rev() {
+        facepoints::put_face(&mut *out, work, n, g, t);
+        roundfaces::refine_face(&mut *faces, work, n, v, edges, g);
+    }
+}
+
+// The same for the family of the faces from f on.
+fn put_family(
+    out: &mut [i32],
+    faces: &mut [u32],
+    work: &[u32],
+    n: usize,
+    v: usize,
+    edges: usize,
+    f: usize,
+    t: u32,
+)
+    requires part { PartIn t n v edges f (f + 4) out.old faces.old work.now }
+    requires family_table { FamilyTable n work.now × (f % 4 ≡ 0) }
+    ensures points { PointsPut (face_coordinate (tension t) n work.now) f (f + 4) out.old out.new }
+    ensures corners { Written (16 * f) (16 * (f + 4)) (refined_by n v edges faces.old work.now) faces.old faces.new }
+{
+    if familyfaces::plain_family(work, n, f) {
+        familyfaces::refine_family(&mut *out, &mut *faces, work, n, v, edges, f, t);
+        return;
+    }
+    put_faces(&mut *out, &mut *faces, work, n, v, edges, f, f + 4, t);
+}
+
+// The same for all faces, family by family.
+fn faces_by_families(
+    out: &mut [i32],
+    faces: &mut [u32],
+    work: &[u32],
+    n: usize,
+    v: usize,
+    edges: usize,
+    t: u32,
+)
+    requires face_table { FaceTable t n work.now × FacesIn n v edges faces.old work.now × (3 * (n / 4) ≤ length out.old) }
+    requires family_table { FamilyTable n work.now }
+    ensures out_after { out.new ≡ filled (face_coordinates (tension t) n work.now) out.old }
+    ensures faces_after { faces.new ≡ filled (refined quads v (take n faces.old)) faces.old }
+{
+    for p in (0..n / 16).rev() {
+        put_family(&mut *out, &mut *faces, work, n, v, edges, 4 * p, t);
+    }
 }
 
 // Writes the points of all faces to `out`, and the refined corners over the corners, from the last face to the first; in a later round by families.
@@ -84,21 +227,9 @@ pub fn face_points(
     ensures out_after { out.new ≡ filled (face_coordinates (tension t) n work.now) out.old }
     ensures faces_after { faces.new ≡ filled (refined quads v (take n faces.old)) faces.old }
 {
-    let mut f = n / 4;
-    while f > 0 {
-        let mut end = 0;
-        if later {
-            end = f - 4;
-            if familyfaces::plain_family(work, n, end) {
-                f = end;
-                familyfaces::refine_family(&mut *out, &mut *faces, work, n, v, edges, f, t);
-                continue;
-            }
-        }
-        while f > end {
-            f -= 1;
-            facepoints::put_face(&mut *out, work, n, f, t);
-            roundfaces::refine_face(&mut *faces, work, n, v, edges, f);
-        }
+    if later {
+        faces_by_families(&mut *out, &mut *faces, work, n, v, edges, t);
+        return;
     }
+    put_faces(&mut *out, &mut *faces, work, n, v, edges, 0, n / 4, t);
 }

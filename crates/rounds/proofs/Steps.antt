@@ -64,7 +64,7 @@ steps_later t m ok (suc i) h =
     record { vertices = length old.marks; before = old.faces; net = refinable_manifold old r; fours = r.fours; is = step_faces (tension t) old }
 
 -- the tables with another work table
-abbrev with_work : Buffers → List ℕ → Buffers
+abbrev pub with_work : Buffers → List ℕ → Buffers
 with_work B u = buffers B.vertices B.faces B.marks u
 
 module _ (t k v n last : ℕ) (B : Buffers) (ok : Prepared t k v n last B) where

@@ -34,8 +34,7 @@ pub fn rounds(
     classes::count_ring_sizes(&faces[..n], &mut *work, at, v);
     let mut count = v;
     let mut corners = n;
-    let mut i = 0;
-    while i < k {
+    for i in 0..k {
         count = oneround::round(
             &mut *points,
             &mut *faces,
@@ -50,12 +49,10 @@ pub fn rounds(
             t,
             i > 0,
         );
-        i += 1;
-        if i == k {
-            return count;
+        if i + 1 < k {
+            roundmates::next_mates(&mut *work, corners, i > 0);
+            corners *= 4;
         }
-        roundmates::next_mates(&mut *work, corners, i > 1);
-        corners *= 4;
     }
     count
 }

@@ -1,9 +1,7 @@
 -- `rounds::round` meets its contract. Assumes nothing.
-use mathlib.Core.Path.{sym, subst}
-use Prim.Native.Nat.{ℕ, ◌+◌, ◌*◌, ◌/◌, ◌≤◌}
 use native.Mathlib.Omega.{arith}
 use Rattle.nets.specs.Buffers.{buffers}
-use Rattle.oneround.proofs.Laws.{count-le, ready, nameable, letters_made, face_ready, family_ready, net_ready, part_start, part_room, refines}
+use Rattle.oneround.proofs.Laws.{made-le, ready, nameable, letters_made, face_ready, family_ready, net_ready, part_start, part_room, refines}
 use Rattle.oneround.proofs.round.Goals as goal
 
 pub edge_points-edges-requires-clause-round : goal.edge_points-edges-requires-clause-round
@@ -14,38 +12,38 @@ name_points-requires c = λ a. (nameable c.args.t c.args.v c.args.n c.args.at c.
 
 pub overflow_add-count : goal.overflow_add-count
 overflow_add-count c =
-    let k : c.args.v + c.edge_points-edges.result + c.args.n / 4 ≤ 4 * c.args.n = subst (λ (j : ℕ). c.args.v + j + c.args.n / 4 ≤ 4 * c.args.n) (sym c.edge_points-edges.ensures.value) (count-le c.args.t c.args.v c.args.n c.args.at c.args.initial (buffers c.args.points.now c.args.faces.now c.args.marks.now c.args.work.now) c.requires.current) in
+    let k = made-le c.args.t c.args.v c.args.n c.args.at c.args.initial (buffers c.args.points.now c.args.faces.now c.args.marks.now c.args.work.now) c.requires.current _ c.edge_points-edges.ensures.value in
     let q = c.requires.current.small in
     omega arith
 
 pub overflow_add-count-2 : goal.overflow_add-count-2
 overflow_add-count-2 c =
-    let k : c.args.v + c.edge_points-edges.result + c.args.n / 4 ≤ 4 * c.args.n = subst (λ (j : ℕ). c.args.v + j + c.args.n / 4 ≤ 4 * c.args.n) (sym c.edge_points-edges.ensures.value) (count-le c.args.t c.args.v c.args.n c.args.at c.args.initial (buffers c.args.points.now c.args.faces.now c.args.marks.now c.args.work.now) c.requires.current) in
+    let k = made-le c.args.t c.args.v c.args.n c.args.at c.args.initial (buffers c.args.points.now c.args.faces.now c.args.marks.now c.args.work.now) c.requires.current _ c.edge_points-edges.ensures.value in
     let q = c.requires.current.small in
     omega arith
 
 pub extend_marks-requires : goal.extend_marks-requires
 extend_marks-requires c =
-    let k : c.args.v + c.edge_points-edges.result + c.args.n / 4 ≤ 4 * c.args.n = subst (λ (j : ℕ). c.args.v + j + c.args.n / 4 ≤ 4 * c.args.n) (sym c.edge_points-edges.ensures.value) (count-le c.args.t c.args.v c.args.n c.args.at c.args.initial (buffers c.args.points.now c.args.faces.now c.args.marks.now c.args.work.now) c.requires.current) in
+    let k = made-le c.args.t c.args.v c.args.n c.args.at c.args.initial (buffers c.args.points.now c.args.faces.now c.args.marks.now c.args.work.now) c.requires.current _ c.edge_points-edges.ensures.value in
     let q = c.requires.current.small in
     let r = c.requires.current.room_marks in
     (omega arith, omega arith)
 
 pub overflow_add-first : goal.overflow_add-first
 overflow_add-first c =
-    let k : c.args.v + c.edge_points-edges.result + c.args.n / 4 ≤ 4 * c.args.n = subst (λ (j : ℕ). c.args.v + j + c.args.n / 4 ≤ 4 * c.args.n) (sym c.edge_points-edges.ensures.value) (count-le c.args.t c.args.v c.args.n c.args.at c.args.initial (buffers c.args.points.now c.args.faces.now c.args.marks.now c.args.work.now) c.requires.current) in
+    let k = made-le c.args.t c.args.v c.args.n c.args.at c.args.initial (buffers c.args.points.now c.args.faces.now c.args.marks.now c.args.work.now) c.requires.current _ c.edge_points-edges.ensures.value in
     let q = c.requires.current.small in
     omega arith
 
 pub overflow_mul-first : goal.overflow_mul-first
 overflow_mul-first c =
-    let k : c.args.v + c.edge_points-edges.result + c.args.n / 4 ≤ 4 * c.args.n = subst (λ (j : ℕ). c.args.v + j + c.args.n / 4 ≤ 4 * c.args.n) (sym c.edge_points-edges.ensures.value) (count-le c.args.t c.args.v c.args.n c.args.at c.args.initial (buffers c.args.points.now c.args.faces.now c.args.marks.now c.args.work.now) c.requires.current) in
+    let k = made-le c.args.t c.args.v c.args.n c.args.at c.args.initial (buffers c.args.points.now c.args.faces.now c.args.marks.now c.args.work.now) c.requires.current _ c.edge_points-edges.ensures.value in
     let q = c.requires.current.small in
     omega arith
 
 pub offset_bounds-points-first : goal.offset_bounds-points-first
 offset_bounds-points-first c =
-    let k : c.args.v + c.edge_points-edges.result + c.args.n / 4 ≤ 4 * c.args.n = subst (λ (j : ℕ). c.args.v + j + c.args.n / 4 ≤ 4 * c.args.n) (sym c.edge_points-edges.ensures.value) (count-le c.args.t c.args.v c.args.n c.args.at c.args.initial (buffers c.args.points.now c.args.faces.now c.args.marks.now c.args.work.now) c.requires.current) in
+    let k = made-le c.args.t c.args.v c.args.n c.args.at c.args.initial (buffers c.args.points.now c.args.faces.now c.args.marks.now c.args.work.now) c.requires.current _ c.edge_points-edges.ensures.value in
     let q = c.requires.current.small in
     omega arith
 
@@ -56,44 +54,17 @@ pub slice_bounds-face_points-start : goal.slice_bounds-face_points-start
 slice_bounds-face_points-start c = part_start c.args.t c.args.v c.args.n c.args.at c.args.initial (buffers c.args.points.now c.args.faces.now c.args.marks.now c.args.work.now) c.requires.current _ _ c.edge_points-edges.ensures.edges _ c.edge_points-edges.ensures.value
 
 pub face_points-requires-clause-face_table : goal.face_points-requires-clause-face_table
-face_points-requires-clause-face_table c =
-    let d = c.edge_points-edges.ensures.edges in (
-      face_ready c.args.t c.args.v c.args.n c.args.at c.args.initial (buffers c.args.points.now c.args.faces.now c.args.marks.now c.args.work.now) c.requires.current _ _ d,
-      net_ready c.args.t c.args.v c.args.n c.args.at c.args.initial (buffers c.args.points.now c.args.faces.now c.args.marks.now c.args.work.now) c.requires.current _ _ d _ c.edge_points-edges.ensures.value,
-      part_room c.args.t c.args.v c.args.n c.args.at c.args.initial (buffers c.args.points.now c.args.faces.now c.args.marks.now c.args.work.now) c.requires.current _ _ d _ c.edge_points-edges.ensures.value,
-    )
+face_points-requires-clause-face_table c = (
+  face_ready c.args.t c.args.v c.args.n c.args.at c.args.initial (buffers c.args.points.now c.args.faces.now c.args.marks.now c.args.work.now) c.requires.current _ _ c.edge_points-edges.ensures.edges,
+  net_ready c.args.t c.args.v c.args.n c.args.at c.args.initial (buffers c.args.points.now c.args.faces.now c.args.marks.now c.args.work.now) c.requires.current _ _ c.edge_points-edges.ensures.edges _ c.edge_points-edges.ensures.value,
+  part_room c.args.t c.args.v c.args.n c.args.at c.args.initial (buffers c.args.points.now c.args.faces.now c.args.marks.now c.args.work.now) c.requires.current _ _ c.edge_points-edges.ensures.edges _ c.edge_points-edges.ensures.value,
+)
 
 pub face_points-requires-clause-family_table : goal.face_points-requires-clause-family_table
-face_points-requires-clause-family_table c = λ y. family_ready c.args.t c.args.v c.args.n c.args.at c.args.initial (buffers c.args.points.now c.args.faces.now c.args.marks.now c.args.work.now) c.requires.current _ _ c.edge_points-edges.ensures.edges (c.requires.after_round c.if-later.true)
-
-pub returns-then-later-clause-refines : goal.returns-then-later-clause-refines
-returns-then-later-clause-refines c = refines c.args.t c.args.v c.args.n c.args.at c.args.initial (buffers c.args.points.now c.args.faces.now c.args.marks.now c.args.work.now) c.requires.current _ _ c.edge_points-edges.ensures.edges _ c.edge_points-edges.ensures.value _ _ _ c.face_points.ensures.out_after c.face_points.ensures.faces_after c.extend_marks.ensures
-
-pub returns-then-later-clause-written_if : goal.returns-then-later-clause-written_if
-returns-then-later-clause-written_if c = letters_made c.args.t c.args.v c.args.n c.args.at c.args.initial (buffers c.args.points.now c.args.faces.now c.args.marks.now c.args.work.now) c.requires.current _ _ c.edge_points-edges.ensures.edges _ c.edge_points-edges.ensures.value _ _ _ c.name_points.ensures
-
-pub offset_bounds-points-first-2 : goal.offset_bounds-points-first-2
-offset_bounds-points-first-2 c =
-    let k : c.args.v + c.edge_points-edges.result + c.args.n / 4 ≤ 4 * c.args.n = subst (λ (j : ℕ). c.args.v + j + c.args.n / 4 ≤ 4 * c.args.n) (sym c.edge_points-edges.ensures.value) (count-le c.args.t c.args.v c.args.n c.args.at c.args.initial (buffers c.args.points.now c.args.faces.now c.args.marks.now c.args.work.now) c.requires.current) in
-    let q = c.requires.current.small in
-    omega arith
-
-pub slice_bounds-face_points-count-2 : goal.slice_bounds-face_points-count-2
-slice_bounds-face_points-count-2 c = part_start c.args.t c.args.v c.args.n c.args.at c.args.initial (buffers c.args.points.now c.args.faces.now c.args.marks.now c.args.work.now) c.requires.current _ _ c.edge_points-edges.ensures.edges _ c.edge_points-edges.ensures.value
-
-pub slice_bounds-face_points-start-2 : goal.slice_bounds-face_points-start-2
-slice_bounds-face_points-start-2 c = part_start c.args.t c.args.v c.args.n c.args.at c.args.initial (buffers c.args.points.now c.args.faces.now c.args.marks.now c.args.work.now) c.requires.current _ _ c.edge_points-edges.ensures.edges _ c.edge_points-edges.ensures.value
-
-pub face_points-requires-2-clause-face_table : goal.face_points-requires-2-clause-face_table
-face_points-requires-2-clause-face_table c =
-    let d = c.edge_points-edges.ensures.edges in (
-      face_ready c.args.t c.args.v c.args.n c.args.at c.args.initial (buffers c.args.points.now c.args.faces.now c.args.marks.now c.args.work.now) c.requires.current _ _ d,
-      net_ready c.args.t c.args.v c.args.n c.args.at c.args.initial (buffers c.args.points.now c.args.faces.now c.args.marks.now c.args.work.now) c.requires.current _ _ d _ c.edge_points-edges.ensures.value,
-      part_room c.args.t c.args.v c.args.n c.args.at c.args.initial (buffers c.args.points.now c.args.faces.now c.args.marks.now c.args.work.now) c.requires.current _ _ d _ c.edge_points-edges.ensures.value,
-    )
+face_points-requires-clause-family_table c = λ y. family_ready c.args.t c.args.v c.args.n c.args.at c.args.initial (buffers c.args.points.now c.args.faces.now c.args.marks.now c.args.work.now) c.requires.current _ _ c.edge_points-edges.ensures.edges (c.requires.after_round y)
 
 pub returns-clause-refines : goal.returns-clause-refines
-returns-clause-refines c = refines c.args.t c.args.v c.args.n c.args.at c.args.initial (buffers c.args.points.now c.args.faces.now c.args.marks.now c.args.work.now) c.requires.current _ _ c.edge_points-edges.ensures.edges _ c.edge_points-edges.ensures.value _ _ _ c.face_points-2.ensures.out_after c.face_points-2.ensures.faces_after c.extend_marks.ensures
+returns-clause-refines c = refines c.args.t c.args.v c.args.n c.args.at c.args.initial (buffers c.args.points.now c.args.faces.now c.args.marks.now c.args.work.now) c.requires.current _ _ c.edge_points-edges.ensures.edges _ c.edge_points-edges.ensures.value _ _ _ c.face_points.ensures.out_after c.face_points.ensures.faces_after c.extend_marks.ensures
 
 pub returns-clause-written_if : goal.returns-clause-written_if
 returns-clause-written_if c = letters_made c.args.t c.args.v c.args.n c.args.at c.args.initial (buffers c.args.points.now c.args.faces.now c.args.marks.now c.args.work.now) c.requires.current _ _ c.edge_points-edges.ensures.edges _ c.edge_points-edges.ensures.value _ _ _ c.name_points.ensures

@@ -1,0 +1,14 @@
+-- `faces_by_families` meets its contract: the families from p on are done. Assumes nothing.
+use Prim.Native.Nat.{ℕ, ◌*◌, ◌/◌, ◌%◌}
+use lib.ListN.{take}
+use Rattle.curve.specs.Weights.{tension}
+use Rattle.topology.specs.Shape.{quads}
+use Rattle.refinedfaces.specs.Refined.{corner}
+use Rattle.facerules.specs.Faces.{face_coordinate}
+use Rattle.tables.proofs.Written.{Refining}
+use Rattle.passes.specs.Parts.{PointsPut}
+use Rattle.passes.proofs.faces_by_families.Given as goal
+
+abbrev pub invariant-loop-p : goal.invariant-loop-p
+invariant-loop-p l =
+    PointsPut (face_coordinate (tension l.t) l.n l.work) (4 * l.p) (l.n / 4) l.initial.out l.out × Refining l.n (λ (k : ℕ). corner quads l.v (take l.n l.initial.faces) (k / 4) (k % 4)) l.initial.faces l.faces (4 * l.p)
