@@ -4,15 +4,13 @@ use mathlib.Core.Logic.{◌⊎◌, inl, inr}
 use mathlib.Core.List.{List}
 use Prim.Native.Nat.{ℕ, ◌+◌, ◌*◌, ◌/◌, ◌%◌, ◌≤◌, ◌<◌}
 use native.Mathlib.Omega.{arith}
-use lib.ListN.{length, get_or, take}
+use lib.ListN.{get_or}
 use Rattle.topology.specs.Shape.{quads}
 use Rattle.topology.specs.Quads.{across}
 use Rattle.edgeentries.specs.Entry.{wide_flag, entry_of}
-use Rattle.refinedfaces.specs.Refined.{corner}
 use Rattle.tables.specs.Tables.{Written}
-use Rattle.tables.proofs.Written.{Refining, refining_to}
-use Rattle.roundfaces.specs.Faces.{refined_by, FacesIn}
-use Rattle.roundfaces.proofs.Faces.{corners_then, corners_from}
+use Rattle.roundfaces.specs.Faces.{refined_by}
+use Rattle.roundfaces.proofs.Faces.{corners_then}
 use Rattle.facerules.specs.Faces.{EntryTable, AllPlain, beyond_of}
 use Rattle.facerules.proofs.Reading.{across_lt}
 use Rattle.familyfaces.specs.Family.{FamilyTable, PlainSides, PlainFace}
@@ -109,10 +107,3 @@ family_corners n v count f w c c₁ c₂ c₃ c₄ x₃ x₂ x₁ x₀ =
     corners_then n v count (16 * f) (16 * (f + 1)) (16 * f + 64) w c c₃ c₄ (omega arith) (omega arith)
     (corners_then n v count (16 * (f + 1)) (16 * (f + 2)) (16 * f + 64) w c c₂ c₃ (omega arith) (omega arith)
     (corners_then n v count (16 * (f + 2)) (16 * (f + 3)) (16 * f + 64) w c c₁ c₂ (omega arith) (omega arith) y₃ y₂) y₁) y₀
-
-pub family_refining : (n v count : ℕ) (faces w : List ℕ) → FacesIn n v count faces w → (c c' : List ℕ) (f e : ℕ) → f + 4 ≡ e → Refining n (λ (k : ℕ). corner quads v (take n faces) (k / 4) (k % 4)) faces c e
-    → length c' ≡ length c → Written (16 * f) (16 * f + 64) (refined_by n v count c w) c c' → Refining n (λ (k : ℕ). corner quads v (take n faces) (k / 4) (k % 4)) faces c' f
-family_refining n v count faces w ok c c' f e q x k y =
-    let i : 16 * f + 64 ≡ 16 * e = omega arith in
-    refining_to n (λ (k : ℕ). corner quads v (take n faces) (k / 4) (k % 4)) faces c c' f e (omega arith) x k
-    (corners_from n v count faces w ok c c' f e x (subst (λ (z : ℕ). Written (16 * f) z (refined_by n v count c w) c c') i y))

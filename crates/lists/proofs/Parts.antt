@@ -2,11 +2,11 @@
 use mathlib.Core.Path.{◌≡◌, sym, ap, ◌∙◌}
 use mathlib.Core.List.{List, [], ◌++◌, append-nil}
 use Prim.Native.Nat.{ℕ, ◌+◌, ◌-◌, ◌≤◌, ◌<◌}
-use native.Mathlib.Decide.{ℕ_discrete, dec_lt}
+use native.Mathlib.Decide.{dec_lt}
 use native.Mathlib.Omega.{arith}
 use borrow.Rule.Slice.PartMut.{put_mid}
-use lib.ListN.{length, get_or, set, take, drop, length-append, length-drop, drop_of_length-le, get_or-append}
-use lib.Seq.{take_all, drop-drop, get_or-set_same, get_or-set_other, get_or-append-add, get_or-drop, ext_get_or}
+use lib.ListN.{length, get_or, take, drop, length-append, length-drop, drop_of_length-le, get_or-append}
+use lib.Seq.{take_all, drop-drop, get_or-append-add, get_or-drop, ext_get_or}
 
 module _ {A : Type 0} where
   -- the part from a to the end came back as f over its front
@@ -17,18 +17,6 @@ module _ {A : Type 0} where
       let p : drop (length o - a) (drop a o) ≡ [] = drop_of_length-le (drop a o) {i = length o - a} (omega arith) in
       let q : y ≡ f ++ drop (a + m) o = e ∙ ap (λ (t : List A). f ++ drop m t) w ∙ ap (λ (t : List A). f ++ t) (drop-drop m a o) in
       ap (λ (t : List A). take a o ++ (y ++ t)) p ∙ ap (λ (t : List A). take a o ++ t) (append-nil y ∙ q)
-
-  -- what a store leaves: the new element at its place, the old ones elsewhere
-  pub stored_below : (d : A) (o v : List A) (i : ℕ) → i < length o → ((k : ℕ) → k < i → get_or o k d ≡ get_or v k d)
-      → (k : ℕ) → k < i + 1 → get_or (set o i (get_or v i d)) k d ≡ get_or v k d
-  stored_below d o v i h f k l = go (ℕ_discrete k i)
-    where
-      go : Dec (k ≡ i) → get_or (set o i (get_or v i d)) k d ≡ get_or v k d
-      go (yes e) = rw e (get_or-set_same o i (get_or v i d) d h)
-      go (no n) = get_or-set_other o i k (get_or v i d) d n ∙ f k (omega arith)
-
-  pub stored_above : (d : A) (o p : List A) (i : ℕ) (x : A) → ((k : ℕ) → i ≤ k → get_or o k d ≡ get_or p k d) → (k : ℕ) → i + 1 ≤ k → get_or (set o i x) k d ≡ get_or p k d
-  stored_above d o p i x f k l = get_or-set_other o i k x d (omega arith) ∙ f k (omega arith)
 
   -- a list that agrees with v below its length and with p above it
   pub joined : (d : A) (o v p : List A) → length v ≤ length p → length o ≡ length p → ((k : ℕ) → k < length v → get_or o k d ≡ get_or v k d)

@@ -1,7 +1,7 @@
 -- Laws of corners refined in place.
 use mathlib.Core.Path.{◌≡◌, refl, sym, ap, ◌∙◌}
 use mathlib.Core.List.{List}
-use Prim.Native.Nat.{ℕ, ◌+◌, ◌-◌, ◌*◌, ◌/◌, ◌%◌, ◌≤◌, ◌<◌}
+use Prim.Native.Nat.{ℕ, ◌+◌, ◌*◌, ◌/◌, ◌%◌, ◌≤◌, ◌<◌}
 use native.Mathlib.Nat.{add-zero}
 use native.Mathlib.Omega.{arith}
 use lib.ListN.{length, get_or, take}
@@ -81,19 +81,7 @@ module _ (n v count : ℕ) (faces w : List ℕ) (ok : FacesIn n v count faces w)
     below = λ g a. let x = ok.numbered g a in let y = edge-le quads l g in unfold l in omega arith;
   }
 
-  -- the corners of face f - 1 are still the old ones
-  pub corners_as : (c c' : List ℕ) (f : ℕ) → 0 < f → Refining n (λ (k : ℕ). corner quads v (take n faces) (k / 4) (k % 4)) faces c f
-      → Written (16 * (f - 1)) (16 * (f - 1) + 16) (refined_by n v count c w) c c'
-      → Written (16 * (f - 1)) (16 * (f - 1) + 16) (λ (k : ℕ). corner quads v (take n faces) (k / 4) (k % 4)) c c'
-  unfolding l from quads
-  corners_as c c' f p x y =
-      let b = x.le in
-      written_as (16 * (f - 1)) (16 * (f - 1) + 16) _ _ c c' (λ k h g. rw ok.counted (corner_by_lem quads v l (λ (h : ℕ). get_or c h 0) (λ (h : ℕ). edge_of (entry_of n w h)) (k / 4)
-      (x.written.before (k / 4) (omega arith) ∙ sym (get_or-take n faces (k / 4) 0 (omega arith)))
-      (ok.numbered (k / 4) (omega arith))
-      (ok.numbered (quads.prev (k / 4)) (omega arith)) (k % 4) (omega arith))) y
-
-  -- so are those of the faces from f on
+  -- the corners of the faces before e are still the old ones
   pub corners_from : (c c' : List ℕ) (f e : ℕ) → Refining n (λ (k : ℕ). corner quads v (take n faces) (k / 4) (k % 4)) faces c e
       → Written (16 * f) (16 * e) (refined_by n v count c w) c c'
       → Written (16 * f) (16 * e) (λ (k : ℕ). corner quads v (take n faces) (k / 4) (k % 4)) c c'
