@@ -11,8 +11,9 @@ ghost use Rattle.refusals.specs.Refusals.{isolated};
 ghost use Rattle.polygons.specs.Polygons.{shape_of};
 ghost use Rattle.halfedges.specs.Tables.{MateTableOf};
 ghost use Rattle.tables.specs.Tables.{SameOutside};
-ghost use Rattle.sidetable.specs.Table.{Linked};
 ghost use Rattle.adjacency.specs.Chains.{side, Tables, Chained, Adjacency};
+
+use sidetable::PolygonMesh;
 
 // Makes every chain empty.
 fn clear_chains(faces: &[u32], sides: &[u8], work: &mut [u32])
@@ -114,15 +115,14 @@ pub fn first_empty(faces: &[u32], sides: &[u8], nv: usize, work: &[u32]) -> Opti
 }
 
 // Whether turning from h meets d faces. It takes at most d turns.
-pub fn meets_all(faces: &[u32], sides: &[u8], work: &[u32], h: usize, d: u16) -> bool
-    requires linked { Linked sides.now faces.now work.now }
-    requires h_in_bounds { (h < length faces.now) × (d ≤ length faces.now) }
-    ensures { result ≡ eqb (faces_met (shape_of sides.now) faces.now h) d }
+pub fn meets_all(mesh: PolygonMesh, h: usize, d: u16) -> bool
+    requires { (h < length mesh.faces.now) × (d ≤ length mesh.faces.now) }
+    ensures { result ≡ eqb (faces_met (shape_of mesh.entry.sides.now) mesh.entry.faces.now h) d }
 {
-    let n = faces.len();
+    let n = mesh.faces.len();
     let mut g = h;
     for k in 0..d {
-        g = sidetable::turn_in(faces, sides, work, g);
+        g = mesh.turn(g);
         if g == n || g == h {
             return k + 1 == d;
         }

@@ -6,42 +6,10 @@ ghost use Rattle.topology.specs.HalfEdge.{from};
 ghost use Rattle.topology.specs.Boundary.{boundary_from, boundary_step};
 ghost use Rattle.tables.specs.Tables.{Written};
 ghost use Rattle.polygons.specs.Polygons.{shape_of};
-ghost use Rattle.sidetable.specs.Table.{Linked};
 ghost use Rattle.boundarywalk.specs.Walkable.{Walkable, way_of, stepped, edges_to, ListRoom, StartsAtMark};
 
 use nets::Net;
-use walks::HalfEdges;
-
-// The corners and the side counts of a net, and the work table that has its mates and its shape.
-#[derive(Clone, Copy)]
-pub struct PolygonMesh<'a> {
-    pub faces: &'a [u32],
-    pub sides: &'a [u8],
-    pub work: &'a [u32],
-    pub ghost linked: { Linked sides.now faces.now work.now },
-}
-
-impl<'a> HalfEdges for PolygonMesh<'a> {
-    ghost shape = { λ s. shape_of s.sides.now };
-
-    ghost corners = { λ s. s.faces.now };
-
-    fn count(&self) -> usize {
-        self.faces.len()
-    }
-
-    fn next(&self, h: usize) -> usize {
-        sidetable::next_in(self.sides, self.work, self.faces.len(), h)
-    }
-
-    fn prev(&self, h: usize) -> usize {
-        sidetable::prev_in(self.sides, self.work, self.faces.len(), h)
-    }
-
-    fn mate(&self, h: usize) -> usize {
-        sidetable::mate_in(self.faces, self.sides, self.work, h)
-    }
-}
+use sidetable::PolygonMesh;
 
 // The boundary half-edge that leaves the vertex p, or none.
 pub fn boundary_from(net: Net<'_>, work: &[u32], p: usize) -> usize

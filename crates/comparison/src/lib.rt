@@ -7,8 +7,8 @@ ghost use Rattle.nets.specs.Drawn.{drawn};
 ghost use Rattle.seamtest.specs.SeamTest.{same_axis, same_vertex};
 ghost use Rattle.comparison.specs.Walks.{Pair, walks, first_apart, Comparable};
 
-use boundarywalk::PolygonMesh;
 use nets::Net;
+use sidetable::PolygonMesh;
 
 // Whether vertex u of one table and vertex v of another agree on an axis.
 fn same_axis(a: &[i32], u: usize, b: &[i32], v: usize, axis: usize) -> bool

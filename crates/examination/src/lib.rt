@@ -13,6 +13,7 @@ ghost use Rattle.examination.specs.Examine.{refused_where, CheckTables, Joined, 
 
 use nets::Net;
 use reasons::{Reason, Refusal};
+use sidetable::PolygonMesh;
 use vertexcounts::CountedVertices;
 
 // The refusal for a reason at the place that was found, if one was.
@@ -28,8 +29,8 @@ fn refuse_at(reason: Reason, place: Option<usize>) -> Result<(), Refusal>
 // Refusals 10 to 12 of a net with its mates built and its vertices counted.
 fn examine_vertices(vertices: CountedVertices, marks: &[u8]) -> Result<(), Refusal>
     requires count { vertices.count ≡ length marks.now }
-    requires joined { Joined vertices.faces.now vertices.count }
-    ensures { verdict_of result ≡ vertex_verdict (shape_of vertices.entry.sides.now) vertices.entry.count vertices.entry.faces.now marks.now }
+    requires joined { Joined vertices.mesh.faces.now vertices.count }
+    ensures { verdict_of result ≡ vertex_verdict (shape_of vertices.entry.mesh.sides.now) vertices.entry.count vertices.entry.mesh.faces.now marks.now }
 {
     refuse_at(
         Reason::NonManifoldVertex,
@@ -63,12 +64,12 @@ fn examine_adjacency(net: Net, work: &mut [u32]) -> Result<(), Refusal>
         });
     }
     vertexcounts::count_faces(faces, sides, count, &mut *work);
-    let vertices = CountedVertices {
+    let mesh = PolygonMesh {
         faces,
         sides,
-        count,
         work: &*work,
     };
+    let vertices = CountedVertices { mesh, count };
     examine_vertices(vertices, net.marks)
 }
 

@@ -11,19 +11,19 @@ use vertexcounts::CountedVertices;
 
 // 10 at the vertex p: its faces form neither one full ring nor one open fan.
 fn non_manifold(vertices: CountedVertices, p: usize) -> bool
-    requires joined { first (isolated vertices.faces.now) vertices.count ≡ vertices.count }
+    requires joined { first (isolated vertices.mesh.faces.now) vertices.count ≡ vertices.count }
     requires p_lt_count { p < vertices.count }
-    ensures { result ≡ non_manifold (shape_of vertices.entry.sides.now) vertices.entry.faces.now p }
+    ensures { result ≡ non_manifold (shape_of vertices.entry.mesh.sides.now) vertices.entry.mesh.faces.now p }
 {
     let h = vertices.start(p);
     let d = vertices.valence(p);
-    !adjacency::meets_all(vertices.faces, vertices.sides, vertices.work, h, d)
+    !adjacency::meets_all(vertices.mesh, h, d)
 }
 
 // 11 at the vertex p: a ring of fewer than 3 or more than 8 faces, or a fan of more than 6.
 fn bad_valence(vertices: CountedVertices, p: usize) -> bool
     requires { p < vertices.count }
-    ensures { result ≡ bad_valence (shape_of vertices.entry.sides.now) vertices.entry.faces.now p }
+    ensures { result ≡ bad_valence (shape_of vertices.entry.mesh.sides.now) vertices.entry.mesh.faces.now p }
 {
     let m = vertices.valence(p);
     if vertices.is_open(p) {
@@ -36,22 +36,22 @@ fn bad_valence(vertices: CountedVertices, p: usize) -> bool
 fn marked_ring(vertices: CountedVertices, marks: &[u8], p: usize) -> bool
     requires count { vertices.count ≡ length marks.now }
     requires p_lt_count { p < vertices.count }
-    ensures { result ≡ marked_ring (shape_of vertices.entry.sides.now) vertices.entry.faces.now marks.now p }
+    ensures { result ≡ marked_ring (shape_of vertices.entry.mesh.sides.now) vertices.entry.mesh.faces.now marks.now p }
 {
     marks[p] == 1 && !vertices.is_open(p)
 }
 
 // The first vertex with refusal 10.
 pub fn first_non_manifold(vertices: CountedVertices) -> Option<usize>
-    requires { first (isolated vertices.faces.now) vertices.count ≡ vertices.count }
-    ensures { Found (non_manifold (shape_of vertices.entry.sides.now) vertices.entry.faces.now) vertices.entry.count result }
+    requires { first (isolated vertices.mesh.faces.now) vertices.count ≡ vertices.count }
+    ensures { Found (non_manifold (shape_of vertices.entry.mesh.sides.now) vertices.entry.mesh.faces.now) vertices.entry.count result }
 {
     (0..vertices.count).find(|p| non_manifold(vertices, *p))
 }
 
 // The first vertex with refusal 11.
 pub fn first_bad_valence(vertices: CountedVertices) -> Option<usize>
-    ensures { Found (bad_valence (shape_of vertices.entry.sides.now) vertices.entry.faces.now) vertices.entry.count result }
+    ensures { Found (bad_valence (shape_of vertices.entry.mesh.sides.now) vertices.entry.mesh.faces.now) vertices.entry.count result }
 {
     (0..vertices.count).find(|p| bad_valence(vertices, *p))
 }
@@ -59,7 +59,7 @@ pub fn first_bad_valence(vertices: CountedVertices) -> Option<usize>
 // The first vertex with refusal 12.
 pub fn first_marked_ring(vertices: CountedVertices, marks: &[u8]) -> Option<usize>
     requires { vertices.count ≡ length marks.now }
-    ensures { Found (marked_ring (shape_of vertices.entry.sides.now) vertices.entry.faces.now marks.now) vertices.entry.count result }
+    ensures { Found (marked_ring (shape_of vertices.entry.mesh.sides.now) vertices.entry.mesh.faces.now marks.now) vertices.entry.count result }
 {
     (0..vertices.count).find(|p| marked_ring(vertices, marks, *p))
 }

@@ -108,20 +108,29 @@ pub fn face_in(sides: &[u8], work: &[u32], n: usize, h: usize) -> usize
     step(sides, work, 6 * n + h, || halfedges::face_of(h))
 }
 
-// The mate of h, or none.
-pub fn mate_in(faces: &[u32], sides: &[u8], work: &[u32], h: usize) -> usize
-    requires linked { Linked sides.now faces.now work.now }
-    requires h_in_bounds { h < length faces.now }
-    ensures { result ≡ mate (shape_of sides.now) faces.now h }
-{
-    work[h] as usize
+// The corners and the side counts of a net, and the work table that has its mates and its shape.
+#[derive(Clone, Copy)]
+pub struct PolygonMesh<'a> {
+    pub faces: &'a [u32],
+    pub sides: &'a [u8],
+    pub work: &'a [u32],
+    pub ghost linked: { Linked sides.now faces.now work.now },
 }
 
-// The half-edge that leaves the vertex of h in the face beyond the side before h, or none.
-pub fn turn_in(faces: &[u32], sides: &[u8], work: &[u32], h: usize) -> usize
-    requires linked { Linked sides.now faces.now work.now }
-    requires h_in_bounds { h < length faces.now }
-    ensures { result ≡ turn (shape_of sides.now) faces.now h }
-{
-    mate_in(faces, sides, work, prev_in(sides, work, faces.len(), h))
+impl<'a> PolygonMesh<'a> {
+    // The mate of h, or none.
+    pub fn mate(self, h: usize) -> usize
+        requires { h < length self.faces.now }
+        ensures { result ≡ mate (shape_of self.entry.sides.now) self.entry.faces.now h }
+    {
+        self.work[h] as usize
+    }
+
+    // The half-edge that leaves the vertex of h in the face beyond the side before h, or none.
+    pub fn turn(self, h: usize) -> usize
+        requires { h < length self.faces.now }
+        ensures { result ≡ turn (shape_of self.entry.sides.now) self.entry.faces.now h }
+    {
+        self.mate(prev_in(self.sides, self.work, self.faces.len(), h))
+    }
 }

@@ -5,9 +5,11 @@ ghost use Rattle.std.specs.Prelude.{◌≡◌, List, ℕ, ◌<◌, length};
 ghost use Rattle.topology.specs.Shape.{Shape, quads};
 ghost use Rattle.topology.specs.HalfEdge.{mate};
 ghost use Rattle.topology.specs.Boundary.{along, back};
+ghost use Rattle.polygons.specs.Polygons.{shape_of};
 ghost use Rattle.walks.specs.Ready.{Ready, Closed, FanStart, StartOfFan};
 
 use halfedges::Mesh;
+use sidetable::PolygonMesh;
 
 // The half-edges of a net: its corners and its shape, in tables that tell mates and the steps round a face.
 pub trait HalfEdges {
@@ -50,6 +52,28 @@ impl<'a> HalfEdges for Mesh<'a> {
 
     fn mate(&self, h: usize) -> usize {
         Mesh::mate(*self, h)
+    }
+}
+
+impl<'a> HalfEdges for PolygonMesh<'a> {
+    ghost shape = { λ s. shape_of s.sides.now };
+
+    ghost corners = { λ s. s.faces.now };
+
+    fn count(&self) -> usize {
+        self.faces.len()
+    }
+
+    fn next(&self, h: usize) -> usize {
+        sidetable::next_in(self.sides, self.work, self.faces.len(), h)
+    }
+
+    fn prev(&self, h: usize) -> usize {
+        sidetable::prev_in(self.sides, self.work, self.faces.len(), h)
+    }
+
+    fn mate(&self, h: usize) -> usize {
+        PolygonMesh::mate(*self, h)
     }
 }
 

@@ -4,4 +4,4 @@ use Rattle.adjacency.proofs.Turning.{Turned}
 use Rattle.adjacency.proofs.meets_all.Given as goal
 
 abbrev pub invariant-loop-k : goal.invariant-loop-k
-invariant-loop-k l = Turned (shape_of l.sides) l.faces l.h l.k l.g
+invariant-loop-k l = Turned (shape_of l.mesh.sides.now) l.mesh.faces.now l.h l.k l.g

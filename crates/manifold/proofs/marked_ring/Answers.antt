@@ -9,8 +9,8 @@ use Rattle.manifold.proofs.marked_ring.Goals as goal
 
 pub returns-then-marks-p-eq1 : goal.returns-then-marks-p-eq1
 returns-then-marks-p-eq1 c =
-    let l = c.args.vertices.faces.now in
-    ap not c.is_open.ensures ∙ closed (shape_of c.args.vertices.sides.now) l c.args.p ∙ sym (marked_on (shape_of c.args.vertices.sides.now) l c.args.p c.args.marks.now c.if-marks-p-eq1.true)
+    let l = c.args.vertices.mesh.faces.now in
+    ap not c.is_open.ensures ∙ closed (shape_of c.args.vertices.mesh.sides.now) l c.args.p ∙ sym (marked_on (shape_of c.args.vertices.mesh.sides.now) l c.args.p c.args.marks.now c.if-marks-p-eq1.true)
 
 pub returns-else-marks-p-eq1 : goal.returns-else-marks-p-eq1
 returns-else-marks-p-eq1 c = ne_eqb (get_or c.args.marks.now c.args.p 0) 1 c.if-marks-p-eq1.false ∙ sym (marked_off _ _ _ _ c.if-marks-p-eq1.false)

@@ -7,10 +7,10 @@ use Rattle.polygons.specs.Polygons.{shape_of}
 use Rattle.adjacency.proofs.Queries.{start-lt, valence-le}
 use Rattle.manifold.proofs.non_manifold.Goals as goal
 
-pub meets_all-requires-clause-h_in_bounds : goal.meets_all-requires-clause-h_in_bounds
-meets_all-requires-clause-h_in_bounds c =
-    let l = c.args.vertices.faces.now in
-    let p = c.args.p in (omega (arith, c.start-h.ensures, start-lt (shape_of c.args.vertices.sides.now) l p (not_isolated l p (first_before (isolated l) c.args.vertices.count p (omega (arith, c.requires.joined))))), omega (arith, c.valence-d.ensures, valence-le l p))
+pub meets_all-requires : goal.meets_all-requires
+meets_all-requires c =
+    let l = c.args.vertices.mesh.faces.now in
+    let p = c.args.p in (omega (arith, c.start-h.ensures, start-lt (shape_of c.args.vertices.mesh.sides.now) l p (not_isolated l p (first_before (isolated l) c.args.vertices.count p (omega (arith, c.requires.joined))))), omega (arith, c.valence-d.ensures, valence-le l p))
 
 pub returns : goal.returns
 unfolding non_manifold

@@ -9,4 +9,4 @@ use Rattle.splitvertices.proofs.edge_points.Given as goal
 
 abbrev pub invariant-loop-h : goal.invariant-loop-h
 invariant-loop-h l =
-    (l.edges ≡ count (first_met (shape_of l.sides) l.faces) l.h) × Made l.sides l.faces l.v l.initial.points l.points (l.v + l.edges)
+    (l.edges ≡ count (first_met (shape_of l.mesh.sides.now) l.mesh.faces.now) l.h) × Made l.mesh.sides.now l.mesh.faces.now l.v l.initial.points l.points (l.v + l.edges)
