@@ -11,23 +11,15 @@ ghost use Rattle.reports.specs.Version.{version};
 ghost use Rattle.seamtest.specs.SeamTest.{seam_side, seam_tested};
 ghost use Rattle.capi.specs.Export.{check_export_of, check_export, export_of, refine_export, seam_export_of, seam_export};
 
-use examination::Examination;
 use limits::Room;
 use nets::Net;
 use reports::{Finding, Report, SeamReport, Sizes};
-use sharing::{SeamSide, Sharing};
+use sharing::SeamSide;
 
 // The caller's record: the new points of the accepted calls.
 #[repr(C)]
 #[derive(Clone, Copy)]
 pub struct Tally {
-    pub points: u64,
-}
-
-// The report, and what the record of new points then holds.
-#[derive(Clone, Copy)]
-pub struct Charged {
-    pub report: Report,
     pub points: u64,
 }
 
@@ -58,51 +50,13 @@ pub extern "C" fn gedrovit_check(
         letters,
         work: work.len(),
     };
-    let examination: Examination = admission::check(
-        rounds, vertices, faces, sides, marks, tension, room, &mut *work,
-    );
-    reports::finding_of(examination)
-}
-
-// The refining call from a record of this many points.
-fn refine_from(
-    points: u64,
-    rounds: u32,
-    vertices: &[i32],
-    faces: &[u32],
-    sides: &[u8],
-    marks: &[u8],
-    tension: u32,
-    out_vertices: &mut [i32],
-    out_faces: &mut [u32],
-    out_marks: &mut [u8],
-    with_letters: bool,
-    letters: &mut [u8],
-    work: &mut [u32],
-) -> Charged
-    ensures { export_of result.report result.points out_vertices.new out_faces.new out_marks.new letters.new work.new ≡
-        refine_export (outcome (request_on points rounds vertices.now faces.now sides.now marks.now tension out_vertices.old out_faces.old out_marks.old with_letters letters.old work.old)) }
-{
-    let refinement = refine::refine(
-        points,
-        rounds,
+    let net = Net {
         vertices,
         faces,
         sides,
         marks,
-        tension,
-        &mut *out_vertices,
-        &mut *out_faces,
-        &mut *out_marks,
-        with_letters,
-        &mut *letters,
-        &mut *work,
-    );
-    let answer = refinement.answer;
-    Charged {
-        report: reports::report_of(answer),
-        points: refinement.points,
-    }
+    };
+    Finding::from(admission::check(rounds, net, tension, room, &mut *work))
 }
 
 // The refined net in the output tables and both counts, with its new points added to the record, and its letters where they are asked for; or the refusal's number
@@ -126,13 +80,16 @@ pub extern "C" fn gedrovit_refine(
     ensures { export_of result tally.new.points out_vertices.new out_faces.new out_marks.new letters.new work.new ≡
         refine_export (outcome (request_on tally.old.points rounds vertices.now faces.now sides.now marks.now tension out_vertices.old out_faces.old out_marks.old with_letters letters.old work.old)) }
 {
-    let charged = refine_from(
-        tally.points,
+    let mut points = tally.points;
+    let answer = refine::refine(
+        &mut points,
         rounds,
-        vertices,
-        faces,
-        sides,
-        marks,
+        Net {
+            vertices,
+            faces,
+            sides,
+            marks,
+        },
         tension,
         out_vertices,
         out_faces,
@@ -141,8 +98,8 @@ pub extern "C" fn gedrovit_refine(
         letters,
         work,
     );
-    tally.points = charged.points;
-    charged.report
+    tally.points = points;
+    Report::from(answer)
 }
 
 // Whether the boundary segment from start_a along the boundary of one net is that from start_b against the boundary of the other: reason 0 and the number of its edges, or the
@@ -165,7 +122,7 @@ pub extern "C" fn gedrovit_share_seam(
 ) -> SeamReport
     ensures { seam_export_of result work.new ≡ seam_export (seam_tested (seam_side (control_net vertices_a.now faces_a.now sides_a.now marks_a.now) tension_a start_a) (seam_side (control_net vertices_b.now faces_b.now sides_b.now marks_b.now) tension_b start_b) work.old) }
 {
-    let sharing: Sharing = sharing::share_seam(
+    let answer = sharing::share_seam(
         SeamSide {
             net: Net {
                 vertices: vertices_a,
@@ -188,7 +145,7 @@ pub extern "C" fn gedrovit_share_seam(
         },
         &mut *work,
     );
-    reports::seam_report_of(sharing)
+    SeamReport::from(answer)
 }
 
 // The lengths to provide for a call, from the side counts and the lengths of the net's other tables; or refusal 1, 2, 3 or 14, which no tables avert, and

@@ -25,7 +25,9 @@ use Rattle.origins.proofs.Letters.{length-letters}
 use Rattle.outcome.proofs.Accepted.{by_result, accepted_refinable}
 use Rattle.outcome.proofs.Counts.{corners_grown}
 use Rattle.outcome.proofs.Tally.{untallied}
-use Rattle.refine.specs.declared.Answer.TheVariants.{Refined, Refused}
+use Rattle.std.specs.Prelude.{Ok, Err}
+use Rattle.reasons.specs.declared.Refusal.{Refusal}
+use Rattle.reasons.specs.Reasons.{number}
 use Rattle.refine.specs.Answer.{answered}
 use Rattle.refine.proofs.Laws.{by_faces}
 use Rattle.textform.specs.Limits.{program_vertices, program_faces}
@@ -94,15 +96,15 @@ module _ (k : ℕ) (rule : Bool) (m : Net) (o : Buffers) (l : List ℕ) (lv : le
   by_refused (refused s q) r p e = ap₂ refusal_text (ap vertex_number e) (ap face_number e)
 
   module _ (t : Buffers) (t₂ : List ℕ) (points : ℕ) where
-    pub refused_text : (r p : ℕ) → answered (record { answer = Refused r p; points = points }) t.vertices t.faces t.marks t₂ t.work ≡ outcome asked → refusal_text r p ≡ refined_text k rule m
-    refused_text r p e = by_refused (net_verdict (plain m)) r p (ap (λ (x : Outcome). x.result) (e ∙ outcome_is))
+    pub refused_text : (x : Refusal) → answered (Err x) points t.vertices t.faces t.marks t₂ t.work ≡ outcome asked → refusal_text (number x.reason) x.place ≡ refined_text k rule m
+    refused_text x e = by_refused (net_verdict (plain m)) (number x.reason) x.place (ap (λ (y : Outcome). y.result) (e ∙ outcome_is))
 
     -- a refined net
-    module _ (v f : ℕ) (e : answered (record { answer = Refined v f; points = points }) t.vertices t.faces t.marks t₂ t.work ≡ outcome asked) where
+    module _ (v f : ℕ) (e : answered (Ok (record { vertices = v; faces = f })) points t.vertices t.faces t.marks t₂ t.work ≡ outcome asked) where
       accepts : net_verdict (plain m) ≡ accepted
       accepts = by_result (net_verdict (plain m)) asked (steps (tension 4) k m) v f (sym (ap (λ (x : Outcome). x.result) (e ∙ outcome_is)))
 
-      is : answered (record { answer = Refined v f; points = points }) t.vertices t.faces t.marks t₂ t.work ≡ given accepted
+      is : answered (Ok (record { vertices = v; faces = f })) points t.vertices t.faces t.marks t₂ t.work ≡ given accepted
       is = e ∙ outcome_is ∙ ap given accepts
 
       vertex_count_lem : v ≡ length (steps (tension 4) k m).marks

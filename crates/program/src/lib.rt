@@ -12,9 +12,9 @@ ghost use Rattle.printingform.specs.Tables.{answer_room};
 ghost use Rattle.programform.specs.Answer.{refined_text, parse_any, program_text};
 ghost use Rattle.programform.specs.Input.{input_room, InputAnswered};
 
+use nets::Net;
 use reading::Input;
 use reasons::Refusal;
-use refine::Answer;
 
 // The input buffer has one byte more than the longest text; the other holds every answer.
 pub const INPUT_ROOM: usize = 32769;
@@ -39,13 +39,16 @@ fn refine_net(
     let mut letters = [0u8; reading::MARKS];
     let mut work = [0u32; reading::WORK];
     let none = [0u8; 0];
-    let charged = refine::refine(
-        0,
+    let mut points = 0;
+    let answer = refine::refine(
+        &mut points,
         rounds,
-        vertices,
-        faces,
-        &none,
-        marks,
+        Net {
+            vertices,
+            faces,
+            sides: &none,
+            marks,
+        },
         4,
         &mut out_vertices,
         &mut out_faces,
@@ -54,19 +57,18 @@ fn refine_net(
         &mut letters,
         &mut work,
     );
-    let answer = charged.answer;
     match answer {
-        Answer::Refined(v, f) => printing::write_net(
+        Ok(counts) => printing::write_net(
             out,
             &out_vertices,
             &out_faces,
             &out_marks,
             rule,
             &letters,
-            v,
-            f,
+            counts.vertices,
+            counts.faces,
         ),
-        Answer::Refused(reason, place) => printing::write_refusal(out, reason, place),
+        Err(refusal) => printing::write_refusal(out, refusal.reason.number(), refusal.place),
     }
 }
 

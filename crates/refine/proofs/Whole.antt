@@ -24,7 +24,10 @@ use Rattle.outcome.specs.Outcome.{refined_to, refused_with, Request, request, Ou
 use Rattle.outcome.proofs.Accepted.{accepted_well_formed}
 use Rattle.outcome.proofs.Counts.{control_among}
 use Rattle.outcome.proofs.Tally.{tally_if, tally_refused, few_points}
-use Rattle.refine.specs.declared.Answer.TheVariants.{Refined, Refused}
+use Rattle.std.specs.Prelude.{Ok, Err}
+use Rattle.reasons.specs.declared.Reason.TheVariants.{TallyLimit}
+use Rattle.reasons.specs.declared.Refusal.{Refusal}
+use Rattle.reasons.specs.Reasons.{number}
 use Rattle.refine.specs.Answer.{answered}
 use Rattle.refine.proofs.Laws.{Ran, corners_limit, corners_room, corners_steps}
 
@@ -34,9 +37,10 @@ with_work a u = request a.tally a.rounds a.net a.tension (buffers a.buffers.vert
 
 module _ (a : Request) where
   -- ---- refused at the admission
-  pub refused_outcome_lem : (r p : ℕ) (w : List ℕ) → RefusedCall (call_of a) a.buffers.work r p w → answered (record { answer = Refused r p; points = a.tally }) a.buffers.vertices a.buffers.faces a.buffers.marks a.letters.table w ≡ outcome a
+  pub refused_outcome_lem : (x : Refusal) (w : List ℕ) → RefusedCall (call_of a) a.buffers.work (number x.reason) x.place w → answered (Err x) a.tally a.buffers.vertices a.buffers.faces a.buffers.marks a.letters.table w ≡ outcome a
   unfolding outcome request_verdict
-  refused_outcome_lem r p w x = rw x.refuses (λ i. outcome_on (refused_with r p) a.tally a.buffers.vertices a.buffers.faces a.buffers.marks a.letters.table (x.work i))
+  refused_outcome_lem x w c =
+      rw c.refuses (λ i. outcome_on (refused_with (number x.reason) x.place) a.tally a.buffers.vertices a.buffers.faces a.buffers.marks a.letters.table (c.work i))
 
   -- the outcome, were v the verdict and w the work table that it leaves
   abbrev given : List ℕ → Verdict → Outcome
@@ -89,7 +93,7 @@ module _ (a : Request) where
     few_new = few_points (call_of a) ok.accepts
 
     -- ---- 15
-    pub refused_15 : max_tally < a.tally + to_add a → (w : List ℕ) → w ≡ cleared (16 * last) a.buffers.work → answered (record { answer = Refused 15 0; points = a.tally }) a.buffers.vertices a.buffers.faces a.buffers.marks a.letters.table w ≡ outcome a
+    pub refused_15 : max_tally < a.tally + to_add a → (w : List ℕ) → w ≡ cleared (16 * last) a.buffers.work → answered (Err (record { reason = TallyLimit; place = 0 })) a.tally a.buffers.vertices a.buffers.faces a.buffers.marks a.letters.table w ≡ outcome a
     unfolding outcome request_verdict
     refused_15 h w c =
         let e = admitted_cleared (call_of a) last a.buffers.work ok a.buffers.work w refl c in
@@ -97,7 +101,7 @@ module _ (a : Request) where
 
     -- ---- the rounds
     pub refined-outcome : a.tally + to_add a ≤ max_tally → (r : ℕ) (o : Buffers) → Ran a.tension a.rounds a.net a.buffers o last r
-        → (l : List ℕ) → l ≡ lettered (letters (tension a.tension) a.net a.rounds) a.letters → answered (record { answer = Refined r last; points = a.tally + to_add a }) o.vertices o.faces o.marks l o.work ≡ outcome a
+        → (l : List ℕ) → l ≡ lettered (letters (tension a.tension) a.net a.rounds) a.letters → answered (Ok (record { vertices = r; faces = last })) (a.tally + to_add a) o.vertices o.faces o.marks l o.work ≡ outcome a
     unfolding outcome request_verdict
     refined-outcome h r o b l q =
         let f : last ≡ length (refined_net a).faces / 4 = (let c = corners_steps a last ok in omega arith) in

@@ -6,31 +6,24 @@ ghost use Rattle.admission.specs.Admission.{AdmittedCall};
 ghost use Rattle.outcome.specs.Outcome.{request_on, call_of, outcome};
 ghost use Rattle.refine.specs.Answer.{answered};
 
-use admission::Admission;
 use limits::Room;
+use nets::Net;
+use reasons::{Reason, Refusal};
 
-#[derive(Clone, Copy)]
-pub enum Answer {
-    Refined(usize, usize),
-    Refused(u32, usize),
+// The counts of a refined net.
+#[derive(Clone, Copy, Debug, PartialEq, Eq)]
+pub struct RefinedCounts {
+    pub vertices: usize,
+    pub faces: usize,
 }
 
-// The answer, and the tally after the call.
-#[derive(Clone, Copy)]
-pub struct Refinement {
-    pub answer: Answer,
-    pub points: u64,
-}
-
-// What follows the admission: refusal 15; or the net where refining begins loaded into the output tables and refined there, and the work table cleared.
+// What follows the admission: refusal 15; or the net where refining begins loaded into the output tables and refined there, the new points added to the tally, and the
+// work table cleared.
 fn refine_admitted(
-    points: u64,
+    points: &mut u64,
     rounds: u32,
-    vertices: &[i32],
-    faces: &[u32],
-    sides: &[u8],
-    marks: &[u8],
-    tension: u32,
+    net: Net<'_>,
+    t: u32,
     out_vertices: &mut [i32],
     out_faces: &mut [u32],
     out_marks: &mut [u8],
@@ -38,25 +31,25 @@ fn refine_admitted(
     letters: &mut [u8],
     work: &mut [u32],
     last: usize,
-) -> Refinement
-    requires { AdmittedCall (call_of (request_on points rounds vertices.now faces.now sides.now marks.now tension out_vertices.old out_faces.old out_marks.old with_letters letters.old work.old)) last work.old }
-    ensures { answered result out_vertices.new out_faces.new out_marks.new letters.new work.new ≡
-        outcome (request_on points rounds vertices.now faces.now sides.now marks.now tension out_vertices.old out_faces.old out_marks.old with_letters letters.old work.old) }
+) -> Result<RefinedCounts, Refusal>
+    requires { AdmittedCall (call_of (request_on points.old rounds net.vertices.now net.faces.now net.sides.now net.marks.now t out_vertices.old out_faces.old out_marks.old with_letters letters.old work.old)) last work.old }
+    ensures { answered result points.new out_vertices.new out_faces.new out_marks.new letters.new work.new ≡
+        outcome (request_on points.old rounds net.entry.vertices.now net.entry.faces.now net.entry.sides.now net.entry.marks.now t out_vertices.old out_faces.old out_marks.old with_letters letters.old work.old) }
 {
-    let v = marks.len();
-    let new = (growth::final_vertices(rounds, faces, sides, v, &*work) - v) as u64;
-    if growth::exceeds(points, new) {
+    let v = net.marks.len();
+    let new = (growth::final_vertices(rounds, net.faces, net.sides, v, &*work) - v) as u64;
+    if growth::exceeds(*points, new) {
         tables::clear(&mut *work, 16 * last);
-        return Refinement {
-            answer: Answer::Refused(15, 0),
-            points,
-        };
+        return Err(Refusal {
+            reason: Reason::TallyLimit,
+            place: 0,
+        });
     }
     let start = loading::load(
-        vertices,
-        faces,
-        sides,
-        marks,
+        net.vertices,
+        net.faces,
+        net.sides,
+        net.marks,
         &mut *out_vertices,
         &mut *out_faces,
         &mut *out_marks,
@@ -71,27 +64,25 @@ fn refine_admitted(
         &mut *letters,
         &mut *work,
         start,
-        4 * limits::quadrilaterals(sides, faces.len()),
+        4 * limits::quadrilaterals(net.sides, net.faces.len()),
         rounds,
         last,
-        tension,
+        t,
     );
     tables::clear(&mut *work, 16 * last);
-    Refinement {
-        answer: Answer::Refined(count, last),
-        points: points + new,
-    }
+    *points += new;
+    Ok(RefinedCounts {
+        vertices: count,
+        faces: last,
+    })
 }
 
-// The net after all rounds and its new points added to `points`, its letters where they are asked for; or the first refusal that holds. The time is that of the
-// check, and after it linear in the refined net.
+// The net after all rounds and its new points added to `points`, its letters where they are asked for; or the first refusal that holds, and `points` as it was. The
+// time is that of the check, and after it linear in the refined net.
 pub fn refine(
-    points: u64,
+    points: &mut u64,
     rounds: u32,
-    vertices: &[i32],
-    faces: &[u32],
-    sides: &[u8],
-    marks: &[u8],
+    net: Net<'_>,
     tension: u32,
     out_vertices: &mut [i32],
     out_faces: &mut [u32],
@@ -99,9 +90,9 @@ pub fn refine(
     with_letters: bool,
     letters: &mut [u8],
     work: &mut [u32],
-) -> Refinement
-    ensures { answered result out_vertices.new out_faces.new out_marks.new letters.new work.new ≡
-        outcome (request_on points rounds vertices.now faces.now sides.now marks.now tension out_vertices.old out_faces.old out_marks.old with_letters letters.old work.old) }
+) -> Result<RefinedCounts, Refusal>
+    ensures { answered result points.new out_vertices.new out_faces.new out_marks.new letters.new work.new ≡
+        outcome (request_on points.old rounds net.entry.vertices.now net.entry.faces.now net.entry.sides.now net.entry.marks.now tension out_vertices.old out_faces.old out_marks.old with_letters letters.old work.old) }
 {
     let room = Room {
         vertices: out_vertices.len(),
@@ -111,28 +102,18 @@ pub fn refine(
         letters: letters.len(),
         work: work.len(),
     };
-    match admission::admit(
-        rounds, vertices, faces, sides, marks, tension, room, &mut *work,
-    ) {
-        Admission::Admitted(last) => refine_admitted(
-            points,
-            rounds,
-            vertices,
-            faces,
-            sides,
-            marks,
-            tension,
-            &mut *out_vertices,
-            &mut *out_faces,
-            &mut *out_marks,
-            with_letters,
-            &mut *letters,
-            &mut *work,
-            last,
-        ),
-        Admission::Refused(number, place) => Refinement {
-            answer: Answer::Refused(number, place),
-            points,
-        },
-    }
+    let last = admission::admit(rounds, net, tension, room, &mut *work)?;
+    refine_admitted(
+        &mut *points,
+        rounds,
+        net,
+        tension,
+        &mut *out_vertices,
+        &mut *out_faces,
+        &mut *out_marks,
+        with_letters,
+        &mut *letters,
+        &mut *work,
+        last,
+    )
 }

@@ -2,16 +2,15 @@
 #![tactic(auto)]
 
 ghost use Rattle.std.specs.Prelude.{◌≡◌};
-ghost use Rattle.examination.specs.Examine.{verdict_of};
+ghost use Rattle.reasons.specs.Reasons.{verdict_of};
 ghost use Rattle.refine.specs.Answer.{result_of};
-ghost use Rattle.sharing.specs.Sharing.{verdict_in, edges_in};
+ghost use Rattle.sharing.specs.Sharing.{edges_in};
 ghost use Rattle.reports.specs.Report.{finding, report, sizes, seam_report_by};
 ghost use Rattle.reports.specs.Version as version;
 
-use examination::Examination;
 use limits::Lengths;
-use refine::Answer;
-use sharing::Sharing;
+use reasons::Refusal;
+use refine::RefinedCounts;
 
 // The verdict of the check: reason 0, or the refusal's number and place.
 #[repr(C)]
@@ -51,54 +50,60 @@ pub struct SeamReport {
     pub edges: u64,
 }
 
-pub fn finding_of(answer: Examination) -> Finding
-    ensures { result ≡ finding (verdict_of answer) }
-{
-    match answer {
-        Examination::Passed => Finding {
-            reason: 0,
-            place: 0,
-        },
-        Examination::Refused(reason, place) => Finding {
-            reason,
-            place: place as u64,
-        },
+impl From<Result<(), Refusal>> for Finding {
+    ghost from_gives = { λ answer given. given ≡ finding (verdict_of answer) };
+
+    fn from(answer: Result<(), Refusal>) -> Finding {
+        match answer {
+            Ok(()) => Finding {
+                reason: 0,
+                place: 0,
+            },
+            Err(refusal) => Finding {
+                reason: refusal.reason.number(),
+                place: refusal.place as u64,
+            },
+        }
     }
 }
 
-pub fn report_of(answer: Answer) -> Report
-    ensures { result ≡ report (result_of answer) }
-{
-    match answer {
-        Answer::Refined(vertices, faces) => Report {
-            reason: 0,
-            place: 0,
-            vertices: vertices as u64,
-            faces: faces as u64,
-        },
-        Answer::Refused(reason, place) => Report {
-            reason,
-            place: place as u64,
-            vertices: 0,
-            faces: 0,
-        },
+impl From<Result<RefinedCounts, Refusal>> for Report {
+    ghost from_gives = { λ answer given. given ≡ report (result_of answer) };
+
+    fn from(answer: Result<RefinedCounts, Refusal>) -> Report {
+        match answer {
+            Ok(counts) => Report {
+                reason: 0,
+                place: 0,
+                vertices: counts.vertices as u64,
+                faces: counts.faces as u64,
+            },
+            Err(refusal) => Report {
+                reason: refusal.reason.number(),
+                place: refusal.place as u64,
+                vertices: 0,
+                faces: 0,
+            },
+        }
     }
 }
 
-pub fn seam_report_of(answer: Sharing) -> SeamReport
-    ensures { result ≡ seam_report_by (verdict_in answer) (edges_in answer) }
-{
-    match answer {
-        Sharing::Shared(edges) => SeamReport {
-            reason: 0,
-            place: 0,
-            edges: edges as u64,
-        },
-        Sharing::Refused(reason, place) => SeamReport {
-            reason,
-            place: place as u64,
-            edges: 0,
-        },
+impl From<Result<usize, Refusal>> for SeamReport {
+    ghost from_gives = { λ answer given. given ≡ seam_report_by (verdict_of answer) (edges_in answer) };
+
+    fn from(answer: Result<usize, Refusal>) -> SeamReport {
+        match answer {
+            Ok(edges) => SeamReport {
+                reason: 0,
+                place: 0,
+                edges: edges as u64,
+            },
+            Err(refusal) => SeamReport {
+                reason: refusal.reason.number(),
+                place: refusal.place as u64,
+                edges: 0,
+            },
+        }
     }
 }
 

@@ -30,8 +30,15 @@ use Rattle.boundarywalk.specs.Walkable.{Walkable, stepped, edges_to}
 use Rattle.comparison.specs.Walks.{Comparable, first_apart}
 use Rattle.comparison.proofs.Sides.{Starts, step_is, edges_is, sides_at, comparable, first-apart_is}
 use Rattle.admission.proofs.Laws.{Corners, corners_of_lem}
-use Rattle.sharing.specs.declared.Sharing.TheVariants.{Shared, Refused}
+use Rattle.std.specs.Prelude.{Ok, Err}
+use Rattle.reasons.specs.declared.Reason.TheVariants.{InvalidStart, SeamMismatch}
+use Rattle.reasons.specs.declared.Reason.{Reason}
+use Rattle.reasons.specs.declared.Refusal.{Refusal}
+use Rattle.reasons.specs.Reasons.{number}
 use Rattle.sharing.specs.Walks.{faces_of, BothPassed, Started, Answered, LinkRoom, Relinked}
+
+abbrev pub refusal : Reason → (place : ℕ) → Refusal
+refusal r p = record { reason = r; place = p }
 
 -- ---- a side whose net is accepted
 module _ (a : SeamSide) (n : ℕ) (ok : verdict (alone_in a n) ≡ accepted) where
@@ -106,20 +113,20 @@ walkable a n ok w t = record { vertices = length a.net.marks; net = accepted_man
 
 -- ---- two accepted nets: what is refused before the steps are compared
 module _ (a b : SeamSide) (f : ℕ) (w : List ℕ) (p : BothPassed a b f w) where
-  answered : (r q : ℕ) → seam_verdict a b (length w) ≡ refused r q → Answered a b f w (Refused r q) w
-  answered r q e = record { verdict = sym e; edges = sym (no_edges a b (length w) r q e); rest = refl }
+  answered : (r : Reason) (q : ℕ) → seam_verdict a b (length w) ≡ refused (number r) q → Answered a b f w (Err (refusal r q)) w
+  answered r q e = record { verdict = sym e; edges = sym (no_edges a b (length w) (number r) q e); rest = refl }
 
-  pub bad_first : bad_start a ≡ true → Answered a b f w (Refused 17 1) w
+  pub bad_first : bad_start a ≡ true → Answered a b f w (Err (refusal InvalidStart 1)) w
   unfolding seam_verdict
-  bad_first t = answered 17 1 (rw (p.first, p.second, t) refl)
+  bad_first t = answered InvalidStart 1 (rw (p.first, p.second, t) refl)
 
-  pub bad_second : bad_start a ≡ false → bad_start b ≡ true → Answered a b f w (Refused 17 2) w
+  pub bad_second : bad_start a ≡ false → bad_start b ≡ true → Answered a b f w (Err (refusal InvalidStart 2)) w
   unfolding seam_verdict
-  bad_second g t = answered 17 2 (rw (p.first, p.second, g, t) refl)
+  bad_second g t = answered InvalidStart 2 (rw (p.first, p.second, g, t) refl)
 
-  not_like : bad_start a ≡ false → bad_start b ≡ false → unlike a b ≡ true → Answered a b f w (Refused 18 0) w
+  not_like : bad_start a ≡ false → bad_start b ≡ false → unlike a b ≡ true → Answered a b f w (Err (refusal SeamMismatch 0)) w
   unfolding seam_verdict
-  not_like g h t = answered 18 0 (rw (p.first, p.second, g, h, t) refl)
+  not_like g h t = answered SeamMismatch 0 (rw (p.first, p.second, g, h, t) refl)
 
 -- ---- two accepted nets and good starts
 -- what is written up to e leaves the rest
@@ -139,7 +146,7 @@ module _ (a b : SeamSide) (f : ℕ) (w : List ℕ) (s : Started a b f w) where
   abbrev p : BothPassed a b f w
   p = s.passed
 
-  pub not_alike : unlike a b ≡ true → Answered a b f w (Refused 18 0) w
+  pub not_alike : unlike a b ≡ true → Answered a b f w (Err (refusal SeamMismatch 0)) w
   not_alike = not_like a b f w p s.first s.second
 
   starts_first : (h : ℕ) → h ≡ boundary_from (shape_of a.net.sides) a.net.faces a.start → Starts a h
@@ -210,14 +217,14 @@ module _ (a b : SeamSide) (f : ℕ) (w : List ℕ) (s : Started a b f w) where
         step : k ≡ first_differing a b
         step = found ∙ first-apart_is a b h (starts_first h at_first) w₂ (12 * f) listed ends
 
-        refused_step : k ≤ e → Answered a b f w (Refused 18 k) w₂
+        refused_step : k ≤ e → Answered a b f w (Err (refusal SeamMismatch k)) w₂
         refused_step c =
             let x = step in
             let y = edges_second in
             let v = differs_refused a b (length w) none (omega arith) in
             record { verdict = ap (refused 18) x ∙ sym v; edges = sym (no_edges a b (length w) 18 (first_differing a b) v); rest = rest }
 
-        shared_edges : e < k → Answered a b f w (Shared e) w₂
+        shared_edges : e < k → Answered a b f w (Ok e) w₂
         shared_edges c =
             let x = step in
             let y = edges_second in
@@ -228,5 +235,5 @@ module _ (a b : SeamSide) (f : ℕ) (w : List ℕ) (s : Started a b f w) where
             }
 
         -- the answer by the step that was found
-        pub answered-step : (k ≤ e → Answered a b f w (Refused 18 k) w₂) × (e < k → Answered a b f w (Shared e) w₂)
+        pub answered-step : (k ≤ e → Answered a b f w (Err (refusal SeamMismatch k)) w₂) × (e < k → Answered a b f w (Ok e) w₂)
         answered-step = (refused_step, shared_edges)

@@ -16,8 +16,9 @@ use Rattle.admission.specs.Admission.{RefusedCall, AdmittedCall}
 use Rattle.admission.proofs.Laws.{admitted_cleared}
 use Rattle.seamtest.specs.SeamTest.{SeamSide, alone_in, seam_verdict, seam_edges, seam_work, SeamTested, seam_tested_as, seam_tested}
 use Rattle.seamtest.proofs.Agree.{no_edges}
-use Rattle.sharing.specs.declared.Sharing.{Sharing}
-use Rattle.sharing.specs.declared.Sharing.TheVariants.{Refused}
+use Rattle.std.specs.Prelude.{Result, Err}
+use Rattle.reasons.specs.declared.Refusal.{Refusal}
+use Rattle.reasons.specs.Reasons.{number, refused_as}
 use Rattle.sharing.specs.Sharing.{shared_as}
 use Rattle.sharing.specs.Walks.{faces_of, FirstPassed, second_tested, BothPassed, Answered}
 use Rattle.sharing.proofs.Laws.{faces_few, faces_room, link_room}
@@ -41,12 +42,12 @@ cleared_twice n w = cleared_over n w (cleared n w) (drop-cleared n w)
 
 -- ---- the first net
 module _ (a b : SeamSide) (w w' : List ℕ) where
-  pub first_refused : (r p : ℕ) → checked_as (refused r p) w' ≡ checked (alone_in a (length w)) w → shared_as (Refused r p) w' ≡ seam_tested a b w
+  pub first_refused : (x : Refusal) → checked_as (refused_as x) w' ≡ checked (alone_in a (length w)) w → shared_as (Err x) w' ≡ seam_tested a b w
   unfolding checked seam_tested seam_work seam_verdict
-  first_refused r p e =
-      let v : verdict (alone_in a (length w)) ≡ refused r p = sym (ap (λ (c : Checked). c.verdict) e) in
-      let x : seam_verdict a b (length w) ≡ refused r p = rw v refl in
-      tested_as (sym x) (sym (no_edges a b (length w) r p x)) (rw v (ap (λ (c : Checked). c.work) e))
+  first_refused x e =
+      let v : verdict (alone_in a (length w)) ≡ refused_as x = sym (ap (λ (c : Checked). c.verdict) e) in
+      let y : seam_verdict a b (length w) ≡ refused_as x = rw v refl in
+      tested_as (sym y) (sym (no_edges a b (length w) (number x.reason) x.place y)) (rw v (ap (λ (c : Checked). c.work) e))
 
   module _ (k : length w' ≡ length w) (e : checked_as accepted w' ≡ checked (alone_in a (length w)) w) where
     passes : verdict (alone_in a (length w)) ≡ accepted
@@ -79,11 +80,11 @@ module _ (a b : SeamSide) (w w' : List ℕ) where
 
 -- ---- the second
 module _ (a b : SeamSide) (w : List ℕ) (ok : FirstPassed a w) where
-  pub second_refused : (r p : ℕ) (w₁ : List ℕ) → RefusedCall (alone_in b (length w)) w r p w₁ → shared_as (Refused r p) w₁ ≡ second_tested a b w
+  pub second_refused : (x : Refusal) (w₁ : List ℕ) → RefusedCall (alone_in b (length w)) w (number x.reason) x.place w₁ → shared_as (Err x) w₁ ≡ second_tested a b w
   unfolding seam_verdict
-  second_refused r p w₁ c =
-      let x : seam_verdict a b (length w) ≡ refused r p = rw (ok.accepts, c.refuses) refl in
-      tested_as (sym x) (sym (no_edges a b (length w) r p x)) c.work
+  second_refused x w₁ c =
+      let y : seam_verdict a b (length w) ≡ refused_as x = rw (ok.accepts, c.refuses) refl in
+      tested_as (sym y) (sym (no_edges a b (length w) (number x.reason) x.place y)) c.work
 
   module _ (w₁ : List ℕ) (k₁ : length w₁ ≡ length w) (g : ℕ) (c : AdmittedCall (alone_in b (length w)) g w₁) (d : drop (16 * g) w₁ ≡ drop (16 * g) w) (f : ℕ)
       (e : f ≡ max (faces_of a.net) g) where
@@ -126,7 +127,7 @@ module _ (a b : SeamSide) (w : List ℕ) (ok : FirstPassed a w) where
           room = l.room;
         }
 
-    pub second_cleared : (r : Sharing) (w₂ w₃ : List ℕ) → Answered a b f w₁ r w₂ → w₃ ≡ cleared (16 * f) w₂ → shared_as r w₃ ≡ second_tested a b w
+    pub second_cleared : (r : Result ℕ Refusal) (w₂ w₃ : List ℕ) → Answered a b f w₁ r w₂ → w₃ ≡ cleared (16 * f) w₂ → shared_as r w₃ ≡ second_tested a b w
     second_cleared r w₂ w₃ t h =
         tested_as (t.verdict ∙ ap (seam_verdict a b) k₁) (t.edges ∙ ap (seam_edges a b) k₁) (admitted_cleared (alone_in b (length w)) g w₁ c w w₃ d (go (dec_lt (faces_of a.net) g)))
       where

@@ -1,5 +1,5 @@
 -- What the steps of the seam test ask of nets and work table, and leave there.
-use Rattle.std.specs.Prelude.{◌≡◌, false, List, ℕ, ◌*◌, ◌≤◌, ◌<◌, length, drop}
+use Rattle.std.specs.Prelude.{◌≡◌, false, List, ℕ, ◌*◌, ◌≤◌, ◌<◌, length, drop, Result}
 use Rattle.bounds.specs.Bounds.{max_faces, max_corners}
 use Rattle.tables.specs.Tables.{cleared}
 use Rattle.nets.specs.Net.{ControlNet}
@@ -8,8 +8,9 @@ use Rattle.verdict.specs.Verdict.{accepted, verdict, work_after}
 use Rattle.seamtest.specs.SeamTest.{SeamSide, alone_in, bad_start, seam_verdict, seam_edges, SeamTested, seam_tested_as}
 use Rattle.sidetable.specs.Table.{ShapeRoom, Linked}
 use Rattle.adjacency.specs.Chains.{CornersBelow}
-use Rattle.sharing.specs.declared.Sharing.{Sharing}
-use Rattle.sharing.specs.Sharing.{verdict_in, edges_in}
+use Rattle.reasons.specs.declared.Refusal.{Refusal}
+use Rattle.reasons.specs.Reasons.{verdict_of}
+use Rattle.sharing.specs.Sharing.{edges_in}
 
 -- F of a net
 abbrev pub faces_of : ControlNet → ℕ
@@ -41,8 +42,8 @@ pub record Started (a b : SeamSide) (f : ℕ) (w : List ℕ) : Type 0 where
   pub second : bad_start b ≡ false
 
 -- the answer of the test; past 16f the work table is as found. Open, and may differ between correct programs: the numbers before
-pub record Answered (a b : SeamSide) (f : ℕ) (w : List ℕ) (r : Sharing) (w' : List ℕ) : Type 0 where
-  pub verdict : verdict_in r ≡ seam_verdict a b (length w)
+pub record Answered (a b : SeamSide) (f : ℕ) (w : List ℕ) (r : Result ℕ Refusal) (w' : List ℕ) : Type 0 where
+  pub verdict : verdict_of r ≡ seam_verdict a b (length w)
   pub edges : edges_in r ≡ seam_edges a b (length w)
   pub rest : drop (16 * f) w' ≡ drop (16 * f) w
 

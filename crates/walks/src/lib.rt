@@ -92,7 +92,7 @@ pub fn start_of_fan<N: HalfEdges>(net: &N, h: usize) -> Start
 {
     let n = net.count();
     let mut g = h;
-    for i in 0..6 {
+    for i in 0..6usize {
         let m = net.mate(g);
         if m == n {
             return Start { side: g, place: i };

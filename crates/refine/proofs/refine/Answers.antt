@@ -1,26 +1,22 @@
 -- `refine::refine` meets its contract: the admission, then refusal 15 or the rounds. Assumes nothing.
-use mathlib.Core.Path.{◌≡◌, ◌∙◌, subst}
-use mathlib.Core.List.{List}
-use Prim.Native.Nat.{ℕ}
-use Rattle.admission.specs.declared.Admission.{Admission}
-use Rattle.admission.specs.Admission.{Admits}
-use Rattle.outcome.specs.Outcome.{Request, request_on, call_of}
+use mathlib.Core.Path.{◌≡◌, ◌∙◌}
+use borrow.Author.Rules.{rules}
+use Rattle.std.specs.Prelude.{Err}
+use Rattle.outcome.specs.Outcome.{Request, request_on}
 use Rattle.refine.proofs.Whole.{same_outcome, refused_outcome_lem}
 use Rattle.refine.proofs.refine.Goals as goal
+use Rattle.refine.proofs.refine.Goals.{Start}
 
-pub returns-in-Admitted : goal.returns-in-Admitted
-returns-in-Admitted c =
-    let asked : Request = request_on c.args.points c.args.rounds c.args.vertices.now c.args.faces.now c.args.sides.now c.args.marks.now c.args.tension
-    c.args.out_vertices.now c.args.out_faces.now c.args.out_marks.now c.args.with_letters c.args.letters.now c.args.work.now in
-    let left : List ℕ = c.admit.new.work in
-    let admits : (a : Admission) → c.admit.result ≡ a → Admits (call_of asked) c.args.work.now a left = λ a e. subst (λ (b : Admission). Admits (call_of asked) c.args.work.now b left) e c.admit.ensures in
-    let a = admits _ c.in-Admitted.is in
-    c.refine_admitted.ensures ∙ same_outcome asked _ left a.0 c.admit.auto.work a.1
+abbrev asked : (c : Start) → Request
+asked c =
+    let a = c.args in
+    request_on a.points.now a.rounds a.net.vertices.now a.net.faces.now a.net.sides.now a.net.marks.now a.tension a.out_vertices.now a.out_faces.now a.out_marks.now a.with_letters a.letters.now a.work.now
 
-pub returns-in-Refused : goal.returns-in-Refused
-returns-in-Refused c =
-    let asked : Request = request_on c.args.points c.args.rounds c.args.vertices.now c.args.faces.now c.args.sides.now c.args.marks.now c.args.tension
-    c.args.out_vertices.now c.args.out_faces.now c.args.out_marks.now c.args.with_letters c.args.letters.now c.args.work.now in
-    let left : List ℕ = c.admit.new.work in
-    let admits : (a : Admission) → c.admit.result ≡ a → Admits (call_of asked) c.args.work.now a left = λ a e. subst (λ (b : Admission). Admits (call_of asked) c.args.work.now b left) e c.admit.ensures in
-    refused_outcome_lem asked _ _ left (admits _ c.in-Refused.is)
+pub returns-in_err-last : goal.returns-in_err-last
+returns-in_err-last c =
+    let e : c.from_residual.result ≡ Err c.in_err-last.field-0.0 = search rules in
+    rw e (refused_outcome_lem (asked (goal.at.returns-in_err-last c).Start) _ c.admit.new.work c.in_err-last.ensures)
+
+pub returns : goal.returns
+returns c =
+    c.refine_admitted.ensures ∙ same_outcome (asked (goal.at.returns c).Start) _ c.admit.new.work c.in_ok-last.ensures.0 c.admit.auto.work c.in_ok-last.ensures.1

@@ -2,10 +2,11 @@
 use mathlib.Core.Path.{refl, sym, ◌∙◌}
 use Prim.Native.Nat.{◌≤◌, ◌<◌}
 use Rattle.comparison.proofs.Sides.{starts_at_mark}
-use Rattle.sharing.specs.declared.Sharing.TheVariants.{Shared, Refused}
+use Rattle.std.specs.Prelude.{Ok, Err}
+use Rattle.reasons.specs.declared.Reason.TheVariants.{SeamMismatch}
 use Rattle.sharing.specs.Sharing.{side}
 use Rattle.sharing.specs.Walks.{Answered}
-use Rattle.sharing.proofs.Laws.{not_alike, starts_second, walkable_second, relink_room, walkable_first, SecondListed, compare_room, answered-step}
+use Rattle.sharing.proofs.Laws.{refusal, not_alike, starts_second, walkable_second, relink_room, walkable_first, SecondListed, compare_room, answered-step}
 use Rattle.sharing.proofs.share_marked.Goals as goal
 use Rattle.sharing.proofs.share_marked.Goals.{After-walk_to_mark-edges, After-first_apart-step}
 
@@ -13,7 +14,7 @@ listed : (c : After-walk_to_mark-edges) → SecondListed (side c.args.b) c.args.
 listed c = record { half = c.boundary_from-against.ensures; edges = c.walk_to_mark-edges.ensures.value; kept = c.walk_to_mark-edges.auto.work; list = c.walk_to_mark-edges.ensures.written }
 
 answers : (c : After-first_apart-step) → let a = side c.args.a in let b = side c.args.b in let k = c.first_apart-step.result in let e = c.walk_to_mark-edges.result in let w = c.relink.new.work in
-    (k ≤ e → Answered a b c.args.f c.args.work.now (Refused 18 k) w) × (e < k → Answered a b c.args.f c.args.work.now (Shared e) w)
+    (k ≤ e → Answered a b c.args.f c.args.work.now (Err (refusal SeamMismatch k)) w) × (e < k → Answered a b c.args.f c.args.work.now (Ok e) w)
 answers c =
     answered-step (side c.args.a) (side c.args.b) c.args.f c.args.work.now c.requires _ _ _ (listed (goal.at.After-first_apart-step c).After-walk_to_mark-edges) _ c.relink.auto.work c.relink.ensures _ c.boundary_from-along.ensures
     (sym c.unlike.ensures ∙ c.if-unlike.false) _ c.first_apart-step.ensures
