@@ -3,8 +3,9 @@
 
 ghost use Rattle.std.specs.Prelude.{◌≡◌, ◌+◌, ◌≤◌, ◌<◌, length};
 ghost use Rattle.tables.specs.Tables.{SameOutside};
-ghost use Rattle.halfedges.specs.Tables.{Connectivity};
 ghost use Rattle.ringsizes.specs.Classes.{RingSizes, size_at, ordinary_by, Countable, share_of, CountedBelow};
+
+use halfedges::Mesh;
 
 // The ring size at a place of the table.
 fn size_at(work: &[u32], i: usize) -> u16
@@ -16,12 +17,11 @@ fn size_at(work: &[u32], i: usize) -> u16
 
 // What half-edge h counts for the vertex that it leaves: 1, and 2 more on the boundary.
 #[tactic(auto, unfolding(ringsizes::specs::Classes::share_of))]
-fn share(faces: &[u32], work: &[u32], h: usize) -> u16
-    requires connectivity { Connectivity faces.now work.now }
-    requires h_in_bounds { h < length faces.now }
-    ensures { result ≡ share_of faces.now h }
+fn share(mesh: Mesh, h: usize) -> u16
+    requires { h < length mesh.faces.now }
+    ensures { result ≡ share_of mesh.entry.faces.now h }
 {
-    if halfedges::mate_side(faces, work, h) < faces.len() {
+    if mesh.mate(h) < mesh.half_edges() {
         1
     } else {
         3
@@ -35,8 +35,9 @@ fn count_side(faces: &[u32], work: &mut [u32], at: usize, v: usize, h: usize)
     ensures counted_below { CountedBelow v at faces.now work.new (h + 1) }
     ensures same_outside { SameOutside at (at + v) work.old work.new }
 {
-    let place = at + halfedges::start_of(faces, h);
-    let size = size_at(&*work, place) + share(faces, &*work, h);
+    let mesh = Mesh { faces, work: &*work };
+    let place = at + mesh.start_of(h);
+    let size = size_at(&*work, place) + share(mesh, h);
     work[place] = size as u32;
 }
 
@@ -59,4 +60,21 @@ pub fn is_ordinary(work: &[u32], at: usize, initial: usize, p: usize) -> bool
     ensures { result ≡ ordinary_by work.now at initial p }
 {
     initial <= p || size_at(work, at + p) == 4
+}
+
+// Where the ring sizes stand, and how many vertices have one: those of the net where refining begins.
+#[derive(Clone, Copy)]
+pub struct Classes {
+    pub at: usize,
+    pub initial: usize,
+}
+
+impl Classes {
+    // Whether the table says that vertex p is ordinary.
+    pub fn is_ordinary(self, work: &[u32], p: usize) -> bool
+        requires { self.at + self.initial ≤ length work.now }
+        ensures { result ≡ ordinary_by work.now self.at self.initial p }
+    {
+        is_ordinary(work, self.at, self.initial, p)
+    }
 }

@@ -13,7 +13,6 @@ ghost use Rattle.scheme.specs.Points.{inner_rule};
 ghost use Rattle.nets.specs.Net.{axis};
 ghost use Rattle.schemelaws.specs.Ordinary.{Ordinary, OrdinaryEnds, ordinary_value};
 ghost use Rattle.schemelaws.specs.Numerators.{virtual_at_z, edge_value_z, edge_z};
-ghost use Rattle.halfedges.specs.Tables.{Quadrilaterals};
 ghost use Rattle.walks.specs.Ready.{Ready};
 ghost use Rattle.coordinates.specs.Points.{InTable, Points, Marks, OnAxes, Bounded, on};
 ghost use Rattle.edgeentries.specs.Entry.{wide_flag, boundary_flag};
@@ -21,30 +20,32 @@ ghost use Rattle.coordinates.specs.Stencil.{FarIn, stencil_value};
 ghost use Rattle.edgepoints.specs.Kind.{flag_of};
 ghost use Rattle.exactedges.specs.Edge.{far_before, far_after, far_on, StraightFar, ClassedCorners, ClassedEnds, Flagged, ExactPoint};
 
+use classes::Classes;
 use coordinates::Exact;
+use halfedges::Mesh;
 
 // The far point before the start of the boundary half-edge h, none if the start is marked.
-fn far_before(faces: &[u32], marks: &[u8], work: &[u32], h: usize) -> Option<usize>
-    requires ready { Ready faces.now work.now }
-    requires on_boundary { OnBoundary quads faces.now h × (from faces.now h < length marks.now) }
-    ensures { result ≡ far_before faces.now marks.now h }
+fn far_before(mesh: Mesh, marks: &[u8], h: usize) -> Option<usize>
+    requires ready { Ready mesh.faces.now mesh.work.now }
+    requires on_boundary { OnBoundary quads mesh.faces.now h × (from mesh.faces.now h < length marks.now) }
+    ensures { result ≡ far_before mesh.entry.faces.now marks.now h }
 {
-    if edgerules::is_marked(marks, halfedges::start_of(faces, h)) {
+    if edgerules::is_marked(marks, mesh.start_of(h)) {
         return None;
     }
-    Some(halfedges::start_of(faces, walks::back_side(faces, work, h)))
+    Some(mesh.start_of(walks::back_side(mesh, h)))
 }
 
 // The far point after its end, none if the end is marked.
-fn far_after(faces: &[u32], marks: &[u8], work: &[u32], h: usize) -> Option<usize>
-    requires ready { Ready faces.now work.now }
-    requires on_boundary { OnBoundary quads faces.now h × (to quads faces.now h < length marks.now) }
-    ensures { result ≡ far_after faces.now marks.now h }
+fn far_after(mesh: Mesh, marks: &[u8], h: usize) -> Option<usize>
+    requires ready { Ready mesh.faces.now mesh.work.now }
+    requires on_boundary { OnBoundary quads mesh.faces.now h × (to quads mesh.faces.now h < length marks.now) }
+    ensures { result ≡ far_after mesh.entry.faces.now marks.now h }
 {
-    if edgerules::is_marked(marks, halfedges::end_of(faces, h)) {
+    if edgerules::is_marked(marks, mesh.end_of(h)) {
         return None;
     }
-    Some(halfedges::end_of(faces, walks::along_side(faces, work, h)))
+    Some(mesh.end_of(walks::along_side(mesh, h)))
 }
 
 // How the exact point of an edge is kept: over the scale, over `edge_scale`, or over the scale on the boundary.
@@ -78,18 +79,18 @@ pub struct Edge {
 // The point on the boundary edge of h between the far points o and r.
 fn boundary_edge(
     points: &[i32],
-    faces: &[u32],
+    mesh: Mesh,
     h: usize,
     o: Option<usize>,
     r: Option<usize>,
     t: u32,
 ) -> Edge
-    requires quadrilaterals { Quadrilaterals (length faces.now) × (h < length faces.now) × Within coordinate_range points.now }
-    requires far_in { FarIn points.now o × InTable points.now (from faces.now h) × InTable points.now (to quads faces.now h) × FarIn points.now r × (t ≤ 4) }
-    ensures { (flag_of result.kind ≡ boundary_flag) × OnAxes (λ (a : ℕ). stencil_value (tension t) (axis points.now a) o (from faces.now h) (to quads faces.now h) r) result.point.x result.point.y result.point.z }
+    requires h_in_bounds { (h < length mesh.faces.now) × Within coordinate_range points.now }
+    requires far_in { FarIn points.now o × InTable points.now (from mesh.faces.now h) × InTable points.now (to quads mesh.faces.now h) × FarIn points.now r × (t ≤ 4) }
+    ensures { (flag_of result.kind ≡ boundary_flag) × OnAxes (λ (a : ℕ). stencil_value (tension t) (axis points.now a) o (from mesh.entry.faces.now h) (to quads mesh.entry.faces.now h) r) result.point.x result.point.y result.point.z }
 {
-    let p = halfedges::start_of(faces, h);
-    let q = halfedges::end_of(faces, h);
+    let p = mesh.start_of(h);
+    let q = mesh.end_of(h);
     Edge {
         point: coordinates::stencil_exact(points, o, p, q, r, t),
         kind: EdgeKind::Boundary,
@@ -97,48 +98,48 @@ fn boundary_edge(
 }
 
 // What lies straight across the ordinary vertex that the inner half-edge h leaves: with g the mate of the side before h, the start of the side before g.
-fn straight_far(faces: &[u32], work: &[u32], h: usize) -> Option<usize>
-    requires ready { Ready faces.now work.now }
-    requires h_in_bounds { (h < length faces.now) × (mate quads faces.now h < length faces.now) × Ordinary faces.now (from faces.now h) }
-    ensures { StraightFar faces.now h result }
+fn straight_far(mesh: Mesh, h: usize) -> Option<usize>
+    requires ready { Ready mesh.faces.now mesh.work.now }
+    requires h_in_bounds { (h < length mesh.faces.now) × (mate quads mesh.faces.now h < length mesh.faces.now) × Ordinary mesh.faces.now (from mesh.faces.now h) }
+    ensures { StraightFar mesh.entry.faces.now h result }
 {
-    let g = halfedges::turn_side(faces, work, h);
-    if g < faces.len() {
-        return Some(halfedges::corner_before(faces, g));
+    let g = mesh.turn(h);
+    if g < mesh.half_edges() {
+        return Some(mesh.corner_before(g));
     }
     None
 }
 
 // The point on the inner edge of h, whose mate is m, beside the boundary: one of its ordinary ends at least is a boundary vertex.
-fn sided_exact(points: &[i32], faces: &[u32], work: &[u32], h: usize, m: usize, t: u32) -> Exact
-    requires ready { Ready faces.now work.now }
-    requires points { Points faces.now points.now × OrdinaryEnds faces.now h × (m ≡ mate quads faces.now h) × (t ≤ 4) }
-    ensures { OnAxes (λ (a : ℕ). ordinary_value (tension t) faces.now (axis points.now a) h inner_rule) result.x result.y result.z }
+fn sided_exact(points: &[i32], mesh: Mesh, h: usize, m: usize, t: u32) -> Exact
+    requires ready { Ready mesh.faces.now mesh.work.now }
+    requires points { Points mesh.faces.now points.now × OrdinaryEnds mesh.faces.now h × (m ≡ mate quads mesh.faces.now h) × (t ≤ 4) }
+    ensures { OnAxes (λ (a : ℕ). ordinary_value (tension t) mesh.entry.faces.now (axis points.now a) h inner_rule) result.x result.y result.z }
 {
-    let p = halfedges::start_of(faces, h);
-    let q = halfedges::end_of(faces, h);
-    let o = straight_far(faces, work, h);
-    let r = straight_far(faces, work, m);
+    let p = mesh.start_of(h);
+    let q = mesh.end_of(h);
+    let o = straight_far(mesh, h);
+    let r = straight_far(mesh, m);
     coordinates::stencil_exact(points, o, p, q, r, t)
 }
 
 // The point on the inner edge of h, whose mate is m, between ordinary vertices. Where both have full rings, far points are at hand: the common case.
-fn plain_exact(points: &[i32], faces: &[u32], work: &[u32], h: usize, m: usize, t: u32) -> Exact
-    requires ready { Ready faces.now work.now }
-    requires points { Points faces.now points.now × OrdinaryEnds faces.now h × (m ≡ mate quads faces.now h) × (t ≤ 4) }
-    ensures { OnAxes (λ (a : ℕ). ordinary_value (tension t) faces.now (axis points.now a) h inner_rule) result.x result.y result.z }
+fn plain_exact(points: &[i32], mesh: Mesh, h: usize, m: usize, t: u32) -> Exact
+    requires ready { Ready mesh.faces.now mesh.work.now }
+    requires points { Points mesh.faces.now points.now × OrdinaryEnds mesh.faces.now h × (m ≡ mate quads mesh.faces.now h) × (t ≤ 4) }
+    ensures { OnAxes (λ (a : ℕ). ordinary_value (tension t) mesh.entry.faces.now (axis points.now a) h inner_rule) result.x result.y result.z }
 {
-    let n = faces.len();
-    let a = halfedges::turn_side(faces, work, h);
-    let b = halfedges::turn_side(faces, work, m);
+    let n = mesh.half_edges();
+    let a = mesh.turn(h);
+    let b = mesh.turn(m);
     if a < n && b < n {
-        let o = halfedges::corner_before(faces, a);
-        let p = halfedges::start_of(faces, h);
-        let q = halfedges::end_of(faces, h);
-        let r = halfedges::corner_before(faces, b);
+        let o = mesh.corner_before(a);
+        let p = mesh.start_of(h);
+        let q = mesh.end_of(h);
+        let r = mesh.corner_before(b);
         return coordinates::interior_exact(points, o, p, q, r, t);
     }
-    sided_exact(points, faces, work, h, m, t)
+    sided_exact(points, mesh, h, m, t)
 }
 
 // Coordinate a of vertex v, over the denominator of virtual points.
@@ -161,37 +162,35 @@ fn scaled_far(points: &[i32], f: Option<usize>, p: usize, q: usize, a: usize, t:
 }
 
 // The virtual point at the ordinary vertex that the inner half-edge h leaves, on its edge: what lies straight across.
-fn straight_virtual(points: &[i32], faces: &[u32], work: &[u32], h: usize, t: u32) -> Exact
-    requires ready { Ready faces.now work.now }
-    requires points { Points faces.now points.now }
-    requires h_in_bounds { (h < length faces.now) × (mate quads faces.now h < length faces.now) × Ordinary faces.now (from faces.now h) × (t ≤ 4) }
-    ensures { OnAxes (λ (a : ℕ). virtual_at_z (tension t) faces.now (axis points.now a) h) result.x result.y result.z }
+fn straight_virtual(points: &[i32], mesh: Mesh, h: usize, t: u32) -> Exact
+    requires ready { Ready mesh.faces.now mesh.work.now }
+    requires points { Points mesh.faces.now points.now }
+    requires h_in_bounds { (h < length mesh.faces.now) × (mate quads mesh.faces.now h < length mesh.faces.now) × Ordinary mesh.faces.now (from mesh.faces.now h) × (t ≤ 4) }
+    ensures { OnAxes (λ (a : ℕ). virtual_at_z (tension t) mesh.entry.faces.now (axis points.now a) h) result.x result.y result.z }
 {
-    let p = halfedges::start_of(faces, h);
-    let q = halfedges::end_of(faces, h);
-    let f = straight_far(faces, work, h);
+    let p = mesh.start_of(h);
+    let q = mesh.end_of(h);
+    let f = straight_far(mesh, h);
     coordinates::on_axes(|a| scaled_far(points, f, p, q, a, t))
 }
 
 // The virtual point at the vertex that the inner half-edge h leaves, on its edge.
 fn end_virtual(
     points: &[i32],
-    faces: &[u32],
-    work: &[u32],
-    at: usize,
-    initial: usize,
+    mesh: Mesh,
+    classes: Classes,
     h: usize,
     t: u32,
 ) -> Exact
-    requires ready { Ready faces.now work.now }
-    requires points { Points faces.now points.now × ClassedCorners at initial faces.now work.now }
-    requires h_in_bounds { (h < length faces.now) × (mate quads faces.now h < length faces.now) × (t ≤ 4) }
-    ensures { OnAxes (λ (a : ℕ). virtual_at_z (tension t) faces.now (axis points.now a) h) result.x result.y result.z }
+    requires ready { Ready mesh.faces.now mesh.work.now }
+    requires points { Points mesh.faces.now points.now × ClassedCorners classes.at classes.initial mesh.faces.now mesh.work.now }
+    requires h_in_bounds { (h < length mesh.faces.now) × (mate quads mesh.faces.now h < length mesh.faces.now) × (t ≤ 4) }
+    ensures { OnAxes (λ (a : ℕ). virtual_at_z (tension t) mesh.entry.faces.now (axis points.now a) h) result.x result.y result.z }
 {
-    if classes::is_ordinary(work, at, initial, halfedges::start_of(faces, h)) {
-        return straight_virtual(points, faces, work, h, t);
+    if classes.is_ordinary(mesh.work, mesh.start_of(h)) {
+        return straight_virtual(points, mesh, h, t);
     }
-    virtualpoints::virtual_point(points, faces, work, h, t)
+    virtualpoints::virtual_point(points, mesh, h, t)
 }
 
 // Coordinate a of the point between p and q, from the virtual points u and w.
@@ -208,23 +207,21 @@ fn wide_on(points: &[i32], p: usize, q: usize, u: Exact, w: Exact, a: usize, t: 
 // The point on the inner edge of h, whose mate is m, from its two virtual points.
 fn wide_edge(
     points: &[i32],
-    faces: &[u32],
-    work: &[u32],
-    at: usize,
-    initial: usize,
+    mesh: Mesh,
+    classes: Classes,
     h: usize,
     m: usize,
     t: u32,
 ) -> Edge
-    requires ready { Ready faces.now work.now }
-    requires points { Points faces.now points.now × ClassedCorners at initial faces.now work.now }
-    requires h_in_bounds { (h < length faces.now) × (m ≡ mate quads faces.now h) × (m < length faces.now) × (t ≤ 4) }
-    ensures { (flag_of result.kind ≡ wide_flag) × OnAxes (λ (a : ℕ). edge_value_z (tension t) faces.now (axis points.now a) h inner_rule) result.point.x result.point.y result.point.z }
+    requires ready { Ready mesh.faces.now mesh.work.now }
+    requires points { Points mesh.faces.now points.now × ClassedCorners classes.at classes.initial mesh.faces.now mesh.work.now }
+    requires h_in_bounds { (h < length mesh.faces.now) × (m ≡ mate quads mesh.faces.now h) × (m < length mesh.faces.now) × (t ≤ 4) }
+    ensures { (flag_of result.kind ≡ wide_flag) × OnAxes (λ (a : ℕ). edge_value_z (tension t) mesh.entry.faces.now (axis points.now a) h inner_rule) result.point.x result.point.y result.point.z }
 {
-    let p = halfedges::start_of(faces, h);
-    let q = halfedges::end_of(faces, h);
-    let u = end_virtual(points, faces, work, at, initial, h, t);
-    let w = end_virtual(points, faces, work, at, initial, m, t);
+    let p = mesh.start_of(h);
+    let q = mesh.end_of(h);
+    let u = end_virtual(points, mesh, classes, h, t);
+    let w = end_virtual(points, mesh, classes, m, t);
     Edge {
         point: coordinates::on_axes(|a| wide_on(points, p, q, u, w, a, t)),
         kind: EdgeKind::Wide,
@@ -232,61 +229,57 @@ fn wide_edge(
 }
 
 // Whether both ends of h are ordinary.
-fn ordinary_ends(faces: &[u32], work: &[u32], at: usize, initial: usize, h: usize) -> bool
-    requires ready { Ready faces.now work.now }
-    requires classed_corners { ClassedCorners at initial faces.now work.now × (h < length faces.now) }
-    ensures { ClassedEnds faces.now h result }
+fn ordinary_ends(mesh: Mesh, classes: Classes, h: usize) -> bool
+    requires ready { Ready mesh.faces.now mesh.work.now }
+    requires classed_corners { ClassedCorners classes.at classes.initial mesh.faces.now mesh.work.now × (h < length mesh.faces.now) }
+    ensures { ClassedEnds mesh.entry.faces.now h result }
 {
-    classes::is_ordinary(work, at, initial, halfedges::start_of(faces, h))
-        && classes::is_ordinary(work, at, initial, halfedges::end_of(faces, h))
+    classes.is_ordinary(mesh.work, mesh.start_of(h))
+        && classes.is_ordinary(mesh.work, mesh.end_of(h))
 }
 
 // The point on the inner edge of h, whose mate is m.
 fn inner_edge(
     points: &[i32],
-    faces: &[u32],
-    work: &[u32],
-    at: usize,
-    initial: usize,
+    mesh: Mesh,
+    classes: Classes,
     h: usize,
     m: usize,
     t: u32,
 ) -> Edge
-    requires ready { Ready faces.now work.now }
-    requires points { Points faces.now points.now × ClassedCorners at initial faces.now work.now }
-    requires h_in_bounds { (h < length faces.now) × (m ≡ mate quads faces.now h) × (m < length faces.now) × (t ≤ 4) }
-    ensures { Flagged faces.now h (flag_of result.kind) × ExactPoint (tension t) (flag_of result.kind) (λ (a : ℕ). edge_value_z (tension t) faces.now (axis points.now a) h inner_rule) result.point.x result.point.y result.point.z }
+    requires ready { Ready mesh.faces.now mesh.work.now }
+    requires points { Points mesh.faces.now points.now × ClassedCorners classes.at classes.initial mesh.faces.now mesh.work.now }
+    requires h_in_bounds { (h < length mesh.faces.now) × (m ≡ mate quads mesh.faces.now h) × (m < length mesh.faces.now) × (t ≤ 4) }
+    ensures { Flagged mesh.entry.faces.now h (flag_of result.kind) × ExactPoint (tension t) (flag_of result.kind) (λ (a : ℕ). edge_value_z (tension t) mesh.entry.faces.now (axis points.now a) h inner_rule) result.point.x result.point.y result.point.z }
 {
-    if ordinary_ends(faces, work, at, initial, h) {
+    if ordinary_ends(mesh, classes, h) {
         return Edge {
-            point: plain_exact(points, faces, work, h, m, t),
+            point: plain_exact(points, mesh, h, m, t),
             kind: EdgeKind::Plain,
         };
     }
-    wide_edge(points, faces, work, at, initial, h, m, t)
+    wide_edge(points, mesh, classes, h, m, t)
 }
 
 // The point on the edge of h, whose mate is m or none.
 pub fn edge_exact(
     points: &[i32],
-    faces: &[u32],
+    mesh: Mesh,
     marks: &[u8],
-    work: &[u32],
-    at: usize,
-    initial: usize,
+    classes: Classes,
     h: usize,
     m: usize,
     t: u32,
 ) -> Edge
-    requires ready { Ready faces.now work.now }
-    requires points { Points faces.now points.now × Marks faces.now marks.now × ClassedCorners at initial faces.now work.now }
-    requires h_in_bounds { (h < length faces.now) × (m ≡ mate quads faces.now h) × (t ≤ 4) }
-    ensures { Flagged faces.now h (flag_of result.kind) × ExactPoint (tension t) (flag_of result.kind) (λ (a : ℕ). edge_z (tension t) faces.now marks.now (axis points.now a) h) result.point.x result.point.y result.point.z }
+    requires ready { Ready mesh.faces.now mesh.work.now }
+    requires points { Points mesh.faces.now points.now × Marks mesh.faces.now marks.now × ClassedCorners classes.at classes.initial mesh.faces.now mesh.work.now }
+    requires h_in_bounds { (h < length mesh.faces.now) × (m ≡ mate quads mesh.faces.now h) × (t ≤ 4) }
+    ensures { Flagged mesh.entry.faces.now h (flag_of result.kind) × ExactPoint (tension t) (flag_of result.kind) (λ (a : ℕ). edge_z (tension t) mesh.entry.faces.now marks.now (axis points.now a) h) result.point.x result.point.y result.point.z }
 {
-    if m < faces.len() {
-        return inner_edge(points, faces, work, at, initial, h, m, t);
+    if m < mesh.half_edges() {
+        return inner_edge(points, mesh, classes, h, m, t);
     }
-    let o = far_before(faces, marks, work, h);
-    let r = far_after(faces, marks, work, h);
-    boundary_edge(points, faces, h, o, r, t)
+    let o = far_before(mesh, marks, h);
+    let r = far_after(mesh, marks, h);
+    boundary_edge(points, mesh, h, o, r, t)
 }

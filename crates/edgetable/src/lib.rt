@@ -3,6 +3,9 @@
 
 ghost use Rattle.edgetable.specs.EdgeTable.{Turn, Turned};
 
+use classes::Classes;
+use halfedges::Mesh;
+
 // Makes the point of the edge of half-edge h if the edge is first met there, where `edges` are met before; the answer is how many are met then.
 pub fn edge_side(
     points: &mut [i32],
@@ -20,13 +23,15 @@ pub fn edge_side(
 {
     let n = faces.len();
     let v = marks.len();
-    let m = halfedges::mate_side(faces, &*work, h);
+    let mesh = Mesh { faces, work: &*work };
+    let m = mesh.mate(h);
     if m < h {
         edgeentries::copy_entry(&mut *work, n, m, h);
         return edges;
     }
+    let classes = Classes { at, initial };
     let end = 3 * v;
-    let e = edgepoints::edge_exact(&points[..end], faces, marks, &*work, at, initial, h, m, t);
+    let e = edgepoints::edge_exact(&points[..end], mesh, marks, classes, h, m, t);
     edgerounding::put_rounded(&mut *points, v + edges, e, t);
     edgeentries::store_edge(&mut *work, n, h, edges, e.kind.flag(), e.point);
     edges + 1

@@ -12,25 +12,26 @@ ghost use Rattle.ringsums.specs.Sums.{FanIn};
 ghost use Rattle.extrapolation.specs.Exact.{extrapolated_on};
 
 use coordinates::Exact;
+use halfedges::Mesh;
 use ringsums::Fan;
 
 // The denominator of extrapolated points, where it is divided by the number of inner edges of a fan.
 const EXTRAPOLATED_SHARES: usize = 60;
 
 // Gathers the faces met in turning from h.
-pub fn gather(faces: &[u32], work: &[u32], h: usize, fan: &mut Fan)
-    requires ready { Ready faces.now work.now }
-    requires h_in_bounds { h < length faces.now }
-    ensures { Gathered faces.now h fan.new }
+pub fn gather(mesh: Mesh, h: usize, fan: &mut Fan)
+    requires ready { Ready mesh.faces.now mesh.work.now }
+    requires h_in_bounds { h < length mesh.faces.now }
+    ensures { Gathered mesh.entry.faces.now h fan.new }
 {
-    let n = faces.len();
+    let n = mesh.half_edges();
     let mut g = h;
     let mut i = 0;
     loop {
-        fan.neighbours[i] = halfedges::end_of(faces, g);
-        fan.opposites[i] = halfedges::opposite_corner(faces, g);
+        fan.neighbours[i] = mesh.end_of(g);
+        fan.opposites[i] = mesh.opposite_corner(g);
         i += 1;
-        let m = halfedges::turn_side(faces, work, g);
+        let m = mesh.turn(g);
         if m == n || m == h {
             fan.count = i;
             fan.last = g;
@@ -74,12 +75,12 @@ pub fn extrapolated_from(points: &[i32], faces: &[u32], s: usize, fan: &Fan) -> 
 }
 
 // The extrapolated point of the vertex that the boundary half-edge s leaves.
-pub fn extrapolated_point(points: &[i32], faces: &[u32], work: &[u32], s: usize) -> Exact
-    requires ready { Ready faces.now work.now }
-    requires points { Points faces.now points.now × OnBoundary quads faces.now s }
-    ensures { OnAxes (extrapolated_on faces.now points.now s) result.x result.y result.z }
+pub fn extrapolated_point(points: &[i32], mesh: Mesh, s: usize) -> Exact
+    requires ready { Ready mesh.faces.now mesh.work.now }
+    requires points { Points mesh.faces.now points.now × OnBoundary quads mesh.faces.now s }
+    ensures { OnAxes (extrapolated_on mesh.entry.faces.now points.now s) result.x result.y result.z }
 {
     let mut fan = Fan::default();
-    gather(faces, work, s, &mut fan);
-    extrapolated_from(points, faces, s, &fan)
+    gather(mesh, s, &mut fan);
+    extrapolated_from(points, mesh.faces, s, &fan)
 }

@@ -57,22 +57,6 @@ pub fn end_of(faces: &[u32], h: usize) -> usize
     start_of(faces, next_side(h))
 }
 
-// The corner before the vertex of h in its face.
-pub fn corner_before(faces: &[u32], h: usize) -> usize
-    requires { Quadrilaterals (length faces.now) × (h < length faces.now) }
-    ensures { result ≡ from faces.now (quads.prev h) }
-{
-    start_of(faces, prev_side(h))
-}
-
-// The corner of the face of h opposite the vertex that h leaves.
-pub fn opposite_corner(faces: &[u32], h: usize) -> usize
-    requires { Quadrilaterals (length faces.now) × (h < length faces.now) }
-    ensures { result ≡ opposite_corner faces.now h }
-{
-    start_of(faces, across_side(h))
-}
-
 // The mate of h, or none.
 pub fn mate_side(faces: &[u32], work: &[u32], h: usize) -> usize
     requires connectivity { Connectivity faces.now work.now }
@@ -80,15 +64,6 @@ pub fn mate_side(faces: &[u32], work: &[u32], h: usize) -> usize
     ensures { result ≡ mate quads faces.now h }
 {
     work[h] as usize
-}
-
-// The half-edge that leaves the vertex of h in the face beyond the side before h, or none.
-pub fn turn_side(faces: &[u32], work: &[u32], h: usize) -> usize
-    requires connectivity { Connectivity faces.now work.now }
-    requires h_in_bounds { h < length faces.now }
-    ensures { result ≡ turn quads faces.now h }
-{
-    mate_side(faces, work, prev_side(h))
 }
 
 // A net with four-sided faces: the corners of its half-edges, and a table with their mates in front.

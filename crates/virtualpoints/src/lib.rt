@@ -16,6 +16,7 @@ ghost use Rattle.ringsums.specs.Sums.{FanIn, weighted_sum, ring_sum, fan_on};
 ghost use Rattle.virtualpoints.specs.Virtual.{virtual_on};
 
 use coordinates::Exact;
+use halfedges::Mesh;
 use ringsums::Fan;
 
 // The virtual point on the first edge of a full ring.
@@ -54,36 +55,36 @@ fn fan_sum(
 }
 
 // The virtual point at a boundary vertex, on the inner edge of h.
-fn fan_point(points: &[i32], faces: &[u32], work: &[u32], h: usize, t: u32) -> Exact
-    requires ready { Ready faces.now work.now }
-    requires points { Points faces.now points.now × (h < length faces.now) × (mate quads faces.now h < length faces.now) × (t ≤ 4) }
-    requires h_in_bounds { boundary_from quads faces.now (from faces.now h) < length faces.now }
-    ensures { OnAxes (virtual_on (tension t) faces.now points.now h) result.x result.y result.z }
+fn fan_point(points: &[i32], mesh: Mesh, h: usize, t: u32) -> Exact
+    requires ready { Ready mesh.faces.now mesh.work.now }
+    requires points { Points mesh.faces.now points.now × (h < length mesh.faces.now) × (mate quads mesh.faces.now h < length mesh.faces.now) × (t ≤ 4) }
+    requires h_in_bounds { boundary_from quads mesh.faces.now (from mesh.faces.now h) < length mesh.faces.now }
+    ensures { OnAxes (virtual_on (tension t) mesh.entry.faces.now points.now h) result.x result.y result.z }
 {
-    let f = walks::fan_start(faces, work, h);
+    let f = walks::fan_start(mesh, h);
     let s = f.side;
     let mut fan = Fan::default();
-    extrapolation::gather(faces, work, s, &mut fan);
+    extrapolation::gather(mesh, s, &mut fan);
     let e = halfedges::prev_side(fan.last);
-    let d = walks::along_side(faces, work, s);
-    let c = halfedges::start_of(faces, e);
-    let p = extrapolation::extrapolated_from(points, faces, s, &fan);
-    let q = extrapolation::extrapolated_point(points, faces, work, e);
-    let r = extrapolation::extrapolated_point(points, faces, work, d);
+    let d = walks::along_side(mesh, s);
+    let c = mesh.start_of(e);
+    let p = extrapolation::extrapolated_from(points, mesh.faces, s, &fan);
+    let q = extrapolation::extrapolated_point(points, mesh, e);
+    let r = extrapolation::extrapolated_point(points, mesh, d);
     fan_sum(points, &fan, f.place, c, p, q, r, t)
 }
 
 // The virtual point at the vertex that h leaves, on the inner edge of h.
-pub fn virtual_point(points: &[i32], faces: &[u32], work: &[u32], h: usize, t: u32) -> Exact
-    requires ready { Ready faces.now work.now }
-    requires points { Points faces.now points.now }
-    requires h_in_bounds { (h < length faces.now) × (mate quads faces.now h < length faces.now) × (t ≤ 4) }
-    ensures { OnAxes (virtual_on (tension t) faces.now points.now h) result.x result.y result.z }
+pub fn virtual_point(points: &[i32], mesh: Mesh, h: usize, t: u32) -> Exact
+    requires ready { Ready mesh.faces.now mesh.work.now }
+    requires points { Points mesh.faces.now points.now }
+    requires h_in_bounds { (h < length mesh.faces.now) × (mate quads mesh.faces.now h < length mesh.faces.now) × (t ≤ 4) }
+    ensures { OnAxes (virtual_on (tension t) mesh.entry.faces.now points.now h) result.x result.y result.z }
 {
     let mut fan = Fan::default();
-    extrapolation::gather(faces, work, h, &mut fan);
+    extrapolation::gather(mesh, h, &mut fan);
     if fan.after == h {
         return ring_point(points, &fan, t);
     }
-    fan_point(points, faces, work, h, t)
+    fan_point(points, mesh, h, t)
 }

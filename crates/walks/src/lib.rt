@@ -130,26 +130,26 @@ pub fn back<N: HalfEdges>(net: &N, h: usize) -> usize
 }
 
 // The three in a net with four-sided faces.
-pub fn fan_start(faces: &[u32], work: &[u32], h: usize) -> Start
-    requires ready { Ready faces.now work.now }
-    requires h_in_bounds { h < length faces.now }
-    ensures { FanStart faces.now h result.side result.place }
+pub fn fan_start(mesh: Mesh, h: usize) -> Start
+    requires ready { Ready mesh.faces.now mesh.work.now }
+    requires h_in_bounds { h < length mesh.faces.now }
+    ensures { FanStart mesh.entry.faces.now h result.side result.place }
 {
-    start_of_fan(&Mesh { faces, work }, h)
+    start_of_fan(&mesh, h)
 }
 
-pub fn along_side(faces: &[u32], work: &[u32], h: usize) -> usize
-    requires ready { Ready faces.now work.now }
-    requires h_in_bounds { h < length faces.now }
-    ensures { result ≡ along quads faces.now h }
+pub fn along_side(mesh: Mesh, h: usize) -> usize
+    requires ready { Ready mesh.faces.now mesh.work.now }
+    requires h_in_bounds { h < length mesh.faces.now }
+    ensures { result ≡ along quads mesh.entry.faces.now h }
 {
-    along(&Mesh { faces, work }, h)
+    along(&mesh, h)
 }
 
-pub fn back_side(faces: &[u32], work: &[u32], h: usize) -> usize
-    requires ready { Ready faces.now work.now }
-    requires h_in_bounds { h < length faces.now }
-    ensures { result ≡ back quads faces.now h }
+pub fn back_side(mesh: Mesh, h: usize) -> usize
+    requires ready { Ready mesh.faces.now mesh.work.now }
+    requires h_in_bounds { h < length mesh.faces.now }
+    ensures { result ≡ back quads mesh.entry.faces.now h }
 {
-    back(&Mesh { faces, work }, h)
+    back(&mesh, h)
 }

@@ -7,5 +7,5 @@ pub start_of-requires-2 : goal.start_of-requires-2
 start_of-requires-2 c =
     let r = c.requires.ready in
     let e = c.back_side.ensures in
-    let b = (back_on quads r.vertices c.args.faces.now r.net c.args.h c.requires.on_boundary.0).lt in
+    let b = (back_on quads r.vertices c.args.mesh.faces.now r.net c.args.h c.requires.on_boundary.0).lt in
     rw e b

@@ -7,7 +7,7 @@ use Rattle.edgepoints.proofs.ordinary_ends.Goals as goal
 pub returns-then-is_ordinary : goal.returns-then-is_ordinary
 returns-then-is_ordinary c =
     let classed = c.requires.classed_corners.0 in
-    let by = ordinary_by c.args.work.now c.args.at c.args.initial in
+    let by = ordinary_by c.args.mesh.work.now c.args.classes.at c.args.classes.initial in
     let e = ap by (sym c.start_of.ensures) ∙ sym c.is_ordinary.ensures ∙ c.if-is_ordinary.true in
     let f = c.is_ordinary-then-is_ordinary.ensures ∙ ap by c.end_of.ensures in
     record {

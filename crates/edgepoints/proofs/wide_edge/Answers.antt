@@ -48,7 +48,7 @@ on_axes-requires c =
     let r = c.requires.ready in
     let room = c.requires.points.0 in
     let within = room.bounded in
-    let inner : mate quads c.args.faces.now c.args.h < length c.args.faces.now = omega (arith, b.1) in
+    let inner : mate quads c.args.mesh.faces.now c.args.h < length c.args.mesh.faces.now = omega (arith, b.1) in
     let start_in : InTable c.args.points.now c.start_of-p.result = corner-room _ _ room _ (start-corner r.vertices _ r.net _ _ b.0 c.start_of-p.ensures) in
     let end_in : InTable c.args.points.now c.end_of-q.result = corner-room _ _ room _ (end_corner r.vertices _ r.net _ _ b.0 c.end_of-q.ensures) in
     let first = small c.args.t b.3 r.vertices _ r.net _ room _ b.0 inner c.end_virtual-u.result c.end_virtual-u.ensures in
@@ -63,7 +63,7 @@ returns c =
     let x : r.x ≡ inner_edge_z (tension c.args.t) (axis c.args.points.now 0 c.start_of-p.result) (axis c.args.points.now 0 c.end_of-q.result) u.result.x w.result.x = search rules in
     let y : r.y ≡ inner_edge_z (tension c.args.t) (axis c.args.points.now 1 c.start_of-p.result) (axis c.args.points.now 1 c.end_of-q.result) u.result.y w.result.y = search rules in
     let z : r.z ≡ inner_edge_z (tension c.args.t) (axis c.args.points.now 2 c.start_of-p.result) (axis c.args.points.now 2 c.end_of-q.result) u.result.z w.result.z = search rules in
-    let made = wide_made c.args.t c.requires.h_in_bounds.3 c.args.faces.now c.args.h c.args.m c.requires.h_in_bounds.1 _ _ c.start_of-p.ensures c.end_of-q.ensures in (
+    let made = wide_made c.args.t c.requires.h_in_bounds.3 c.args.mesh.faces.now c.args.h c.args.m c.requires.h_in_bounds.1 _ _ c.start_of-p.ensures c.end_of-q.ensures in (
       refl,
       record {
         on₀ = made (axis c.args.points.now 0) u.result.x w.result.x r.x u.ensures.on₀ w.ensures.on₀ x;

@@ -11,7 +11,7 @@ use Rattle.edgetable.proofs.edge_side.Goals as goal
 
 pub put_rounded-requires : goal.put_rounded-requires
 put_rounded-requires c =
-    let first : c.args.h < mate quads c.args.faces.now c.args.h = let e = c.mate_side-m.ensures in
+    let first : c.args.h < mate quads c.args.faces.now c.args.h = let e = c.mate-m.ensures in
     let b = c.if-m-h.false in
     let z = c.requires.other in
     omega (arith, z) in
@@ -20,7 +20,7 @@ put_rounded-requires c =
 
 pub store_edge-requires-clause-x_bound : goal.store_edge-requires-clause-x_bound
 store_edge-requires-clause-x_bound c =
-    let first : c.args.h < mate quads c.args.faces.now c.args.h = let e = c.mate_side-m.ensures in
+    let first : c.args.h < mate quads c.args.faces.now c.args.h = let e = c.mate-m.ensures in
     let b = c.if-m-h.false in
     let z = c.requires.other in
     omega (arith, z) in
@@ -32,7 +32,7 @@ store_edge-requires-clause-x_bound c =
 
 pub returns : goal.returns
 returns c =
-    let first : c.args.h < mate quads c.args.faces.now c.args.h = let e = c.mate_side-m.ensures in
+    let first : c.args.h < mate quads c.args.faces.now c.args.h = let e = c.mate-m.ensures in
     let b = c.if-m-h.false in
     let z = c.requires.other in
     omega (arith, z) in

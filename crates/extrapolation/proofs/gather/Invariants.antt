@@ -5,7 +5,7 @@ use Rattle.extrapolation.proofs.Turning.{Turning}
 use Rattle.extrapolation.proofs.gather.Given as goal
 
 abbrev pub invariant-loop-g : goal.invariant-loop-g
-invariant-loop-g l = Turning l.faces l.h l.g l.i × Filled l.faces l.h l.i l.fan.neighbours l.fan.opposites
+invariant-loop-g l = Turning l.mesh.faces.now l.h l.g l.i × Filled l.mesh.faces.now l.h l.i l.fan.neighbours l.fan.opposites
 
 abbrev pub decreases-loop-g : goal.decreases-loop-g
 decreases-loop-g l = 8 - l.i

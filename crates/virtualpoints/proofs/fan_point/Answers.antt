@@ -18,8 +18,8 @@ use Rattle.virtualpoints.proofs.fan_point.Goals as goal
 use Rattle.virtualpoints.proofs.fan_point.Goals.{After-fan_start-f}
 
 -- the fan starts on the boundary
-on_s : (c : After-fan_start-f) → OnBoundary quads c.args.faces.now c.fan_start-f.result.side
-on_s c = let e = c.fan_start-f.ensures.side in rw e (boundary_from_on quads c.args.faces.now (from c.args.faces.now c.args.h) c.requires.h_in_bounds)
+on_s : (c : After-fan_start-f) → OnBoundary quads c.args.mesh.faces.now c.fan_start-f.result.side
+on_s c = let e = c.fan_start-f.ensures.side in rw e (boundary_from_on quads c.args.mesh.faces.now (from c.args.mesh.faces.now c.args.h) c.requires.h_in_bounds)
 
 -- and so do those of its last and its first neighbour
 module _ (v : ℕ) (l : List ℕ) (ok : Manifold quads v l) (s : ℕ) (o : OnBoundary quads l s) where
@@ -32,7 +32,7 @@ module _ (v : ℕ) (l : List ℕ) (ok : Manifold quads v l) (s : ℕ) (o : OnBou
 pub extrapolated_from-p-requires : goal.extrapolated_from-p-requires
 extrapolated_from-p-requires c =
     let r = c.requires.ready in
-    let l = c.args.faces.now in
+    let l = c.args.mesh.faces.now in
     let p = c.requires.points.0 in
     let w = c.gather.ensures in
     record { points = (p, open_fan r.vertices l r.net c.fan_start-f.result.side _ w (on_s (goal.at.extrapolated_from-p-requires c).After-fan_start-f), fan_in r.vertices l r.net c.fan_start-f.result.side _ w c.args.points.now p) }
@@ -41,20 +41,20 @@ pub extrapolated_point-q-requires-clause-points : goal.extrapolated_point-q-requ
 extrapolated_point-q-requires-clause-points c =
     let r = c.requires.ready in
     let o = on_s (goal.at.extrapolated_point-q-requires-clause-points c).After-fan_start-f in
-    (c.requires.points.0, on_e r.vertices c.args.faces.now r.net c.fan_start-f.result.side o _ c.gather.ensures c.prev_side-e.result c.prev_side-e.ensures)
+    (c.requires.points.0, on_e r.vertices c.args.mesh.faces.now r.net c.fan_start-f.result.side o _ c.gather.ensures c.prev_side-e.result c.prev_side-e.ensures)
 
 pub extrapolated_point-r-requires-clause-points : goal.extrapolated_point-r-requires-clause-points
 extrapolated_point-r-requires-clause-points c =
     let r = c.requires.ready in
     let o = on_s (goal.at.extrapolated_point-r-requires-clause-points c).After-fan_start-f in
-    (c.requires.points.0, on_d r.vertices c.args.faces.now r.net c.fan_start-f.result.side o c.along_side-d.result c.along_side-d.ensures)
+    (c.requires.points.0, on_d r.vertices c.args.mesh.faces.now r.net c.fan_start-f.result.side o c.along_side-d.result c.along_side-d.ensures)
 
 pub fan_sum-requires-clause-within : goal.fan_sum-requires-clause-within
 fan_sum-requires-clause-within c =
     let d = goal.at.fan_sum-requires-clause-within c in
     let r = c.requires.ready in
-    let o = on_e r.vertices c.args.faces.now r.net c.fan_start-f.result.side (on_s d.After-fan_start-f) _ c.gather.ensures c.prev_side-e.result c.prev_side-e.ensures in
-    let l = c.args.faces.now in
+    let o = on_e r.vertices c.args.mesh.faces.now r.net c.fan_start-f.result.side (on_s d.After-fan_start-f) _ c.gather.ensures c.prev_side-e.result c.prev_side-e.ensures in
+    let l = c.args.mesh.faces.now in
     let p = c.requires.points in
     let es = c.fan_start-f.ensures.side in
     let ej = c.fan_start-f.ensures.place c.requires.h_in_bounds in
@@ -64,21 +64,21 @@ fan_sum-requires-clause-within c =
     (p.0.bounded, omega arith, omega arith, omega arith, rw ec (p.0.room c.prev_side-e.result o.lt), p.3)
 
 pub fan_sum-requires-clause-fan_in : goal.fan_sum-requires-clause-fan_in
-fan_sum-requires-clause-fan_in c = let r = c.requires.ready in fan_in r.vertices c.args.faces.now r.net c.fan_start-f.result.side _ c.gather.ensures c.args.points.now c.requires.points.0
+fan_sum-requires-clause-fan_in c = let r = c.requires.ready in fan_in r.vertices c.args.mesh.faces.now r.net c.fan_start-f.result.side _ c.gather.ensures c.args.points.now c.requires.points.0
 
 pub fan_sum-requires-clause-extrapolated : goal.fan_sum-requires-clause-extrapolated
 fan_sum-requires-clause-extrapolated c =
     let d = goal.at.fan_sum-requires-clause-extrapolated c in
     let r = c.requires.ready in
-    let l = c.args.faces.now in
+    let l = c.args.mesh.faces.now in
     let t = c.args.points.now in
     let b = c.requires.points.0.bounded in
     let x₁ = c.extrapolated_from-p in
     let x₂ = c.extrapolated_point-q in
     let x₃ = c.extrapolated_point-r in (
       extrapolated_small r.vertices l r.net c.fan_start-f.result.side (on_s d.After-fan_start-f) t b x₁.result x₁.ensures,
-      extrapolated_small r.vertices l r.net c.prev_side-e.result (on_e r.vertices c.args.faces.now r.net c.fan_start-f.result.side (on_s d.After-fan_start-f) _ c.gather.ensures c.prev_side-e.result c.prev_side-e.ensures) t b x₂.result x₂.ensures,
-      extrapolated_small r.vertices l r.net c.along_side-d.result (on_d r.vertices c.args.faces.now r.net c.fan_start-f.result.side (on_s d.After-fan_start-f) c.along_side-d.result c.along_side-d.ensures) t b x₃.result x₃.ensures,
+      extrapolated_small r.vertices l r.net c.prev_side-e.result (on_e r.vertices c.args.mesh.faces.now r.net c.fan_start-f.result.side (on_s d.After-fan_start-f) _ c.gather.ensures c.prev_side-e.result c.prev_side-e.ensures) t b x₂.result x₂.ensures,
+      extrapolated_small r.vertices l r.net c.along_side-d.result (on_d r.vertices c.args.mesh.faces.now r.net c.fan_start-f.result.side (on_s d.After-fan_start-f) c.along_side-d.result c.along_side-d.ensures) t b x₃.result x₃.ensures,
     )
 
 pub returns : goal.returns
@@ -91,7 +91,7 @@ returns c =
     let z = c.fan_sum in
     let f = c.fan_start-f in
     let made =
-    fan_made r.vertices c.args.faces.now r.net c.args.h c.requires.points.1 c.requires.points.2 c.requires.h_in_bounds f.result.side _ f.result.place _ c.prev_side-e.result c.start_of-c.result c.along_side-d.result
+    fan_made r.vertices c.args.mesh.faces.now r.net c.args.h c.requires.points.1 c.requires.points.2 c.requires.h_in_bounds f.result.side _ f.result.place _ c.prev_side-e.result c.start_of-c.result c.along_side-d.result
     f.ensures.side (f.ensures.place c.requires.h_in_bounds) (w.circuit.whole (on_s (goal.at.returns c).After-fan_start-f)) w.last c.prev_side-e.ensures c.start_of-c.ensures c.along_side-d.ensures _ _ w.filled (tension c.args.t) c.args.points.now in
     record {
       on₀ = made 0 z.result.x x₁.result.x x₂.result.x x₃.result.x x₁.ensures.on₀ x₂.ensures.on₀ x₃.ensures.on₀ z.ensures.on₀;
