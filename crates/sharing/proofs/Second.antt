@@ -9,7 +9,7 @@ use Rattle.bounds.specs.Bounds.{max_faces}
 use Rattle.lists.proofs.Parts.{drop_later}
 use Rattle.tables.specs.Tables.{cleared}
 use Rattle.tables.proofs.Laws.{drop-cleared, cleared_over}
-use Rattle.verdict.specs.Verdict.{Verdict, accepted, refused, call_verdict, net_verdict, verdict, work_after}
+use Rattle.verdict.specs.Verdict.{Verdict, accepted, call_verdict, net_verdict, verdict, work_after}
 use Rattle.verdict.proofs.Accepted.{or_both}
 use Rattle.admission.specs.Answer.{Checked, checked_as, checked}
 use Rattle.admission.specs.Admission.{RefusedCall, AdmittedCall}
