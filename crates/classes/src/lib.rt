@@ -35,7 +35,10 @@ fn count_side(faces: &[u32], work: &mut [u32], at: usize, v: usize, h: usize)
     ensures counted_below { CountedBelow v at faces.now work.new (h + 1) }
     ensures same_outside { SameOutside at (at + v) work.old work.new }
 {
-    let mesh = Mesh { faces, work: &*work };
+    let mesh = Mesh {
+        faces,
+        work: &*work,
+    };
     let place = at + mesh.start_of(h);
     let size = size_at(&*work, place) + share(mesh, h);
     work[place] = size as u32;

@@ -175,13 +175,7 @@ fn straight_virtual(points: &[i32], mesh: Mesh, h: usize, t: u32) -> Exact
 }
 
 // The virtual point at the vertex that the inner half-edge h leaves, on its edge.
-fn end_virtual(
-    points: &[i32],
-    mesh: Mesh,
-    classes: Classes,
-    h: usize,
-    t: u32,
-) -> Exact
+fn end_virtual(points: &[i32], mesh: Mesh, classes: Classes, h: usize, t: u32) -> Exact
     requires ready { Ready mesh.faces.now mesh.work.now }
     requires points { Points mesh.faces.now points.now × ClassedCorners classes.at classes.initial mesh.faces.now mesh.work.now }
     requires h_in_bounds { (h < length mesh.faces.now) × (mate quads mesh.faces.now h < length mesh.faces.now) × (t ≤ 4) }
@@ -205,14 +199,7 @@ fn wide_on(points: &[i32], p: usize, q: usize, u: Exact, w: Exact, a: usize, t: 
 }
 
 // The point on the inner edge of h, whose mate is m, from its two virtual points.
-fn wide_edge(
-    points: &[i32],
-    mesh: Mesh,
-    classes: Classes,
-    h: usize,
-    m: usize,
-    t: u32,
-) -> Edge
+fn wide_edge(points: &[i32], mesh: Mesh, classes: Classes, h: usize, m: usize, t: u32) -> Edge
     requires ready { Ready mesh.faces.now mesh.work.now }
     requires points { Points mesh.faces.now points.now × ClassedCorners classes.at classes.initial mesh.faces.now mesh.work.now }
     requires h_in_bounds { (h < length mesh.faces.now) × (m ≡ mate quads mesh.faces.now h) × (m < length mesh.faces.now) × (t ≤ 4) }
@@ -239,14 +226,7 @@ fn ordinary_ends(mesh: Mesh, classes: Classes, h: usize) -> bool
 }
 
 // The point on the inner edge of h, whose mate is m.
-fn inner_edge(
-    points: &[i32],
-    mesh: Mesh,
-    classes: Classes,
-    h: usize,
-    m: usize,
-    t: u32,
-) -> Edge
+fn inner_edge(points: &[i32], mesh: Mesh, classes: Classes, h: usize, m: usize, t: u32) -> Edge
     requires ready { Ready mesh.faces.now mesh.work.now }
     requires points { Points mesh.faces.now points.now × ClassedCorners classes.at classes.initial mesh.faces.now mesh.work.now }
     requires h_in_bounds { (h < length mesh.faces.now) × (m ≡ mate quads mesh.faces.now h) × (m < length mesh.faces.now) × (t ≤ 4) }

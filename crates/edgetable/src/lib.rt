@@ -23,7 +23,10 @@ pub fn edge_side(
 {
     let n = faces.len();
     let v = marks.len();
-    let mesh = Mesh { faces, work: &*work };
+    let mesh = Mesh {
+        faces,
+        work: &*work,
+    };
     let m = mesh.mate(h);
     if m < h {
         edgeentries::copy_entry(&mut *work, n, m, h);
