@@ -33,7 +33,7 @@ fn far_before(mesh: Mesh, marks: &[u8], h: usize) -> Option<usize>
     if edgerules::is_marked(marks, mesh.start_of(h)) {
         return None;
     }
-    Some(mesh.start_of(walks::back_side(mesh, h)))
+    Some(mesh.start_of(walks::back(&mesh, h)))
 }
 
 // The far point after its end, none if the end is marked.
@@ -45,7 +45,7 @@ fn far_after(mesh: Mesh, marks: &[u8], h: usize) -> Option<usize>
     if edgerules::is_marked(marks, mesh.end_of(h)) {
         return None;
     }
-    Some(mesh.end_of(walks::along_side(mesh, h)))
+    Some(mesh.end_of(walks::along(&mesh, h)))
 }
 
 // How the exact point of an edge is kept: over the scale, over `edge_scale`, or over the scale on the boundary.

@@ -66,7 +66,7 @@ fn fan_point(points: &[i32], mesh: Mesh, h: usize, t: u32) -> Exact
     let mut fan = Fan::default();
     extrapolation::gather(mesh, s, &mut fan);
     let e = halfedges::prev_side(fan.last);
-    let d = walks::along_side(mesh, s);
+    let d = walks::along(&mesh, s);
     let c = mesh.start_of(e);
     let p = extrapolation::extrapolated_from(points, mesh.faces, s, &fan);
     let q = extrapolation::extrapolated_point(points, mesh, e);

@@ -129,27 +129,11 @@ pub fn back<N: HalfEdges>(net: &N, h: usize) -> usize
     n
 }
 
-// The three in a net with four-sided faces.
+// The same in a net with four-sided faces.
 pub fn fan_start(mesh: Mesh, h: usize) -> Start
     requires ready { Ready mesh.faces.now mesh.work.now }
     requires h_in_bounds { h < length mesh.faces.now }
     ensures { FanStart mesh.entry.faces.now h result.side result.place }
 {
     start_of_fan(&mesh, h)
-}
-
-pub fn along_side(mesh: Mesh, h: usize) -> usize
-    requires ready { Ready mesh.faces.now mesh.work.now }
-    requires h_in_bounds { h < length mesh.faces.now }
-    ensures { result ≡ along quads mesh.entry.faces.now h }
-{
-    along(&mesh, h)
-}
-
-pub fn back_side(mesh: Mesh, h: usize) -> usize
-    requires ready { Ready mesh.faces.now mesh.work.now }
-    requires h_in_bounds { h < length mesh.faces.now }
-    ensures { result ≡ back quads mesh.entry.faces.now h }
-{
-    back(&mesh, h)
 }

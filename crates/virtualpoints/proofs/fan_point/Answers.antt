@@ -47,7 +47,7 @@ pub extrapolated_point-r-requires-clause-points : goal.extrapolated_point-r-requ
 extrapolated_point-r-requires-clause-points c =
     let r = c.requires.ready in
     let o = on_s (goal.at.extrapolated_point-r-requires-clause-points c).After-fan_start-f in
-    (c.requires.points.0, on_d r.vertices c.args.mesh.faces.now r.net c.fan_start-f.result.side o c.along_side-d.result c.along_side-d.ensures)
+    (c.requires.points.0, on_d r.vertices c.args.mesh.faces.now r.net c.fan_start-f.result.side o c.along-d.result c.along-d.ensures)
 
 pub fan_sum-requires-clause-within : goal.fan_sum-requires-clause-within
 fan_sum-requires-clause-within c =
@@ -78,7 +78,7 @@ fan_sum-requires-clause-extrapolated c =
     let x₃ = c.extrapolated_point-r in (
       extrapolated_small r.vertices l r.net c.fan_start-f.result.side (on_s d.After-fan_start-f) t b x₁.result x₁.ensures,
       extrapolated_small r.vertices l r.net c.prev_side-e.result (on_e r.vertices c.args.mesh.faces.now r.net c.fan_start-f.result.side (on_s d.After-fan_start-f) _ c.gather.ensures c.prev_side-e.result c.prev_side-e.ensures) t b x₂.result x₂.ensures,
-      extrapolated_small r.vertices l r.net c.along_side-d.result (on_d r.vertices c.args.mesh.faces.now r.net c.fan_start-f.result.side (on_s d.After-fan_start-f) c.along_side-d.result c.along_side-d.ensures) t b x₃.result x₃.ensures,
+      extrapolated_small r.vertices l r.net c.along-d.result (on_d r.vertices c.args.mesh.faces.now r.net c.fan_start-f.result.side (on_s d.After-fan_start-f) c.along-d.result c.along-d.ensures) t b x₃.result x₃.ensures,
     )
 
 pub returns : goal.returns
@@ -91,8 +91,8 @@ returns c =
     let z = c.fan_sum in
     let f = c.fan_start-f in
     let made =
-    fan_made r.vertices c.args.mesh.faces.now r.net c.args.h c.requires.points.1 c.requires.points.2 c.requires.h_in_bounds f.result.side _ f.result.place _ c.prev_side-e.result c.start_of-c.result c.along_side-d.result
-    f.ensures.side (f.ensures.place c.requires.h_in_bounds) (w.circuit.whole (on_s (goal.at.returns c).After-fan_start-f)) w.last c.prev_side-e.ensures c.start_of-c.ensures c.along_side-d.ensures _ _ w.filled (tension c.args.t) c.args.points.now in
+    fan_made r.vertices c.args.mesh.faces.now r.net c.args.h c.requires.points.1 c.requires.points.2 c.requires.h_in_bounds f.result.side _ f.result.place _ c.prev_side-e.result c.start_of-c.result c.along-d.result
+    f.ensures.side (f.ensures.place c.requires.h_in_bounds) (w.circuit.whole (on_s (goal.at.returns c).After-fan_start-f)) w.last c.prev_side-e.ensures c.start_of-c.ensures c.along-d.ensures _ _ w.filled (tension c.args.t) c.args.points.now in
     record {
       on₀ = made 0 z.result.x x₁.result.x x₂.result.x x₃.result.x x₁.ensures.on₀ x₂.ensures.on₀ x₃.ensures.on₀ z.ensures.on₀;
       on₁ = made 1 z.result.y x₁.result.y x₂.result.y x₃.result.y x₁.ensures.on₁ x₂.ensures.on₁ x₃.ensures.on₁ z.ensures.on₁;
