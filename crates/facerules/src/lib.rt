@@ -167,7 +167,10 @@ impl<'a> RoundEdges<'a> {
         ensures { out.new ≡ put_point out.old f (face_coordinate (tension self.entry.tension) self.entry.half_edges self.entry.work.now 0 f) (face_coordinate (tension self.entry.tension) self.entry.half_edges self.entry.work.now 1 f) (face_coordinate (tension self.entry.tension) self.entry.half_edges self.entry.work.now 2 f) }
     {
         let rule = self.face_rule(f);
-        let p = coordinates::on_axes(|a| self.face_on(f, rule, a));
-        coordinates::put_point(&mut *out, f, p.x, p.y, p.z);
+        // One by one: over a closure the three are not compiled into one piece.
+        let x = self.face_on(f, rule, 0);
+        let y = self.face_on(f, rule, 1);
+        let z = self.face_on(f, rule, 2);
+        coordinates::put_point(&mut *out, f, x, y, z);
     }
 }

@@ -14,12 +14,11 @@ use Rattle.facerules.proofs.RoundEdges.general_face.Goals as goal
 
 pub returns : goal.returns
 returns c =
-    let p = c.on_axes-p.result in
     let v = λ (a : ℕ). round (face_value_of (tension c.args.self.tension) c.args.self.half_edges c.args.self.work.now a c.args.f c.face_rule-rule.result) (face_scale (tension c.args.self.tension)) in
-    let f₀ : SFits w32 p.x = search rules in
-    let f₁ : SFits w32 p.y = search rules in
-    let f₂ : SFits w32 p.z = search rules in
-    let x : p.x ≡ v 0 = search rules in
-    let y : p.y ≡ v 1 = search rules in
-    let z : p.z ≡ v 2 = search rules in
-    put_by_rule _ _ _ _ _ _ _ p.x p.y p.z c.face_rule-rule.ensures x y z (simp to_z-of_z at c.put_point.ensures)
+    let f₀ : SFits w32 c.face_on-x.result = search rules in
+    let f₁ : SFits w32 c.face_on-y.result = search rules in
+    let f₂ : SFits w32 c.face_on-z.result = search rules in
+    let x : c.face_on-x.result ≡ v 0 = search rules in
+    let y : c.face_on-y.result ≡ v 1 = search rules in
+    let z : c.face_on-z.result ≡ v 2 = search rules in
+    put_by_rule _ _ _ _ _ _ _ c.face_on-x.result c.face_on-y.result c.face_on-z.result c.face_rule-rule.ensures x y z (simp to_z-of_z at c.put_point.ensures)
