@@ -1,5 +1,4 @@
 -- The pass goes on.
-use mathlib.Core.Path.{◌≡◌, subst}
 use mathlib.Core.List.{List}
 use Prim.Native.Nat.{ℕ, ◌+◌, ◌<◌}
 use lib.IntN.{ℤ}
@@ -45,9 +44,6 @@ module _ (t : ℕ) (l marks : List ℕ) where
   carries_then p p' p'' w w' w'' h e h' e' h'' e'' a b = record {
     edges = λ at initial p₀ w₀ round done c. let x = a.edges at initial p₀ w₀ round done c in b.edges at initial p₀ w₀ round x.0 x.1;
   }
-
-  pub carries_next : (p p' p'' : List ℤ) (w w' w'' : List ℕ) (h e h' e' h'' e'' : ℕ) → Carries t l marks h e h' e' p w p' w' → Carries t l marks h' e' (h' + 1) e'' p' w' p'' w'' → h' + 1 ≡ h'' → Carries t l marks h e h'' e'' p w p'' w''
-  carries_next p p' p'' w w' w'' h e h' e' h'' e'' a b q = subst (λ (x : ℕ). Carries t l marks h e x e'' p w p'' w'') q (carries_then p p' p'' w w' w'' h e h' e' (h' + 1) e'' a b)
 
   pub carries_none : (p : List ℤ) (w : List ℕ) (h e : ℕ) → Carries t l marks h e h e p w p w
   carries_none p w h e = record { edges = λ at initial p₀ w₀ round done c. (done, c) }

@@ -1,23 +1,28 @@
 -- The lines of vertices in a family of faces whose edges all are plain.
-use Rattle.std.specs.Prelude.{◌≡◌, List, ℕ, ◌+◌}
+use Rattle.std.specs.Prelude.{◌≡◌, List, ℕ, ◌+◌, get_or}
 use Rattle.topology.specs.Shape.{quads}
 use Rattle.topology.specs.HalfEdge.{mate}
 use Rattle.familylines.specs.Steps.{Line, FirstHalf, LastHalf}
+use Rattle.familysteps.specs.declared.Family.{Family}
 
--- what the sixteen steps from h on ask: f is the point of the face that was split, c₀ to c₃ are its corners, e₀ to e₃ the points of its sides, f₀ to f₃ those of the faces beyond them
-pub record FamilyOf (l : List ℕ) (h f c₀ c₁ c₂ c₃ e₀ e₁ e₂ e₃ f₀ f₁ f₂ f₃ : ℕ) : Type 0 where
-  pub first₀ : FirstHalf l h h c₀ e₀ c₁
-  pub first₁ : FirstHalf l h (h + 4) c₁ e₁ c₂
-  pub first₂ : FirstHalf l h (h + 8) c₂ e₂ c₃
-  pub first₃ : FirstHalf l h (h + 12) c₃ e₃ c₀
-  pub last₀ : LastHalf l h (h + 7) c₀ e₀ c₁
-  pub last₁ : LastHalf l h (h + 11) c₁ e₁ c₂
-  pub last₂ : LastHalf l h (h + 15) c₂ e₂ c₃
-  pub last₃ : LastHalf l h (h + 3) c₃ e₃ c₀
-  pub spoke₀ : Line l (h + 1) f₀ e₀ f e₂
-  pub spoke₁ : Line l (h + 5) f₁ e₁ f e₃
-  pub spoke₂ : Line l (h + 9) f₂ e₂ f e₀
-  pub spoke₃ : Line l (h + 2) f₃ e₃ f e₁
+-- entry i of four
+abbrev pub side : List ℕ → ℕ → ℕ
+side l i = get_or l i 0
+
+-- what the sixteen steps from h on ask of the vertices f
+pub record FamilyOf (l : List ℕ) (h : ℕ) (f : Family) : Type 0 where
+  pub first₀ : FirstHalf l h h (side f.corners 0) (side f.edges 0) (side f.corners 1)
+  pub first₁ : FirstHalf l h (h + 4) (side f.corners 1) (side f.edges 1) (side f.corners 2)
+  pub first₂ : FirstHalf l h (h + 8) (side f.corners 2) (side f.edges 2) (side f.corners 3)
+  pub first₃ : FirstHalf l h (h + 12) (side f.corners 3) (side f.edges 3) (side f.corners 0)
+  pub last₀ : LastHalf l h (h + 7) (side f.corners 0) (side f.edges 0) (side f.corners 1)
+  pub last₁ : LastHalf l h (h + 11) (side f.corners 1) (side f.edges 1) (side f.corners 2)
+  pub last₂ : LastHalf l h (h + 15) (side f.corners 2) (side f.edges 2) (side f.corners 3)
+  pub last₃ : LastHalf l h (h + 3) (side f.corners 3) (side f.edges 3) (side f.corners 0)
+  pub spoke₀ : Line l (h + 1) (side f.faces 0) (side f.edges 0) f.centre (side f.edges 2)
+  pub spoke₁ : Line l (h + 5) (side f.faces 1) (side f.edges 1) f.centre (side f.edges 3)
+  pub spoke₂ : Line l (h + 9) (side f.faces 2) (side f.edges 2) f.centre (side f.edges 0)
+  pub spoke₃ : Line l (h + 2) (side f.faces 3) (side f.edges 3) f.centre (side f.edges 1)
   pub back₀ : mate quads l (h + 6) ≡ h + 1
   pub back₁ : mate quads l (h + 10) ≡ h + 5
   pub back₂ : mate quads l (h + 14) ≡ h + 9
