@@ -1,2 +1,1 @@
 pub mod Faces
-pub mod Reading

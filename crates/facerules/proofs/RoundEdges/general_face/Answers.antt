@@ -10,12 +10,12 @@ use Rattle.curve.specs.Weights.{tension}
 use Rattle.rings.specs.Scales.{face_scale}
 use Rattle.facerules.specs.Faces.{face_value_of}
 use Rattle.facerules.proofs.Directions.{put_by_rule}
-use Rattle.facerules.proofs.general_face.Goals as goal
+use Rattle.facerules.proofs.RoundEdges.general_face.Goals as goal
 
 pub returns : goal.returns
 returns c =
     let p = c.on_axes-p.result in
-    let v = λ (a : ℕ). round (face_value_of (tension c.args.t) c.args.n c.args.work.now a c.args.f c.face_rule-rule.result) (face_scale (tension c.args.t)) in
+    let v = λ (a : ℕ). round (face_value_of (tension c.args.self.tension) c.args.self.half_edges c.args.self.work.now a c.args.f c.face_rule-rule.result) (face_scale (tension c.args.self.tension)) in
     let f₀ : SFits w32 p.x = search rules in
     let f₁ : SFits w32 p.y = search rules in
     let f₂ : SFits w32 p.z = search rules in

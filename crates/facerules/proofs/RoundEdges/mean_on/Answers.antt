@@ -11,30 +11,30 @@ use Rattle.curve.specs.Weights.{tension}
 use Rattle.rings.proofs.Tension.{edge_range_at}
 use Rattle.rings.specs.Scales.{face_scale}
 use Rattle.facerules.proofs.Directions.{Sizes, direction-sizes}
-use Rattle.facerules.proofs.mean_on.Goals as goal
+use Rattle.facerules.proofs.RoundEdges.mean_on.Goals as goal
 
 pub overflow_add-u : goal.overflow_add-u
 overflow_add-u c =
-    let at : Sizes c.args.t c.direction_on-u.result c.direction_on-v.result = direction-sizes _ _ _ _ _ _ _ _ c.requires.0 c.requires.3 c.requires.1 c.requires.2 c.direction_on-u.ensures c.direction_on-v.ensures in
+    let at : Sizes c.args.self.tension c.direction_on-u.result c.direction_on-v.result = direction-sizes _ _ _ _ _ _ _ _ c.args.self.table c.requires.2 c.requires.0 c.requires.1 c.direction_on-u.ensures c.direction_on-v.ensures in
     let k = at in let f = k.first in let g = k.second in simp to_z-of_z k.sum
 
 pub round_div-requires : goal.round_div-requires
 round_div-requires c =
-    let at : Sizes c.args.t c.direction_on-u.result c.direction_on-v.result = direction-sizes _ _ _ _ _ _ _ _ c.requires.0 c.requires.3 c.requires.1 c.requires.2 c.direction_on-u.ensures c.direction_on-v.ensures in
+    let at : Sizes c.args.self.tension c.direction_on-u.result c.direction_on-v.result = direction-sizes _ _ _ _ _ _ _ _ c.args.self.table c.requires.2 c.requires.0 c.requires.1 c.direction_on-u.ensures c.direction_on-v.ensures in
     let k = at in
     let f = k.first in
     let g = k.second in
     let h = k.sum in
     let t = k.range in
     let e = c.half_face_scale.ensures.1 in
-    let d = edge_range_at c.args.t in
-    let low = c.requires.0.low in
+    let d = edge_range_at c.args.self.tension in
+    let low = c.args.self.table.low in
     simp to_z-of_z (omega arith, omega arith, omega arith)
 
 pub overflow_cast-result : goal.overflow_cast-result
 overflow_cast-result c =
-    let at : Sizes c.args.t c.direction_on-u.result c.direction_on-v.result = direction-sizes _ _ _ _ _ _ _ _ c.requires.0 c.requires.3 c.requires.1 c.requires.2 c.direction_on-u.ensures c.direction_on-v.ensures in
-    let rounded : c.round_div.result ≡ round (c.direction_on-u.result +ℤ c.direction_on-v.result) (face_scale (tension c.args.t)) = let k = at in
+    let at : Sizes c.args.self.tension c.direction_on-u.result c.direction_on-v.result = direction-sizes _ _ _ _ _ _ _ _ c.args.self.table c.requires.2 c.requires.0 c.requires.1 c.direction_on-u.ensures c.direction_on-v.ensures in
+    let rounded : c.round_div.result ≡ round (c.direction_on-u.result +ℤ c.direction_on-v.result) (face_scale (tension c.args.self.tension)) = let k = at in
     let f = k.first in
     let g = k.second in
     let h = k.sum in
@@ -47,8 +47,8 @@ overflow_cast-result c =
 
 pub returns : goal.returns
 returns c =
-    let at : Sizes c.args.t c.direction_on-u.result c.direction_on-v.result = direction-sizes _ _ _ _ _ _ _ _ c.requires.0 c.requires.3 c.requires.1 c.requires.2 c.direction_on-u.ensures c.direction_on-v.ensures in
-    let rounded : c.round_div.result ≡ round (c.direction_on-u.result +ℤ c.direction_on-v.result) (face_scale (tension c.args.t)) = let k = at in
+    let at : Sizes c.args.self.tension c.direction_on-u.result c.direction_on-v.result = direction-sizes _ _ _ _ _ _ _ _ c.args.self.table c.requires.2 c.requires.0 c.requires.1 c.direction_on-u.ensures c.direction_on-v.ensures in
+    let rounded : c.round_div.result ≡ round (c.direction_on-u.result +ℤ c.direction_on-v.result) (face_scale (tension c.args.self.tension)) = let k = at in
     let f = k.first in
     let g = k.second in
     let h = k.sum in
@@ -57,4 +57,4 @@ returns c =
     let k = at in
     let m : SFits w32 c.round_div.result = rw rounded k.mean in
     let n : SFits w64 c.round_div.result = search rules in
-    simp to_z-of_z (rounded ∙ ap₂ (λ (x y : ℤ). round (x +ℤ y) (face_scale (tension c.args.t))) c.direction_on-u.ensures c.direction_on-v.ensures)
+    simp to_z-of_z (rounded ∙ ap₂ (λ (x y : ℤ). round (x +ℤ y) (face_scale (tension c.args.self.tension))) c.direction_on-u.ensures c.direction_on-v.ensures)

@@ -3,10 +3,10 @@ use mathlib.Core.Path.{◌∙◌}
 use native.Mathlib.Omega.{arith}
 use Rattle.facerules.proofs.Reading.{across_lt}
 use Rattle.facerules.proofs.Directions.{four_yes, four_no}
-use Rattle.facerules.proofs.four_inner.Goals as goal
+use Rattle.facerules.proofs.RoundEdges.four_inner.Goals as goal
 
 pub inner_twice-requires-then-inner_twice : goal.inner_twice-requires-then-inner_twice
-inner_twice-requires-then-inner_twice c = (c.requires.0, omega (arith, c.across_side.ensures, across_lt _ _ c.requires.0.fours c.requires.1))
+inner_twice-requires-then-inner_twice c = omega (arith, c.across_side.ensures, across_lt _ _ c.args.self.table.entries.fours c.requires)
 
 pub returns-then-inner_twice : goal.returns-then-inner_twice
 returns-then-inner_twice c = four_yes _ _ _ _ _ _ c.across_side.ensures c.inner_twice.ensures c.if-inner_twice.true c.inner_twice-then-inner_twice.ensures

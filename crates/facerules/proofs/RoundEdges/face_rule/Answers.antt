@@ -2,7 +2,7 @@
 use mathlib.Core.Path.{sym}
 use mathlib.Core.Bool.{true, false}
 use Rattle.facerules.proofs.Directions.{rule_is}
-use Rattle.facerules.proofs.face_rule.Goals as goal
+use Rattle.facerules.proofs.RoundEdges.face_rule.Goals as goal
 
 pub returns-in-true-true : goal.returns-in-true-true
 returns-in-true-true c = sym (rule_is _ _ _ true true (sym c.in-true-true.ensures) (sym c.in-true-true.ensures'))
