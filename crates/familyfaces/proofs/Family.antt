@@ -13,15 +13,12 @@ use Rattle.roundfaces.specs.Faces.{refined_by}
 use Rattle.roundfaces.proofs.Faces.{corners_then}
 use Rattle.facerules.specs.Faces.{EntryTable, AllPlain, beyond_of}
 use Rattle.facerules.proofs.Reading.{across_lt}
-use Rattle.familyfaces.specs.Family.{FamilyTable, PlainSides, PlainFace}
+use Rattle.familyfaces.specs.Family.{FamilyTable, PlainSides}
 
 across-side : (m j : ℕ) → m % 4 + j ≡ 3 → (j ≡ 0) ⊎ (j ≡ 3) → (0 < across m % 4) × (across m % 4 < 3)
 unfolding across quads
 across-side m j e (inl c) = (omega arith, omega arith)
 across-side m j e (inr c) = (omega arith, omega arith)
-
-moved : (n : ℕ) (w : List ℕ) (r g h : ℕ) → r ≡ entry_of n w g → g ≡ h → r ≡ entry_of n w h
-moved n w r g h e q = e ∙ ap (entry_of n w) q
 
 module _ (n : ℕ) (w : List ℕ) (ok : EntryTable n w) (made : FamilyTable n w) where
   near_mated : (g : ℕ) → g < n → entry_of n w g < wide_flag → get_or w g 0 < n
@@ -44,7 +41,7 @@ module _ (n : ℕ) (w : List ℕ) (ok : EntryTable n w) (made : FamilyTable n w)
   beyond_third f k = ap across (made.third f k) ∙ omega arith
 
   module _ (p : ℕ) (sides : PlainSides n w p) where
-    family_plain : (f : ℕ) → 4 * p ≤ f → f < 4 * p + 4 → 4 * f < n → AllPlain n w f
+    pub family_plain : (f : ℕ) → 4 * p ≤ f → f < 4 * p + 4 → 4 * f < n → AllPlain n w f
     unfolding quads
     family_plain f a b k =
         let d = made.whole in
@@ -61,35 +58,17 @@ module _ (n : ℕ) (w : List ℕ) (ok : EntryTable n w) (made : FamilyTable n w)
           side₃ = record { near = y; mated = m₃; far = outer (4 * f + 3) (omega arith) (inr (omega arith)) m₃ };
         }
 
-    -- what the code reads for the direction of side 0 of face f: the edge inside, and the half beyond it
-    inside_read : (f : ℕ) → 4 * f < n → (r : ℕ) → r ≡ entry_of n w (4 * quads.prev f + 1) → r ≡ entry_of n w (4 * f + 2)
-    inside_read f k r e = e ∙ sym (made.shared f k)
+  -- what the code reads for the direction of side 0 of face f by the face q before it: the edge inside, and the half beyond it
+  pub inside_read : (f q r : ℕ) → 4 * f < n → q ≡ quads.prev f → r ≡ entry_of n w (4 * q + 1) → r ≡ entry_of n w (4 * f + 2)
+  inside_read f q r k e i = i ∙ ap (λ (x : ℕ). entry_of n w (4 * x + 1)) e ∙ sym (made.shared f k)
 
-    beyond_read : (f : ℕ) → 4 * f < n → (r : ℕ) → r ≡ entry_of n w (4 * quads.prev f + 3) → r ≡ entry_of n w (beyond_of w (4 * f + 2))
-    beyond_read f k r e = e ∙ ap (entry_of n w) (sym (beyond_third f k))
+  pub half_read : (f q r : ℕ) → 4 * f < n → q ≡ quads.prev f → r ≡ entry_of n w (4 * q + 3) → r ≡ entry_of n w (beyond_of w (4 * f + 2))
+  half_read f q r k e i = i ∙ ap (λ (x : ℕ). entry_of n w (4 * x + 3)) e ∙ ap (entry_of n w) (sym (beyond_third f k))
 
-  -- face g of the family of the faces from f on, by the entries that were read
-  module _ (f : ℕ) (sides : PlainSides n w (f / 4)) (start : f % 4 ≡ 0) where
-    one : (g p r v x y z : ℕ) → f ≤ g → g < f + 4 → 4 * g < n → p ≡ entry_of n w x → x ≡ 4 * g → r ≡ entry_of n w y → y ≡ 4 * quads.prev g + 1 → v ≡ entry_of n w z → z ≡ 4 * quads.prev g + 3 → PlainFace n w g p r v
-    one g p r v x y z a b k ep ex er ey ev ez = record {
-      lt = k;
-      all = family_plain (f / 4) sides g (omega arith) (omega arith) k;
-      near = moved n w p x (4 * g) ep ex;
-      opposite = inside_read (f / 4) sides g k r (moved n w r y (4 * quads.prev g + 1) er ey);
-      far = beyond_read (f / 4) sides g k v (moved n w v z (4 * quads.prev g + 3) ev ez);
-    }
-
-    pub plain_faces_lem : (a₀ a₁ a₂ a₃ s₀ s₁ s₂ s₃ b₀ b₁ b₂ b₃ : ℕ) → 4 * f + 16 ≤ n
-        → a₀ ≡ entry_of n w (4 * f) → s₀ ≡ entry_of n w (4 * f + 1) → b₃ ≡ entry_of n w (4 * f + 3) → a₁ ≡ entry_of n w (4 * f + 4) → s₁ ≡ entry_of n w (4 * f + 5) → b₀ ≡ entry_of n w (4 * f + 7)
-        → a₂ ≡ entry_of n w (4 * f + 8) → s₂ ≡ entry_of n w (4 * f + 9) → b₁ ≡ entry_of n w (4 * f + 11) → a₃ ≡ entry_of n w (4 * f + 12) → s₃ ≡ entry_of n w (4 * f + 13) → b₂ ≡ entry_of n w (4 * f + 15)
-        → PlainFace n w f a₀ s₃ b₂ × PlainFace n w (f + 1) a₁ s₀ b₃ × PlainFace n w (f + 2) a₂ s₁ b₀ × PlainFace n w (f + 3) a₃ s₂ b₁
-    unfolding quads
-    plain_faces_lem a₀ a₁ a₂ a₃ s₀ s₁ s₂ s₃ b₀ b₁ b₂ b₃ k ea₀ es₀ eb₃ ea₁ es₁ eb₀ ea₂ es₂ eb₁ ea₃ es₃ eb₂ = (
-      one f a₀ s₃ b₂ (4 * f) (4 * f + 13) (4 * f + 15) (omega arith) (omega arith) (omega arith) ea₀ refl es₃ (omega arith) eb₂ (omega arith),
-      one (f + 1) a₁ s₀ b₃ (4 * f + 4) (4 * f + 1) (4 * f + 3) (omega arith) (omega arith) (omega arith) ea₁ (omega arith) es₀ (omega arith) eb₃ (omega arith),
-      one (f + 2) a₂ s₁ b₀ (4 * f + 8) (4 * f + 5) (4 * f + 7) (omega arith) (omega arith) (omega arith) ea₂ (omega arith) es₁ (omega arith) eb₀ (omega arith),
-      one (f + 3) a₃ s₂ b₁ (4 * f + 12) (4 * f + 9) (4 * f + 11) (omega arith) (omega arith) (omega arith) ea₃ (omega arith) es₂ (omega arith) eb₁ (omega arith),
-    )
+-- ---- face i of a family by the family's first face
+module _ (n : ℕ) (w : List ℕ) (f : ℕ) (start : f % 4 ≡ 0) (sides : PlainSides n w (f / 4)) (all : 4 * f + 16 ≤ n) where
+  pub face_of : (g q : ℕ) → f ≤ g → g < f + 4 → q ≡ quads.prev g → (4 * g < n) × (q ≡ quads.prev g) × PlainSides n w (g / 4)
+  face_of g q a b e = let d : f / 4 ≡ g / 4 = omega arith in (omega arith, e, subst (PlainSides n w) d sides)
 
 -- ---- corners
 

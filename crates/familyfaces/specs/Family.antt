@@ -4,7 +4,6 @@ use Rattle.topology.specs.Shape.{quads}
 use Rattle.refinedfaces.specs.Families.{Facing}
 use Rattle.edgeentries.specs.Entry.{wide_flag, entry_of}
 use Rattle.coordinates.specs.Points.{put_point}
-use Rattle.facerules.specs.Faces.{AllPlain, beyond_of}
 
 -- mates as after a round; the edges inside the face that was split are plain, and have one entry for both half-edges
 pub record FamilyTable (n : ℕ) (w : List ℕ) : Type 0 where
@@ -19,14 +18,6 @@ pub record FamilyTable (n : ℕ) (w : List ℕ) : Type 0 where
 pub record PlainSides (n : ℕ) (w : List ℕ) (p : ℕ) : Type 0 where
   pub first : (f : ℕ) → 4 * p ≤ f → f < 4 * p + 4 → entry_of n w (4 * f) < wide_flag
   pub last : (f : ℕ) → 4 * p ≤ f → f < 4 * p + 4 → entry_of n w (4 * f + 3) < wide_flag
-
--- the eight edges of face f are plain; p, r and v are the entries of its sides 0 and 2 and beyond side 2
-pub record PlainFace (n : ℕ) (w : List ℕ) (f p r v : ℕ) : Type 0 where
-  pub lt : 4 * f < n
-  pub all : AllPlain n w f
-  pub near : p ≡ entry_of n w (4 * f)
-  pub opposite : r ≡ entry_of n w (4 * f + 2)
-  pub far : v ≡ entry_of n w (beyond_of w (4 * f + 2))
 
 -- t with the points f to f + 3, where coordinate a of point i is G a i
 unfoldable pub put_family : (ℕ → ℕ → ℤ) → List ℤ → ℕ → List ℤ

@@ -17,7 +17,6 @@ use Rattle.tables.proofs.Written.{written_none, Refining, refining_to}
 use Rattle.coordinates.specs.Points.{put_point}
 use Rattle.roundfaces.specs.Faces.{refined_by, FaceIn, FacesIn}
 use Rattle.roundfaces.proofs.Faces.{corners_then, face_in, corners_from}
-use Rattle.facerules.specs.Faces.{FaceTable}
 use Rattle.familyfaces.specs.Family.{put_family}
 use Rattle.passes.specs.Parts.{PartIn, PointsPut}
 
@@ -137,9 +136,8 @@ module _ (n v count : ℕ) (w : List ℕ) where
 
   -- of a net with corners `faces`
   module _ (faces : List ℕ) (ok : FacesIn n v count faces w) where
-    pub part_of : (t a e : ℕ) (out : List ℤ) (c : List ℕ) → FaceTable t n w → 3 * (n / 4) ≤ length out → length c ≡ length faces → a ≤ e → 4 * e ≤ n → PartIn t n v count a e out c w
-    part_of t a e out c table room k h b = record {
-      table = table;
+    pub part_of : (a e : ℕ) (out : List ℤ) (c : List ℕ) → 3 * (n / 4) ≤ length out → length c ≡ length faces → a ≤ e → 4 * e ≤ n → PartIn n v count a e out c w
+    part_of a e out c room k h b = record {
       from = h;
       to = b;
       room = omega arith;

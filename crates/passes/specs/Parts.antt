@@ -4,7 +4,6 @@ use Rattle.search.specs.Search.{count}
 use Rattle.topology.specs.Shape.{quads}
 use Rattle.topology.specs.HalfEdge.{first_met}
 use Rattle.roundfaces.specs.Faces.{FaceIn}
-use Rattle.facerules.specs.Faces.{FaceTable}
 use Rattle.edgetable.specs.EdgeTable.{Round, Edges}
 
 -- the pass over the edges has gone on to h, with e edges met, whatever tables it began with
@@ -16,8 +15,7 @@ pub record Underway (t : ℕ) (l marks : List ℕ) (p : List ℤ) (w : List ℕ)
   pub counted : e ≡ count (first_met quads l) h
 
 -- the faces from a up to e, with room for their points in `out` and for their refined corners
-pub record PartIn (t n v count a e : ℕ) (out : List ℤ) (faces w : List ℕ) : Type 0 where
-  pub table : FaceTable t n w
+pub record PartIn (n v count a e : ℕ) (out : List ℤ) (faces w : List ℕ) : Type 0 where
   pub from : a ≤ e
   pub to : 4 * e ≤ n
   pub room : 3 * e ≤ length out

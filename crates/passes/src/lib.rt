@@ -15,6 +15,9 @@ ghost use Rattle.edgetable.specs.EdgeTable.{Round, Edges};
 ghost use Rattle.familylines.specs.Steps.{Carries};
 ghost use Rattle.passes.specs.Parts.{Underway, PartIn, PointsPut};
 
+use facerules::RoundEdges;
+use familyfaces::FamilyEdges;
+
 // Makes the points of the edges of the half-edges from h up to `end`, where `edges` are met before; the answer is how many are met then.
 fn side_points(
     points: &mut [i32],
@@ -150,21 +153,19 @@ pub fn edge_points(
 fn put_faces(
     out: &mut [i32],
     faces: &mut [u32],
-    work: &[u32],
-    n: usize,
+    round: RoundEdges,
     v: usize,
     edges: usize,
     f: usize,
     end: usize,
-    t: u32,
 )
-    requires { PartIn t n v edges f end out.old faces.old work.now }
-    ensures points { PointsPut (face_coordinate (tension t) n work.now) f end out.old out.new }
-    ensures corners { Written (16 * f) (16 * end) (refined_by n v edges faces.old work.now) faces.old faces.new }
+    requires { PartIn round.half_edges v edges f end out.old faces.old round.work.now }
+    ensures points { PointsPut (face_coordinate (tension round.entry.tension) round.entry.half_edges round.entry.work.now) f end out.old out.new }
+    ensures corners { Written (16 * f) (16 * end) (refined_by round.entry.half_edges v edges faces.old round.entry.work.now) faces.old faces.new }
 {
     for g in (f..end).rev() {
-        facepoints::put_face(&mut *out, work, n, g, t);
-        roundfaces::refine_face(&mut *faces, work, n, v, edges, g);
+        facepoints::put_face(&mut *out, round, g);
+        roundfaces::refine_face(&mut *faces, round.work, round.half_edges, v, edges, g);
     }
 }
 
@@ -172,42 +173,37 @@ fn put_faces(
 fn put_family(
     out: &mut [i32],
     faces: &mut [u32],
-    work: &[u32],
-    n: usize,
+    family: FamilyEdges,
     v: usize,
     edges: usize,
     f: usize,
-    t: u32,
 )
-    requires part { PartIn t n v edges f (f + 4) out.old faces.old work.now }
-    requires family_table { FamilyTable n work.now × (f % 4 ≡ 0) }
-    ensures points { PointsPut (face_coordinate (tension t) n work.now) f (f + 4) out.old out.new }
-    ensures corners { Written (16 * f) (16 * (f + 4)) (refined_by n v edges faces.old work.now) faces.old faces.new }
+    requires part { PartIn family.round.half_edges v edges f (f + 4) out.old faces.old family.round.work.now }
+    requires first { f % 4 ≡ 0 }
+    ensures points { PointsPut (face_coordinate (tension family.entry.round.tension) family.entry.round.half_edges family.entry.round.work.now) f (f + 4) out.old out.new }
+    ensures corners { Written (16 * f) (16 * (f + 4)) (refined_by family.entry.round.half_edges v edges faces.old family.entry.round.work.now) faces.old faces.new }
 {
-    if familyfaces::plain_family(work, n, f) {
-        familyfaces::refine_family(&mut *out, &mut *faces, work, n, v, edges, f, t);
+    if family.plain_family(f) {
+        family.refine_family(&mut *out, &mut *faces, v, edges, f);
         return;
     }
-    put_faces(&mut *out, &mut *faces, work, n, v, edges, f, f + 4, t);
+    put_faces(&mut *out, &mut *faces, family.round, v, edges, f, f + 4);
 }
 
 // The same for all faces, family by family.
 fn faces_by_families(
     out: &mut [i32],
     faces: &mut [u32],
-    work: &[u32],
-    n: usize,
+    family: FamilyEdges,
     v: usize,
     edges: usize,
-    t: u32,
 )
-    requires face_table { FaceTable t n work.now × FacesIn n v edges faces.old work.now × (3 * (n / 4) ≤ length out.old) }
-    requires family_table { FamilyTable n work.now }
-    ensures out_after { out.new ≡ filled (face_coordinates (tension t) n work.now) out.old }
-    ensures faces_after { faces.new ≡ filled (refined quads v (take n faces.old)) faces.old }
+    requires faces_in { FacesIn family.round.half_edges v edges faces.old family.round.work.now × (3 * (family.round.half_edges / 4) ≤ length out.old) }
+    ensures out_after { out.new ≡ filled (face_coordinates (tension family.entry.round.tension) family.entry.round.half_edges family.entry.round.work.now) out.old }
+    ensures faces_after { faces.new ≡ filled (refined quads v (take family.entry.round.half_edges faces.old)) faces.old }
 {
-    for p in (0..n / 16).rev() {
-        put_family(&mut *out, &mut *faces, work, n, v, edges, 4 * p, t);
+    for p in (0..family.round.half_edges / 16).rev() {
+        put_family(&mut *out, &mut *faces, family, v, edges, 4 * p);
     }
 }
 
@@ -227,9 +223,14 @@ pub fn face_points(
     ensures out_after { out.new ≡ filled (face_coordinates (tension t) n work.now) out.old }
     ensures faces_after { faces.new ≡ filled (refined quads v (take n faces.old)) faces.old }
 {
+    let round = RoundEdges {
+        work,
+        half_edges: n,
+        tension: t,
+    };
     if later {
-        faces_by_families(&mut *out, &mut *faces, work, n, v, edges, t);
+        faces_by_families(&mut *out, &mut *faces, FamilyEdges { round }, v, edges);
         return;
     }
-    put_faces(&mut *out, &mut *faces, work, n, v, edges, 0, n / 4, t);
+    put_faces(&mut *out, &mut *faces, round, v, edges, 0, n / 4);
 }

@@ -9,7 +9,7 @@ use Rattle.passes.proofs.FacePass.{put_all, part_of, corners_on, corners_none}
 use Rattle.passes.proofs.face_points.Goals as goal
 
 pub put_faces-requires : goal.put_faces-requires
-put_faces-requires c = part_of _ _ _ _ _ c.requires.face_table.1 _ _ _ _ _ c.requires.face_table.0 c.requires.face_table.2 refl (omega arith) (omega arith)
+put_faces-requires c = part_of _ _ _ _ _ c.requires.face_table.1 _ _ _ _ c.requires.face_table.2 refl (omega arith) (omega arith)
 
 pub returns-clause-out_after : goal.returns-clause-out_after
 unfolding face_coordinates

@@ -28,7 +28,7 @@ loop-g-preserved c =
     let i = q.invariant in
     let r = c.requires.room in
     let l = q.auto.out in
-    let G : ℕ → ℕ → ℤ = face_coordinate (tension c.args.t) c.args.n c.args.work.now in
+    let G : ℕ → ℕ → ℤ = face_coordinate (tension c.args.round.tension) c.args.round.half_edges c.args.round.work.now in
     let e : q.g - 1 + 1 ≡ q.g = omega arith in (
       omega arith,
       put_then _ (q.g - 1) q.g _ _ q.out _ (omega arith) (omega arith) i.1 (rw e at (put_one G (q.g - 1) q.out _ (omega arith) c.put_face.ensures)),
@@ -39,10 +39,10 @@ pub returns-clause-points : goal.returns-clause-points
 returns-clause-points c =
     let q = c.loop-g in
     let e : q.g ≡ c.args.f = omega arith in
-    subst (λ (g : ℕ). PointsPut (face_coordinate (tension c.args.t) c.args.n c.args.work.now) g c.args.end c.args.out.now q.out) e q.invariant.1
+    subst (λ (g : ℕ). PointsPut (face_coordinate (tension c.args.round.tension) c.args.round.half_edges c.args.round.work.now) g c.args.end c.args.out.now q.out) e q.invariant.1
 
 pub returns-clause-corners : goal.returns-clause-corners
 returns-clause-corners c =
     let q = c.loop-g in
     let e : q.g ≡ c.args.f = omega arith in
-    subst (λ (g : ℕ). Written (16 * g) (16 * c.args.end) (refined_by c.args.n c.args.v c.args.edges c.args.faces.now c.args.work.now) c.args.faces.now q.faces) e q.invariant.2
+    subst (λ (g : ℕ). Written (16 * g) (16 * c.args.end) (refined_by c.args.round.half_edges c.args.v c.args.edges c.args.faces.now c.args.round.work.now) c.args.faces.now q.faces) e q.invariant.2
