@@ -11,4 +11,4 @@ use Rattle.passes.proofs.faces_by_families.Given as goal
 
 abbrev pub invariant-loop-p : goal.invariant-loop-p
 invariant-loop-p l =
-    PointsPut (face_coordinate (tension l.family.round.tension) l.family.round.half_edges l.family.round.work) (4 * l.p) (l.family.round.half_edges / 4) l.initial.out l.out × Refining l.family.round.half_edges (λ (k : ℕ). corner quads l.v (take l.family.round.half_edges l.initial.faces) (k / 4) (k % 4)) l.initial.faces l.faces (4 * l.p)
+    PointsPut (face_coordinate (tension l.family.round.tension) l.family.round.half_edges l.family.round.work.now) (4 * l.p) (l.family.round.half_edges / 4) l.initial.out l.out × Refining l.family.round.half_edges (λ (k : ℕ). corner quads l.v (take l.family.round.half_edges l.initial.faces) (k / 4) (k % 4)) l.initial.faces l.faces (4 * l.p)

@@ -9,4 +9,4 @@ use Rattle.passes.proofs.put_faces.Given as goal
 
 abbrev pub invariant-loop-g : goal.invariant-loop-g
 invariant-loop-g l =
-    (l.f ≤ l.g) × PointsPut (face_coordinate (tension l.round.tension) l.round.half_edges l.round.work) l.g l.end l.initial.out l.out × Written (16 * l.g) (16 * l.end) (refined_by l.round.half_edges l.v l.edges l.initial.faces l.round.work) l.initial.faces l.faces
+    (l.f ≤ l.g) × PointsPut (face_coordinate (tension l.round.tension) l.round.half_edges l.round.work.now) l.g l.end l.initial.out l.out × Written (16 * l.g) (16 * l.end) (refined_by l.round.half_edges l.v l.edges l.initial.faces l.round.work.now) l.initial.faces l.faces

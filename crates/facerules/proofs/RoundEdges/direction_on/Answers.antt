@@ -1,7 +1,6 @@
 -- `direction_on` meets its contract: no step leaves its range. Assumes nothing.
 use borrow.Author.Rules.{rules}
 use native.Mathlib.Omega.{arith}
-use mathlib.Core.Path.{◌≡◌}
 use Prim.Native.Nat.{ℕ, ◌≤◌, ◌<◌}
 use lib.IntN.{ℤ, nat_abs}
 use mir.Syntax.{w64}

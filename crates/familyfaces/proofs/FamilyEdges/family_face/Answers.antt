@@ -2,7 +2,7 @@
 use native.Mathlib.Omega.{arith}
 use Rattle.facerules.specs.Faces.{AllPlain}
 use Rattle.topology.specs.Shape.{quads}
-use Rattle.facepoints.proofs.Plain.{plain_mated, regular_edges, put_regular}
+use Rattle.facepoints.proofs.Plain.{regular_edges, put_regular}
 use Rattle.familyfaces.proofs.Family.{family_plain, inside_read, half_read}
 use Rattle.familyfaces.proofs.FamilyEdges.family_face.Goals as goal
 use Rattle.familyfaces.proofs.FamilyEdges.family_face.Goals.{Start}
