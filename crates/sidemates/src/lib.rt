@@ -19,7 +19,8 @@ pub fn first_mate(n: u32, m: u32) -> u32
 // The same at side i of a face that a round made: m is a side 3 - i, or none where i is 0 or 3.
 pub fn later_mate(n: u32, i: u32, m: u32) -> u32
     requires { (m ≤ n) × (n ≤ max_half_edges) × (m < n → m % 4 + i ≡ 3) × (0 < i → i < 3 → m < n) }
-    ensures { result ≡ first_mate n m }
+    ensures mate { result ≡ first_mate n m }
+    ensures inner { 0 < i → i < 3 → result ≡ 4 * m + 7 }
 {
     match i {
         1 | 2 => 4 * m + 7,
