@@ -71,7 +71,7 @@ module _ (l : List ℕ) (s : ℕ) (fan : Fan) (f : OpenFan l s fan) (t : List �
 
   -- far being the neighbours after the first
   pub mean_made : (fan.count ≡ 1 → ⊥) → (far : List ℕ) → length far ≡ fan.count - 1 → ((i : ℕ) → i < fan.count - 1 → get_or far i 0 ≡ get_or fan.neighbours (suc i) 0)
-      → Q ≡ sum (length far) (vertex_of t a far) → r ≡ pos (2 * extrapolated_scale) *ℤ P -ℤ pos (extrapolated_scale / length far) *ℤ Q → r ≡ extrapolated_on l t s a
+      → Q ≡ sum (length far) (vertex_of t a far) → r ≡ pos (2 * extrapolated_scale) *ℤ P -ℤ pos (extrapolated_scale / (fan.count - 1)) *ℤ Q → r ≡ extrapolated_on l t s a
   unfolding extrapolated_at_z
   mean_made n far size read e_q er =
       let d = starts f.vertices l f.net s f.start in
@@ -81,7 +81,5 @@ module _ (l : List ℕ) (s : ℕ) (fan : Fan) (f : OpenFan l s fan) (t : List �
       sum_cong (fan.count - 1) (vertex_of t a far) (λ (i : ℕ). axis t a (fan_end l s (suc i)))
       (λ i b. ap (axis t a) (read i b ∙ f.filled.neighbours (suc i) (omega arith) ∙ sym (end_inside_lem f.vertices l f.net s f.start (suc i) (omega arith)))) in
       let y : r ≡ pos (2 * extrapolated_scale) *ℤ axis t a (from l s) -ℤ pos (extrapolated_scale / (fan.count - 1)) *ℤ sum (fan.count - 1) (λ (i : ℕ). axis t a (fan_end l s (suc i))) =
-      er ∙ ap₂ (λ (y z : ℤ). pos (2 * extrapolated_scale) *ℤ y -ℤ pos (extrapolated_scale / length far) *ℤ z) e_p e_q
-      ∙ ap (λ (k : ℕ). pos (2 * extrapolated_scale) *ℤ axis t a (from l s) -ℤ pos (extrapolated_scale / k) *ℤ sum k (vertex_of t a far)) size
-      ∙ ap (λ (z : ℤ). pos (2 * extrapolated_scale) *ℤ axis t a (from l s) -ℤ pos (extrapolated_scale / (fan.count - 1)) *ℤ z) g in
+      er ∙ ap₂ (λ (y z : ℤ). pos (2 * extrapolated_scale) *ℤ y -ℤ pos (extrapolated_scale / (fan.count - 1)) *ℤ z) e_p (e_q ∙ ap (λ (k : ℕ). sum k (vertex_of t a far)) size ∙ g) in
       rw (q, d) (rw c at y)

@@ -16,7 +16,7 @@ use halfedges::Mesh;
 use ringsums::Fan;
 
 // The denominator of extrapolated points, where it is divided by the number of inner edges of a fan.
-const EXTRAPOLATED_SHARES: usize = 60;
+const EXTRAPOLATED_SHARES: u16 = 60;
 
 // Gathers the faces met in turning from h.
 pub fn gather(mesh: Mesh, h: usize, fan: &mut Fan)
@@ -33,7 +33,7 @@ pub fn gather(mesh: Mesh, h: usize, fan: &mut Fan)
         i += 1;
         let m = mesh.turn(g);
         if m == n || m == h {
-            fan.count = i;
+            fan.count = i as u16;
             fan.last = g;
             fan.after = m;
             return;
@@ -43,7 +43,7 @@ pub fn gather(mesh: Mesh, h: usize, fan: &mut Fan)
 }
 
 // Twice p, over the scale, less c times q.
-fn reflected(p: i64, q: i64, c: usize) -> i64
+fn reflected(p: i64, q: i64, c: u16) -> i64
     requires { (nat_abs p ≤ coordinate_range) × (nat_abs q ≤ 5 * coordinate_range) × (c ≤ extrapolated_scale) }
     ensures { result ≡ pos (2 * extrapolated_scale) *ℤ p -ℤ pos c *ℤ q }
 {
@@ -61,9 +61,10 @@ fn extrapolated_on(points: &[i32], faces: &[u32], s: usize, fan: &Fan, a: usize)
         let q = coordinates::coordinate(points, fan.opposites[0], a);
         return reflected(p, q, EXTRAPOLATED_SHARES);
     }
-    let far = &fan.neighbours[1..fan.count];
+    let far = &fan.neighbours[1..fan.count as usize];
     let q = ringsums::vertex_sum(points, far, a);
-    reflected(p, q, EXTRAPOLATED_SHARES / far.len())
+    let r = fan.count - 1;
+    reflected(p, q, EXTRAPOLATED_SHARES / r)
 }
 
 // The same on all axes.

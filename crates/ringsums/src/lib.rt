@@ -17,7 +17,7 @@ use coordinates::Exact;
 pub struct Fan {
     pub neighbours: [usize; 8],
     pub opposites: [usize; 8],
-    pub count: usize,
+    pub count: u16,
     pub last: usize,
     pub after: usize,
 }
@@ -68,7 +68,7 @@ pub fn weighted_sum(points: &[i32], w: &[i64; 16], fan: &Fan, n: usize, e: usize
     let mut x: i64 = 0;
     let mut y: i64 = 0;
     let mut z: i64 = 0;
-    for i in 0..fan.count {
+    for i in 0..fan.count as usize {
         let d = place_on(n, e + i);
         let p = fan.neighbours[i];
         let q = fan.opposites[i];

@@ -25,7 +25,7 @@ fn ring_point(points: &[i32], ring: &Fan, t: u32) -> Exact
     requires fan_in { FanIn points.now ring.now }
     ensures { OnAxes (λ (a : ℕ). ring_sum ring.now.count (weighted_sum (row (tension t) ring.now.count) ring.now.count 0 ring.now.count (axis points.now a) ring.now.neighbours ring.now.opposites)) result.x result.y result.z }
 {
-    let n = ring.count;
+    let n = ring.count as usize;
     let w = rings::weights(n, t);
     let s = ringsums::weighted_sum(points, &w, ring, n, 0);
     s.map(|v| ringsums::scaled_share(n, v))
@@ -47,8 +47,8 @@ fn fan_sum(
     requires extrapolated { Bounded extrapolated_range p × Bounded extrapolated_range q × Bounded extrapolated_range r }
     ensures { OnAxes (λ (a : ℕ). fan_on (tension t) (axis points.now a) fan.now.neighbours fan.now.opposites fan.now.count j c (on p a) (on q a) (on r a)) result.x result.y result.z }
 {
-    let n = fan.count + 2;
-    let place = fan.count - j;
+    let n = fan.count as usize + 2;
+    let place = fan.count as usize - j;
     let w = rings::weights(n, t);
     let s = ringsums::weighted_sum(points, &w, fan, n, n - j);
     coordinates::on_axes(|a| ringsums::closed_on(points, &w, n, place, s, c, p, q, r, a))

@@ -119,7 +119,7 @@ pub fn back<N: HalfEdges>(net: &N, h: usize) -> usize
 {
     let n = net.count();
     let mut g = h;
-    for _turns in 0..6usize {
+    for _turns in 0..6u16 {
         let last = net.prev(g);
         g = net.mate(last);
         if g == n {

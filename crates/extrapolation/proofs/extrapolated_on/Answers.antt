@@ -73,7 +73,7 @@ reflected-requires-2 c =
     let n = rest_size c.args.fan.now.count c.args.fan.now.neighbours (omega arith) in
     let b = vertices_small c.args.points.now c.args.a (rest c.args.fan.now.count c.args.fan.now.neighbours) (length (rest c.args.fan.now.count c.args.fan.now.neighbours)) c.requires.points.0.bounded in
     let e = ap nat_abs c.vertex_sum-q.ensures in
-    let q = div-le_self extrapolated_scale (length (rest c.args.fan.now.count c.args.fan.now.neighbours)) in
+    let q = div-le_self extrapolated_scale (c.args.fan.now.count - 1) in
     simp to_z-of_z (omega arith, omega arith, q)
 
 pub returns : goal.returns
