@@ -19,6 +19,6 @@ pub record Gives {V A : Type 0} (is : V → A) (r : Option (declared.Read V)) (l
   pub reads : read_of is r l ≡ what
   pub within : used r ≤ length l
 
--- the same where a value says itself
+-- the same where the value is a number
 abbrev pub GivesNumber : {N : Type 0} → Option (declared.Read N) → List ℕ → Read N → Type 0
 GivesNumber r l what = Gives (λ n. n) r l what

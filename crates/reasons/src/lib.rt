@@ -4,7 +4,7 @@
 ghost use Rattle.std.specs.Prelude.{◌≡◌};
 ghost use Rattle.reasons.specs.Reasons.{number, first_place};
 
-// The reasons, by their numbers. A maker meets all but 13, which is the program's, under the names of `gedrovit.h`.
+// The reasons, by their numbers. A maker meets them under the names of `gedrovit.h`.
 #[derive(Clone, Copy, Debug, PartialEq, Eq)]
 pub enum Reason {
     TooManyRounds = 1,
