@@ -5,10 +5,11 @@ ghost use Rattle.std.specs.Prelude.{◌≡◌, true, ℕ, ◌+◌, ◌≤◌, �
 ghost use Rattle.topology.specs.Shape.{quads};
 ghost use Rattle.topology.specs.HalfEdge.{edge_count};
 ghost use Rattle.refinedfaces.specs.Refined.{refined_vertices};
-ghost use Rattle.halfedges.specs.Tables.{Connectivity};
 ghost use Rattle.edgeentries.specs.Entry.{boundary_flag, entry_of};
 ghost use Rattle.pointletters.specs.FaceLetter.{face_letter};
 ghost use Rattle.letters.specs.Letters.{start_letter, new_letter, Corrected, Nameable, WrittenIf};
+
+use halfedges::Mesh;
 
 // Writes the letters of the vertices where refining begins, where they are asked for: the first are drawn, and the others made by the split.
 pub fn name_start(with_letters: bool, letters: &mut [u8], control: usize, start: usize)
@@ -22,30 +23,30 @@ pub fn name_start(with_letters: bool, letters: &mut [u8], control: usize, start:
 }
 
 // Writes the letter of face f, where `first` is the place of the first face.
-fn name_face(letters: &mut [u8], faces: &[u32], work: &[u32], first: usize, f: usize)
-    requires { Connectivity faces.now work.now × (f < quads.faces (length faces.now)) × (first + f < length letters.old) }
-    ensures { letters.new ≡ set letters.old (first + f) (face_letter faces.now f) }
+fn name_face(letters: &mut [u8], mesh: Mesh, first: usize, f: usize)
+    requires { (f < quads.faces (length mesh.faces.now)) × (first + f < length letters.old) }
+    ensures { letters.new ≡ set letters.old (first + f) (face_letter mesh.entry.faces.now f) }
 {
-    letters[first + f] = pointletters::face_letter(faces, work, f);
+    letters[first + f] = pointletters::face_letter(mesh, f);
 }
 
 // Puts right what the half-edge h touches if it lies on the boundary: the letter of its edge, of its face, and of the face beyond the opposite side.
-fn name_side(letters: &mut [u8], faces: &[u32], marks: &[u8], work: &[u32], first: usize, h: usize)
-    requires nameable { Nameable faces.now marks.now work.now letters.old }
-    requires first_value { (first ≡ length marks.now + edge_count quads faces.now) × (h < length faces.now) }
-    ensures { Corrected faces.now marks.now h (h + 1) letters.old letters.new }
+fn name_side(letters: &mut [u8], mesh: Mesh, marks: &[u8], first: usize, h: usize)
+    requires nameable { Nameable mesh.faces.now marks.now mesh.work.now letters.old }
+    requires first_value { (first ≡ length marks.now + edge_count quads mesh.faces.now) × (h < length mesh.faces.now) }
+    ensures { Corrected mesh.entry.faces.now marks.now h (h + 1) letters.old letters.new }
 {
-    let n = faces.len();
-    let entry = edgeentries::entry_at(work, n, h);
+    let n = mesh.faces.len();
+    let entry = edgeentries::entry_at(mesh.work, n, h);
     if !edgeentries::is_boundary(entry) {
         return;
     }
     let place = marks.len() + edgeentries::number_of(entry);
-    letters[place] = pointletters::edge_letter(faces, marks, h, n);
-    name_face(&mut *letters, faces, work, first, halfedges::face_of(h));
-    let g = halfedges::mate_side(faces, work, halfedges::across_side(h));
+    letters[place] = pointletters::edge_letter(mesh.faces, marks, h, n);
+    name_face(&mut *letters, mesh, first, halfedges::face_of(h));
+    let g = mesh.mate(halfedges::across_side(h));
     if g < n {
-        name_face(&mut *letters, faces, work, first, halfedges::face_of(g));
+        name_face(&mut *letters, mesh, first, halfedges::face_of(g));
     }
 }
 
@@ -58,27 +59,27 @@ fn inner_sides(work: &[u32], n: usize, h: usize) -> bool
 }
 
 // Puts right what the four sides from h on touch; most faces have none on the boundary.
-fn name_sides(letters: &mut [u8], faces: &[u32], marks: &[u8], work: &[u32], first: usize, h: usize)
-    requires nameable { Nameable faces.now marks.now work.now letters.old }
-    requires first_value { (first ≡ length marks.now + edge_count quads faces.now) × (h + 4 ≤ length faces.now) }
-    ensures { Corrected faces.now marks.now h (h + 4) letters.old letters.new }
+fn name_sides(letters: &mut [u8], mesh: Mesh, marks: &[u8], first: usize, h: usize)
+    requires nameable { Nameable mesh.faces.now marks.now mesh.work.now letters.old }
+    requires first_value { (first ≡ length marks.now + edge_count quads mesh.faces.now) × (h + 4 ≤ length mesh.faces.now) }
+    ensures { Corrected mesh.entry.faces.now marks.now h (h + 4) letters.old letters.new }
 {
-    if inner_sides(work, faces.len(), h) {
+    if inner_sides(mesh.work, mesh.faces.len(), h) {
         return;
     }
     for k in h..h + 4 {
-        name_side(&mut *letters, faces, marks, work, first, k);
+        name_side(&mut *letters, mesh, marks, first, k);
     }
 }
 
 // Puts right what the boundary touches, where `first` is the place of the first face.
-fn name_boundary(letters: &mut [u8], faces: &[u32], marks: &[u8], work: &[u32], first: usize)
-    requires nameable { Nameable faces.now marks.now work.now letters.old }
-    requires first_value { first ≡ length marks.now + edge_count quads faces.now }
-    ensures { Corrected faces.now marks.now 0 (length faces.now) letters.old letters.new }
+fn name_boundary(letters: &mut [u8], mesh: Mesh, marks: &[u8], first: usize)
+    requires nameable { Nameable mesh.faces.now marks.now mesh.work.now letters.old }
+    requires first_value { first ≡ length marks.now + edge_count quads mesh.faces.now }
+    ensures { Corrected mesh.entry.faces.now marks.now 0 (length mesh.entry.faces.now) letters.old letters.new }
 {
-    for f in 0..faces.len() / 4 {
-        name_sides(&mut *letters, faces, marks, work, first, 4 * f);
+    for f in 0..mesh.faces.len() / 4 {
+        name_sides(&mut *letters, mesh, marks, first, 4 * f);
     }
 }
 
@@ -99,6 +100,6 @@ pub fn name_points(
         let end = first + faces.len() / 4;
         letters[marks.len()..first].fill(b'C');
         letters[first..end].fill(b'D');
-        name_boundary(&mut *letters, faces, marks, work, first);
+        name_boundary(&mut *letters, Mesh { faces, work }, marks, first);
     }
 }

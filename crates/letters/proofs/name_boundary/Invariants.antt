@@ -4,4 +4,4 @@ use Rattle.letters.specs.Letters.{Corrected}
 use Rattle.letters.proofs.name_boundary.Given as goal
 
 abbrev pub invariant-loop-f : goal.invariant-loop-f
-invariant-loop-f l = Corrected l.faces l.marks 0 (4 * l.f) l.initial.letters l.letters
+invariant-loop-f l = Corrected l.mesh.faces.now l.marks 0 (4 * l.f) l.initial.letters l.letters

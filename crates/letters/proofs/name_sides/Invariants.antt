@@ -3,4 +3,4 @@ use Rattle.letters.specs.Letters.{Corrected}
 use Rattle.letters.proofs.name_sides.Given as goal
 
 abbrev pub invariant-loop-k : goal.invariant-loop-k
-invariant-loop-k l = Corrected l.faces l.marks l.h l.k l.initial.letters l.letters
+invariant-loop-k l = Corrected l.mesh.faces.now l.marks l.h l.k l.initial.letters l.letters

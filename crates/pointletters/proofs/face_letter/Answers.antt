@@ -12,11 +12,11 @@ overflow_mul-f c = omega arith
 
 pub four_inner-requires : goal.four_inner-requires
 unfolding quads
-four_inner-requires c = (c.requires.0, omega arith)
+four_inner-requires c = omega arith
 
 pub returns-then-four_inner : goal.returns-then-four_inner
 returns-then-four_inner c =
-    sym (face_by_lem c.args.faces.now c.args.f true _ (sym c.four_inner.ensures ∙ c.if-four_inner.true) refl)
+    sym (face_by_lem c.args.mesh.faces.now c.args.f true _ (sym c.four_inner.ensures ∙ c.if-four_inner.true) refl)
 
 pub overflow_mul-f-2 : goal.overflow_mul-f-2
 unfolding quads
@@ -28,12 +28,12 @@ overflow_add-f c = omega arith
 
 pub four_inner-requires-2 : goal.four_inner-requires-2
 unfolding quads
-four_inner-requires-2 c = (c.requires.0, omega arith)
+four_inner-requires-2 c = omega arith
 
 pub returns-then-four_inner-2 : goal.returns-then-four_inner-2
 returns-then-four_inner-2 c =
-    sym (face_by_lem c.args.faces.now c.args.f false true (sym c.four_inner.ensures ∙ c.if-four_inner.false) (sym c.four_inner-2.ensures ∙ c.if-four_inner-2.true))
+    sym (face_by_lem c.args.mesh.faces.now c.args.f false true (sym c.four_inner.ensures ∙ c.if-four_inner.false) (sym c.four_inner-2.ensures ∙ c.if-four_inner-2.true))
 
 pub returns : goal.returns
 returns c =
-    sym (face_by_lem c.args.faces.now c.args.f false false (sym c.four_inner.ensures ∙ c.if-four_inner.false) (sym c.four_inner-2.ensures ∙ c.if-four_inner-2.false))
+    sym (face_by_lem c.args.mesh.faces.now c.args.f false false (sym c.four_inner.ensures ∙ c.if-four_inner.false) (sym c.four_inner-2.ensures ∙ c.if-four_inner-2.false))
