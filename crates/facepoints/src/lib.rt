@@ -51,6 +51,7 @@ pub fn plain_face(
 }
 
 // Writes the point of face f. Where all eight edges of both directions are plain, as the sums tell, one direction is enough.
+#[inline(always)]
 pub fn put_face(out: &mut [i32], round: RoundEdges, f: usize)
     requires { (4 * f < round.half_edges) × (3 * f + 3 ≤ length out.old) }
     ensures { out.new ≡ put_point out.old f (face_coordinate (tension round.entry.tension) round.entry.half_edges round.entry.work.now 0 f) (face_coordinate (tension round.entry.tension) round.entry.half_edges round.entry.work.now 1 f) (face_coordinate (tension round.entry.tension) round.entry.half_edges round.entry.work.now 2 f) }

@@ -71,6 +71,7 @@ impl<'a> RoundEdges<'a> {
     }
 
     // Coordinate a of the exact point of the edge of h, over `edge_scale`.
+    #[inline(always)]
     fn exact_on(self, h: usize, a: usize) -> i64
         requires { (h < self.half_edges) × (a < 3) }
         ensures { result ≡ exact_of (tension self.entry.tension) self.entry.half_edges self.entry.work.now a h }
@@ -81,6 +82,7 @@ impl<'a> RoundEdges<'a> {
     }
 
     // Coordinate a beyond the side h: x is that of h, y that of the opposite side.
+    #[inline(always)]
     fn far_on(self, h: usize, x: i64, y: i64, a: usize) -> i64
         requires { (h < self.half_edges) × (a < 3) × (nat_abs x ≤ edge_range (tension self.tension)) × (nat_abs y ≤ edge_range (tension self.tension)) }
         ensures { result ≡ far_of (tension self.entry.tension) self.entry.half_edges self.entry.work.now a h x y }
@@ -93,6 +95,7 @@ impl<'a> RoundEdges<'a> {
     }
 
     // Coordinate a of the direction of the side h.
+    #[inline(always)]
     fn direction_on(self, h: usize, a: usize) -> i64
         requires { (h < self.half_edges) × (a < 3) }
         ensures { result ≡ direction_of (tension self.entry.tension) self.entry.half_edges self.entry.work.now a h }
@@ -138,6 +141,7 @@ impl<'a> RoundEdges<'a> {
     }
 
     // Coordinate a of the mean of the directions of the sides g and h, rounded.
+    #[inline(always)]
     fn mean_on(self, g: usize, h: usize, a: usize) -> i32
         requires { (g < self.half_edges) × (h < self.half_edges) × (a < 3) }
         ensures { result ≡ round (direction_of (tension self.entry.tension) self.entry.half_edges self.entry.work.now a g +ℤ direction_of (tension self.entry.tension) self.entry.half_edges self.entry.work.now a h) (face_scale (tension self.entry.tension)) }
@@ -148,6 +152,7 @@ impl<'a> RoundEdges<'a> {
     }
 
     // Coordinate a of the point of face f by a rule: a direction that counts alone is its mean with itself.
+    #[inline(always)]
     fn face_on(self, f: usize, rule: FaceRule, a: usize) -> i32
         requires { (4 * f < self.half_edges) × (a < 3) }
         ensures { result ≡ round (face_value_of (tension self.entry.tension) self.entry.half_edges self.entry.work.now a f rule) (face_scale (tension self.entry.tension)) }
@@ -162,12 +167,13 @@ impl<'a> RoundEdges<'a> {
     }
 
     // Writes the point of face f by its rule.
+    #[inline(always)]
     pub fn general_face(self, out: &mut [i32], f: usize)
         requires { (4 * f < self.half_edges) × (3 * f + 3 ≤ length out.old) }
         ensures { out.new ≡ put_point out.old f (face_coordinate (tension self.entry.tension) self.entry.half_edges self.entry.work.now 0 f) (face_coordinate (tension self.entry.tension) self.entry.half_edges self.entry.work.now 1 f) (face_coordinate (tension self.entry.tension) self.entry.half_edges self.entry.work.now 2 f) }
     {
         let rule = self.face_rule(f);
-        // One by one: over a closure the three are not compiled into one piece.
+        // One by one and inlined: the three axes read the same entries.
         let x = self.face_on(f, rule, 0);
         let y = self.face_on(f, rule, 1);
         let z = self.face_on(f, rule, 2);
