@@ -140,6 +140,19 @@ impl<'a> RoundEdges<'a> {
         }
     }
 
+    // Coordinate a of the direction of the side h, where u is that of the side g: a direction that counts alone is computed once.
+    #[inline(always)]
+    fn second_direction(self, g: usize, u: i64, h: usize, a: usize) -> i64
+        requires h_in_bounds { (h < self.half_edges) × (a < 3) }
+        requires first { u ≡ direction_of (tension self.tension) self.half_edges self.work.now a g }
+        ensures { result ≡ direction_of (tension self.entry.tension) self.entry.half_edges self.entry.work.now a h }
+    {
+        if g == h {
+            return u;
+        }
+        self.direction_on(h, a)
+    }
+
     // Coordinate a of the mean of the directions of the sides g and h, rounded.
     #[inline(always)]
     fn mean_on(self, g: usize, h: usize, a: usize) -> i32
@@ -147,7 +160,7 @@ impl<'a> RoundEdges<'a> {
         ensures { result ≡ round (direction_of (tension self.entry.tension) self.entry.half_edges self.entry.work.now a g +ℤ direction_of (tension self.entry.tension) self.entry.half_edges self.entry.work.now a h) (face_scale (tension self.entry.tension)) }
     {
         let u = self.direction_on(g, a);
-        let v = self.direction_on(h, a);
+        let v = self.second_direction(g, u, h, a);
         rounding::round_div(u + v, half_face_scale(self.tension)) as i32
     }
 

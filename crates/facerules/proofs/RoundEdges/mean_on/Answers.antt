@@ -15,12 +15,12 @@ use Rattle.facerules.proofs.RoundEdges.mean_on.Goals as goal
 
 pub overflow_add-u : goal.overflow_add-u
 overflow_add-u c =
-    let at : Sizes c.args.self.tension c.direction_on-u.result c.direction_on-v.result = direction-sizes _ _ _ _ _ _ _ _ c.args.self.table c.requires.2 c.requires.0 c.requires.1 c.direction_on-u.ensures c.direction_on-v.ensures in
+    let at : Sizes c.args.self.tension c.direction_on-u.result c.second_direction-v.result = direction-sizes _ _ _ _ _ _ _ _ c.args.self.table c.requires.2 c.requires.0 c.requires.1 c.direction_on-u.ensures c.second_direction-v.ensures in
     let k = at in let f = k.first in let g = k.second in simp to_z-of_z k.sum
 
 pub round_div-requires : goal.round_div-requires
 round_div-requires c =
-    let at : Sizes c.args.self.tension c.direction_on-u.result c.direction_on-v.result = direction-sizes _ _ _ _ _ _ _ _ c.args.self.table c.requires.2 c.requires.0 c.requires.1 c.direction_on-u.ensures c.direction_on-v.ensures in
+    let at : Sizes c.args.self.tension c.direction_on-u.result c.second_direction-v.result = direction-sizes _ _ _ _ _ _ _ _ c.args.self.table c.requires.2 c.requires.0 c.requires.1 c.direction_on-u.ensures c.second_direction-v.ensures in
     let k = at in
     let f = k.first in
     let g = k.second in
@@ -33,13 +33,13 @@ round_div-requires c =
 
 pub overflow_cast-result : goal.overflow_cast-result
 overflow_cast-result c =
-    let at : Sizes c.args.self.tension c.direction_on-u.result c.direction_on-v.result = direction-sizes _ _ _ _ _ _ _ _ c.args.self.table c.requires.2 c.requires.0 c.requires.1 c.direction_on-u.ensures c.direction_on-v.ensures in
-    let rounded : c.round_div.result ≡ round (c.direction_on-u.result +ℤ c.direction_on-v.result) (face_scale (tension c.args.self.tension)) = let k = at in
+    let at : Sizes c.args.self.tension c.direction_on-u.result c.second_direction-v.result = direction-sizes _ _ _ _ _ _ _ _ c.args.self.table c.requires.2 c.requires.0 c.requires.1 c.direction_on-u.ensures c.second_direction-v.ensures in
+    let rounded : c.round_div.result ≡ round (c.direction_on-u.result +ℤ c.second_direction-v.result) (face_scale (tension c.args.self.tension)) = let k = at in
     let f = k.first in
     let g = k.second in
     let h = k.sum in
     let e = simp to_z-of_z at c.round_div.ensures in
-    e ∙ ap (round (c.direction_on-u.result +ℤ c.direction_on-v.result)) c.half_face_scale.ensures.0 in
+    e ∙ ap (round (c.direction_on-u.result +ℤ c.second_direction-v.result)) c.half_face_scale.ensures.0 in
     let k = at in
     let m : SFits w32 c.round_div.result = rw rounded k.mean in
     let n : SFits w64 c.round_div.result = search rules in
@@ -47,14 +47,14 @@ overflow_cast-result c =
 
 pub returns : goal.returns
 returns c =
-    let at : Sizes c.args.self.tension c.direction_on-u.result c.direction_on-v.result = direction-sizes _ _ _ _ _ _ _ _ c.args.self.table c.requires.2 c.requires.0 c.requires.1 c.direction_on-u.ensures c.direction_on-v.ensures in
-    let rounded : c.round_div.result ≡ round (c.direction_on-u.result +ℤ c.direction_on-v.result) (face_scale (tension c.args.self.tension)) = let k = at in
+    let at : Sizes c.args.self.tension c.direction_on-u.result c.second_direction-v.result = direction-sizes _ _ _ _ _ _ _ _ c.args.self.table c.requires.2 c.requires.0 c.requires.1 c.direction_on-u.ensures c.second_direction-v.ensures in
+    let rounded : c.round_div.result ≡ round (c.direction_on-u.result +ℤ c.second_direction-v.result) (face_scale (tension c.args.self.tension)) = let k = at in
     let f = k.first in
     let g = k.second in
     let h = k.sum in
     let e = simp to_z-of_z at c.round_div.ensures in
-    e ∙ ap (round (c.direction_on-u.result +ℤ c.direction_on-v.result)) c.half_face_scale.ensures.0 in
+    e ∙ ap (round (c.direction_on-u.result +ℤ c.second_direction-v.result)) c.half_face_scale.ensures.0 in
     let k = at in
     let m : SFits w32 c.round_div.result = rw rounded k.mean in
     let n : SFits w64 c.round_div.result = search rules in
-    simp to_z-of_z (rounded ∙ ap₂ (λ (x y : ℤ). round (x +ℤ y) (face_scale (tension c.args.self.tension))) c.direction_on-u.ensures c.direction_on-v.ensures)
+    simp to_z-of_z (rounded ∙ ap₂ (λ (x y : ℤ). round (x +ℤ y) (face_scale (tension c.args.self.tension))) c.direction_on-u.ensures c.second_direction-v.ensures)
