@@ -480,9 +480,19 @@ def make_scratch(tree, folder, groups):
         (target / "src" / "lib.rt").write_text("// Definitions alone.\n", encoding="utf-8")
         if source.exists():
             shutil.copytree(source, target / "specs")
+            leave_code_out(target / "specs")
         lines.append(f"{name}: {' '.join(under[name])}\n")
     (folder / "crates.txt").write_text("".join(lines), encoding="utf-8")
     return [name for name in under if name in wanted]
+
+
+def leave_code_out(specs):
+    """Files over types that a crate's code declares need that code: they go, with the lines of Lib that name them."""
+    lib = specs / "Lib.antt"
+    for file in sorted(specs.glob("*.antt")):
+        if ".specs.declared." in file.read_text(encoding="utf-8"):
+            file.unlink()
+            lib.write_text(lib.read_text(encoding="utf-8").replace(f"pub mod {file.stem}\n", ""), encoding="utf-8")
 
 
 def write_crate(folder, name, crates):
