@@ -11,16 +11,16 @@ use facerules::RoundEdges;
 
 // One direction by the numerators over 64 at the places p, q, r, s, rounded: on the numbers as they are packed, with 2^56 + 2^31 more each. The weights add up to 64 at
 // every tension, so 64 times that is too much.
-fn plain_on(round: RoundEdges, p: usize, q: usize, r: usize, s: usize) -> i32
-    requires { PlainAt round.work.now p × PlainAt round.work.now q × PlainAt round.work.now r × PlainAt round.work.now s }
-    ensures { result ≡ plain_direction (tension round.entry.tension) round.entry.work.now p q r s }
+fn plain_on(work: &[u32], p: usize, q: usize, r: usize, s: usize, t: u32) -> i32
+    requires { PlainAt work.now p × PlainAt work.now q × PlainAt work.now r × PlainAt work.now s × (t ≤ 4) }
+    ensures { result ≡ plain_direction (tension t) work.now p q r s }
 {
     let z = curve::four_point(
-        edgeentries::load_biased(round.work, p),
-        edgeentries::load_biased(round.work, q),
-        edgeentries::load_biased(round.work, r),
-        edgeentries::load_biased(round.work, s),
-        round.tension,
+        edgeentries::load_biased(work, p),
+        edgeentries::load_biased(work, q),
+        edgeentries::load_biased(work, r),
+        edgeentries::load_biased(work, s),
+        t,
     );
     rounding::round_shift(z - 4611686155866341376, 2048, 12) as i32
 }
@@ -28,24 +28,26 @@ fn plain_on(round: RoundEdges, p: usize, q: usize, r: usize, s: usize) -> i32
 // Writes the point of face f by one direction alone, that of the plain edges p, q, r, s.
 pub fn plain_face(
     out: &mut [i32],
-    round: RoundEdges,
+    work: &[u32],
+    n: usize,
     p: usize,
     q: usize,
     r: usize,
     s: usize,
     f: usize,
+    t: u32,
 )
-    requires plain_edge { PlainEdge round.half_edges round.work.now p × PlainEdge round.half_edges round.work.now q × PlainEdge round.half_edges round.work.now r × PlainEdge round.half_edges round.work.now s }
-    requires f_in_bounds { 3 * f + 3 ≤ length out.old }
-    ensures { out.new ≡ put_point out.old f (plain_coordinate (tension round.entry.tension) round.entry.half_edges round.entry.work.now 0 p q r s) (plain_coordinate (tension round.entry.tension) round.entry.half_edges round.entry.work.now 1 p q r s) (plain_coordinate (tension round.entry.tension) round.entry.half_edges round.entry.work.now 2 p q r s) }
+    requires plain_edge { PlainEdge n work.now p × PlainEdge n work.now q × PlainEdge n work.now r × PlainEdge n work.now s }
+    requires f_in_bounds { (3 * f + 3 ≤ length out.old) × (t ≤ 4) }
+    ensures { out.new ≡ put_point out.old f (plain_coordinate (tension t) n work.now 0 p q r s) (plain_coordinate (tension t) n work.now 1 p q r s) (plain_coordinate (tension t) n work.now 2 p q r s) }
 {
-    let o = edgeentries::point_place(round.half_edges, p);
-    let u = edgeentries::point_place(round.half_edges, q);
-    let v = edgeentries::point_place(round.half_edges, r);
-    let w = edgeentries::point_place(round.half_edges, s);
+    let o = edgeentries::point_place(n, p);
+    let u = edgeentries::point_place(n, q);
+    let v = edgeentries::point_place(n, r);
+    let w = edgeentries::point_place(n, s);
     let c = coordinates::on_axes(|a| {
         let i = 2 * a;
-        plain_on(round, o + i, u + i, v + i, w + i)
+        plain_on(work, o + i, u + i, v + i, w + i, t)
     });
     coordinates::put_point(&mut *out, f, c.x, c.y, c.z);
 }
@@ -67,7 +69,17 @@ pub fn put_face(out: &mut [i32], round: RoundEdges, f: usize)
         let v = round.beyond(h + 2);
         let w = round.beyond(h + 3);
         if edgeentries::is_plain(o + u + v + w) {
-            plain_face(&mut *out, round, o, p, r, v, f);
+            plain_face(
+                &mut *out,
+                round.work,
+                round.half_edges,
+                o,
+                p,
+                r,
+                v,
+                f,
+                round.tension,
+            );
             return;
         }
     }

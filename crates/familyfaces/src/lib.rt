@@ -32,7 +32,17 @@ impl<'a> FamilyEdges<'a> {
         let p = round.entry_at(4 * f);
         let r = round.entry_at(4 * q + 1);
         let v = round.entry_at(4 * q + 3);
-        facepoints::plain_face(&mut *out, round, o, p, r, v, f);
+        facepoints::plain_face(
+            &mut *out,
+            round.work,
+            round.half_edges,
+            o,
+            p,
+            r,
+            v,
+            f,
+            round.tension,
+        );
     }
 
     // Writes the points of the four faces of a plain family, the last first: the faces from f on.

@@ -27,18 +27,17 @@ read n w e i p q = let z = add-zero i in let a = p.few in let b = p.number in re
 pub on_axes-c-requires : goal.on_axes-c-requires
 on_axes-c-requires c =
     let e = c.requires.plain_edge in
-    let low = c.args.round.table.low in
-    let o = read c.args.round.half_edges c.args.round.work.now c.args.p c.point_place-o.result e.0 c.point_place-o.ensures in
-    let u = read c.args.round.half_edges c.args.round.work.now c.args.q c.point_place-u.result e.1 c.point_place-u.ensures in
-    let v = read c.args.round.half_edges c.args.round.work.now c.args.r c.point_place-v.result e.2 c.point_place-v.ensures in
-    let w = read c.args.round.half_edges c.args.round.work.now c.args.s c.point_place-w.result e.3 c.point_place-w.ensures in
+    let o = read c.args.n c.args.work.now c.args.p c.point_place-o.result e.0 c.point_place-o.ensures in
+    let u = read c.args.n c.args.work.now c.args.q c.point_place-u.result e.1 c.point_place-u.ensures in
+    let v = read c.args.n c.args.work.now c.args.r c.point_place-v.result e.2 c.point_place-v.ensures in
+    let w = read c.args.n c.args.work.now c.args.s c.point_place-w.result e.3 c.point_place-w.ensures in
     search rules
 
 pub returns : goal.returns
 returns c =
     let p = c.on_axes-c.result in
-    let t = tension c.args.round.tension in
-    let l = c.args.round.work.now in
+    let t = tension c.args.t in
+    let l = c.args.work.now in
     let i = c.point_place-o.result in
     let j = c.point_place-u.result in
     let k = c.point_place-v.result in
