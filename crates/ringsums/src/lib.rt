@@ -6,7 +6,7 @@ ghost use Rattle.integers.specs.Sum.{sum};
 ghost use Rattle.integers.specs.Within.{Within, WithinFirst};
 ghost use Rattle.rings.specs.Scales.{extrapolated_scale, valence_scale, coordinate_range, extrapolated_range};
 ghost use Rattle.nets.specs.Net.{axis};
-ghost use Rattle.coordinates.specs.Points.{InTable, OnAxes, Bounded, on};
+ghost use Rattle.coordinates.specs.Points.{InTable, OnAxes, on};
 ghost use Rattle.ringsums.specs.Sums.{VerticesIn, FanIn, weight_range, sum_range, weighed, place_on, weighted_sum, ring_sum, fan_sum};
 
 use coordinates::Exact;
@@ -123,7 +123,7 @@ pub fn closed_on(
 ) -> i64
     requires within { Within coordinate_range points.now × WithinFirst 16 weight_range w.now × (a < 3) × InTable points.now c }
     requires le_n { (3 ≤ n) × (n ≤ 8) × (t + 2 ≤ n) }
-    requires bounded { Bounded sum_range s × Bounded extrapolated_range p × Bounded extrapolated_range q × Bounded extrapolated_range r }
+    requires bounded { (nat_abs (on s a) ≤ sum_range) × (nat_abs (on p a) ≤ extrapolated_range) × (nat_abs (on q a) ≤ extrapolated_range) × (nat_abs (on r a) ≤ extrapolated_range) }
     ensures { result ≡ fan_sum w.now n t (on s a) (pos extrapolated_scale *ℤ axis points.now a c) (on q a) (on p a) (on r a) }
 {
     let x = EXTRAPOLATED_SCALE * coordinates::coordinate(points, c, a);

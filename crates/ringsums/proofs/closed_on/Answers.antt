@@ -13,12 +13,15 @@ use Rattle.integers.proofs.AbsoluteValue.{abs-add, abs-mul}
 use Rattle.integers.proofs.Range.{fits_abs}
 use Rattle.rings.specs.Scales.{extrapolated_scale, valence_scale, extrapolated_range, coordinate_range}
 use Rattle.nets.specs.Net.{axis}
-use Rattle.coordinates.proofs.Values.{read_small, on_small}
+use Rattle.coordinates.proofs.Values.{read_small}
 use Rattle.coordinates.specs.Points.{on}
 use Rattle.ringsums.specs.Sums.{weight_range, sum_range, weighed}
 use Rattle.ringsums.proofs.Sums.{weighed_small}
 use Rattle.ringsums.proofs.closed_on.Goals as goal
 use Rattle.ringsums.proofs.closed_on.Goals.{After-on-4}
+
+read : {B : ℕ} {r x : ℤ} → r ≡ x → nat_abs x ≤ B → nat_abs r ≤ B
+read e h = let d = ap nat_abs e in omega arith
 
 -- the last neighbour, over the scale
 record Near (x : ℤ) : Type 0 where
@@ -72,14 +75,14 @@ places c =
     let p = c.requires.le_n in
     let u : c.weigh-u.result ≡ weighed w c.args.t x c.on.result = simp to_z-of_z at c.weigh-u.ensures in
     let v : c.weigh-v.result ≡ weighed w (c.args.t + 1) c.on-2.result c.on-3.result = simp to_z-of_z at c.weigh-v.ensures in
-    let a = weighed_small w c.args.t x c.on.result extrapolated_range c.requires.within.1 (omega arith) n.small (on_small c.args.q d.2 c.args.a c.on.result c.on.ensures) in
-    let b = weighed_small w (c.args.t + 1) c.on-2.result c.on-3.result extrapolated_range c.requires.within.1 (omega arith) (on_small c.args.p d.1 c.args.a c.on-2.result c.on-2.ensures) (on_small c.args.r d.3 c.args.a c.on-3.result c.on-3.ensures) in
+    let a = weighed_small w c.args.t x c.on.result extrapolated_range c.requires.within.1 (omega arith) n.small (read c.on.ensures d.2) in
+    let b = weighed_small w (c.args.t + 1) c.on-2.result c.on-3.result extrapolated_range c.requires.within.1 (omega arith) (read c.on-2.ensures d.1) (read c.on-3.ensures d.3) in
     let a' = ap nat_abs u in
     let b' = ap nat_abs v in
     record {
       first = u ∙ ap (weighed w c.args.t x) c.on.ensures;
       next = v ∙ ap₂ (weighed w (c.args.t + 1)) c.on-2.ensures c.on-3.ensures;
-      sizes = sizes c.on-4.result c.weigh-u.result c.weigh-v.result (on_small c.args.s d.0 c.args.a c.on-4.result c.on-4.ensures) (omega arith) (omega arith);
+      sizes = sizes c.on-4.result c.weigh-u.result c.weigh-v.result (read c.on-4.ensures d.0) (omega arith) (omega arith);
       share = f₄;
     }
 
@@ -93,7 +96,7 @@ weigh-u-requires c =
     let q : SFits w64 c.on.result = search rules in
     let g = n.fits in
     let p = c.requires.le_n in
-    simp to_z-of_z (c.requires.within.1, omega arith, n.small, on_small c.args.q c.requires.bounded.2 c.args.a c.on.result c.on.ensures)
+    simp to_z-of_z (c.requires.within.1, omega arith, n.small, read c.on.ensures c.requires.bounded.2)
 
 pub weigh-v-requires : goal.weigh-v-requires
 weigh-v-requires c =
@@ -101,7 +104,7 @@ weigh-v-requires c =
     let r : SFits w64 c.on-3.result = search rules in
     let d = c.requires.bounded in
     let k = c.requires.le_n in
-    simp to_z-of_z (c.requires.within.1, omega arith, on_small c.args.p d.1 c.args.a c.on-2.result c.on-2.ensures, on_small c.args.r d.3 c.args.a c.on-3.result c.on-3.ensures)
+    simp to_z-of_z (c.requires.within.1, omega arith, read c.on-2.ensures d.1, read c.on-3.ensures d.3)
 
 pub overflow_mul-on : goal.overflow_mul-on
 overflow_mul-on c = let k = places (goal.at.overflow_mul-on c).After-on-4 in let f = k.share in simp to_z-of_z k.sizes.scaled
