@@ -16,6 +16,14 @@ pub fn first_mate(n: u32, m: u32) -> u32
     4 * n
 }
 
+// The same where m is a side 1 or 2.
+pub fn inner_mate(m: u32) -> u32
+    requires { m < max_half_edges }
+    ensures { result ≡ 4 * m + 7 }
+{
+    4 * m + 7
+}
+
 // The same at side i of a face that a round made: m is a side 3 - i, or none where i is 0 or 3.
 pub fn later_mate(n: u32, i: u32, m: u32) -> u32
     requires { (m ≤ n) × (n ≤ max_half_edges) × (m < n → m % 4 + i ≡ 3) × (0 < i → i < 3 → m < n) }
@@ -23,7 +31,7 @@ pub fn later_mate(n: u32, i: u32, m: u32) -> u32
     ensures inner { 0 < i → i < 3 → result ≡ 4 * m + 7 }
 {
     match i {
-        1 | 2 => 4 * m + 7,
+        1 | 2 => inner_mate(m),
         0 if m < n => 4 * m - 9,
         _ if m < n => 4 * m + 7,
         _ => 4 * n,

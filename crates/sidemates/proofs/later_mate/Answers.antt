@@ -1,5 +1,5 @@
 -- `later_mate` meets its contract. Assumes nothing.
-use mathlib.Core.Path.{◌≡◌}
+use mathlib.Core.Path.{◌≡◌, ◌∙◌}
 use Prim.Native.Nat.{ℕ, ◌+◌, ◌*◌, ◌%◌, ◌<◌}
 use native.Mathlib.Omega.{arith}
 use borrow.Author.Tests.{lt-ltb, le-ltb}
@@ -17,7 +17,7 @@ unfolding first_mate quads
 returns-in-0-clause-mate c = let m = c.requires.2 c.if-m-n.true in rw (lt-ltb _ _ c.if-m-n.true) (omega arith)
 
 pub returns-in-1-clause-mate : goal.returns-in-1-clause-mate
-returns-in-1-clause-mate c = let l : c.args.m < c.args.n = c.requires.3 (omega arith) (omega arith) in later_first _ c.args.i _ l (c.requires.2 l) (omega arith)
+returns-in-1-clause-mate c = let l : c.args.m < c.args.n = c.requires.3 (omega arith) (omega arith) in c.inner_mate.ensures ∙ later_first _ c.args.i _ l (c.requires.2 l) (omega arith)
 
 pub returns-in_default-clause-mate : goal.returns-in_default-clause-mate
 returns-in_default-clause-mate c = later_first _ c.args.i _ c.if-m-n-2.true (c.requires.2 c.if-m-n-2.true)
