@@ -57,6 +57,22 @@ pub fn end_of(faces: &[u32], h: usize) -> usize
     start_of(faces, next_side(h))
 }
 
+// The corner before the vertex of h in its face.
+pub fn corner_before(faces: &[u32], h: usize) -> usize
+    requires { Quadrilaterals (length faces.now) × (h < length faces.now) }
+    ensures { result ≡ from faces.now (quads.prev h) }
+{
+    start_of(faces, prev_side(h))
+}
+
+// The corner of the face of h opposite the vertex that h leaves.
+pub fn opposite_corner(faces: &[u32], h: usize) -> usize
+    requires { Quadrilaterals (length faces.now) × (h < length faces.now) }
+    ensures { result ≡ opposite_corner faces.now h }
+{
+    start_of(faces, across_side(h))
+}
+
 // The mate of h, or none.
 pub fn mate_side(faces: &[u32], work: &[u32], h: usize) -> usize
     requires connectivity { Connectivity faces.now work.now }
@@ -103,7 +119,7 @@ impl<'a> Mesh<'a> {
         requires { h < length self.faces.now }
         ensures { result ≡ from self.entry.faces.now (quads.prev h) }
     {
-        self.start_of(prev_side(h))
+        corner_before(self.faces, h)
     }
 
     // The corner of the face of h opposite the vertex that h leaves.
@@ -111,7 +127,7 @@ impl<'a> Mesh<'a> {
         requires { h < length self.faces.now }
         ensures { result ≡ opposite_corner self.entry.faces.now h }
     {
-        self.start_of(across_side(h))
+        opposite_corner(self.faces, h)
     }
 
     // The mate of h, or none.

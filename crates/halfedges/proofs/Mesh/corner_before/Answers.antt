@@ -1,9 +1,0 @@
--- `Mesh::corner_before` meets its contract. Assumes nothing.
-use lib.ListN.{length}
-use Rattle.topology.proofs.Shape.{quads_lawful}
-use Rattle.halfedges.proofs.Mesh.corner_before.Goals as goal
-
-pub start_of-requires : goal.start_of-requires
-start_of-requires c =
-    let e = c.prev_side.ensures in
-    rw e ((quads_lawful (length c.args.self.faces.now) c.args.self.connectivity.sides.fours).prev_lt c.args.h c.requires)
