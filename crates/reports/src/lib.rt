@@ -2,6 +2,8 @@
 #![tactic(auto)]
 
 ghost use Rattle.std.specs.Prelude.{◌≡◌};
+ghost use Rattle.verdict.specs.Verdict.{refused};
+ghost use Rattle.outcome.specs.Outcome.{refused_with};
 ghost use Rattle.reasons.specs.Reasons.{verdict_of};
 ghost use Rattle.refine.specs.Answer.{result_of};
 ghost use Rattle.sharing.specs.Sharing.{edges_in};
@@ -50,6 +52,18 @@ pub struct SeamReport {
     pub edges: u64,
 }
 
+impl Finding {
+    // A refusal, by its number and place.
+    pub fn refused(reason: u32, place: usize) -> Finding
+        ensures { result ≡ finding (refused reason place) }
+    {
+        Finding {
+            reason,
+            place: place as u64,
+        }
+    }
+}
+
 impl From<Result<(), Refusal>> for Finding {
     ghost from_gives = { λ answer given. given ≡ finding (verdict_of answer) };
 
@@ -59,10 +73,21 @@ impl From<Result<(), Refusal>> for Finding {
                 reason: 0,
                 place: 0,
             },
-            Err(refusal) => Finding {
-                reason: refusal.reason.number(),
-                place: refusal.place as u64,
-            },
+            Err(refusal) => Finding::refused(refusal.reason.number(), refusal.place),
+        }
+    }
+}
+
+impl Report {
+    // A refusal, by its number and place.
+    pub fn refused(reason: u32, place: usize) -> Report
+        ensures { result ≡ report (refused_with reason place) }
+    {
+        Report {
+            reason,
+            place: place as u64,
+            vertices: 0,
+            faces: 0,
         }
     }
 }
@@ -78,12 +103,20 @@ impl From<Result<RefinedCounts, Refusal>> for Report {
                 vertices: counts.vertices as u64,
                 faces: counts.faces as u64,
             },
-            Err(refusal) => Report {
-                reason: refusal.reason.number(),
-                place: refusal.place as u64,
-                vertices: 0,
-                faces: 0,
-            },
+            Err(refusal) => Report::refused(refusal.reason.number(), refusal.place),
+        }
+    }
+}
+
+impl SeamReport {
+    // A refusal, by its number and place.
+    pub fn refused(reason: u32, place: usize) -> SeamReport
+        ensures { result ≡ seam_report_by (refused reason place) 0 }
+    {
+        SeamReport {
+            reason,
+            place: place as u64,
+            edges: 0,
         }
     }
 }
@@ -98,11 +131,7 @@ impl From<Result<usize, Refusal>> for SeamReport {
                 place: 0,
                 edges: edges as u64,
             },
-            Err(refusal) => SeamReport {
-                reason: refusal.reason.number(),
-                place: refusal.place as u64,
-                edges: 0,
-            },
+            Err(refusal) => SeamReport::refused(refusal.reason.number(), refusal.place),
         }
     }
 }
