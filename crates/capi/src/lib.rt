@@ -80,9 +80,8 @@ pub extern "C" fn gedrovit_refine(
     ensures { export_of result tally.new.points out_vertices.new out_faces.new out_marks.new letters.new work.new ≡
         refine_export (outcome (request_on tally.old.points rounds vertices.now faces.now sides.now marks.now tension out_vertices.old out_faces.old out_marks.old with_letters letters.old work.old)) }
 {
-    let mut points = tally.points;
     let answer = refine::refine(
-        &mut points,
+        tally.points,
         rounds,
         Net {
             vertices,
@@ -98,7 +97,9 @@ pub extern "C" fn gedrovit_refine(
         letters,
         work,
     );
-    tally.points = points;
+    if let Ok(counts) = answer {
+        tally.points = counts.points;
+    }
     Report::from(answer)
 }
 

@@ -39,9 +39,8 @@ fn refine_net(
     let mut letters = [0u8; reading::MARKS];
     let mut work = [0u32; reading::WORK];
     let none = [0u8; 0];
-    let mut points = 0;
     let answer = refine::refine(
-        &mut points,
+        0,
         rounds,
         Net {
             vertices,

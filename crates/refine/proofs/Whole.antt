@@ -101,7 +101,7 @@ module _ (a : Request) where
 
     -- ---- the rounds
     pub refined-outcome : a.tally + to_add a ≤ max_tally → (r : ℕ) (o : Buffers) → Ran a.tension a.rounds a.net a.buffers o last r
-        → (l : List ℕ) → l ≡ lettered (letters (tension a.tension) a.net a.rounds) a.letters → answered (Ok (record { vertices = r; faces = last })) (a.tally + to_add a) o.vertices o.faces o.marks l o.work ≡ outcome a
+        → (l : List ℕ) → l ≡ lettered (letters (tension a.tension) a.net a.rounds) a.letters → answered (Ok (record { vertices = r; faces = last; points = a.tally + to_add a })) a.tally o.vertices o.faces o.marks l o.work ≡ outcome a
     unfolding outcome request_verdict
     refined-outcome h r o b l q =
         let f : last ≡ length (refined_net a).faces / 4 = (let c = corners_steps a last ok in omega arith) in

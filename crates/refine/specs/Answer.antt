@@ -11,6 +11,11 @@ abbrev pub result_of : std.Result RefinedCounts Refusal → Result
 result_of (Ok n) = refined_to n.vertices n.faces
 result_of (Err x) = refused_with (number x.reason) x.place
 
--- the answer, the caller's tally, and the tables as the call leaves them
+-- the caller's tally after the call: the answer's, or on a refusal the one that was passed
+abbrev pub points_after : std.Result RefinedCounts Refusal → (points : ℕ) → ℕ
+points_after (Ok n) points = n.points
+points_after (Err x) points = points
+
+-- the answer, the caller's tally, and the tables as the call leaves them; the tally that was passed is `points`
 abbrev pub answered : std.Result RefinedCounts Refusal → (points : ℕ) (out_vertices : List ℤ) (out_faces out_marks letters work : List ℕ) → Outcome
-answered r = outcome_on (result_of r)
+answered r points = outcome_on (result_of r) (points_after r points)

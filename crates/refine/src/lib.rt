@@ -10,17 +10,17 @@ use limits::Room;
 use nets::Net;
 use reasons::{Reason, Refusal};
 
-// The counts of a refined net.
+// The counts of a refined net, and the tally with its new points.
 #[derive(Clone, Copy, Debug, PartialEq, Eq)]
 pub struct RefinedCounts {
     pub vertices: usize,
     pub faces: usize,
+    pub points: u64,
 }
 
-// What follows the admission: refusal 15; or the net where refining begins loaded into the output tables and refined there, the new points added to the tally, and the
-// work table cleared.
+// What follows the admission: refusal 15; or the net where refining begins loaded into the output tables and refined there, and the work table cleared.
 fn refine_admitted(
-    points: &mut u64,
+    points: u64,
     rounds: u32,
     net: Net<'_>,
     t: u32,
@@ -32,13 +32,13 @@ fn refine_admitted(
     work: &mut [u32],
     last: usize,
 ) -> Result<RefinedCounts, Refusal>
-    requires { AdmittedCall (call_of (request_on points.old rounds net.vertices.now net.faces.now net.sides.now net.marks.now t out_vertices.old out_faces.old out_marks.old with_letters letters.old work.old)) last work.old }
-    ensures { answered result points.new out_vertices.new out_faces.new out_marks.new letters.new work.new ≡
-        outcome (request_on points.old rounds net.entry.vertices.now net.entry.faces.now net.entry.sides.now net.entry.marks.now t out_vertices.old out_faces.old out_marks.old with_letters letters.old work.old) }
+    requires { AdmittedCall (call_of (request_on points rounds net.vertices.now net.faces.now net.sides.now net.marks.now t out_vertices.old out_faces.old out_marks.old with_letters letters.old work.old)) last work.old }
+    ensures { answered result points out_vertices.new out_faces.new out_marks.new letters.new work.new ≡
+        outcome (request_on points rounds net.entry.vertices.now net.entry.faces.now net.entry.sides.now net.entry.marks.now t out_vertices.old out_faces.old out_marks.old with_letters letters.old work.old) }
 {
     let v = net.marks.len();
     let new = (growth::final_vertices(rounds, net.faces, net.sides, v, &*work) - v) as u64;
-    if growth::exceeds(*points, new) {
+    if growth::exceeds(points, new) {
         tables::clear(&mut *work, 16 * last);
         return Err(Refusal {
             reason: Reason::TallyLimit,
@@ -70,17 +70,17 @@ fn refine_admitted(
         t,
     );
     tables::clear(&mut *work, 16 * last);
-    *points += new;
     Ok(RefinedCounts {
         vertices: count,
         faces: last,
+        points: points + new,
     })
 }
 
-// The net after all rounds and its new points added to `points`, its letters where they are asked for; or the first refusal that holds, and `points` as it was. The
-// time is that of the check, and after it linear in the refined net.
+// The net after all rounds and its new points added to `points`, its letters where they are asked for; or the first refusal that holds, which adds none. The time is
+// that of the check, and after it linear in the refined net.
 pub fn refine(
-    points: &mut u64,
+    points: u64,
     rounds: u32,
     net: Net<'_>,
     tension: u32,
@@ -91,8 +91,8 @@ pub fn refine(
     letters: &mut [u8],
     work: &mut [u32],
 ) -> Result<RefinedCounts, Refusal>
-    ensures { answered result points.new out_vertices.new out_faces.new out_marks.new letters.new work.new ≡
-        outcome (request_on points.old rounds net.entry.vertices.now net.entry.faces.now net.entry.sides.now net.entry.marks.now tension out_vertices.old out_faces.old out_marks.old with_letters letters.old work.old) }
+    ensures { answered result points out_vertices.new out_faces.new out_marks.new letters.new work.new ≡
+        outcome (request_on points rounds net.entry.vertices.now net.entry.faces.now net.entry.sides.now net.entry.marks.now tension out_vertices.old out_faces.old out_marks.old with_letters letters.old work.old) }
 {
     let room = Room {
         vertices: out_vertices.len(),
@@ -104,7 +104,7 @@ pub fn refine(
     };
     let last = admission::admit(rounds, net, tension, room, &mut *work)?;
     refine_admitted(
-        &mut *points,
+        points,
         rounds,
         net,
         tension,

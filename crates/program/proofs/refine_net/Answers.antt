@@ -51,9 +51,9 @@ abbrev after : After-refine-answer → Buffers
 after c = let o = c.refine-answer.new in buffers o.out_vertices o.out_faces o.out_marks o.work
 
 given : (c : After-refine-answer) (a : Result RefinedCounts Refusal) → c.refine-answer.result ≡ a
-    → answered a c.refine-answer.new.points (after c).vertices (after c).faces (after c).marks c.refine-answer.new.letters (after c).work ≡ outcome (asked c)
+    → answered a 0 (after c).vertices (after c).faces (after c).marks c.refine-answer.new.letters (after c).work ≡ outcome (asked c)
 given c a e =
-    sym (ap (λ (b : Result RefinedCounts Refusal). answered b c.refine-answer.new.points (after c).vertices (after c).faces (after c).marks c.refine-answer.new.letters (after c).work) e)
+    sym (ap (λ (b : Result RefinedCounts Refusal). answered b 0 (after c).vertices (after c).faces (after c).marks c.refine-answer.new.letters (after c).work) e)
     ∙ c.refine-answer.ensures
 
 pub write_net-requires : goal.write_net-requires
@@ -85,5 +85,5 @@ returns-in-Err c =
     let d = (goal.at.returns-in-Err c).After-refine-answer in
     let n = c.number.ensures in
     wider _ _ _ _ _ _ c.write_refusal.ensures
-    (rw n (refused_text c.args.rounds c.args.rule (net_of d) zeros unnamed long-vertices long-corners long-marks long-letters long-work c.requires.0 (after d) c.refine-answer.new.letters _ _ (given d _ c.in-Err.is)))
+    (rw n (refused_text c.args.rounds c.args.rule (net_of d) zeros unnamed long-vertices long-corners long-marks long-letters long-work c.requires.0 (after d) c.refine-answer.new.letters _ (given d _ c.in-Err.is)))
     (omega arith)

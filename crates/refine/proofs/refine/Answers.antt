@@ -10,7 +10,7 @@ use Rattle.refine.proofs.refine.Goals.{Start}
 abbrev asked : (c : Start) → Request
 asked c =
     let a = c.args in
-    request_on a.points.now a.rounds a.net.vertices.now a.net.faces.now a.net.sides.now a.net.marks.now a.tension a.out_vertices.now a.out_faces.now a.out_marks.now a.with_letters a.letters.now a.work.now
+    request_on a.points a.rounds a.net.vertices.now a.net.faces.now a.net.sides.now a.net.marks.now a.tension a.out_vertices.now a.out_faces.now a.out_marks.now a.with_letters a.letters.now a.work.now
 
 pub returns-in_err-last : goal.returns-in_err-last
 returns-in_err-last c =

@@ -19,7 +19,7 @@ use Rattle.refine.proofs.refine_admitted.Goals.{Start}
 abbrev asked : (c : Start) → Request
 asked c =
     let a = c.args in
-    request_on a.points.now a.rounds a.net.vertices.now a.net.faces.now a.net.sides.now a.net.marks.now a.t a.out_vertices.now a.out_faces.now a.out_marks.now a.with_letters a.letters.now a.work.now
+    request_on a.points a.rounds a.net.vertices.now a.net.faces.now a.net.sides.now a.net.marks.now a.t a.out_vertices.now a.out_faces.now a.out_marks.now a.with_letters a.letters.now a.work.now
 
 pub final_vertices-requires : goal.final_vertices-requires
 final_vertices-requires c =
@@ -47,7 +47,7 @@ clear-requires c =
 pub returns-then-exceeds : goal.returns-then-exceeds
 returns-then-exceeds c =
     let new : (length c.args.net.marks.now ≤ c.final_vertices.result) × (c.final_vertices.result - length c.args.net.marks.now ≡ to_add (asked (goal.at.returns-then-exceeds c).Start)) = new_points_lem (asked (goal.at.returns-then-exceeds c).Start) c.args.last c.requires c.final_vertices.result c.final_vertices.ensures in
-    let above : (max_tally < c.args.points.now + (c.final_vertices.result - length c.args.net.marks.now)) = ltb-true _ _ (sym c.exceeds.ensures ∙ c.if-exceeds.true) in
+    let above : (max_tally < c.args.points + (c.final_vertices.result - length c.args.net.marks.now)) = ltb-true _ _ (sym c.exceeds.ensures ∙ c.if-exceeds.true) in
     let n = new.1 in
     let t = above in
     refused_15 (asked (goal.at.returns-then-exceeds c).Start) c.args.last c.requires (omega arith) c.clear.new.work c.clear.ensures
@@ -90,7 +90,7 @@ returns c =
     let corners : 4 * c.quadrilaterals.result ≡ length (start_net (asked (goal.at.returns c).Start).net).faces = ap (λ (n : ℕ). 4 * n) c.quadrilaterals.ensures ∙ corners_start (asked (goal.at.returns c).Start) c.args.last c.requires in
     let refined : Buffers = let o = c.rounds-count.new in buffers o.points o.faces o.marks o.work in
     let lettered : List ℕ = c.rounds-count.new.letters in
-    let within : (c.args.points.now + (c.final_vertices.result - length c.args.net.marks.now) ≤ max_tally) = ltb-false _ _ (sym c.exceeds.ensures ∙ c.if-exceeds.false) in
+    let within : (c.args.points + (c.final_vertices.result - length c.args.net.marks.now) ≤ max_tally) = ltb-false _ _ (sym c.exceeds.ensures ∙ c.if-exceeds.false) in
     let n = new.1 in
     let t = within in
     let u = refined in
@@ -100,5 +100,5 @@ returns c =
     let o : Buffers = buffers u.vertices u.faces u.marks w in
     let z = ran (asked (goal.at.returns c).Start) c.args.last c.requires loaded _ _ l k corners _ u c.rounds-count.ensures.after w c.clear-2.ensures in
     let g = letters_ran (asked (goal.at.returns c).Start) c.args.last c.requires loaded _ _ l k corners _ u c.rounds-count.ensures.after named lettered (c.rounds-count.auto.letters ∙ c.name_start.auto.letters) c.name_start.ensures c.rounds-count.ensures.letters_after in
-    ap (λ (d : ℕ). answered (Ok (record { vertices = c.rounds-count.result; faces = c.args.last })) (c.args.points.now + d) u.vertices u.faces u.marks lettered w) n
+    ap (λ (d : ℕ). answered (Ok (record { vertices = c.rounds-count.result; faces = c.args.last; points = c.args.points + d })) c.args.points u.vertices u.faces u.marks lettered w) n
     ∙ refined-outcome (asked (goal.at.returns c).Start) c.args.last c.requires (omega arith) c.rounds-count.result o z lettered g
