@@ -21,7 +21,8 @@ pub fn edge_letter(faces: &[u32], marks: &[u8], h: usize, m: usize) -> u8
     match edgerules::edge_rule(faces, marks, h, m) {
         EdgeRule::InnerRule => b'C',
         EdgeRule::InsideSegment => b'A',
-        EdgeRule::StartOfSegment | EdgeRule::EndOfSegment => b'B',
+        EdgeRule::StartOfSegment => b'B',
+        EdgeRule::EndOfSegment => b'B',
         EdgeRule::WholeSegment => b'M',
     }
 }

@@ -48,8 +48,8 @@ fn face_points(points: &mut [i32], faces: &[u32], sides: &[u8], v: usize, edges:
 {
     let first = v + edges;
     let mut a = 0;
-    for (f, count) in sides.iter().enumerate() {
-        let c = *count as usize;
+    for f in 0..sides.len() {
+        let c = sides[f] as usize;
         splitpoints::put_mean(&mut *points, faces, first + f, a, c);
         a += c;
     }

@@ -1,6 +1,5 @@
 -- `edge_letter` meets its contract, by the rule of the edge. Assumes nothing.
 use mathlib.Core.Path.{◌≡◌, sym, ap, ◌∙◌}
-use mathlib.Core.Logic.{⊎_elim}
 use mathlib.Core.List.{List}
 use Prim.Native.Nat.{ℕ}
 use Rattle.scheme.specs.Points as points
@@ -26,4 +25,8 @@ returns-in-WholeSegment c = letter_is _ _ _ _ _ c.edge_rule.ensures c.in-WholeSe
 
 pub returns-in-StartOfSegment : goal.returns-in-StartOfSegment
 unfolding rule_of
-returns-in-StartOfSegment c = ⊎_elim (λ e. letter_is _ _ _ _ _ c.edge_rule.ensures e) (λ e. letter_is _ _ _ _ _ c.edge_rule.ensures e) c.in-StartOfSegment.is
+returns-in-StartOfSegment c = letter_is _ _ _ _ _ c.edge_rule.ensures c.in-StartOfSegment.is
+
+pub returns-in-EndOfSegment : goal.returns-in-EndOfSegment
+unfolding rule_of
+returns-in-EndOfSegment c = letter_is _ _ _ _ _ c.edge_rule.ensures c.in-EndOfSegment.is
