@@ -1,15 +1,15 @@
 -- `Mesh::turn` meets its contract: it reads the mate of the side before h. Assumes nothing.
 use mathlib.Core.Path.{ap, ◌∙◌}
-use lib.ListN.{length}
+use native.Mathlib.Omega.{arith}
 use Rattle.topology.specs.HalfEdge.{mate}
 use Rattle.topology.specs.Shape.{quads}
 use Rattle.topology.specs.Vertex.{turn}
-use Rattle.topology.proofs.Shape.{quads_lawful}
+use Rattle.topology.specs.Quads.{across}
 use Rattle.halfedges.proofs.Mesh.turn.Goals as goal
 
 pub mate-requires : goal.mate-requires
-mate-requires c =
-    let e = c.prev_side.ensures in rw e ((quads_lawful (length c.args.self.faces.now) c.args.self.connectivity.sides.fours).prev_lt c.args.h c.requires)
+unfolding quads across
+mate-requires c = omega arith
 
 pub returns : goal.returns
 unfolding turn
