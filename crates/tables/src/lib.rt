@@ -26,7 +26,10 @@ pub fn copy<T: Copy>(src: &[T], dst: &mut [T])
     requires { length src.now ≤ length dst.old }
     ensures { dst.new ≡ filled src.now dst.old }
 {
-    dst[..src.len()].copy_from_slice(src);
+    // One by one: an archive with `copy_from_slice` needs `memmove` from outside.
+    for i in 0..src.len() {
+        dst[i] = src[i];
+    }
 }
 
 // Writes four numbers from the place `at` on, the last first.
