@@ -95,12 +95,12 @@ module _ (k : ℕ) (rule : Bool) (m : Net) (o : Buffers) (l : List ℕ) (lv : le
   by_refused accepted r p e = let z : ◌≡◌ {A = ℕ} 0 1 = cc in absurd (omega arith)
   by_refused (refused s q) r p e = ap₂ refusal_text (ap vertex_number e) (ap face_number e)
 
-  module _ (t : Buffers) (t₂ : List ℕ) where
-    pub refused_text : (x : Refusal) → answered (Err x) 0 t.vertices t.faces t.marks t₂ t.work ≡ outcome asked → refusal_text (number x.reason) x.place ≡ refined_text k rule m
+  module _ (t : Buffers) (t₂ : List ℕ) (points : ℕ) where
+    pub refused_text : (x : Refusal) → answered (Err x) points t.vertices t.faces t.marks t₂ t.work ≡ outcome asked → refusal_text (number x.reason) x.place ≡ refined_text k rule m
     refused_text x e = by_refused (net_verdict (plain m)) (number x.reason) x.place (ap (λ (y : Outcome). y.result) (e ∙ outcome_is))
 
     -- a refined net
-    module _ (v f points : ℕ) (e : answered (Ok (record { vertices = v; faces = f; points = points })) 0 t.vertices t.faces t.marks t₂ t.work ≡ outcome asked) where
+    module _ (v f : ℕ) (e : answered (Ok (record { vertices = v; faces = f; points = points })) 0 t.vertices t.faces t.marks t₂ t.work ≡ outcome asked) where
       accepts : net_verdict (plain m) ≡ accepted
       accepts = by_result (net_verdict (plain m)) asked (steps (tension 4) k m) v f (sym (ap (λ (x : Outcome). x.result) (e ∙ outcome_is)))
 

@@ -85,5 +85,5 @@ returns-in-Err c =
     let d = (goal.at.returns-in-Err c).After-refine-answer in
     let n = c.number.ensures in
     wider _ _ _ _ _ _ c.write_refusal.ensures
-    (rw n (refused_text c.args.rounds c.args.rule (net_of d) zeros unnamed long-vertices long-corners long-marks long-letters long-work c.requires.0 (after d) c.refine-answer.new.letters _ (given d _ c.in-Err.is)))
+    (rw n (refused_text c.args.rounds c.args.rule (net_of d) zeros unnamed long-vertices long-corners long-marks long-letters long-work c.requires.0 (after d) c.refine-answer.new.letters _ _ (given d _ c.in-Err.is)))
     (omega arith)
